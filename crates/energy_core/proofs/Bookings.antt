@@ -1,4 +1,4 @@
--- What is entered may follow, and goes on with the account.
+-- A recorded entry may follow, and continues the account.
 use Rattle.std.proofs.Common.{◌≡◌, ℕ, ◌+◌, ◌*◌, ◌^◌, ◌<◌, ◌≤◌, false, nat_lt, nat_le, List, [], ◌∷◌, Option, Some, None, Ok, ap, subst, refl, ◌∙◌, arith}
 use Rattle.std.proofs.lemmas.Bool.Decides.{nat_tests}
 use Rattle.std.proofs.lemmas.Int.{ints}

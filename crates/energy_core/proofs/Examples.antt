@@ -78,7 +78,7 @@ span_too_long : verdict_of 4294967296 (terms 1000 0) (last 0 1 (pos 0)) (reading
 unfolding unit_of
 span_too_long = refl
 
--- A counter that turns over at a million.
+-- A counter that rolls over at a million.
 
 ranged_rollover : verdict_of 1000000 (terms 1000 0) (last 0 999900 (pos 0)) (reading 900 100 (pos 0)) ≡ Accepted 1 200000
 unfolding unit_of
@@ -120,7 +120,7 @@ rescaled : entered 4294967296 200000 (last 1900 5200 (pos 0)) (entry.Change 2000
 unfolding unit_of
 rescaled = refl
 
--- Whole energies.
+-- Total energies.
 
 after_a_reading : whole_energy 4294967296 (last 1000 5000 (pos 0)) (entry.Step 1900 5200 0 ∷ []) ≡ 200000
 unfolding unit_of
@@ -146,7 +146,7 @@ steps_of_a_reset : steps_of 4294967296 (last 1000 5000 (pos 0))
 unfolding unit_of
 steps_of_a_reset = refl
 
--- Both ends of what ranges and scales may be, the last good value and the first bad one.
+-- Both ends of the ranges and scales: the last good value and the first bad one.
 
 least_range : IsRange 65536
 least_range = (lit≤ tt, lit≤ tt)

@@ -1,4 +1,4 @@
--- The whole energy is the sum of the steps.
+-- The total energy is the sum of the steps.
 use Rattle.std.proofs.Common.{◌≡◌, ℕ, ◌+◌, ◌-◌, ◌*◌, ◌≤◌, List, [], ◌∷◌, arith}
 use Rattle.std.proofs.Math.Nat.{mul-le-mul_right}
 use Rattle.std.specs.List.{sum_by}
@@ -17,13 +17,13 @@ one_step r l u h = omega (arith, mul-le-mul_right u h)
 pub energy_in : Step → ℕ
 energy_in s = s.mwh
 
--- one more step
+-- One more step.
 pub sum-step : (range : ℕ) (opening : Last) (e : Entry) (es : List Entry)
     → sum_by (λ (s : Step). s.mwh) (steps_of range opening (e ∷ es))
     ≡ energy_of range (last_of opening es) e + sum_by (λ (s : Step). s.mwh) (steps_of range opening es)
 sum-step range opening e es = sum_by-cons (λ (s : Step). s.mwh) (step_to range (last_of opening es) e) (steps_of range opening es)
 
--- what came in is what the counter shows and what was recorded
+-- The steps balance with what the counter shows and what was recorded.
 pub balance : StepsAddUp
 balance range opening [] h = omega arith
 balance range opening (entry.Step at raw rolls ∷ es) h =
@@ -44,7 +44,7 @@ balance range opening (entry.Change at before new sf ∷ es) h =
 pub sum-steps : StepsAreTheWhole
 sum-steps range opening es h = omega (arith, balance range opening es h)
 
--- one more entry adds its energy
+-- One more entry adds its energy.
 pub whole-cons : (range : ℕ) (opening : Last) (e : Entry) (es : List Entry) → NeverFalls range opening (e ∷ es)
     → whole_energy range opening (e ∷ es) ≡ whole_energy range opening es + energy_of range (last_of opening es) e
 whole-cons range opening e es h =

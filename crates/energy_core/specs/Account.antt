@@ -1,5 +1,6 @@
--- The entries of an installation, the steps between them, and the energy that they stand for.
--- A list of entries has the latest first; below it lies the opening. `range` is how many counts the counter has.
+-- The entries of an installation, the steps between them, and their energy. A list of entries has
+-- the latest first, and does not contain the opening. `range` is the number of counts in a full
+-- turn.
 use Rattle.std.specs.Prelude.{◌≡◌, ℕ, ℤ, ◌+◌, ◌-◌, ◌*◌, ◌/◌, ◌≤◌, ◌<◌, ◌≤ℤ◌, List, [], ◌∷◌}
 use Rattle.energy_core.specs.declared.limits.TheConstants.{INTERVAL_SECONDS, MAX_INTERVALS, MAX_SCALE, MAX_TOTAL, MIN_SCALE}
 use Rattle.energy_core.specs.declared.entries.Last.{Last}
@@ -8,39 +9,39 @@ use Rattle.energy_core.specs.declared.entries.Entry.{Entry}
 use Rattle.energy_core.specs.declared.entries.Entry.TheVariants as entry
 use Rattle.energy_core.specs.Value.{unit_of, value_of}
 
--- How many intervals are touched between two moments, the second being the later.
+-- The number of intervals that the time from the first to the later second time touches.
 abbrev pub intervals_touched : (from till : ℕ) → ℕ
 intervals_touched from till = (till - 1) / INTERVAL_SECONDS - from / INTERVAL_SECONDS + 1
 
--- when an entry was made
+-- The time of an entry.
 abbrev pub moment_of : Entry → ℕ
 moment_of (entry.Step at raw rolls) = at
 moment_of (entry.Change at before new sf) = at
 
--- where the counter stands after an entry
+-- The counter's state after an entry.
 abbrev pub after : Last → Entry → Last
 after last (entry.Step at raw rolls) = record { at = at; raw = raw; sf = last.sf }
 after last (entry.Change at before new sf) = record { at = at; raw = new; sf = sf }
 
--- where it stands after all entries of an installation
+-- The counter's state after all entries of an installation.
 abbrev pub last_of : Last → List Entry → Last
 last_of opening [] = opening
 last_of opening (e ∷ es) = after (last_of opening es) e
 
--- what the counter would have reached, had it neither turned over nor been set
+-- The count that the counter would have reached if it had not rolled over and had not been set.
 abbrev pub reached : (range : ℕ) → Entry → ℕ
 reached range (entry.Step at raw rolls) = raw + rolls * range
 reached range (entry.Change at before new sf) = before
 
--- the energy, in mWh, from where the counter stood to an entry
+-- The energy in mWh from the last entry to this one.
 abbrev pub energy_of : (range : ℕ) → Last → Entry → ℕ
 energy_of range last e = reached range e * unit_of last.sf - value_of last
 
--- the step from where the counter stood to an entry
+-- The step from the last entry to this one.
 abbrev pub step_to : (range : ℕ) → Last → Entry → Step
 step_to range last e = record { from = last.at; till = moment_of e; mwh = energy_of range last e }
 
--- The steps of an installation, one between each two neighbouring entries, the latest first.
+-- The steps of an installation, one between each two consecutive entries, the latest first.
 abbrev pub steps_of : (range : ℕ) → Last → List Entry → List Step
 steps_of range opening [] = []
 steps_of range opening (e ∷ es) = step_to range (last_of opening es) e ∷ steps_of range opening es
@@ -53,39 +54,40 @@ recorded range opening (entry.Step at raw rolls ∷ es) =
 recorded range opening (entry.Change at before new sf ∷ es) =
     before * unit_of (last_of opening es).sf + recorded range opening es
 
--- What the counter was set to by each change, in mWh.
+-- What each change set the counter to, in mWh.
 abbrev pub set_anew : List Entry → ℕ
 set_anew [] = 0
 set_anew (entry.Step at raw rolls ∷ es) = set_anew es
 set_anew (entry.Change at before new sf ∷ es) = new * unit_of sf + set_anew es
 
--- The whole energy of an installation: its last value less its first, plus one full range for each recorded
--- rollover, plus for each change what the counter showed before it, less what it was set to.
+-- The total energy of an installation. It is the last value less the first, plus one full range for
+-- each recorded rollover. For each change it adds what the counter showed before it, less what it
+-- was set to.
 abbrev pub whole_energy : (range : ℕ) → Last → List Entry → ℕ
 whole_energy range opening es =
     (value_of (last_of opening es) + recorded range opening es) - (value_of opening + set_anew es)
 
--- No entry goes back, so that each difference above is one.
+-- No entry goes back, so each difference above is a true difference.
 abbrev pub NeverFalls : (range : ℕ) → Last → List Entry → Type 0
 NeverFalls range opening [] = Unit {0}
 NeverFalls range opening (e ∷ es) =
     ((last_of opening es).raw ≤ reached range e) × NeverFalls range opening es
 
--- the scale is one that a register may have
+-- A scale that a register may have.
 abbrev pub IsScale : ℤ → Type 0
 IsScale sf = (MIN_SCALE ≤ℤ sf) × (sf ≤ℤ MAX_SCALE)
 
--- where an entry sets the scale, it is such a one
+-- If the entry sets the scale, it sets a lawful one.
 abbrev pub HasScale : Entry → Type 0
 HasScale (entry.Step at raw rolls) = Unit {0}
 HasScale (entry.Change at before new sf) = IsScale sf
 
--- an entry tells only what the counter can show
+-- The counter can show the numbers of the entry.
 abbrev pub CanBeShown : (range : ℕ) → Entry → Type 0
 CanBeShown range (entry.Step at raw rolls) = raw < range
 CanBeShown range (entry.Change at before new sf) = (before < range) × (new < range)
 
--- An entry may follow where the counter stood.
+-- An entry may follow the last one.
 pub record Follows (range : ℕ) (last : Last) (e : Entry) : Type 0 where
   pub rises : last.raw ≤ reached range e
   pub later : last.at < moment_of e
@@ -98,7 +100,7 @@ abbrev pub AllFollow : (range : ℕ) → Last → List Entry → Type 0
 AllFollow range opening [] = Unit {0}
 AllFollow range opening (e ∷ es) = Follows range (last_of opening es) e × AllFollow range opening es
 
--- The account of an installation: after these entries the counter stands so, and the whole energy is so much.
+-- The account of an installation: its last entry and its total energy after these entries.
 pub record IsAccount (range : ℕ) (opening : Last) (es : List Entry) (last : Last) (total : ℕ) : Type
     0 where
   pub last_is : last ≡ last_of opening es

@@ -1,4 +1,4 @@
--- The table by which an entry by hand is booked or refused.
+-- The rules by which an entry by hand is recorded or refused.
 use Rattle.std.specs.Prelude.{◌≡◌, ◌≤◌, ℕ, ◌+◌, nat_lt, nat_le, int_lt, Bool, ◌||◌, false, List, [], ◌∷◌, Option, Some, None, Result, Ok, Err, IfOk}
 use Rattle.std.specs.List.{find}
 use Rattle.energy_core.specs.declared.limits.TheConstants.{MAX_INTERVALS, MAX_SCALE, MAX_TOTAL, MIN_SCALE}
@@ -10,7 +10,7 @@ use Rattle.energy_core.specs.declared.admission.TermFault.{TermFault}
 use Rattle.energy_core.specs.declared.admission.TermFault.TheVariants as fault
 use Rattle.energy_core.specs.Account.{intervals_touched, moment_of, after, reached, energy_of, step_to, Follows, IsAccount}
 
--- the number of a fault
+-- The number of a fault.
 abbrev pub fault_number : TermFault → ℕ
 fault_number fault.NegativeStep = 1
 fault_number fault.NotLater = 2
@@ -19,58 +19,59 @@ fault_number fault.TotalFull = 4
 fault_number fault.BadScale = 5
 fault_number fault.NotBelowRange = 6
 
--- an entry sets a scale that no register may have
+-- The entry sets a scale that no register may have.
 abbrev pub has_bad_scale : Entry → Bool
 has_bad_scale (entry.Step at raw rolls) = false
 has_bad_scale (entry.Change at before new sf) = int_lt sf MIN_SCALE || int_lt MAX_SCALE sf
 
--- an entry tells a number that the counter can't show
+-- The entry has a number that the counter cannot show.
 abbrev pub is_beyond : (range : ℕ) → Entry → Bool
 is_beyond range (entry.Step at raw rolls) = nat_le range raw
 is_beyond range (entry.Change at before new sf) = nat_le range before || nat_le range new
 
--- whether an entry is to be refused for a fault
+-- The fault applies to the entry.
 abbrev pub refuses : (range total : ℕ) → Last → Entry → TermFault → Bool
 -- the counter would have gone back
 refuses range total last e fault.NegativeStep = nat_lt (reached range e) last.raw
--- the last entry is as late, or later
+-- the last entry has the same time or a later one
 refuses range total last e fault.NotLater = nat_le (moment_of e) last.at
 -- the step would touch more than 3,000 intervals
 refuses range total last e fault.SpanTooLong =
     nat_lt MAX_INTERVALS (intervals_touched last.at (moment_of e))
--- the whole energy would pass its limit
+-- the total energy would exceed its limit
 refuses range total last e fault.TotalFull = nat_lt MAX_TOTAL (total + energy_of range last e)
 refuses range total last e fault.BadScale = has_bad_scale e
 refuses range total last e fault.NotBelowRange = is_beyond range e
 
--- The faults, in the order in which they are looked at.
+-- The faults, in the order in which they are checked.
 abbrev pub faults : List TermFault
 faults = fault.NegativeStep ∷ fault.NotLater ∷ fault.SpanTooLong ∷ fault.TotalFull ∷ fault.BadScale
     ∷ fault.NotBelowRange ∷ []
 
--- refused for a fault, or booked
+-- The entry is refused for this fault, or recorded.
 abbrev pub answered : (range : ℕ) → Last → Entry → Option TermFault → Result (Last × Step) TermFault
 answered range last e (Some fault) = Err fault
 answered range last e None = Ok (after last e, step_to range last e)
 
--- Refused for the first fault that applies. Where none does, booked: where the counter stands then, and the step.
--- What a load can draw is not looked at.
+-- The entry is refused for the first fault that applies. If none does, it is recorded: the
+-- counter's state after it, and the step. The ceiling is not checked.
 abbrev pub entered : (range total : ℕ) → Last → Entry → Result (Last × Step) TermFault
 entered range total last e = answered range last e (find (refuses range total last e) faults)
 
--- the account goes on from such a total: after these entries the counter stands so, with the step more
+-- The account continues: after these entries this is the counter's state, and the total has grown
+-- by the step.
 abbrev pub ContinuesAccount : (range : ℕ) → Last → List Entry → (total : ℕ) → Last × Step → Type 0
 ContinuesAccount range opening es total r = IsAccount range opening es r.0 (total + r.1.mwh)
 
--- Every account that stands so goes on by the entry, where it is booked.
+-- Every account with this state and total continues by the entry, if the entry is recorded.
 abbrev pub AccountsGoOnBy : (range total : ℕ) → Last → Entry → Result (Last × Step) TermFault
     → Type 0
 AccountsGoOnBy range total last e answer = (opening : Last) (es : List Entry)
     → IsAccount range opening es last total
     → IfOk answer (ContinuesAccount range opening (e ∷ es) total)
 
--- An entry that may follow was booked: the counter stands then where the entry says, the step goes up to it, and the
--- whole energy is within its limit.
+-- An entry that may follow was recorded: the counter is in the state after the entry, the step ends
+-- there, and the total energy is within its limit.
 pub record IsBooked (range total : ℕ) (last : Last) (e : Entry) (next : Last) (step : Step) : Type 0
   where
     pub next_is : next ≡ after last e

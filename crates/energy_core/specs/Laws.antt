@@ -1,4 +1,4 @@
--- Laws of the definitions, over every list of entries and of readings.
+-- Theorems on the definitions, over every list of entries and of readings.
 use Rattle.std.specs.Prelude.{◌≡◌, ℕ, ◌+◌, ◌*◌, ◌<◌, ◌≤◌, ◌↔◌, List, [], ◌∷◌, Ok, All, sum_by, nat_lt, if◌then◌else◌}
 use Rattle.energy_core.specs.declared.limits.TheConstants.{MAX_INTERVALS, MAX_TOTAL}
 use Rattle.energy_core.specs.declared.entries.Last.{Last}
@@ -14,25 +14,25 @@ use Rattle.energy_core.specs.Verdict.{distance, verdict_of, IsPlausible}
 use Rattle.energy_core.specs.Admission.{entered, IsBooked}
 use Rattle.energy_core.specs.Readings.{entries_of_readings}
 
--- The energies of the steps, with the first value and what the counter was set to, are the last value with what the
--- entries recorded.
+-- The steps balance: their energies, the first value and what the counter was set to equal the last
+-- value and what the entries recorded.
 abbrev pub StepsAddUp : Type 0
 StepsAddUp = (range : ℕ) (opening : Last) (es : List Entry) → NeverFalls range opening es
     → sum_by (λ (s : Step). s.mwh) (steps_of range opening es) + value_of opening + set_anew es
     ≡ value_of (last_of opening es) + recorded range opening es
 
--- So they are the whole energy.
+-- The energies of the steps add up to the total energy.
 abbrev pub StepsAreTheWhole : Type 0
 StepsAreTheWhole = (range : ℕ) (opening : Last) (es : List Entry) → NeverFalls range opening es
     → sum_by (λ (s : Step). s.mwh) (steps_of range opening es) ≡ whole_energy range opening es
 
--- An entry is entered exactly where it may follow and the energy stays within its limit.
+-- An entry is recorded exactly if it may follow, and the energy stays within its limit.
 abbrev pub EnteredIsBooked : Type 0
 EnteredIsBooked = (range total : ℕ) (last : Last) (e : Entry) (next : Last) (step : Step)
     → (entered range total last e ≡ Ok (next, step)) ↔ IsBooked range total last e next step
 
--- A reading is accepted exactly where nothing speaks against it. Its rollovers are 1 if it shows less than before, else
--- 0; its energy is the distance that the counter went.
+-- A reading is accepted exactly if no cause to reject it applies. It has one rollover if it shows
+-- less than the last entry, else none. Its energy is the distance that the counter advanced.
 abbrev pub AcceptedIsPlausible : Type 0
 AcceptedIsPlausible = (range : ℕ) (terms : Terms) (last : Last) (reading : Reading) (rolls step : ℕ)
     → (verdict_of range terms last reading ≡ Accepted rolls step)
@@ -40,7 +40,7 @@ AcceptedIsPlausible = (range : ℕ) (terms : Terms) (last : Last) (reading : Rea
     × (rolls ≡ (if nat_lt reading.raw last.raw then 1 else 0))
     × (step ≡ distance range last.raw reading.raw * unit_of last.sf))
 
--- An accepted reading may be entered, with the same step.
+-- An accepted reading may be recorded as an entry, with the same step.
 abbrev pub AcceptedIsEntered : Type 0
 AcceptedIsEntered = (range : ℕ) (terms : Terms) (last : Last) (reading : Reading) (rolls step : ℕ)
     → last.raw < range
@@ -51,25 +51,25 @@ AcceptedIsEntered = (range : ℕ) (terms : Terms) (last : Last) (reading : Readi
       record { from = last.at; till = reading.at; mwh = step },
     )
 
--- At opening an installation has an account, with no energy yet.
+-- At its opening an installation has an account without energy.
 abbrev pub AccountsBegin : Type 0
 AccountsBegin = (range : ℕ) (opening : Last) → IsAccount range opening [] opening 0
 
--- One more entry, and the account is that of the longer list.
+-- One more entry extends the account by that entry.
 abbrev pub AccountsGoOn : Type 0
 AccountsGoOn = (range : ℕ) (opening : Last) (es : List Entry) (last : Last) (total : ℕ)
     (e : Entry) (next : Last) (step : Step)
     → IsAccount range opening es last total → IsBooked range total last e next step
     → IsAccount range opening (e ∷ es) next (total + step.mwh)
 
--- a step that can be shared out over the intervals that it touches
+-- A step that can be divided among the intervals that it touches.
 pub record IsShareable (step : Step) : Type 0 where
   pub later : step.from < step.till
   pub span : intervals_touched step.from step.till ≤ MAX_INTERVALS
   pub within : step.mwh ≤ MAX_TOTAL
 
--- The counter stands below its range and at a lawful scale, no entry goes back, and the total is that of the steps,
--- each of which can be shared out.
+-- The counter is below its range and at a lawful scale, and no entry goes back. The total is the
+-- sum of the steps, and each step can be divided among its intervals.
 pub record IsSound (range : ℕ) (opening : Last) (es : List Entry) (last : Last)
     (total : ℕ) : Type 0 where
   pub raw : last.raw < range
@@ -84,7 +84,7 @@ AccountsAreSound = (range : ℕ) (opening : Last) (es : List Entry) (last : Last
     → opening.raw < range → IsScale opening.sf
     → IsAccount range opening es last total → IsSound range opening es last total
 
--- Whatever readings come, the entries that they leave have an account.
+-- For any list of readings, the entries that they leave have an account.
 abbrev pub ReadingsKeepAccounts : Type 0
 ReadingsKeepAccounts = (range ceiling : ℕ) (opening : Last) (rs : List Reading)
     → opening.raw < range

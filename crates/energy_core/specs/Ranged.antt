@@ -2,10 +2,10 @@ use Rattle.std.specs.Prelude.{ℕ, ◌≤◌}
 use Rattle.energy_core.specs.declared.limits.TheConstants.{MAX_RANGE, MIN_RANGE}
 use Rattle.energy_core.specs.declared.counters.Ranged.{Ranged}
 
--- how many counts the counter has
+-- The number of counts in a full turn.
 abbrev pub range_of : Ranged → ℕ
 range_of counter = counter.range
 
--- so many counts may a counter have
+-- A range that a counter may have.
 abbrev pub IsRange : ℕ → Type 0
 IsRange range = (MIN_RANGE ≤ range) × (range ≤ MAX_RANGE)

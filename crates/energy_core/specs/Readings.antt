@@ -1,4 +1,4 @@
--- The readings that come to an installation, and the entries that they leave. The latest comes first.
+-- The readings of an installation, and the entries that they leave. The latest comes first.
 use Rattle.std.specs.Prelude.{ℕ, List, [], ◌∷◌}
 use Rattle.energy_core.specs.declared.entries.Last.{Last}
 use Rattle.energy_core.specs.declared.entries.Entry.{Entry}
@@ -9,30 +9,30 @@ use Rattle.energy_core.specs.declared.verdicts.Verdict.TheVariants.{Accepted, He
 use Rattle.energy_core.specs.Account.{last_of, whole_energy}
 use Rattle.energy_core.specs.Verdict.{verdict_of}
 
--- The verdict on a reading that comes to an installation with these entries.
+-- The verdict on a reading of an installation with these entries.
 abbrev pub verdict_on : (range ceiling : ℕ) → Last → List Entry → Reading → Verdict
 verdict_on range ceiling opening es reading =
     verdict_of range (record { ceiling = ceiling; total = whole_energy range opening es })
     (last_of opening es) reading
 
--- an accepted reading is an entry, a held one is none
+-- The entries after a verdict: an accepted reading is an entry, a rejected one is not.
 abbrev pub with_verdict : List Entry → Reading → Verdict → List Entry
 with_verdict es reading (Accepted rolls step) = entry.Step reading.at reading.raw rolls ∷ es
 with_verdict es reading (Held cause) = es
 
--- The entries of an installation to which these readings came, held ones too, the latest first.
+-- The entries of an installation after these readings, also rejected ones, the latest first.
 abbrev pub entries_of_readings : (range ceiling : ℕ) → Last → List Reading → List Entry
 entries_of_readings range ceiling opening [] = []
 entries_of_readings range ceiling opening (r ∷ rs) =
     let es = entries_of_readings range ceiling opening rs in
     with_verdict es r (verdict_on range ceiling opening es r)
 
--- the reading is not held
+-- The reading is accepted.
 abbrev pub IsAccepted : Verdict → Type 0
 IsAccepted (Accepted rolls step) = Unit {0}
 IsAccepted (Held cause) = ⊥
 
--- Each of these readings was accepted when it came.
+-- Each of these readings was accepted in its turn.
 abbrev pub AllAccepted : (range ceiling : ℕ) → Last → List Reading → Type 0
 AllAccepted range ceiling opening [] = Unit {0}
 AllAccepted range ceiling opening (r ∷ rs) =

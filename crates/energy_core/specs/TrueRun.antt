@@ -1,5 +1,5 @@
--- A true run: what a meter really counted, moment by moment. The latest item comes first; below them lies the one
--- at opening.
+-- A true run: what a meter really counted over time. The latest item comes first; the item at
+-- opening is not in the list.
 use Rattle.std.specs.Prelude.{◌≡◌, ◌≢◌, ℕ, ℤ, ◌-◌, ◌*◌, ◌%◌, ◌<◌, ◌≤◌, IsTrue, false, List, [], ◌∷◌, map}
 use Rattle.energy_core.specs.declared.entries.Last.{Last}
 use Rattle.energy_core.specs.declared.entries.Step.{Step}
@@ -12,25 +12,25 @@ use Rattle.energy_core.specs.Account.{whole_energy, steps_of}
 use Rattle.energy_core.specs.Verdict.{can_count, applies}
 use Rattle.energy_core.specs.Readings.{entries_of_readings, AllAccepted}
 
--- a moment, and how many counts the meter had really made
+-- A time, and the true count of the meter since its beginning.
 pub record Item : Type 0 where
   pub at : ℕ
   pub count : ℕ
 
--- what the meter shows: the count without its full turns
+-- What the meter shows: the count modulo its range.
 abbrev pub shown : (range : ℕ) → ℤ → Item → Last
 shown range sf item = record { at = item.at; raw = item.count % range; sf = sf }
 
--- the reading that tells it
+-- The reading that shows it.
 abbrev pub told : (range : ℕ) → ℤ → Item → Reading
 told range sf item = record { at = item.at; raw = item.count % range; sf = sf }
 
--- the latest item
+-- The latest item.
 abbrev pub newest : Item → List Item → Item
 newest first [] = first
 newest first (b ∷ items) = b
 
--- Moments rise, and counts never fall, nor rise faster than the ceiling allows.
+-- Times rise. Counts never fall, and never rise faster than the ceiling allows.
 abbrev pub IsTrueRun : (ceiling : ℕ) → ℤ → Item → List Item → Type 0
 IsTrueRun ceiling sf first [] = Unit {0}
 IsTrueRun ceiling sf first (b ∷ items) =
@@ -40,12 +40,13 @@ IsTrueRun ceiling sf first (b ∷ items) =
     × IsTrue (can_count ceiling (unit_of sf) (b.at - a.at) (b.count - a.count))
     × IsTrueRun ceiling sf first items
 
--- the true advance from one item to another, in mWh
+-- The true energy from one item to another, in mWh.
 abbrev pub advance : ℤ → Item → Item → ℕ
 advance sf a b = (b.count - a.count) * unit_of sf
 
--- Nothing but its speed or its range could hold a reading of the run: it is read often enough, each reading shows
--- something, and the whole energy stays within its limit.
+-- Only the speed or the range could be a cause to reject a reading of the run. The meter is read
+-- often enough, each reading shows a number other than 0, and the total energy stays within its
+-- limit.
 abbrev pub IsReadOftenEnough : (range ceiling : ℕ) → ℤ → Item → List Item → Type 0
 IsReadOftenEnough range ceiling sf first [] = Unit {0}
 IsReadOftenEnough range ceiling sf first (b ∷ items) =
@@ -55,15 +56,15 @@ IsReadOftenEnough range ceiling sf first (b ∷ items) =
     → applies range terms (shown range sf a) (told range sf b) c ≡ false)
     × IsReadOftenEnough range ceiling sf first items
 
--- The true steps, one between each two neighbouring items, the latest first.
+-- The true steps, one between each two consecutive items, the latest first.
 abbrev pub true_steps : ℤ → Item → List Item → List Step
 true_steps sf first [] = []
 true_steps sf first (b ∷ items) =
     let a = newest first items in
     record { from = a.at; till = b.at; mwh = advance sf a b } ∷ true_steps sf first items
 
--- What the run showed at opening and at each reading is booked as it was: every reading is accepted, each step is the
--- true advance between its moments, and the whole energy is the true advance since the opening.
+-- The run is recorded truly. Every reading is accepted, each step is the true energy between its
+-- times, and the total energy is the true energy since the opening.
 pub record IsBookedTruly (range ceiling : ℕ) (sf : ℤ) (first : Item) (items : List Item) : Type 0
   where
     pub accepted : AllAccepted range ceiling (shown range sf first) (map (told range sf) items)
@@ -74,7 +75,7 @@ pub record IsBookedTruly (range ceiling : ℕ) (sf : ℤ) (first : Item) (items 
         (entries_of_readings range ceiling (shown range sf first) (map (told range sf) items))
         ≡ advance sf first (newest first items)
 
--- A true run that is read often enough is booked truly, however often the counter turned over.
+-- A true run that is read often enough is recorded truly, however often the counter rolled over.
 abbrev pub TruthIsBooked : Type 0
 TruthIsBooked = (range ceiling : ℕ) (sf : ℤ) (first : Item) (items : List Item) → 0 < range
     → IsTrueRun ceiling sf first items → IsReadOftenEnough range ceiling sf first items

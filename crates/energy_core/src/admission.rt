@@ -1,4 +1,4 @@
-//! Whether an entry by hand is booked, and why one is refused.
+//! Records entries by hand, or refuses them.
 ghost use Rattle.std.specs.Prelude.{◌≡◌, ◌≤◌, ◌<◌, ◌+◌, ◌*◌, ◌≤ℤ◌};
 ghost use Rattle.std.specs.Prelude.{IfOk};
 ghost use Rattle.energy_core.specs.Admission.{AccountsGoOnBy, entered, is_beyond, has_bad_scale, fault_number};
@@ -17,11 +17,11 @@ use crate::verdicts::Terms;
 pub enum TermFault {
     /// The counter would have gone back.
     NegativeStep,
-    /// The last entry is as late, or later.
+    /// The last entry has the same time or a later one.
     NotLater,
     /// The step would touch more than 3,000 intervals.
     SpanTooLong,
-    /// The installation's energy would pass 4 * 10^18 mWh.
+    /// The total energy of the installation would exceed 4 * 10^18 mWh.
     TotalFull,
     /// The scale factor is not from -3 to 3.
     BadScale,
@@ -30,7 +30,7 @@ pub enum TermFault {
 }
 
 impl TermFault {
-    /// The number of the fault, from 1 to 6.
+    /// Returns the fault's number, from 1 to 6.
     pub fn number(self) -> u8
         ensures { result ≡ fault_number self }
     {
@@ -45,7 +45,7 @@ impl TermFault {
     }
 }
 
-/// When an entry was made.
+/// Returns the time of an entry.
 fn moment(entry: &Entry) -> u64
     ensures { result ≡ moment_of entry.now }
 {
@@ -54,7 +54,8 @@ fn moment(entry: &Entry) -> u64
     }
 }
 
-/// What the counter would have reached, had it neither turned over nor been set.
+/// Returns the count that the counter would have reached if it had not rolled over and had not been
+/// set.
 fn reach(range: u64, entry: &Entry) -> u64
     requires { range ≤ MAX_RANGE }
     ensures value { result ≡ reached range entry.now }
@@ -66,7 +67,7 @@ fn reach(range: u64, entry: &Entry) -> u64
     }
 }
 
-/// The energy, in mWh, from where the counter stood to an entry that doesn't go back.
+/// Returns the energy in mWh from the last entry to an entry that does not go back.
 pub(crate) fn energy(range: u64, last: &Last, entry: &Entry) -> u64
     requires range { range ≤ MAX_RANGE }
     requires scale_low { MIN_SCALE ≤ℤ last.now.sf }
@@ -78,7 +79,7 @@ pub(crate) fn energy(range: u64, last: &Last, entry: &Entry) -> u64
     energy_up_to(last, u128::from(reach(range, entry))) as u64
 }
 
-/// Whether an entry sets a scale that no register may have.
+/// Returns whether an entry sets a scale that no register may have.
 fn is_off_scale(entry: &Entry) -> bool
     ensures { result ≡ has_bad_scale entry.now }
 {
@@ -88,7 +89,7 @@ fn is_off_scale(entry: &Entry) -> bool
     }
 }
 
-/// Whether an entry tells a number that the counter can't show.
+/// Returns whether an entry has a number that the counter cannot show.
 fn is_out_of_range(range: u64, entry: &Entry) -> bool
     ensures { result ≡ is_beyond range entry.now }
 {
@@ -100,7 +101,7 @@ fn is_out_of_range(range: u64, entry: &Entry) -> bool
     }
 }
 
-/// Where the counter stands after an entry.
+/// Returns the counter's time, value and scale factor after an entry.
 fn stand(last: &Last, entry: &Entry) -> Last
     ensures { result ≡ after last.now entry.now }
 {
@@ -114,8 +115,10 @@ fn stand(last: &Last, entry: &Entry) -> Last
     }
 }
 
-/// Books an entry after where the counter stands: where it stands then, and the step between; or refuses it for the
-/// first fault that applies. So books that are kept as entries are added up, one entry after the other.
+/// Records an entry after the last one. Returns the counter's state after it, and the step between
+/// the two. On error, returns the first fault that applies.
+///
+/// Folding a list of entries with this function gives the account of an installation.
 pub fn enter<C: Counter>(
     counter: &C,
     terms: &Terms,
@@ -136,7 +139,7 @@ pub fn enter<C: Counter>(
     ensures scale_low { IfOk result (λ r. MIN_SCALE ≤ℤ r.0.sf) }
     ensures scale_high { IfOk result (λ r. r.0.sf ≤ℤ MAX_SCALE) }
 
-    // the step can be shared out over its intervals
+    // the step can be divided among its intervals
     ensures later { IfOk result (λ r. r.1.from < r.1.till) }
     ensures span { IfOk result (λ r. intervals_touched r.1.from r.1.till ≤ MAX_INTERVALS) }
 {

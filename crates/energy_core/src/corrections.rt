@@ -9,7 +9,8 @@ use crate::entries::{Entry, Last, Step};
 use crate::limits::{MAX_SCALE, MAX_TOTAL, MIN_SCALE};
 use crate::verdicts::Terms;
 
-/// Books a reading by hand, or the one at closing, over so many full turns. The ceiling isn't looked at.
+/// Records a reading by hand, or the one at closing, after `rolls` full turns. The ceiling is not
+/// checked.
 pub fn manual<C: Counter>(
     counter: &C,
     terms: &Terms,
@@ -28,7 +29,7 @@ pub fn manual<C: Counter>(
     enter(counter, terms, last, &Entry::Step { at, raw, rolls })
 }
 
-/// Books a reset: the counter stood at `before` and was set to `after`. The ceiling isn't looked at.
+/// Records a reset: the counter showed `before` and was set to `after`. The ceiling is not checked.
 pub fn reset<C: Counter>(
     counter: &C,
     terms: &Terms,
@@ -47,7 +48,8 @@ pub fn reset<C: Counter>(
     rescale(counter, terms, last, at, before, after, last.sf)
 }
 
-/// Books a rescale: a reset that also sets the scale factor, at which `after` is counted. The ceiling isn't looked at.
+/// Records a rescale: a reset that also sets the scale factor. `after` is counted at the new scale
+/// factor. The ceiling is not checked.
 pub fn rescale<C: Counter>(
     counter: &C,
     terms: &Terms,

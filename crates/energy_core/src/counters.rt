@@ -1,19 +1,19 @@
-//! Counters that turn over: `acc32`, and those of a range of their own.
+//! Counters that roll over: `acc32`, and those with another range.
 ghost use Rattle.std.specs.Prelude.{◌≡◌, ℕ, ◌≤◌, ◌%◌, ◌↔◌, IsSome, IfSome};
 ghost use Rattle.energy_core.specs.declared.limits.TheConstants.{MAX_RANGE, MIN_RANGE};
 
 use crate::limits::{MAX_RANGE, MIN_RANGE};
 
-/// A counter that turns over: it shows the true count without its full turns.
+/// A counter that rolls over: it shows the true count modulo its range.
 pub trait Counter {
-    /// How many counts a full turn has.
+    /// The number of counts in a full turn.
     ghost range: { Self → ℕ };
 
-    /// How many counts a full turn has.
+    /// Returns the number of counts in a full turn.
     fn range(&self) -> u64
         ensures { result ≡ range self.now };
 
-    /// What the counter shows at a true count.
+    /// Returns what the counter shows at a true count.
     fn shown(&self, count: u64) -> u32
         ensures { result ≡ count % range self.now };
 
@@ -22,7 +22,7 @@ pub trait Counter {
     ghost at_most: { (c : Self) → range c ≤ MAX_RANGE };
 }
 
-/// A counter of 32 bits, as SunSpec's `acc32`.
+/// A counter of 32 bits, such as SunSpec's `acc32`.
 #[derive(Clone, Copy, Debug, PartialEq, Eq)]
 pub struct Acc32;
 
@@ -45,7 +45,7 @@ impl Counter for Acc32 {
     }
 }
 
-/// A counter that turns over at a number of its own, as many meters do at a power of ten.
+/// A counter with another range than 32 bits. Many meters roll over at a power of ten.
 #[derive(Clone, Copy, Debug, PartialEq, Eq)]
 pub struct Ranged {
     range: u64,
@@ -56,7 +56,7 @@ pub struct Ranged {
 impl Ranged {
     ghost use Rattle.energy_core.specs.Ranged.{IsRange, range_of};
 
-    /// A counter of that many counts, from 65,536 to 4,294,967,296.
+    /// Creates a counter with this range, from 65,536 to 4,294,967,296 counts.
     pub fn new(range: u64) -> Option<Self>
         ensures valid { IsSome result ↔ IsRange range }
         ensures value { IfSome result (λ counter. range_of counter ≡ range) }

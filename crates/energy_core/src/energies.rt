@@ -6,8 +6,10 @@ use crate::entries::Last;
 use crate::limits::{MAX_SCALE, MAX_UNIT, MIN_SCALE};
 use crate::measures::unit;
 
-/// The energy, in mWh, from where the counter stood to what it would have reached, had it neither turned over nor been
-/// set; 0 where that is less. All energy is computed here, also that of numbers which no counter shows.
+/// Returns the energy in mWh from the last entry to `reached`, or 0 if `reached` is less. `reached`
+/// is the count without rollovers and resets.
+///
+/// All energy is computed here, also that of numbers which no counter shows.
 pub fn energy_up_to(last: &Last, reached: u128) -> u128
     requires reached { reached ≤ 2 ^ 97 }
     requires scale_low { MIN_SCALE ≤ℤ last.now.sf }

@@ -1,4 +1,4 @@
-//! What holds and faults say to a person.
+//! The sentence that describes each fault, and each cause to reject a reading.
 use crate::admission::TermFault;
 use crate::verdicts::Cause;
 use std::error::Error;

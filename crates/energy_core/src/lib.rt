@@ -1,4 +1,4 @@
-//! Energy from a counter that turns over: which readings are accepted, and how much energy each step is.
+//! Energy from a counter that rolls over: which readings are accepted, and the energy of each step.
 #![tactic(auto)]
 
 mod admission;

@@ -1,4 +1,4 @@
-//! What holds of an installation, and whether a reading is accepted.
+//! Accepts or rejects a reading.
 ghost use Rattle.std.specs.Prelude.{◌≡◌, ◌≤◌, ◌<◌, ◌*◌, ◌≤ℤ◌, nat_lt, if◌then◌else◌};
 ghost use Rattle.energy_core.specs.Value.{unit_of};
 ghost use Rattle.energy_core.specs.Verdict.{verdict_of, can_count, distance, cause_number};
@@ -12,16 +12,16 @@ use crate::limits::{
 };
 use crate::measures::{is_long_span, unit};
 
-/// What holds of an installation when an entry is judged: the greatest load that can flow, in W, and its energy so
-/// far, in mWh.
+/// The terms by which a reading or an entry is judged: the ceiling, which is the greatest power
+/// that can flow, in W, and the energy so far, in mWh.
 #[derive(Clone, Copy, Debug, PartialEq, Eq)]
 pub struct Terms {
     pub ceiling: u64,
     pub total: u64,
 }
 
-/// What a meter told: the moment, in seconds since 1970-01-01 UTC, its counter, and the scale factor of the counter. A
-/// scale factor that is not implemented counts as 0.
+/// A meter's reading: the time in seconds since 1970-01-01 UTC, its counter, and the counter's
+/// scale factor. A scale factor that the device does not implement counts as 0.
 #[derive(Clone, Copy, Debug, PartialEq, Eq)]
 pub struct Reading {
     pub at: u64,
@@ -29,29 +29,29 @@ pub struct Reading {
     pub sf: i16,
 }
 
-/// Why a reading is held.
+/// Why a reading is rejected.
 #[derive(Clone, Copy, Debug, PartialEq, Eq)]
 pub enum Cause {
     /// The counter shows 0: SunSpec's value of an accumulator that does not count.
     NotAccumulated,
-    /// The scale factor is another than at the last entry.
+    /// The scale factor differs from that of the last entry.
     ScaleChanged,
-    /// The last entry is as late, or later.
+    /// The last entry has the same time or a later one.
     NotLater,
     /// The step would touch more than 3,000 intervals.
     SpanTooLong,
     /// The counter could have made a full turn.
     GapTooLong,
-    /// The counter went further than the ceiling allows.
+    /// The counter advanced further than the ceiling allows.
     TooFast,
-    /// The installation's energy would pass 4 * 10^18 mWh.
+    /// The total energy of the installation would exceed 4 * 10^18 mWh.
     TotalFull,
     /// The counter shows a number that is not below its range.
     NotBelowRange,
 }
 
 impl Cause {
-    /// The number under which the cause is printed and kept.
+    /// Returns the number under which the cause is printed and stored.
     pub fn number(self) -> u8
         ensures { result ≡ cause_number self }
     {
@@ -68,17 +68,18 @@ impl Cause {
     }
 }
 
-/// What becomes of a reading.
+/// The verdict on a reading.
 #[derive(Clone, Copy, Debug, PartialEq, Eq)]
 pub enum Verdict {
-    /// The reading is an entry: how often the counter turned over since the last one, 0 or 1, and the energy between,
-    /// in mWh.
+    /// The reading is an entry. `rolls` is how often the counter rolled over since the last entry,
+    /// 0 or 1. `step` is the energy between the two, in mWh.
     Accepted { rolls: u8, step: u64 },
-    /// The reading is no entry.
+    /// The reading is rejected, and is no entry.
     Held(Cause),
 }
 
-/// Whether a load of at most `ceiling` W can make a meter count this far in so many seconds.
+/// Returns whether a power of at most `ceiling` W can make a meter count this far in this many
+/// seconds.
 fn may_count(ceiling: u64, unit: u64, seconds: u64, count: u64) -> bool
     requires ceiling { ceiling ≤ MAX_CEILING }
     requires unit { unit ≤ MAX_UNIT }
@@ -89,7 +90,7 @@ fn may_count(ceiling: u64, unit: u64, seconds: u64, count: u64) -> bool
     count.saturating_sub(1) * unit * 18 <= ceiling * seconds * 5
 }
 
-/// How far a counter went from one number to another, if it made less than a full turn.
+/// Returns how far a counter advanced from one number to another, if it made less than a full turn.
 fn distance_between(range: u64, from: u64, to: u64) -> u64
     requires some { 0 < range }
     requires range { range ≤ MAX_RANGE }
@@ -105,7 +106,7 @@ fn distance_between(range: u64, from: u64, to: u64) -> u64
     }
 }
 
-/// What an accepted reading adds, in mWh, where the counter turned over so often.
+/// Returns the energy in mWh that an accepted reading adds, after this many rollovers.
 fn energy_to(range: u64, last: &Last, reading: &Reading, rolls: u8) -> u64
     requires range { range ≤ MAX_RANGE }
     requires from { last.now.raw < range }
@@ -124,7 +125,8 @@ fn energy_to(range: u64, last: &Last, reading: &Reading, rolls: u8) -> u64
     energy(range, last, &entry)
 }
 
-/// Accepts a reading or holds it for the first cause that applies, in the order 1, 2, 8, 3, 4, 5, 6, 7.
+/// Accepts a reading, or rejects it for the first cause that applies, in the order 1, 2, 8, 3, 4,
+/// 5, 6, 7.
 pub fn judge<C: Counter>(counter: &C, terms: &Terms, last: &Last, reading: &Reading) -> Verdict
     requires ceiling_low { 1 ≤ terms.now.ceiling }
     requires ceiling_high { terms.now.ceiling ≤ MAX_CEILING }

@@ -19,11 +19,11 @@ use Rattle.interval_core.proofs.OrderLemmas.{Earlier, Later, All-split, in_order
 use Rattle.interval_core.proofs.PlaceLemmas.{Other, same_day, other_day, absent, not_contained}
 use Rattle.interval_core.proofs.CountLemmas.{among, rows_on-same, rows_on-other, distinct_count-push, present, missing, energy-rows_on}
 
--- an account is what its rows come to
+-- An account is that of its rows.
 abbrev pub IsExact : Zone → List Share → DayAccount → Type 0
 IsExact zone rows account = account ≡ account_on zone rows account.day
 
--- whether the row's start is counted already
+-- The row's start is counted already.
 abbrev pub is_known : Zone → List Share → ℕ → Bool
 is_known zone rows start = among start (starts_of (rows_on zone rows (day_at zone start)))
 
@@ -48,7 +48,7 @@ ap_account : {count count' mwh mwh' : ℕ} (day : ℤ) → count ≡ count' → 
     → ◌≡◌ {A = DayAccount} (record { day = day; count = count; mwh = mwh }) (record { day = day; count = count'; mwh = mwh' })
 ap_account day same_count same_mwh = rw (same_count, same_mwh)
 
--- the accounts of other days stay exact
+-- The accounts of other days stay exact.
 others-exact : (zone : Zone) (rows : List Share) (row : Share) (accounts : List DayAccount) → All (IsExact zone rows) accounts → All (Other (day_at zone row.start)) accounts
     → All (IsExact zone (rows ++ row ∷ [])) accounts
 others-exact zone rows row accounts exact others = λ k d lt. exact k d lt ∙ sym (account-other zone rows row (get_or accounts k d).day (others k d lt))
@@ -56,20 +56,20 @@ others-exact zone rows row accounts exact others = λ k d lt. exact k d lt ∙ s
 days-between : (before : List DayAccount) (a : DayAccount) (after : List DayAccount) → days_of (before ++ a ∷ after) ≡ days_of before ++ a.day ∷ days_of after
 days-between before a after = map-append (λ (x : DayAccount). x.day) before (a ∷ after)
 
--- a day other than that of the row has rows where it had
+-- A day other than that of the row has rows if it had rows.
 same_rows : (zone : Zone) (rows : List Share) (row : Share) (day : ℤ) → day ≢ day_at zone row.start → length (rows_on zone (rows ++ row ∷ []) day) ≡ length (rows_on zone rows day)
 same_rows zone rows row day other = ap length (rows_on-other zone rows row day other)
 
--- and that of the row has one more
+-- The day of the row has one more.
 more_rows : (zone : Zone) (rows : List Share) (row : Share) → 0 < length (rows_on zone (rows ++ row ∷ []) (day_at zone row.start))
 more_rows zone rows row =
     rw rows_on-same (omega (arith, length-append (rows_on zone rows (day_at zone row.start)) (row ∷ [])))
 
--- the day itself is among the days
+-- The day itself is among the days.
 here-contained : (xs : List ℤ) (y : ℤ) (ys : List ℤ) → Contains (xs ++ y ∷ ys) y
 here-contained xs y ys = Contains-append_right xs (y ∷ ys) y (0, omega arith, refl)
 
--- a further element makes no other one an element
+-- A further element makes no other element a member.
 between-iff : (xs : List ℤ) (y : ℤ) (ys : List ℤ) (d : ℤ) → d ≢ y → Contains (xs ++ y ∷ ys) d ↔ Contains (xs ++ ys) d
 between-iff xs y ys d other = (
   λ contains. elim (Contains-append_cases xs (y ∷ ys) d contains) [
@@ -88,7 +88,7 @@ between-iff xs y ys d other = (
   ],
 )
 
--- by cases on whether a day is that of the row
+-- By cases on whether a day is that of the row.
 by_day_of : (P : ℤ → Type 0) (day : ℤ) → P day → ((d : ℤ) → d ≢ day → P d) → (d : ℤ) → P d
 by_day_of P day same other d =
     elim (cases_Bool (int_eq d day)) [
@@ -102,7 +102,7 @@ earlier-other day accounts earlier = λ k d lt same. let before = earlier k d lt
 later-other : (day : ℤ) (accounts : List DayAccount) → All (Later day) accounts → All (Other day) accounts
 later-other day accounts later = λ k d lt same. let after = later k d lt in omega (arith, signed_arith, after, same)
 
--- the account of the row's day is replaced by the one that the rows now come to
+-- The account of the row's day is replaced by that of its rows now.
 pub replaced : (zone : Zone) (rows : List Share) (row : Share) (before : List DayAccount) (a b : DayAccount) (after : List DayAccount)
     → AreAccounts zone rows (before ++ a ∷ after) → a.day ≡ day_at zone row.start → b ≡ account_on zone (rows ++ row ∷ []) (day_at zone row.start)
     → AreAccounts zone (rows ++ row ∷ []) (before ++ b ∷ after)
@@ -129,7 +129,7 @@ replaced zone rows row before a b after was same exact =
           (others-exact zone rows row after (All-tail (IsExact zone rows) a after parts.1) (later-other day after later)));
     }
 
--- a day without rows gets the account that its one row comes to
+-- A day without rows gets the account of its one row.
 pub inserted : (zone : Zone) (rows : List Share) (row : Share) (before : List DayAccount) (b : DayAccount) (after : List DayAccount)
     → AreAccounts zone rows (before ++ after) → All (Earlier (day_at zone row.start)) before → All (Later (day_at zone row.start)) after
     → b ≡ account_on zone (rows ++ row ∷ []) (day_at zone row.start) → AreAccounts zone (rows ++ row ∷ []) (before ++ b ∷ after)
@@ -190,7 +190,7 @@ begun zone rows row old new accounts begins =
     ap_account day refl (omega arith) ∙ sym (ap of_rows (rows_on-same zone rows row ∙ ap (λ (rs : List Share). rs ++ row ∷ []) none)) in
     rw begins.new_is (inserted zone rows row before b after was begins.earlier begins.later exact)
 
--- a start is known where it is the latest, and only there
+-- A start is known if and only if it is the latest.
 abbrev pub is_latest : Option ℕ → ℕ → Bool
 is_latest None start = false
 is_latest (Some latest) start = latest == start

@@ -1,4 +1,4 @@
--- What a fold keeps and shows after one more row.
+-- The invariant and the model of a fold after one more row.
 use Rattle.std.proofs.Common.{◌≡◌, ◌≢◌, ℕ, ◌+◌, ◌-◌, ◌^◌, ◌<◌, ◌≤◌, min, Bool, true, false, not, if◌then◌else◌, List, [], ◌∷◌, ◌++◌, map, length, get_or, take, refl, sym, ap, subst, ◌∙◌, inl, inr, ◌==◌, nat_eq, arith}
 use Rattle.std.specs.Prelude.{ℤ, All, Option, Some, None}
 use Rattle.std.specs.Option.{ForSome, option_eq}
@@ -18,18 +18,18 @@ use Rattle.interval_core.specs.Fold.{no_rows, HasTaken, IsSoundFold, IsAdded, Is
 use Rattle.interval_core.proofs.OrderLemmas.{All-split, in_order-changed, in_order-inserted}
 use Rattle.interval_core.proofs.AccountLemmas.{grown, begun, known-is, is_known, is_latest, latest-push}
 
--- what holds of the images holds of the elements
+-- What holds of the images holds of the elements.
 pub All-of_map : {X Y : Type 0} (P : Y → Type 0) (f : X → Y) (xs : List X) → All P (map f xs) → All (λ x. P (f x)) xs
 All-of_map P f xs all = λ k d lt. rw (← get_or-map f xs k d (f d) lt) (all k (f d) (rw (length-map xs f) lt))
 
--- no count of a day passes the number of starts so far
+-- No count of a day exceeds the number of starts so far.
 pub count-fits : (latest : Option ℕ) (totals : List DayTotal) → IsSoundFold (map account_of totals) latest → All (λ (total : DayTotal). total.count < 2 ^ 32 - 1) totals
 count-fits latest totals sound = λ k d lt.
     let P : DayAccount → Type 0 = λ a. a.count ≤ most_intervals latest in
     let small = All-of_map P account_of totals sound.counts k d lt in
     omega (arith, small, sound.moments)
 
--- the comparison of the latest start with another
+-- The comparison of the latest start with another.
 pub is_latest-eq : (latest : Option ℕ) (start : ℕ) → option_eq nat_eq latest (Some start) ≡ is_latest latest start
 is_latest-eq None start = refl
 is_latest-eq (Some latest) start = refl
@@ -37,7 +37,7 @@ is_latest-eq (Some latest) start = refl
 abbrev IsUpTo : ℕ → DayAccount → Type 0
 IsUpTo most account = account.count ≤ most
 
--- one more at a new start, and none at a known one
+-- One more at a new start, and none at a known one.
 count-more : (latest : Option ℕ) (start had : ℕ) → ForSome latest (λ l. l ≤ start) → had ≤ most_intervals latest → had + (if not (is_latest latest start) then 1 else 0) ≤ start + 1
 count-more None start had order bound = omega (arith, bound)
 count-more (Some latest) start had order bound =
@@ -105,7 +105,7 @@ taken-added zone rows row latest old new taken order fits (inr begins) = record 
   latest = latest-push rows latest row taken.latest order;
 }
 
--- nothing was taken yet
+-- Nothing was taken yet.
 pub taken-none : (zone : Zone) → HasTaken zone [] no_rows
 taken-none zone = record {
   accounts = record {
@@ -116,7 +116,7 @@ taken-none zone = record {
   latest = refl;
 }
 
--- rows in order go on at or after the latest start of those before
+-- Rows in order continue at or after the latest start of the earlier ones.
 pub latest-before : (rows : List Share) (i latest : ℕ) (d : Share) → IsNonDecreasingBy (λ (row : Share). row.start) rows → i < length rows
     → IsLatest (take i rows) (Some latest) → latest ≤ (get_or rows i d).start
 latest-before rows i latest d order within at =
@@ -129,6 +129,6 @@ latest-before rows i latest d order within at =
     let le : (get_or rows k d).start ≤ (get_or rows i d).start = order k i d (omega (arith, before)) within in
     omega (arith, le, is, ap start same)
 
--- one more row of those that are taken in order
+-- One more of the rows that are taken in order.
 pub energy-more : (rows : List Share) (i : ℕ) (d : Share) → i < length rows → energy_of (take (i + 1) rows) ≡ energy_of (take i rows) + (get_or rows i d).mwh
 energy-more rows i d within = sum_by_more (λ (row : Share). row.mwh) rows i d within

@@ -16,12 +16,12 @@ use Rattle.interval_core.proofs.PlaceLemmas.{Other, not_contained}
 use Rattle.interval_core.proofs.AccountLemmas.{IsExact, replaced, inserted}
 use Rattle.interval_core.proofs.FoldLemmas.{taken-none}
 
--- by cases on the order of two days
+-- By cases on the order of two days.
 by_order : {P : Type 0} (x y : ℤ) → (x <ℤ y → P) → (x ≡ y → P) → (y <ℤ x → P) → P
 by_order {P} x y less equal greater =
     elim (int_cmp x y) as (λ r. MatchOrdering r (x <ℤ y) (x ≡ y) (y <ℤ x) → P) [ Less ↦ less | Equal ↦ equal | Greater ↦ greater ] (int_ranks x y)
 
--- ---- there is one: a day has its account among others, or none
+-- ---- a list exists: a day has its account among others, or none
 
 record Among (day : ℤ) (accounts : List DayAccount) : Type 0 where
   pub before : List DayAccount
@@ -86,12 +86,12 @@ more zone done (row ∷ rows) so_far =
 pub exists_for : (zone : Zone) (rows : List Share) → (accounts : List DayAccount) × AreAccounts zone rows accounts
 exists_for zone rows = more zone [] rows ([], (taken-none zone).accounts)
 
--- ---- and no other
+-- ---- no other list exists
 
 first-contained : (a : DayAccount) (accounts : List DayAccount) → Contains (days_of (a ∷ accounts)) a.day
 first-contained a accounts = (0, omega arith, refl)
 
--- a day before all has no account
+-- A day before all has no account.
 before-all : (day : ℤ) (a : DayAccount) (accounts : List DayAccount) → AreInOrder (a ∷ accounts) → day <ℤ a.day → Contains (days_of (a ∷ accounts)) day → ⊥
 before-all day a accounts order lt =
     not_contained day (a ∷ accounts) (All-cons (Other day) a accounts
@@ -101,7 +101,7 @@ before-all day a accounts order lt =
 none-contained : (day : ℤ) → Contains (days_of []) day → ⊥
 none-contained day contains = omega (arith, contains.1)
 
--- the days after the first are those of the rest
+-- The days after the first are those of the rest.
 following : (a b : DayAccount) (xs ys : List DayAccount) → a.day ≡ b.day → AreInOrder (a ∷ xs) → (d : ℤ)
     → (Contains (days_of (a ∷ xs)) d → Contains (days_of (b ∷ ys)) d) → Contains (days_of xs) d → Contains (days_of ys) d
 following a b xs ys same order d into contains =

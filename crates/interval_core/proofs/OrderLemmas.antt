@@ -8,14 +8,14 @@ use Rattle.jiff.proofs.SpanFacts.{signed_arith}
 use Rattle.std.proofs.lemmas.List.Elements.{All-nil, All-cons, All-head, All-tail, All-append, All-get_or}
 use Rattle.interval_core.specs.Days.{DayAccount, AreInOrder}
 
--- an account of an earlier day, and of a later one
+-- An account of an earlier day, and of a later one.
 abbrev pub Earlier : ℤ → DayAccount → Type 0
 Earlier day account = account.day <ℤ day
 
 abbrev pub Later : ℤ → DayAccount → Type 0
 Later day account = day <ℤ account.day
 
--- those up to one of an earlier day are of earlier days
+-- The accounts before one of an earlier day are of earlier days.
 pub earlier-take : (day : ℤ) (accounts : List DayAccount) (place : ℕ) (d : DayAccount) → AreInOrder accounts → place < length accounts
     → (get_or accounts place d).day <ℤ day → All (Earlier day) (take (suc place) accounts)
 earlier-take day [] place d order within last = absurd (omega arith)
@@ -24,14 +24,14 @@ earlier-take day (a ∷ rest) (suc place) d order within last =
     let here : a.day <ℤ (get_or rest place d).day = All-get_or (Later a.day) rest place d (omega arith) order.0 in
     All-cons (Earlier day) a (take (suc place) rest) (omega (arith, signed_arith, here, last)) (earlier-take day rest place d order.1 (omega arith) last)
 
--- what holds of all holds of the parts
+-- What holds of all holds of the parts.
 pub All-split : {X : Type 0} (P : X → Type 0) (xs ys : List X) → All P (xs ++ ys) → All P xs × All P ys
 All-split P [] ys all = (All-nil P, all)
 All-split P (x ∷ xs) ys all =
     let tail = All-split P xs ys (All-tail P x (xs ++ ys) all) in
     (All-cons P x xs (All-head P x (xs ++ ys) all) tail.0, tail.1)
 
--- an account between others
+-- An account between others.
 pub in_order-between : (before : List DayAccount) (a : DayAccount) (after : List DayAccount) → AreInOrder (before ++ a ∷ after)
     → All (Earlier a.day) before × All (Later a.day) after
 in_order-between [] a after order = (All-nil (Earlier a.day), order.0)
@@ -40,7 +40,7 @@ in_order-between (b ∷ before) a after order =
     let parts = All-split (Later b.day) before (a ∷ after) order.0 in
     (All-cons (Earlier a.day) b before (All-head (Later b.day) a after parts.1) tail.0, tail.1)
 
--- another account of the day in its place
+-- Another account of the day instead of the old one.
 pub in_order-changed : (before : List DayAccount) (a b : DayAccount) (after : List DayAccount) → b.day ≡ a.day → AreInOrder (before ++ a ∷ after)
     → AreInOrder (before ++ b ∷ after)
 in_order-changed [] a b after same order = (rw same order.0, order.1)
@@ -51,7 +51,7 @@ in_order-changed (x ∷ before) a b after same order =
       in_order-changed before a b after same order.1,
     )
 
--- a new account, after those of earlier days and before those of later ones
+-- A new account, after those of earlier days and before those of later ones.
 pub in_order-inserted : (before : List DayAccount) (a : DayAccount) (after : List DayAccount) → All (Earlier a.day) before → All (Later a.day) after
     → AreInOrder (before ++ after) → AreInOrder (before ++ a ∷ after)
 in_order-inserted [] a after earlier later order = (later, order)
@@ -61,7 +61,7 @@ in_order-inserted (x ∷ before) a after earlier later order =
       in_order-inserted before a after (All-tail (Earlier a.day) x before earlier) later order.1,
     )
 
--- what a comparison says
+-- The meaning of a comparison.
 pub le_from_cmp : (x y : ℤ) → is_le (int_cmp x y) ≡ true → x ≤ℤ y
 le_from_cmp x y test =
     elim (int_cmp x y) as (λ r. MatchOrdering r (x <ℤ y) (x ≡ y) (y <ℤ x) → is_le r ≡ true → x ≤ℤ y) [

@@ -36,7 +36,7 @@ sum_moved : (p : Share → Bool) (w : Share → ℕ) (rows others : List Share) 
 sum_moved p w rows others h =
     omega (arith, sum_passing p w rows, sum_passing p w others, sum_by-IsPermutation (if_passes p w) rows others h)
 
--- ---- how many different starts there are, counted start by start
+-- ---- the number of different starts, counted start by start
 
 abbrev is_at : ℕ → Share → ℕ
 is_at start row = cond (row.start == start) 1 0
@@ -49,7 +49,7 @@ abbrev counted : (bound : ℕ) → List Share → ℕ
 counted zero rows = 0
 counted (suc start) rows = one_if_some (sum_by (is_at start) rows) + counted start rows
 
--- a start is there where a row is
+-- A start is in the list if and only if a row has it.
 there_or_not : (start : ℕ) (rows : List Share) → one_if_some (sum_by (is_at start) rows) ≡ cond (list_any (λ m. m == start) (starts_of rows)) 1 0
 there_or_not start [] = refl
 there_or_not start (row ∷ rows) =

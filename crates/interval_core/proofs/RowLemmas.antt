@@ -17,7 +17,7 @@ use Rattle.interval_core.proofs.SumLemmas.{running-from, running-till}
 abbrev IsStartFrom : ℕ → ℕ → Type 0
 IsStartFrom bound start = (bound ≤ start) × (start % 900 ≡ 0)
 
--- the first interval at or after a bound that the step touches, unless it is over there
+-- The first interval at or after a bound that the step touches, unless it has ended there.
 abbrev first_from : Step → ℕ → ℕ
 first_from step bound = max bound (step.from / 900 * 900)
 
@@ -28,13 +28,13 @@ touched-first step bound forward whole before =
       | inr ge ↦ let is : first_from step bound ≡ bound = omega (arith, ge) in rw is (whole, before, omega (arith, ge))
     ]
 
--- all starts of a list are at or after the first
+-- All starts of a list are at or after the first.
 not_before : (x : ℕ) (xs : List ℕ) (t : ℕ) → IsAscending (x ∷ xs) → Contains (x ∷ xs) t → x ≤ t
 not_before x xs t order contains =
     let P : ℕ → Type 0 = λ y. x ≤ y in
     All-contains P (x ∷ xs) t (All-cons P x xs (omega arith) (λ k d lt. let later = order.0 k d lt in omega (arith, later))) contains
 
--- a start that is not the first is one of the others
+-- A start that is not the first is among the others.
 in_rest : (x : ℕ) (xs : List ℕ) (t : ℕ) → x < t → Contains (x ∷ xs) t → Contains xs t
 in_rest x xs t lt contains =
     elim (Contains-append_cases (x ∷ []) xs t contains) [
@@ -45,7 +45,8 @@ in_rest x xs t lt contains =
       | inr there ↦ there
     ]
 
--- The shares at rising starts that have all touched ones from a bound on are what the running energy gains from there.
+-- If rising starts contain all touched ones from a bound on, their shares are what the running
+-- energy gains from there.
 energy-from : (step : Step) (xs : List ℕ) (bound : ℕ) → step.from < step.till → bound % 900 ≡ 0 → IsAscending xs → All (IsStartFrom bound) xs
     → ((t : ℕ) → bound ≤ t → Touches step t → Contains xs t)
     → sum_by (share_at step) xs ≡ running_energy step step.till - running_energy step (min (max bound step.from) step.till)
@@ -120,7 +121,7 @@ sum-plus {X} f g (x ∷ xs) =
     let rest = sum-plus f g xs in
     omega (arith, sum_by-cons both x xs, sum_by-cons f x xs, sum_by-cons g x xs, rest)
 
--- a sum of sums, the other way round
+-- A sum of sums, in the other order.
 swapped : {X Y : Type 0} (f : X → Y → ℕ) (xs : List X) (ys : List Y) → sum_by (λ x. sum_by (f x) ys) xs ≡ sum_by (λ y. sum_by (λ x. f x y) xs) ys
 swapped f [] ys = sym (sum-zero ys)
 swapped {X} {Y} f (x ∷ xs) ys =

@@ -1,24 +1,24 @@
--- Worked examples, computed by the definitions.
+-- Worked examples, computed from the definitions.
 use Rattle.std.proofs.Common.{◌≡◌, [], ◌∷◌, refl}
 use Rattle.interval_core.specs.Share.{shares_of}
 use Rattle.interval_core.specs.Days.{distinct_count}
 
--- 1000 mWh over three intervals
+-- 1000 mWh over three intervals.
 over_three : shares_of (record { from = 800; till = 2000; mwh = 1000 }) ≡ record { start = 0; mwh = 83 } ∷ record { start = 900; mwh = 750 } ∷ record { start = 1800; mwh = 167 } ∷ []
 over_three = refl
 
--- 200 Wh from 100 seconds after the start of an interval to its end and 100 seconds on
+-- 200 Wh from 100 seconds after the start of an interval to 100 seconds after its end.
 over_two : shares_of (record { from = 1000; till = 1900; mwh = 200000 }) ≡ record { start = 900; mwh = 177777 } ∷ record { start = 1800; mwh = 22223 } ∷ []
 over_two = refl
 
--- from one start of an interval to another
+-- From one start of an interval to another.
 on_starts : shares_of (record { from = 900; till = 2700; mwh = 11 }) ≡ record { start = 900; mwh = 5 } ∷ record { start = 1800; mwh = 6 } ∷ []
 on_starts = refl
 
--- shares of nothing
+-- Shares of no energy.
 nothing : shares_of (record { from = 0; till = 1800; mwh = 0 }) ≡ record { start = 0; mwh = 0 } ∷ record { start = 900; mwh = 0 } ∷ []
 nothing = refl
 
--- an interval with rows of two meters counts once
+-- An interval with rows of two meters counts once.
 once : distinct_count (900 ∷ 1800 ∷ 2700 ∷ 2700 ∷ 3600 ∷ []) ≡ 4
 once = refl

@@ -6,7 +6,7 @@ use Rattle.std.proofs.lemmas.Nat.{le-div}
 use Rattle.energy_core.specs.declared.entries.Step.{Step}
 use Rattle.interval_core.specs.Share.{running_energy}
 
--- so many mWh for each second, and what is left over spread over all
+-- The energy of each second, and the rest spread over all.
 pub running-split : (each rest seconds passed : ℕ) → 0 < seconds → each * passed + rest * passed / seconds ≡ (each * seconds + rest) * passed / seconds
 running-split each rest seconds passed some =
     sym (mul-add-div_right some (each * passed) (rest * passed))
@@ -15,13 +15,13 @@ running-split each rest seconds passed some =
 pub div_mono : (a b n : ℕ) → 0 < n → a ≤ b → a / n ≤ b / n
 div_mono a b n some le = le-div (a / n) b n some (omega (arith, div-mul-le_self a n))
 
--- it never falls
+-- The running energy never falls.
 pub running_mono : (step : Step) (a b : ℕ) → step.from < step.till → a ≤ b → running_energy step a ≤ running_energy step b
 running_mono step a b forward le =
     let order : a - step.from ≤ b - step.from = omega arith in
     div_mono (step.mwh * (a - step.from)) (step.mwh * (b - step.from)) (step.till - step.from) (omega arith) (mul-le-mul_left step.mwh order)
 
--- the shares that are left begin with the next one
+-- The shares that are left begin with the next one.
 pub left-next : {X : Type 0} (f : ℕ → X) (next end : ℕ) → next < end → map f (range_with_len next (end - next)) ≡ f next ∷ map f (range_with_len (next + 1) (end - (next + 1)))
 left-next f next end lt =
     let one_more : end - next ≡ suc (end - (next + 1)) = omega arith in

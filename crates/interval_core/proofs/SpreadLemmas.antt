@@ -20,7 +20,7 @@ starts-left : (step : Step) (count next : ℕ) → starts_of (map (share_of step
 starts-left step zero next = refl
 starts-left step (suc count) next = ap (λ (l : List ℕ). next * 900 ∷ l) (starts-left step count (next + 1))
 
--- the starts rise
+-- The starts rise.
 rising : (count next : ℕ) → IsAscending (map start_of (range_with_len next count))
 rising zero next = tt
 rising (suc count) next =
@@ -52,7 +52,7 @@ touched-starts step start forward =
           ),
     )
 
--- before and after the step nothing is gained
+-- Outside the step nothing is gained.
 outside-zero : (step : Step) (start : ℕ) → step.from < step.till → (start + 900 ≤ step.from) ⊎ (step.till ≤ start) → share_at step start ≡ 0
 outside-zero step start forward (inl before) =
     let up = running_mono step (min (start + 900) step.till) (max start step.from) forward (omega (arith, before)) in

@@ -5,24 +5,26 @@ use Rattle.energy_core.specs.declared.limits.TheConstants.{INTERVAL_SECONDS}
 use Rattle.interval_core.specs.declared.shares.Share.{Share}
 use Rattle.interval_core.specs.Share.{share_at, shares_of}
 
--- A step touches the interval from `start`: they have a second in common.
+-- The step touches the interval from `start`: they have a second in common.
 abbrev pub Touches : Step → ℕ → Type 0
 Touches step start = (start % INTERVAL_SECONDS ≡ 0) × (start < step.till)
     × (step.from < start + INTERVAL_SECONDS)
 
+-- The starts of interval rows.
 abbrev pub starts_of : List Share → List ℕ
 starts_of rows = map (λ row. row.start) rows
 
+-- The energy of interval rows in mWh.
 abbrev pub energy_of : List Share → ℕ
 energy_of rows = sum_by (λ row. row.mwh) rows
 
--- each is less than all after it
+-- Each number is less than all after it.
 abbrev pub IsAscending : List ℕ → Type 0
 IsAscending [] = Unit {0}
 IsAscending (n ∷ ns) = All (λ later. n < later) ns × IsAscending ns
 
--- One share for each interval that the step touches, in order; together they are its energy. Before and after the
--- step a share is 0.
+-- One share for each interval that the step touches, in order. The shares add up to the energy of
+-- the step. Before and after the step, a share is 0.
 pub record IsSpread (step : Step) (shares : List Share) : Type 0 where
   pub in_order : IsAscending (starts_of shares)
   pub touched : (start : ℕ) → Contains (starts_of shares) start ↔ Touches step start
@@ -31,18 +33,19 @@ pub record IsSpread (step : Step) (shares : List Share) : Type 0 where
       → share_at step start ≡ 0
   pub whole : energy_of shares ≡ step.mwh
 
--- The shares of every step are such.
+-- The shares of every step are spread so.
 abbrev pub SharesAddUp : Type 0
 SharesAddUp = (step : Step) → step.from < step.till → IsSpread step (shares_of step)
 
--- One row for each interval that a step touches, in order: the sum of the shares of all steps there.
+-- One row for each interval that a step touches, in order: the sum of the shares of all steps
+-- there.
 pub record IsAccount (steps : List Step) (rows : List Share) : Type 0 where
   pub in_order : IsAscending (starts_of rows)
   pub touched : (start : ℕ)
       → Contains (starts_of rows) start ↔ Any (λ step. Touches step start) steps
   pub each : All (λ row. row.mwh ≡ sum_by (λ step. share_at step row.start) steps) rows
 
--- The energy of all rows together is that of the steps.
+-- The energy of all rows together is the energy of the steps.
 abbrev pub AccountsAddUp : Type 0
 AccountsAddUp = (steps : List Step) (rows : List Share) → All (λ step. step.from < step.till) steps
     → IsAccount steps rows

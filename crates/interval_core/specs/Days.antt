@@ -1,4 +1,4 @@
--- What the interval rows of a register come to, civil day by civil day.
+-- The energy of the interval rows of a register, by civil day.
 use Rattle.std.specs.Prelude.{◌≡◌, ◌↔◌, ℕ, ℤ, ◌+◌, ◌<◌, ◌<ℤ◌, ◌==◌, if◌then◌else◌, List, [], ◌∷◌, map, filter, length, All, Contains}
 use Rattle.std.specs.List.{list_any}
 use Rattle.std.specs.List.Sorted.{IsPermutation}
@@ -10,15 +10,17 @@ use Rattle.interval_core.specs.declared.zone.Zone.{Zone}
 use Rattle.interval_core.specs.Account.{starts_of, energy_of}
 use Rattle.interval_core.specs.Zone.{day_at}
 
--- a day, counted from 1970-01-01, how many intervals it has, and its energy in mWh
+-- A day, counted from 1970-01-01, the number of its intervals, and its energy in mWh.
 pub record DayAccount : Type 0 where
   pub day : ℤ
   pub count : ℕ
   pub mwh : ℕ
 
+-- The account of a day's total.
 abbrev pub account_of : DayTotal → DayAccount
 account_of total = record { day = epoch_day total.day; count = total.count; mwh = total.mwh }
 
+-- The days of accounts.
 abbrev pub days_of : List DayAccount → List ℤ
 days_of accounts = map (λ account. account.day) accounts
 
@@ -26,7 +28,7 @@ days_of accounts = map (λ account. account.day) accounts
 abbrev pub rows_on : Zone → List Share → ℤ → List Share
 rows_on zone rows day = filter (λ row. int_eq (day_at zone row.start) day) rows
 
--- how many different numbers a list has
+-- The number of different numbers in a list.
 abbrev pub distinct_count : List ℕ → ℕ
 distinct_count [] = 0
 distinct_count (n ∷ ns) = (if list_any (λ m. m == n) ns then 0 else 1) + distinct_count ns
@@ -39,25 +41,25 @@ account_on zone rows day = record {
   mwh = energy_of (rows_on zone rows day);
 }
 
--- each account is of an earlier day than those after it
+-- The day of each account is before the days of all accounts after it.
 abbrev pub AreInOrder : List DayAccount → Type 0
 AreInOrder [] = Unit {0}
 AreInOrder (account ∷ accounts) =
     All (λ later. account.day <ℤ later.day) accounts × AreInOrder accounts
 
--- One account for each day on which a row falls, in order.
+-- One account for each day on which a row begins, in order.
 pub record AreAccounts (zone : Zone) (rows : List Share) (accounts : List DayAccount) : Type 0 where
   pub in_order : AreInOrder accounts
   pub complete : (day : ℤ) → Contains (days_of accounts) day ↔ (0 < length (rows_on zone rows day))
   pub each : All (λ account. account ≡ account_on zone rows account.day) accounts
 
--- Whatever the rows, there is exactly one such list.
+-- Any rows have exactly one list of accounts.
 abbrev pub AccountsAreOne : Type 0
 AccountsAreOne = (zone : Zone) (rows : List Share)
     → (accounts : List DayAccount) × AreAccounts zone rows accounts
     × ((others : List DayAccount) → AreAccounts zone rows others → others ≡ accounts)
 
--- The order of the rows doesn't matter.
+-- The order of the rows does not matter.
 abbrev pub AccountsIgnoreOrder : Type 0
 AccountsIgnoreOrder = (zone : Zone) (rows others : List Share) (accounts : List DayAccount)
     → AreAccounts zone rows accounts

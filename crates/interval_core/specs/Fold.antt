@@ -1,4 +1,4 @@
--- A fold that is given rows one by one.
+-- A fold that takes rows one by one.
 use Rattle.std.specs.Prelude.{◌≡◌, ℕ, ℤ, ◌+◌, ◌-◌, ◌≤◌, ◌<◌, ◌<ℤ◌, ◌≤ℤ◌, ◌^◌, min, Option, Some, None, MatchOption, List, [], ◌∷◌, ◌++◌, length, take, drop, All, Contains, Bool, if◌then◌else◌, ◌⊎◌, Result, OnOk}
 use Rattle.std.specs.List.{HoldsAt}
 use Rattle.interval_core.specs.declared.day.DayFault.{DayFault}
@@ -8,60 +8,61 @@ use Rattle.interval_core.specs.declared.zone.Zone.{Zone}
 use Rattle.interval_core.specs.Account.{energy_of, starts_of}
 use Rattle.interval_core.specs.Days.{DayAccount, AreAccounts, AreInOrder}
 
--- what a fold shows: the accounts so far, and the start of the latest row
+-- The model of a fold: the accounts so far, and the start of the latest row.
 pub record FoldState : Type 0 where
   pub accounts : List DayAccount
   pub latest : Option ℕ
 
+-- A fold without rows.
 abbrev pub no_rows : FoldState
 no_rows = record { accounts = []; latest = None }
 
--- no row starts later, and one starts then
+-- The latest start of these rows, or `None` if there are no rows.
 abbrev pub IsLatest : List Share → Option ℕ → Type 0
 IsLatest rows latest =
     MatchOption latest (rows ≡ [])
     (λ start. Contains (starts_of rows) start × All (λ row. row.start ≤ start) rows)
 
--- The fold was given these rows, by the clocks of one zone.
+-- The fold took these rows, with the days of one zone.
 pub record HasTaken (zone : Zone) (rows : List Share) (fold : FoldState) : Type 0 where
   pub accounts : AreAccounts zone rows fold.accounts
   pub latest : IsLatest rows fold.latest
 
--- Whatever rows the fold was given, it has this one after them where the push was Ok.
+-- After any rows that the fold took, a successful `push` adds this row to them.
 abbrev pub TakesRow : Zone → Share → (old : FoldState) → Result (Unit {0}) DayFault
     → (new : FoldState) → Type 0
 TakesRow zone row old answer new = (rows : List Share) → HasTaken zone rows old
     → energy_of rows + row.mwh < 2 ^ 128
     → OnOk answer (HasTaken zone (rows ++ row ∷ []) new)
 
--- how many intervals a day can have so far: no more than there were seconds
+-- The greatest number of intervals that a day can have so far: one for each second.
 abbrev pub most_intervals : Option ℕ → ℕ
 most_intervals None = 0
 most_intervals (Some start) = start + 1
 
--- what each fold keeps
+-- The invariant of a fold.
 pub record IsSoundFold (accounts : List DayAccount) (latest : Option ℕ) : Type 0 where
   pub in_order : AreInOrder accounts
   pub counts : All (λ account. account.count ≤ most_intervals latest) accounts
   pub moments : most_intervals latest ≤ LAST_MOMENT + 1
 
--- the place of a day among accounts: those before it are of earlier days, the others are not
+-- The index of a day among accounts: those before it are of earlier days, and the others are not.
 pub record IsPlace (day : ℤ) (accounts : List DayAccount) (place : ℕ) : Type 0 where
   pub earlier : All (λ account. account.day <ℤ day) (take place accounts)
   pub others : All (λ account. day ≤ℤ account.day) (drop place accounts)
 
--- the day has its account at the place
+-- The account of the day is at this index.
 abbrev pub HoldsDay : ℤ → List DayAccount → ℕ → Type 0
 HoldsDay day accounts place =
     (place < length accounts) × HoldsAt (λ account. account.day ≡ day) accounts place
 
--- the day has none: those before the place are of earlier days, the others of later ones
+-- The day has no account: those before the index are of earlier days, and the others of later ones.
 pub record IsGap (day : ℤ) (accounts : List DayAccount) (place : ℕ) : Type 0 where
   pub within : place ≤ length accounts
   pub earlier : All (λ account. account.day <ℤ day) (take place accounts)
   pub later : All (λ account. day <ℤ account.day) (drop place accounts)
 
--- the day had an account, and has more now; its energy stays at 2 ^ 128 - 1
+-- The day had an account, which grows. Its energy saturates at 2 ^ 128 - 1.
 pub record Grows (day : ℤ) (count mwh : ℕ) (old new : List DayAccount) : Type 0 where
   pub before : List DayAccount
   pub after : List DayAccount
@@ -75,7 +76,7 @@ pub record Grows (day : ℤ) (count mwh : ℕ) (old new : List DayAccount) : Typ
         mwh = min (had_mwh + mwh) (2 ^ 128 - 1);
       } ∷ after
 
--- the day had no account, and has one now
+-- The day had no account, and now has one.
 pub record Begins (day : ℤ) (mwh : ℕ) (old new : List DayAccount) : Type 0 where
   pub before : List DayAccount
   pub after : List DayAccount
@@ -84,7 +85,7 @@ pub record Begins (day : ℤ) (mwh : ℕ) (old new : List DayAccount) : Type 0 w
   pub old_is : old ≡ before ++ after
   pub new_is : new ≡ before ++ record { day = day; count = 1; mwh = mwh } ∷ after
 
--- a row came to the day
+-- A row was added to the day.
 abbrev pub IsAdded : ℤ → Bool → ℕ → List DayAccount → List DayAccount → Type 0
 IsAdded day is_new mwh old new =
     Grows day (if is_new then 1 else 0) mwh old new ⊎ Begins day mwh old new

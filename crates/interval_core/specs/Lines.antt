@@ -1,23 +1,23 @@
--- The lines of a report: interval rows or days in their order, and then how many there are.
+-- The lines of a report: interval rows or days in order, and then their number.
 use Rattle.std.specs.Prelude.{ℕ, List, [], ◌∷◌, ◌++◌, length, flat_map, codes}
 use Rattle.std.specs.Fmt.{decimal}
 pub use Rattle.interval_core.specs.Report.{day_line}
 use Rattle.interval_core.specs.declared.shares.Share.{Share}
 use Rattle.interval_core.specs.declared.totals.DayTotal.{DayTotal}
 
--- The start of an interval, in seconds since 1970-01-01 UTC, and its energy in mWh, with a space (32) between and a
--- line feed (10) at the end.
+-- A line with the start of an interval, in seconds since 1970-01-01 UTC, a space (32), its energy
+-- in mWh, and a line feed (10).
 abbrev pub share_line : Share → List ℕ
 share_line row = decimal row.start ++ 32 ∷ (decimal row.mwh ++ 10 ∷ [])
 
--- how many rows there are
+-- The last line, with the number of rows.
 abbrev pub end_line : ℕ → List ℕ
 end_line count = codes "end " ++ decimal count ++ codes "\n"
 
--- the interval rows of a meter
+-- The interval rows of a meter, as text.
 abbrev pub intervals_text : List Share → List ℕ
 intervals_text rows = flat_map share_line rows ++ end_line (length rows)
 
--- the days of a register
+-- The days of a register, as text.
 abbrev pub days_text : List DayTotal → List ℕ
 days_text days = flat_map day_line days ++ end_line (length days)

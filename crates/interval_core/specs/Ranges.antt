@@ -1,4 +1,4 @@
--- Which civil days a range has.
+-- The civil days of a range.
 use Rattle.std.specs.Prelude.{ℕ, ℤ, nat_le, Bool, true, false, not, ◌&&◌, Option, Some, None, List, filter}
 use Rattle.std.specs.Ordering.{int_cmp, is_le, is_lt}
 use Rattle.jiff_core.specs.declared.civil.date.Date.{Date}
@@ -9,48 +9,53 @@ use Rattle.interval_core.specs.declared.totals.DayTotal.{DayTotal}
 use Rattle.interval_core.specs.declared.zone.Zone.{Zone}
 use Rattle.interval_core.specs.declared.day_range.DayRange.{DayRange}
 
--- A range that begins so has begun by the day: that day is the first one that it has.
+-- A range with this first day has begun by the day.
 abbrev pub begins_by : (from : Option Date) → Date → Bool
 begins_by None day = true
 begins_by (Some from) day = is_le (int_cmp (epoch_day from) (epoch_day day))
 
--- A range that ends so ends after the day: that day is the first one after it.
+-- A range with this end ends after the day.
 abbrev pub ends_after : (till : Option Date) → Date → Bool
 ends_after None day = true
 ends_after (Some till) day = is_lt (int_cmp (epoch_day day) (epoch_day till))
 
+-- The day is in the range.
 abbrev pub is_in : DayRange → Date → Bool
 is_in range day = begins_by range.from day && ends_after range.till day
 
+-- The range of all days.
 abbrev pub all_days : DayRange
 all_days = record { from = None; till = None }
 
--- it ends before it begins
+-- The end is before the beginning.
 abbrev pub ends_before : (from till : Option Date) → Bool
 ends_before from None = false
 ends_before from (Some till) = not (begins_by from till)
 
+-- The range ends before it begins.
 abbrev pub is_backward : DayRange → Bool
 is_backward range = ends_before range.from range.till
 
--- The days of a list that a range has, in their order.
+-- The days of a list that are in the range, in their order.
 abbrev pub days_in : DayRange → List DayTotal → List DayTotal
 days_in range days = filter (λ total. is_in range total.day) days
 
--- ---- moments
+-- ---- times
 
--- The same of a day that is counted from 1970-01-01.
+-- The same by the number of a day, counted from 1970-01-01.
 abbrev pub begins_by_number : (from : Option Date) → ℤ → Bool
 begins_by_number None day = true
 begins_by_number (Some from) day = is_le (int_cmp (epoch_day from) day)
 
+-- The same by the number of a day, counted from 1970-01-01.
 abbrev pub ends_after_number : (till : Option Date) → ℤ → Bool
 ends_after_number None day = true
 ends_after_number (Some till) day = is_lt (int_cmp day (epoch_day till))
 
+-- The day with this number is in the range.
 abbrev pub has_day : DayRange → ℤ → Bool
 has_day range day = begins_by_number range.from day && ends_after_number range.till day
 
--- A range has the moments of its days, by the clocks of a zone. One past the last moment has no day.
+-- The day of a time in the zone is in the range. A time after the last one has no day.
 abbrev pub has_moment : Zone → DayRange → (moment : ℕ) → Bool
 has_moment zone range moment = nat_le moment LAST_MOMENT && has_day range (day_at zone moment)

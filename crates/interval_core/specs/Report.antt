@@ -4,11 +4,12 @@ use Rattle.std.specs.Fmt.{decimal}
 use Rattle.jiff.specs.Words.{date_text}
 use Rattle.interval_core.specs.declared.totals.DayTotal.{DayTotal}
 
--- a text with so many spaces before it that it takes the width
+-- A text, right-aligned in this width with spaces.
 abbrev pub right : ℕ → List ℕ → List ℕ
 right width text = replicate (width - length text) 32 ++ text
 
--- the day, its count right in 3 places and its energy right in 24, with a space (32) between and a line feed (10) at the end
+-- A line with the day, its count right-aligned in 3 columns, and its energy right-aligned in 24.
+-- Spaces (32) separate them, and a line feed (10) ends the line.
 abbrev pub day_line : DayTotal → List ℕ
 day_line total =
     date_text total.day ++ 32

@@ -1,5 +1,5 @@
--- How the energy of a step is spread over the intervals that it touches. An interval
--- begins at a multiple of its seconds: the one with the number n at n times so many.
+-- How the energy of a step is spread over the intervals that it touches. The interval with the
+-- number n begins at n times the seconds of an interval.
 use Rattle.std.specs.Prelude.{ℕ, ◌+◌, ◌-◌, ◌*◌, ◌/◌, min, max, List, map}
 use Rattle.std.specs.List.{range_with_len}
 use Rattle.energy_core.specs.Account.{intervals_touched}
@@ -7,16 +7,17 @@ use Rattle.energy_core.specs.declared.entries.Step.{Step}
 use Rattle.energy_core.specs.declared.limits.TheConstants.{INTERVAL_SECONDS}
 use Rattle.interval_core.specs.declared.shares.Share.{Share}
 
--- The energy of a step up to a moment, spread evenly over its seconds and rounded down to whole mWh.
+-- The energy of a step up to a time, spread evenly over its seconds and rounded down to whole mWh.
 abbrev pub running_energy : Step → ℕ → ℕ
 running_energy step moment = step.mwh * (moment - step.from) / (step.till - step.from)
 
--- The share of the interval from `start`: what the running energy gains within it.
+-- The share of the interval from `start`: the running energy that the step gains within it.
 abbrev pub share_at : Step → ℕ → ℕ
 share_at step start =
     running_energy step (min (start + INTERVAL_SECONDS) step.till)
     - running_energy step (max start step.from)
 
+-- The share of the interval with this number.
 abbrev pub share_of : Step → ℕ → Share
 share_of step interval = let start = interval * INTERVAL_SECONDS in
     record { start = start; mwh = share_at step start }

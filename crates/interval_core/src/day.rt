@@ -1,4 +1,4 @@
-//! Civil days by the clocks of a zone.
+//! Civil days of a time zone.
 ghost use Rattle.std.specs.Prelude.{◌≡◌, ◌≤◌, IsOk, IfOk};
 ghost use Rattle.jiff.specs.Words.{epoch_day};
 ghost use Rattle.interval_core.specs.Zone.{day_at};
@@ -13,17 +13,17 @@ use std::error::Error;
 use std::fmt;
 use std::fmt::{Display, Formatter};
 
-/// Why a moment has no civil day.
+/// Why a time has no civil day.
 #[derive(Clone, Copy, Debug, PartialEq, Eq)]
 pub enum DayFault {
-    /// The calendar has no such instant. It never comes at a moment up to `LAST_MOMENT`.
+    /// The calendar has no such instant. Never returned for a time up to `LAST_MOMENT`.
     Zone,
-    /// Memory is wanting.
+    /// Out of memory.
     Memory,
 }
 
 impl DayFault {
-    /// The number of the fault, from 1. The program neither prints nor keeps it.
+    /// Returns the fault's number, from 1. The program does not print or store it.
     pub fn number(self) -> u8
         ensures { result ≡ day_fault_number self }
     {
@@ -55,7 +55,7 @@ impl Display for DayFault {
 
 impl Error for DayFault {}
 
-/// The civil day of the moment `start`, in seconds since 1970-01-01 UTC, by the clocks of the zone.
+/// Returns the civil day of `start` in the zone, in seconds since 1970-01-01 UTC.
 pub fn day_of(zone: &Zone, start: u64) -> Result<Date, DayFault>
     requires { start ≤ LAST_MOMENT }
     ensures succeeds { IsOk result }

@@ -7,7 +7,7 @@ use crate::limits::LAST_MOMENT;
 use crate::zone::Zone;
 use jiff::civil::Date;
 
-/// The civil days from one on until another, which is none of them. Without the one or the other there is no bound there.
+/// The civil days from `from` on, up to and without `till`. A missing bound is no bound.
 #[derive(Clone, Copy, Debug, PartialEq, Eq)]
 pub struct DayRange {
     pub from: Option<Date>,
@@ -15,7 +15,7 @@ pub struct DayRange {
 }
 
 impl DayRange {
-    /// All days.
+    /// Returns the range of all days.
     pub fn all() -> DayRange
         ensures { result ≡ all_days }
     {
@@ -25,15 +25,15 @@ impl DayRange {
         }
     }
 
-    /// Whether the range has the day.
+    /// Returns whether the day is in the range.
     pub fn has(&self, day: Date) -> bool
         ensures { result ≡ is_in self.now day }
     {
         begins_by_day(self.from, day) && ends_after_day(self.till, day)
     }
 
-    /// Whether the range has the day of a moment, in seconds since 1970-01-01 UTC, by the clocks of a zone. No moment past
-    /// `LAST_MOMENT` has a day.
+    /// Returns whether the range has the day of a time in a zone, in seconds since 1970-01-01 UTC.
+    /// No time after `LAST_MOMENT` has a day.
     pub fn has_moment(&self, zone: &Zone, moment: u64) -> bool
         ensures { result ≡ has_moment zone.now self.now moment }
     {
@@ -46,7 +46,8 @@ impl DayRange {
         }
     }
 
-    /// Whether it ends before it begins. Such a range has no day, as one that ends on the day on which it begins.
+    /// Returns whether the range ends before it begins. Such a range has no day. A range that ends
+    /// on the day on which it begins has none either.
     pub fn is_backward(&self) -> bool
         ensures { result ≡ is_backward self.now }
     {
@@ -57,7 +58,7 @@ impl DayRange {
     }
 }
 
-// Whether a range that begins so has begun by the day.
+// Returns whether a range with this first day has begun by the day.
 fn begins_by_day(from: Option<Date>, day: Date) -> bool
     ensures { result ≡ begins_by from day }
 {
@@ -67,7 +68,7 @@ fn begins_by_day(from: Option<Date>, day: Date) -> bool
     }
 }
 
-// Whether a range that ends so ends after the day.
+// Returns whether a range with this end ends after the day.
 fn ends_after_day(till: Option<Date>, day: Date) -> bool
     ensures { result ≡ ends_after till day }
 {

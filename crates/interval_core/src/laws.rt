@@ -1,29 +1,31 @@
-//! Laws of shares and of days. Each function's clause is a law over all values; its body is empty.
+//! Theorems on shares and on days, over all values. Each is the contract of a function with an
+//! empty body.
 ghost use Rattle.interval_core.specs.Account.{SharesAddUp, AccountsAddUp};
 ghost use Rattle.interval_core.specs.Days.{AccountsAreOne, AccountsIgnoreOrder};
 ghost use Rattle.interval_core.specs.Zone.{ZonesAreOne};
 
-/// The shares of a step are those of the intervals that it touches, in order, and add up to its energy.
+/// Theorem: a step has one share for each interval that it touches, in order. The shares add up to
+/// its energy.
 pub fn shares_add_up()
     ensures { SharesAddUp }
 {}
 
-/// The interval rows of a list of steps add up to the energy of the steps.
+/// Theorem: the interval rows of a list of steps add up to the energy of the steps.
 pub fn accounts_add_up()
     ensures { AccountsAddUp }
 {}
 
-/// Whatever way the days of rows are added up, they are the same: rows have exactly one list of accounts.
+/// Theorem: rows have exactly one list of day accounts, however it is computed.
 pub fn accounts_are_one()
     ensures { AccountsAreOne }
 {}
 
-/// Rows in another order have the same accounts.
+/// Theorem: rows in another order have the same accounts.
 pub fn accounts_ignore_order()
     ensures { AccountsIgnoreOrder }
 {}
 
-/// Zones that are read from one text have the same days at all moments.
+/// Theorem: zones that were read from the same text have the same day at every time.
 pub fn zones_are_one()
     ensures { ZonesAreOne }
 {}

@@ -1,4 +1,4 @@
-//! Energy by quarter hour and by civil day, exact to the mWh.
+//! Energy by quarter hour and by civil day, exact to the mWh (milliwatt-hour).
 #![tactic(auto)]
 
 mod day;

@@ -9,14 +9,15 @@ pub use energy_core::INTERVAL_SECONDS as INTERVAL;
 use energy_core::{MAX_INTERVALS, MAX_TOTAL, Step};
 use std::marker::Model;
 
-/// So many mWh in the interval that begins at `start`, in seconds since 1970-01-01 UTC.
+/// The energy in mWh of the interval that begins at `start`, in seconds since 1970-01-01 UTC.
 #[derive(Clone, Copy, Debug, PartialEq, Eq)]
 pub struct Share {
     pub start: u64,
     pub mwh: u64,
 }
 
-/// The shares of a step, one for each interval that it touches, in order. None takes memory.
+/// An iterator over the shares of a step, one for each interval that it touches, in order. It
+/// allocates nothing.
 #[derive(Debug, Drop)]
 pub struct Shares {
     spread: Spread,
@@ -39,7 +40,7 @@ impl Model for Shares {
 }
 
 impl Shares {
-    /// The shares of a step.
+    /// Returns the shares of a step.
     pub fn of(step: &Step) -> Shares
         requires forward { step.now.from < step.now.till }
         requires intervals { intervals_touched step.now.from step.now.till ≤ MAX_INTERVALS }

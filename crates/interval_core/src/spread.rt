@@ -6,7 +6,7 @@ ghost use Rattle.interval_core.specs.declared.limits.TheConstants.{MAX_STEP_SECO
 use crate::limits::MAX_STEP_SECONDS;
 use energy_core::{MAX_TOTAL, Step};
 
-/// A step's energy over its seconds: so many mWh in each, and so many left over.
+/// The energy of a step by seconds: `each` mWh in every second, and `left_over` mWh in all.
 #[derive(Clone, Copy, Debug)]
 pub struct Spread {
     pub step: Step,
@@ -39,7 +39,7 @@ impl Spread {
         }
     }
 
-    /// The running energy at a moment of the step.
+    /// Returns the energy of the step up to a time within it, rounded down to whole mWh.
     pub fn running(&self, moment: u64) -> u64
         requires from { self.now.step.from ≤ moment }
         requires till { moment ≤ self.now.step.till }

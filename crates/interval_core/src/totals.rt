@@ -16,7 +16,7 @@ use jiff::civil::Date;
 use std::alloc::{AllocError, Global};
 use std::marker::Model;
 
-/// A civil day, how many intervals of it have a row, each counted once, and their energy in mWh.
+/// A civil day, the number of its intervals with a row, each counted once, and their energy in mWh.
 #[derive(Clone, Copy, Debug, PartialEq, Eq)]
 pub struct DayTotal {
     pub day: Date,
@@ -24,7 +24,7 @@ pub struct DayTotal {
     pub mwh: u128,
 }
 
-/// The days of interval rows that come one by one, in order of their starts.
+/// Adds up interval rows by day. The rows arrive one by one, in order of their starts.
 #[derive(Debug, Drop)]
 pub struct DayFold {
     totals: Vec<DayTotal>,
@@ -47,7 +47,7 @@ impl DayFold {
     ghost use Rattle.interval_core.specs.Fold.{no_rows, HasTaken, TakesRow};
     ghost use Rattle.interval_core.specs.Zone.{day_at};
 
-    /// No rows yet. The allocator is kept for `push`; no memory is taken.
+    /// Creates a fold without rows. It keeps the allocator for `push`, and allocates nothing.
     pub fn new(alloc: Global) -> DayFold
         ensures empty { result ≡ no_rows }
         ensures taken { (zone : Zone) → HasTaken zone [] result }
@@ -58,7 +58,7 @@ impl DayFold {
         }
     }
 
-    /// The days so far, in order. No memory is taken.
+    /// Returns the days so far, in order. Allocates nothing.
     pub fn rows(&self) -> &[DayTotal]
         ensures accounts { map account_of result.now ≡ self.now.accounts }
         ensures in_order { AreInOrder self.now.accounts }
@@ -66,7 +66,7 @@ impl DayFold {
         self.totals.as_slice()
     }
 
-    /// The days, in order, as their own list. No memory is taken.
+    /// Returns the days as a list of their own, in order. Allocates nothing.
     pub fn into_rows(self) -> Vec<DayTotal>
         ensures { map account_of result.items ≡ self.accounts }
     {
@@ -74,8 +74,11 @@ impl DayFold {
         totals
     }
 
-    /// Takes one more row, `mwh` in the interval from `start`, by the clocks of the zone. A start that is the latest
-    /// already isn't counted again. Past 2^128 - 1 mWh the energy of a day stays there.
+    /// Adds a row: `mwh` in the interval from `start`. Its day is that of the zone.
+    ///
+    /// A row with the same start as the latest row is not counted as another interval. The energy
+    /// of a day saturates at 2^128 - 1 mWh. The only error is out of memory, which leaves the fold
+    /// unchanged.
     pub fn push(&mut self, start: u64, mwh: u64, zone: &Zone) -> Result<(), DayFault>
         requires moment { start ≤ LAST_MOMENT }
         requires not_back { ForSome self.old.latest (λ latest. latest ≤ start) }
@@ -94,7 +97,7 @@ impl DayFold {
     }
 }
 
-/// A copy goes on from the days so far, while these stay as they are.
+/// Copies the days so far. Rows that are added to the copy leave the original unchanged.
 impl Clone for DayFold {
     ghost use Rattle.std.specs.Prelude.{◌≡◌};
 
@@ -109,7 +112,8 @@ impl Clone for DayFold {
     }
 }
 
-/// The days of interval rows in order of their starts, each with its intervals, counted once, and its energy.
+/// Returns the days of interval rows, each with the number of its intervals, counted once, and its
+/// energy. The rows are in order of their starts.
 pub fn by_day(alloc: Global, rows: &[Share], zone: &Zone) -> Result<Vec<DayTotal>, DayFault>
     requires never_back { IsNonDecreasingBy (λ row. row.start) rows.now }
     requires moments { All (λ row. row.start ≤ LAST_MOMENT) rows.now }
@@ -124,7 +128,8 @@ pub fn by_day(alloc: Global, rows: &[Share], zone: &Zone) -> Result<Vec<DayTotal
     Ok(fold.into_rows())
 }
 
-/// The place of the first day that is not before `day`. It looks from the end, where rows in order have theirs.
+/// Returns the index of the first day that is not before `day`. The search begins at the end, where
+/// rows in order have their day.
 fn place_of(totals: &[DayTotal], day: Date) -> usize
     ensures within { result ≤ length totals.now }
     ensures place { AreInOrder (map account_of totals.now)
@@ -137,7 +142,7 @@ fn place_of(totals: &[DayTotal], day: Date) -> usize
     place
 }
 
-/// The place of the day, or else the place where it is to stand.
+/// Returns the index of the day, or the index at which it is to be inserted.
 fn find_day(totals: &[DayTotal], day: Date) -> Result<usize, usize>
     requires { AreInOrder (map account_of totals.now) }
     ensures found { IfOk result (HoldsDay (epoch_day day) (map account_of totals.now)) }

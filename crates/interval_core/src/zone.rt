@@ -1,4 +1,4 @@
-//! Time zones: their texts, and the civil day of a moment.
+//! Time zones, and the texts that name them.
 ghost use Rattle.std.specs.Prelude.{◌↔◌, IsOk, IfOk, IfErr, ◌≡◌, Ok, Err};
 ghost use Rattle.interval_core.specs.Zone.{HasRule, IsZoneText, rule_of};
 ghost use Rattle.interval_core.specs.Faults.{zone_fault_number};
@@ -14,12 +14,12 @@ use std::fmt::{Display, Formatter};
 pub enum ZoneFault {
     /// The text is no POSIX rule of at most 64 bytes.
     Text,
-    /// Memory is wanting. It never comes: a zone takes none.
+    /// Out of memory. Never returned, since a zone allocates nothing.
     Memory,
 }
 
 impl ZoneFault {
-    /// The number of the fault, from 1. The program neither prints nor keeps it.
+    /// Returns the fault's number, from 1. The program does not print or store it.
     pub fn number(self) -> u8
         ensures { result ≡ zone_fault_number self }
     {
@@ -42,14 +42,14 @@ impl Display for ZoneFault {
 
 impl Error for ZoneFault {}
 
-/// A time zone: how far its clocks are ahead of UTC, at each moment.
+/// A time zone: its UTC offset at each time.
 #[derive(Clone, Copy, Debug)]
 pub struct Zone {
     rule: TimeZone<'static>,
 }
 
 impl Zone {
-    /// The zone of a POSIX rule text, as `UTC0` or `CET-1CEST,M3.5.0,M10.5.0/3`, of at most 64 bytes.
+    /// Parses a POSIX rule of at most 64 bytes, such as `UTC0` or `CET-1CEST,M3.5.0,M10.5.0/3`.
     pub fn read(text: &str) -> Result<Zone, ZoneFault>
         ensures succeeds { IsOk result ↔ IsZoneText text.now }
         ensures value { IfOk result (HasRule text.now) }
@@ -64,7 +64,7 @@ impl Zone {
         }
     }
 
-    /// The zone as `jiff` has it.
+    /// Returns the zone as a value of `jiff`.
     pub(crate) fn rule(&self) -> &TimeZone<'static>
         ensures { result.now ≡ rule_of self.now }
     {

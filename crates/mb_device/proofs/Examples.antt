@@ -1,4 +1,4 @@
--- Worked frames, computed by the definitions.
+-- Worked frames, computed from the definitions.
 use Rattle.std.proofs.Common.{◌≡◌, List, ℕ, [], ◌∷◌, ◌++◌, Option, Some, None, true, false, replicate, refl}
 use Rattle.mb_wire.specs.Frames.{frames, frames_in}
 use Rattle.mb_wire.specs.Coils.{bits_in, coils_in, packed_in}
@@ -11,7 +11,7 @@ use Rattle.mb_device.specs.declared.kinds.Kind.TheVariants.{Holding}
 use Rattle.mb_device.specs.declared.trick.Trick.{Trick}
 use Rattle.mb_device.specs.declared.trick.Trick.TheVariants as play
 
--- holding register 0 is 9
+-- Holding register 0 is 9.
 maps : Maps
 maps = record { coils = []; discretes = []; holdings = Some 9 ∷ []; inputs = [] }
 
@@ -25,7 +25,7 @@ a_read_is_answered : sent_to (begun []) maps (own_frames read) ≡ nine
 unfolding maps answer_to_frame sent_next course_next trick_at frames frames_in
 a_read_is_answered = refl
 
--- a frame of another protocol, a write of 5 to that register, and the read of it
+-- A frame of another protocol, a write of 5 to that register, and a read of it.
 abbrev foreign : List ℕ
 foreign = 0 ∷ 1 ∷ 0 ∷ 9 ∷ 0 ∷ 3 ∷ 1 ∷ 3 ∷ 0 ∷ []
 
@@ -51,7 +51,7 @@ a_write_is_kept = refl
 abbrev on_first : Trick → Course
 on_first trick = begun ((1, trick) ∷ [])
 
--- the write is carried out, and not answered
+-- The server executes the write, and sends no response to it.
 a_dropped_answer : sent_to (on_first play.Drop) maps (own_frames all) ≡ five
 unfolding maps answer_to_frame sent_next course_next trick_at frames frames_in
 a_dropped_answer = refl
@@ -60,12 +60,12 @@ a_later_answer : sent_to (on_first play.Later) maps (own_frames all) ≡ five ++
 unfolding maps answer_to_frame sent_next course_next trick_at frames frames_in
 a_later_answer = refl
 
--- two later answers: the first is sent once the second is buffered
+-- Two later responses: the first is sent when the second is buffered.
 two_later_answers : sent_to (begun ((2, play.Later) ∷ (1, play.Later) ∷ [])) maps (own_frames all) ≡ write
 unfolding maps answer_to_frame sent_next course_next trick_at frames frames_in
 two_later_answers = refl
 
--- after a cut nothing is carried out
+-- After a cut the server executes nothing.
 a_cut_answer : sent_to (on_first (play.Cut 4)) maps (own_frames (read ++ write)) ≡ 0 ∷ 7 ∷ 0 ∷ 0 ∷ []
 unfolding maps answer_to_frame sent_next course_next trick_at frames frames_in
 a_cut_answer = refl
@@ -74,12 +74,12 @@ a_cut_connection : carried_out (on_first (play.Cut 4)) (own_frames (read ++ writ
 unfolding trick_at frames frames_in
 a_cut_connection = refl
 
--- the first trick with the number counts
+-- The first trick with the number applies.
 the_first_trick : sent_to (begun ((1, play.Unit) ∷ (1, play.Drop) ∷ [])) maps (own_frames read) ≡ 0 ∷ 7 ∷ 0 ∷ 0 ∷ 0 ∷ 5 ∷ 2 ∷ 3 ∷ 2 ∷ 0 ∷ 9 ∷ []
 unfolding maps answer_to_frame sent_next course_next trick_at frames frames_in
 the_first_trick = refl
 
--- the greatest transaction identifier and the greatest unit have 0 after them
+-- The greatest transaction identifier and the greatest unit wrap to 0.
 the_last_id : sent_to (on_first play.Id) maps (own_frames (255 ∷ 255 ∷ 0 ∷ 0 ∷ 0 ∷ 6 ∷ 1 ∷ 3 ∷ 0 ∷ 0 ∷ 0 ∷ 1 ∷ [])) ≡ 0 ∷ 0 ∷ 0 ∷ 0 ∷ 0 ∷ 5 ∷ 1 ∷ 3 ∷ 2 ∷ 0 ∷ 9 ∷ []
 unfolding maps answer_to_frame sent_next course_next trick_at frames frames_in
 the_last_id = refl
@@ -88,8 +88,8 @@ the_last_unit : sent_to (on_first play.Unit) maps (own_frames (0 ∷ 7 ∷ 0 ∷
 unfolding maps answer_to_frame sent_next course_next trick_at frames frames_in
 the_last_unit = refl
 
--- ---- limits, as numbers: a device without any address refuses a quantity that is allowed by exception 2, and
--- one that is not by 3
+-- ---- limits, as numbers: a device without addresses answers an allowed quantity with exception 2,
+-- and any other with exception 3
 
 abbrev nothing : Maps
 nothing = record { coils = []; discretes = []; holdings = []; inputs = [] }
@@ -132,7 +132,7 @@ writes_123_registers = refl
 writes_124_registers : answer_to nothing (16 ∷ 0 ∷ 0 ∷ 0 ∷ 124 ∷ 248 ∷ replicate 248 0) ≡ 144 ∷ 3 ∷ []
 writes_124_registers = refl
 
--- an area up to address 65535, and one past it
+-- An area up to address 65535, and one past it.
 the_last_address : is_out_of_range (record { kind = Holding; start = 65535; count = 1 }) ≡ false
 the_last_address = refl
 
@@ -145,7 +145,8 @@ all_addresses = refl
 one_more_address : is_out_of_range (record { kind = Holding; start = 0; count = 65537 }) ≡ true
 one_more_address = refl
 
--- ---- the standard's exchanges (Modbus Application Protocol V1.1b3, section 6), with a device that holds what they read
+-- ---- the standard's exchanges (Modbus Application Protocol V1.1b3, section 6), with a device that
+-- has the values they read
 
 abbrev sample : Maps
 sample = record {
@@ -155,7 +156,7 @@ sample = record {
   inputs = replicate 8 None ++ (Some 10 ∷ []);
 }
 
--- coil 172, and registers 1 and 2
+-- Coil 172, and registers 1 and 2.
 abbrev writable : Maps
 writable = record { coils = replicate 172 None ++ (Some 0 ∷ []); discretes = []; holdings = None ∷ Some 0 ∷ Some 0 ∷ []; inputs = [] }
 

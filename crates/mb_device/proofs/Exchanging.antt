@@ -1,4 +1,4 @@
--- Exchanges of bytes, one after another.
+-- Consecutive exchanges of bytes.
 use Rattle.std.proofs.Common.{◌≡◌, ℕ, false, List, [], ◌∷◌, ◌++◌, Ok, refl, sym, ap, ◌∙◌, subst}
 use Rattle.mb_wire.specs.Frames.{IsOpen, rest}
 use Rattle.mb_device.specs.Exchanges.{Exchange, Exchanges, ExchangesOver, InOrder, in_all, joined}
@@ -28,7 +28,7 @@ serving_exchanges buffered course count old new standing serves =
       exchanges = record { given = refl; maps = serves.answered.maps; stands = serves.stands; is_open = serves.tells.0.is_open };
     }
 
--- the bytes and the connection of a server that goes on
+-- The buffered bytes and the connection of a server that still serves.
 abbrev bytes_in : Standing → List ℕ
 bytes_in (Holds buffered course) = buffered
 bytes_in Over = []

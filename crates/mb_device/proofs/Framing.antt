@@ -1,4 +1,4 @@
--- Streams that come in pieces: their frames.
+-- The frames of streams that arrive in pieces.
 use Rattle.std.proofs.Common.{◌≡◌, ℕ, ◌+◌, ◌<◌, ◌⊎◌, inl, inr, List, [], ◌∷◌, ◌++◌, length, take, refl, sym, ap, ◌∙◌, subst, arith, append_assoc, length-append, lit<}
 use Rattle.std.specs.List.{flat_map, filter}
 use Rattle.std.proofs.lemmas.List.{append-nil, take_all}
@@ -16,7 +16,7 @@ use Rattle.mb_device.specs.Server.{buffered_frames, is_own, own_frames}
 abbrev concat : List (List ℕ) → List ℕ
 concat frames = flat_map (λ frame. frame) frames
 
--- what comes after bytes is read after their rest
+-- Bytes after other bytes are read after the rest of those.
 pub frames-then : (a b : List ℕ) → (frames (a ++ b) ≡ frames a ++ frames (rest a ++ b)) × (rest (a ++ b) ≡ rest (rest a ++ b))
 frames-then a b =
     let first = Reads-is a in
@@ -38,7 +38,7 @@ frames-then a b =
 pub own_frames-then : (a b : List ℕ) → own_frames (a ++ b) ≡ own_frames a ++ own_frames (rest a ++ b)
 own_frames-then a b = ap (filter is_own) (frames-then a b).0 ∙ filter-append is_own (frames a) (frames (rest a ++ b))
 
--- bytes that are one rest, or one frame
+-- Bytes that are one rest, or one frame.
 rest_alone : (b : List ℕ) → IsOpen b ⊎ IsBad b → (frames b ≡ []) × (rest b ≡ b)
 rest_alone b ends = Reads-only b [] b record { joined = refl; each = tt; ends = ends }
 
@@ -61,7 +61,7 @@ bad_alone b left bad =
     let alone = rest_alone (b ++ left) (inr still) in
     (ap (filter is_own) alone.0, subst IsBad (sym alone.1) still)
 
--- the frame that a feed ended is the one that the reader next holds, if it is of this protocol
+-- The frame that a feed ended is the frame that the reader then holds, if it is a frame of Modbus.
 told_frames : (what : Framing) (b : List ℕ) → TellsFraming what b → (own_frames b ≡ buffered_frames (buffered_after what b).frame) × (rest b ≡ (buffered_after what b).rest)
 told_frames Need b tells = open_alone b tells
 told_frames Whole b tells =
@@ -72,7 +72,7 @@ told_frames Foreign b tells =
     (ap (filter is_own) alone.0 ∙ cond-false _ _ _ (ne_eqb _ _ tells.1), alone.1)
 told_frames Garbled b tells = let alone = rest_alone b (inr tells.0) in (ap (filter is_own) alone.0, alone.1)
 
--- a feed of a piece leaves the frames of what it did not take
+-- After a feed of a piece, the frames of the bytes that it did not take are left.
 pub piece_frames : (what : Framing) (r piece : List ℕ) (taken : ℕ) (buffered : Buffered) → TellsFraming what (r ++ take taken piece) → buffered ≡ buffered_after what (r ++ take taken piece)
     → (own_frames (r ++ piece) ≡ buffered_frames buffered.frame ++ own_frames (buffered.rest ++ from taken piece)) × (rest (r ++ piece) ≡ rest (buffered.rest ++ from taken piece))
 piece_frames what r piece taken buffered tells is =
@@ -86,7 +86,7 @@ piece_frames what r piece taken buffered tells is =
       ap rest whole ∙ (frames-then b left).1 ∙ ap (λ y. rest (y ++ left)) stays,
     )
 
--- the last feed of a piece
+-- The last feed of a piece.
 pub need_piece : (what : Framing) (r piece : List ℕ) (taken : ℕ) (buffered : Buffered) → TellsFraming what (r ++ take taken piece) → buffered ≡ buffered_after what (r ++ take taken piece) → what ≡ Need → taken ≡ length piece
     → (own_frames (r ++ piece) ≡ buffered_frames buffered.frame) × IsOpen (rest (r ++ piece)) × (buffered.rest ≡ rest (r ++ piece))
 need_piece what r piece taken buffered tells is need all =
@@ -102,7 +102,7 @@ need_piece what r piece taken buffered tells is need all =
       stays ∙ sym alone.1 ∙ ap rest whole,
     )
 
--- a feed that ends at a bad length
+-- A feed that ends at a bad length.
 pub garbled_piece : (what : Framing) (r piece : List ℕ) (taken : ℕ) (buffered : Buffered) → TellsFraming what (r ++ take taken piece) → buffered ≡ buffered_after what (r ++ take taken piece) → what ≡ Garbled
     → (own_frames (r ++ piece) ≡ buffered_frames buffered.frame) × IsBad (rest (r ++ piece))
 garbled_piece what r piece taken buffered tells is garbled =
@@ -116,11 +116,11 @@ garbled_piece what r piece taken buffered tells is garbled =
       subst (λ y. IsBad (rest y)) whole alone.1,
     )
 
--- open bytes and nothing after them
+-- Incomplete bytes, and nothing after them.
 pub nothing_taken : (buffered : List ℕ) → IsOpen buffered → (own_frames (buffered ++ []) ≡ []) × (rest (buffered ++ []) ≡ buffered)
 nothing_taken buffered is_open = let alone = open_alone buffered is_open in (ap own_frames (append-nil buffered) ∙ alone.0, ap rest (append-nil buffered) ∙ alone.1)
 
--- bytes after those that were taken
+-- Bytes after those that were read.
 pub taken_more : (buffered taken more : List ℕ) → (own_frames (buffered ++ (taken ++ more)) ≡ own_frames (buffered ++ taken) ++ own_frames (rest (buffered ++ taken) ++ more)) × (rest (buffered ++ (taken ++ more)) ≡ rest (rest (buffered ++ taken) ++ more))
 taken_more buffered taken more =
     let joined : buffered ++ (taken ++ more) ≡ (buffered ++ taken) ++ more = sym (append_assoc buffered taken more) in

@@ -1,4 +1,4 @@
--- Answers to the frames of streams that come in pieces, put through tricks.
+-- Responses to the frames of streams that arrive in pieces, changed by tricks.
 use Rattle.std.proofs.Common.{◌≡◌, ℕ, ◌+◌, ◌≤◌, Bool, true, false, List, [], ◌∷◌, ◌++◌, length, take, Option, Some, None, Result, Ok, Err, refl, sym, ap, ◌∙◌, subst, arith, append_assoc, length-append, length-take}
 use Rattle.std.specs.Option.{option_map}
 use Rattle.std.specs.Io.KnownBytes.{Appends, Consumes, IsAtEnd, Keeps}
@@ -51,9 +51,9 @@ carried_out-append (Playing tricks number later) maps (x ∷ xs) ys =
     ∙ ap (λ fs. fs ++ carried_out (course_after_all course maps (x ∷ xs)) ys) (sym (carried_out-next course answer x xs refl))
 carried_out-append CutOff maps (x ∷ xs) ys = ap (λ c. carried_out c ys) (sym (course_after-cut (answers maps (x ∷ xs))))
 
--- ---- a connection that was not cut
+-- ---- a connection that is not cut
 
--- it carried all of its frames out
+-- The server executed all frames of this connection.
 uncut : (course : Course) (maps : Maps) (xs : List (List ℕ)) → is_cut (course_after_all course maps xs) ≡ false → carried_out course xs ≡ xs
 uncut course maps [] going = carried_out-none course
 uncut (Playing tricks number later) maps (x ∷ xs) going =
@@ -63,7 +63,8 @@ uncut (Playing tricks number later) maps (x ∷ xs) going =
 uncut CutOff maps (x ∷ xs) going =
     absurd (both_ways _ (ap is_cut (course_after-cut (answers maps (x ∷ xs)))) going)
 
--- frames were dealt with on a connection, and so it stands after them, and so does the device
+-- The server executed frames on a connection that is not cut. The connection and the register map
+-- have the state that the frames leave.
 pub record Dealt (course : Course) (maps : Maps) (xs : List (List ℕ)) (mid : Course) (after : Maps) : Type 0 where
   pub stands : mid ≡ course_after_all course maps xs
   pub going : is_cut mid ≡ false
@@ -96,11 +97,11 @@ carried_then course mid maps after xs ys dealt =
     ∙ ap (λ c. carried_out course xs ++ carried_out c ys) (sym dealt.stands)
     ∙ ap (λ fs. fs ++ carried_out mid ys) dealt.carried
 
--- the same frames by another name
+-- The same frames by another name.
 pub AllAnswered-same : (course : Course) (xs ys : List (List ℕ)) (a b : Around) → ys ≡ xs → AllAnswered course xs a b → AllAnswered course ys a b
 AllAnswered-same course xs ys a b same h = subst (λ fs. AllAnswered course fs a b) (sym same) h
 
--- nothing to answer
+-- No frame to respond to.
 Appends-none : (a b : Option (List ℕ)) → Keeps a b → Appends a b []
 Appends-none None b h = tt
 Appends-none (Some x) None h = absurd h
@@ -151,7 +152,7 @@ all_then_broken course mid xs ys a b c first dealt next =
           ∙ sym (maps_after_all-append a.maps xs upto) ∙ ap (maps_after_all a.maps) (sym all);
     }
 
--- all of some frames, and next others
+-- All of some frames, and then others.
 pub Answered-then : {X : Type 0} (result : Result X ServeFault) (course mid : Course) (xs ys : List (List ℕ)) (a b c : Around) → AllAnswered course xs a b → Dealt course a.maps xs mid b.maps → Answered result mid ys b c → Answered result course (xs ++ ys) a c
 Answered-then (Ok x) course mid xs ys a b c first dealt next = all_then_all course mid xs ys a b c first dealt next
 Answered-then (Err fault.Read) course mid xs ys a b c first dealt next = all_then_all course mid xs ys a b c first dealt next
@@ -159,7 +160,7 @@ Answered-then (Err fault.Write) course mid xs ys a b c first dealt next = all_th
 Answered-then (Err fault.Garbled) course mid xs ys a b c first dealt next = all_then_all course mid xs ys a b c first dealt next
 Answered-then (Err fault.TurnsUsed) course mid xs ys a b c first dealt next = all_then_all course mid xs ys a b c first dealt next
 
--- frames after the one whose answer was broken off
+-- Frames after the one whose response was broken off.
 pub BrokenOff-before : (course : Course) (xs ys : List (List ℕ)) (a b : Around) → BrokenOff course xs a b → BrokenOff course (xs ++ ys) a b
 BrokenOff-before course xs ys a b h =
     record {
@@ -175,7 +176,7 @@ BrokenOff-before course xs ys a b h =
       maps = h.maps;
     }
 
--- what is told of bytes of which some frames were dealt with, and others are left
+-- The count of frames in bytes if some of their frames were executed, and others are left.
 pub counts_then : (course mid : Course) (maps after : Maps) (xs : List (List ℕ)) (bytes left : List ℕ) (count : ℕ) → Dealt course maps xs mid after → own_frames bytes ≡ xs ++ own_frames left → rest bytes ≡ rest left → Counts count (stretch mid after left) → Counts (length xs + count) (stretch course maps bytes)
 counts_then course mid maps after xs bytes left count dealt frames rests counts =
     let all = ap length (ap (carried_out course) frames ∙ carried_then course mid maps after xs (own_frames left) dealt) ∙ length-append xs _ in
@@ -241,7 +242,7 @@ cut_tells count course maps xs ys bytes buffered frames cut counted =
 
 -- ---- the frame that a reader holds
 
--- the frame that a reader lends is the one that it holds
+-- The borrowed frame is the frame that the reader holds.
 lent_frame : (shown : Option Frame) (buffered : Option (List ℕ)) (frame : Frame) → option_map spelled shown ≡ option_map fields_of buffered → shown ≡ Some frame
     → (f : List ℕ) × (buffered ≡ Some f) × (spelled frame ≡ fields_of f)
 lent_frame shown None frame same is = absurd cc
@@ -290,7 +291,7 @@ buffered_course course new shown buffered frame maps same is next =
     let lent = lent_frame shown buffered frame same is in
     next ∙ ap (course_next course) (answer_is maps frame lent.0 lent.2) ∙ ap (λ h. course_after_all course maps (buffered_frames h)) (sym lent.1)
 
--- the answer to the frame that is buffered was broken off
+-- The response to the buffered frame was broken off.
 pub buffered_fault : (e : ServeFault) (course : Course) (frame : Option (List ℕ)) (xs ys : List (List ℕ)) (a b : Around) → BufferedTells (Err e) frame → Answered {X = ℕ} (Err e) course xs a b → Answered {X = ℕ} (Err e) course (xs ++ ys) a b
 buffered_fault fault.Read course frame xs ys a b tells h = absurd tells
 buffered_fault fault.Write course frame xs ys a b tells h = BrokenOff-before course xs ys a b h
@@ -299,7 +300,7 @@ buffered_fault fault.TurnsUsed course frame xs ys a b tells h = absurd tells
 
 -- ---- one turn
 
--- nothing is taken
+-- Nothing is read.
 pub Consumes-none : (a b : Option (List ℕ)) → Keeps a b → Consumes a b []
 Consumes-none None b h = tt
 Consumes-none (Some x) None h = absurd h
@@ -355,13 +356,13 @@ turn_failed buffered course old new is_open left given maps =
       tells = refl;
     }
 
--- what is given from where nothing has happened yet
+-- Responses from a state in which nothing has happened yet.
 answered_from : {X : Type 0} (result : Result X ServeFault) (course : Course) (frames : List (List ℕ)) (old mid new : Around) → Keeps old.given mid.given → mid.maps ≡ old.maps → is_cut course ≡ false → Answered result course frames mid new → Answered result course frames old new
 answered_from result course frames old mid new given maps going answered =
     let none = AllAnswered-none course [] old mid refl given maps in
     Answered-then result course course [] frames old mid new none (dealt_with course course [] old mid none refl going) answered
 
--- a fault in the frames of a piece is the turn's
+-- A fault in the frames of a piece is the fault of the turn.
 pub answered_fault : (X Y : Type 0) (e : ServeFault) (course : Course) (fs : List (List ℕ)) (a b : Around) → Answered {X = X} (Err e) course fs a b → Answered {X = Y} (Err e) course fs a b
 answered_fault X Y fault.Read course fs a b h = h
 answered_fault X Y fault.Write course fs a b h = h

@@ -1,4 +1,4 @@
--- Areas of a device, and the maps that begin with them.
+-- The areas of a device, and the register map that they begin as.
 use Rattle.std.specs.Prelude.{◌≡◌, ℕ, ◌+◌, ◌<◌, ◌==◌, ◌&&◌, ◌||◌, nat_le, nat_lt, min, max, Bool, true, false, if◌then◌else◌, List, [], ◌∷◌, ◌++◌, length, take, drop, replicate, is_some, Some, None, Ok, Err}
 use Rattle.std.specs.List.{list_any}
 use Rattle.std.specs.declared.option.Option.{Option}
@@ -11,67 +11,71 @@ use Rattle.mb_device.specs.declared.kinds.BankFault.TheVariants.{AreasOverlap, O
 use Rattle.mb_device.specs.declared.kinds.Kind.{Kind}
 use Rattle.mb_device.specs.declared.kinds.Kind.TheVariants.{Coil, Discrete, Holding, Input}
 
+-- The number of a kind, to compare kinds by.
 abbrev pub kind_number : Kind → ℕ
 kind_number Coil = 1
 kind_number Discrete = 2
 kind_number Holding = 3
 kind_number Input = 4
 
--- an area contains an address
+-- The area contains the address.
 abbrev pub contains : Kind → ℕ → Area → Bool
 contains kind address area =
     kind_number area.kind == kind_number kind && nat_le area.start address
     && nat_lt address (area.start + area.count)
 
--- two areas of one kind share an address: the greater start is below the lesser end
+-- Two areas of one kind share an address: the greater start is below the lesser end.
 abbrev pub overlap : Area → Area → Bool
 overlap a b =
     kind_number a.kind == kind_number b.kind
     && nat_lt (max a.start b.start) (min (a.start + a.count) (b.start + b.count))
 
+-- Any two areas of one kind share an address.
 abbrev pub any_overlap : List Area → Bool
 any_overlap [] = false
 any_overlap (area ∷ areas) = list_any (λ other. overlap area other) areas || any_overlap areas
 
--- an area is empty, or reaches past the last address
+-- The area is empty, or extends past the last address.
 abbrev pub is_out_of_range : Area → Bool
 is_out_of_range area = area.count == 0 || nat_lt ADDRESSES (area.start + area.count)
 
--- what stands at an address in the beginning
+-- The initial value at an address: 0 if an area contains the address.
 abbrev pub first_value : List Area → Kind → ℕ → Option ℕ
 first_value areas kind address =
     if list_any (λ area. contains kind address area) areas then Some 0 else None
 
--- a table, and the maps, as they are in the beginning
+-- The initial table of one kind.
 abbrev pub BeginsAs : List Area → Kind → List (Option ℕ) → Type 0
 BeginsAs areas kind table =
     (address : ℕ) → address < ADDRESSES → value_in table address ≡ first_value areas kind address
 
+-- The initial register map.
 abbrev pub AllBeginAs : List Area → Maps → Type 0
 AllBeginAs areas maps =
     (kind : Kind) (address : ℕ) → address < ADDRESSES
     → value_at maps kind address ≡ first_value areas kind address
 
+-- The number of a fault: its position in the order in which faults are checked.
 abbrev pub bank_fault_number : BankFault → ℕ
 bank_fault_number AreasOverlap = 1
 bank_fault_number OutOfRange = 2
 bank_fault_number Memory = 3
 
--- a table whose addresses begin with the value 0, so many of them from one on
+-- A table in which `count` addresses from `start` on have the value 0.
 abbrev pub begun_from : List (Option ℕ) → ℕ → ℕ → List (Option ℕ)
 begun_from table start count =
     take start table ++ (replicate count (Some 0) ++ drop (start + count) table)
 
--- one of so many addresses is there
+-- The device has one of `count` addresses from `start` on.
 abbrev pub is_any_there : List (Option ℕ) → ℕ → ℕ → Bool
 is_any_there table start count = list_any (λ value. is_some value) (values_at table start count)
 
--- so many addresses are none, or reach past the last
+-- The count is 0, or the addresses extend past the last.
 abbrev pub is_past_end : List (Option ℕ) → ℕ → ℕ → Bool
 is_past_end table start count = count == 0 || nat_lt (length table) (start + count)
 
--- An area more in a table, where none of its addresses is there and all are in range; else the least fault is
--- told, and the table stays. No memory is taken.
+-- An area is added if the table has none of its addresses and all are in range. Otherwise the first
+-- fault that applies is reported, and the table is unchanged. Adding needs no memory.
 abbrev pub Adds : List (Option ℕ) → (start count : ℕ) → Result (Unit {0}) BankFault
     → List (Option ℕ) → Type 0
 Adds old start count (Ok done) new =

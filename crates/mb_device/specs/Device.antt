@@ -1,5 +1,5 @@
--- What a device answers to a PDU, and what becomes of its maps (Modbus Application Protocol V1.1b3,
--- section 6 with its state diagrams, and section 7).
+-- The response of a device to a PDU, and its register map afterwards: Modbus Application Protocol
+-- V1.1b3, section 6 with its state diagrams, and section 7.
 use Rattle.std.specs.Prelude.{ℕ, ◌+◌, Bool, ◌==◌, not, nat_lt, if◌then◌else◌, List, [], ◌∷◌, map, length, unwrap_or, Ok, Err}
 use Rattle.std.specs.declared.result.Result.{Result}
 use Rattle.std.specs.declared.option.Option.{Option}
@@ -11,7 +11,7 @@ use Rattle.mb_wire.specs.declared.requests.RequestFault.TheVariants.{UnknownFunc
 use Rattle.mb_device.specs.declared.kinds.Kind.TheVariants.{Coil, Holding}
 use Rattle.mb_device.specs.Maps.{Maps, all_written, are_there, values_at, with_table}
 
--- the exception code of a fault: illegal function, or illegal data value
+-- The exception code of a fault: 1 is illegal function, 3 is illegal data value.
 abbrev pub code_of_fault : RequestFault → ℕ
 code_of_fault UnknownFunction = 1
 code_of_fault WrongLength = 3
@@ -19,12 +19,12 @@ code_of_fault WrongQuantity = 3
 code_of_fault WrongByteCount = 3
 code_of_fault WrongCoilValue = 3
 
--- the function code with its top bit set, and a code
+-- An exception: the function code with its top bit set, and the exception code.
 abbrev pub exception_bytes : ℕ → ℕ → List ℕ
 exception_bytes function code =
     (if nat_lt function 128 then function + 128 else function) ∷ code ∷ []
 
--- all addresses that a query speaks of are there
+-- The device has every address that the query reads or writes.
 abbrev pub has_all : Maps → Query → Bool
 has_all maps (ReadCoils address quantity) = are_there maps.coils address quantity
 has_all maps (ReadDiscrete address quantity) = are_there maps.discretes address quantity
@@ -35,42 +35,46 @@ has_all maps (WriteRegister address value) = are_there maps.holdings address 1
 has_all maps (WriteCoils address coils) = are_there maps.coils address (length coils)
 has_all maps (WriteRegisters address values) = are_there maps.holdings address (length values)
 
--- coils as values, and values as coils
+-- The value that a coil is stored as.
 abbrev pub coil_number : Bool → ℕ
 coil_number on = if on then 1 else 0
 
+-- The value at an address; 0 if the device does not have it.
 abbrev pub kept_value : Option ℕ → ℕ
 kept_value value = unwrap_or value 0
 
+-- The coil at an address is on.
 abbrev pub is_kept_on : Option ℕ → Bool
 is_kept_on value = not (kept_value value == 0)
 
--- an answer where all of so many addresses are there, else exception 2
+-- The answer if the device has all `count` addresses, otherwise exception 2 (illegal data address).
 abbrev pub if_there : List (Option ℕ) → (address count : ℕ) → Answer → Answer
 if_there table address count answer =
     if are_there table address count then answer else Exception 2
 
--- what a read of coils or discrete inputs is answered, and one of registers
+-- The answer to a read of coils or discrete inputs.
 abbrev pub bits_at : List (Option ℕ) → (address quantity : ℕ) → Answer
 bits_at table address quantity =
     if_there table address quantity (Bits (map is_kept_on (values_at table address quantity)))
 
+-- The answer to a read of registers.
 abbrev pub words_at : List (Option ℕ) → (address quantity : ℕ) → Answer
 words_at table address quantity =
     if_there table address quantity (Words (map kept_value (values_at table address quantity)))
 
--- what a write leaves of a table, if all its addresses are there: one of coils, and one of registers
+-- A table after a write of coils, which changes nothing unless the device has all addresses.
 abbrev pub coils_written : List (Option ℕ) → (address : ℕ) → List Bool → List (Option ℕ)
 coils_written table address coils =
     if are_there table address (length coils)
     then all_written table address (map coil_number coils)
     else table
 
+-- A table after a write of registers, which changes nothing unless the device has all addresses.
 abbrev pub words_written : List (Option ℕ) → (address : ℕ) → List ℕ → List (Option ℕ)
 words_written table address words =
     if are_there table address (length words) then all_written table address words else table
 
--- what a query is answered where all its addresses are there
+-- The answer to a query whose addresses the device has.
 abbrev pub answered : Maps → Query → Answer
 answered maps (ReadCoils address quantity) =
     Bits (map is_kept_on (values_at maps.coils address quantity))
@@ -85,7 +89,7 @@ answered maps (WriteRegister address value) = Echo
 answered maps (WriteCoils address coils) = Echo
 answered maps (WriteRegisters address values) = Echo
 
--- the maps after it
+-- The register map after a query whose addresses the device has.
 abbrev pub carried_out : Maps → Query → Maps
 carried_out maps (ReadCoils address quantity) = maps
 carried_out maps (ReadDiscrete address quantity) = maps
@@ -100,19 +104,21 @@ carried_out maps (WriteCoils address coils) =
 carried_out maps (WriteRegisters address values) =
     with_table maps Holding (all_written maps.holdings address values)
 
--- The function first, then the rest of the PDU, then the addresses.
+-- The response: checks the function code first, then the rest of the PDU, then the addresses.
 abbrev pub reply_for : Maps → ℕ → Result Query RequestFault → List ℕ
 reply_for maps function (Err fault) = exception_bytes function (code_of_fault fault)
 reply_for maps function (Ok query) =
     answer_bytes query (if has_all maps query then answered maps query else Exception 2)
 
+-- The register map after a decoded PDU. A refused request changes nothing.
 abbrev pub maps_for : Maps → Result Query RequestFault → Maps
 maps_for maps (Err fault) = maps
 maps_for maps (Ok query) = if has_all maps query then carried_out maps query else maps
 
--- the answer to a PDU, and the maps after it
+-- The response to a PDU.
 abbrev pub answer_to : Maps → List ℕ → List ℕ
 answer_to maps pdu = reply_for maps (function_in pdu) (query_in pdu)
 
+-- The register map after a PDU.
 abbrev pub maps_after : Maps → List ℕ → Maps
 maps_after maps pdu = maps_for maps (query_in pdu)

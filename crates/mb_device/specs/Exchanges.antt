@@ -1,4 +1,4 @@
--- What a server takes and gives over many turns.
+-- The bytes that a server reads and writes over many turns.
 use Rattle.std.specs.Prelude.{◌≡◌, ℕ, false, List, [], ◌∷◌, ◌++◌, Ok}
 use Rattle.std.specs.List.{flat_map}
 use Rattle.std.specs.Io.KnownBytes.{Appends, Consumes}
@@ -8,16 +8,16 @@ use Rattle.mb_device.specs.Tricks.{Course, carried_out, is_cut}
 use Rattle.mb_device.specs.Server.{Around, Holds, Serves, Standing, Turns, course_after_all, maps_after_all, own_frames, sent_to, standing_on}
 use Rattle.mb_device.specs.declared.server.Turned.{Turned}
 
--- bytes that were taken, and bytes that were given
+-- Bytes that were read, and bytes that were written.
 pub record Exchange : Type 0 where
   pub taken : List ℕ
   pub given : List ℕ
 
--- one exchange, and another after it
+-- Two consecutive exchanges as one.
 abbrev pub joined : Exchange → Exchange → Exchange
 joined first next = record { taken = first.taken ++ next.taken; given = first.given ++ next.given }
 
--- exchanges as one
+-- A list of exchanges as one.
 abbrev pub in_all : List Exchange → Exchange
 in_all exchanges =
     record {
@@ -25,8 +25,9 @@ in_all exchanges =
       given = flat_map (λ exchange. exchange.given) exchanges;
     }
 
--- Given is what the server sends for the frames of this protocol that end in what was taken after the
--- bytes buffered; and so the device and the server stand.
+-- The bytes written are what the server sends for the Modbus frames that end in the bytes read,
+-- after the buffered ones. The register map and the server are then in the state that the frames
+-- leave.
 pub record Exchanges (buffered : List ℕ) (course : Course) (exchange : Exchange) (old new : Maps)
     (standing : Standing) : Type 0 where
   pub given : exchange.given ≡ sent_to course old (own_frames (buffered ++ exchange.taken))
@@ -37,7 +38,7 @@ pub record Exchanges (buffered : List ℕ) (course : Course) (exchange : Exchang
   pub is_open : is_cut (course_after_all course old (own_frames (buffered ++ exchange.taken))) ≡ false
       → IsOpen (rest (buffered ++ exchange.taken))
 
--- an exchange over a link
+-- An exchange over a link.
 pub record ExchangesOver (buffered : List ℕ) (course : Course) (old new : Around)
     (standing : Standing) : Type 0 where
   pub exchange : Exchange
@@ -45,8 +46,8 @@ pub record ExchangesOver (buffered : List ℕ) (course : Course) (old new : Arou
   pub given : Appends old.given new.given exchange.given
   pub exchanges : Exchanges buffered course exchange old.maps new.maps standing
 
--- Exchanges one after another: at each the device and the server stand as the one before left them. What
--- lies on the link may change between them.
+-- Consecutive exchanges: each begins where the previous one left the device and the server. The
+-- link's bytes may change between them.
 abbrev pub InOrder : List ℕ → Course → List Exchange → Maps → Maps → Standing → Type 0
 InOrder buffered course [] old new standing =
     (new ≡ old) × (standing ≡ standing_on buffered course) × IsOpen buffered
@@ -55,21 +56,21 @@ InOrder buffered course (first ∷ later) old new standing =
     × Exchanges buffered course first old mid (Holds left next)
     × InOrder left next later mid new standing
 
--- A turn that answers Ok is an exchange over the link,
+-- A turn that returns `Ok` is an exchange over the link.
 abbrev pub TurnExchanges : Type 0
 TurnExchanges =
     (buffered : List ℕ) (course : Course) (turned : Turned) (old new : Around)
     (standing : Standing) → Turns buffered course (Ok turned) old new standing →
     ExchangesOver buffered course old new standing
 
--- and so is a serving.
+-- Serving that returns `Ok` is an exchange over the link.
 abbrev pub ServingExchanges : Type 0
 ServingExchanges =
     (buffered : List ℕ) (course : Course) (count : ℕ) (old new : Around)
     (standing : Standing) → Serves buffered course (Ok count) old new standing →
     ExchangesOver buffered course old new standing
 
--- Two exchanges one after the other are one exchange,
+-- Two consecutive exchanges are one exchange.
 abbrev pub TwoAreOne : Type 0
 TwoAreOne =
     (buffered left : List ℕ) (course mid_course : Course) (first next : Exchange)
@@ -78,7 +79,7 @@ TwoAreOne =
     Exchanges left mid_course next mid new standing →
     Exchanges buffered course (joined first next) old new standing
 
--- and so are as many as you like.
+-- Any number of consecutive exchanges are one exchange.
 abbrev pub AllAreOne : Type 0
 AllAreOne =
     (buffered : List ℕ) (course : Course) (exchanges : List Exchange) (old new : Maps)

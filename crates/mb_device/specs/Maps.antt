@@ -1,5 +1,5 @@
--- The four maps of a device (Modbus Application Protocol V1.1b3, section 4.3): from an address to a
--- value, where the device has one there.
+-- The four tables of a device (Modbus Application Protocol V1.1b3, section 4.3). Each has a value
+-- for each address that the device has.
 use Rattle.std.specs.Prelude.{◌≡◌, ℕ, ◌+◌, ◌==◌, ◌&&◌, nat_le, Bool, if◌then◌else◌, List, [], ◌∷◌, length, take, drop, is_some, slice_index_or, slice_set, Some, None}
 use Rattle.std.specs.List.{list_all}
 use Rattle.std.specs.declared.option.Option.{Option}
@@ -7,43 +7,45 @@ use Rattle.mb_wire.specs.declared.limits.TheConstants.{ADDRESSES}
 use Rattle.mb_device.specs.declared.kinds.Kind.{Kind}
 use Rattle.mb_device.specs.declared.kinds.Kind.TheVariants.{Coil, Discrete, Holding, Input}
 
--- each map as the values at the addresses from 0 on
+-- A register map: for each kind, the values at the addresses from 0 on.
 pub record Maps : Type 0 where
   pub coils : List (Option ℕ)
   pub discretes : List (Option ℕ)
   pub holdings : List (Option ℕ)
   pub inputs : List (Option ℕ)
 
+-- The table of one kind.
 abbrev pub table_of : Maps → Kind → List (Option ℕ)
 table_of maps Coil = maps.coils
 table_of maps Discrete = maps.discretes
 table_of maps Holding = maps.holdings
 table_of maps Input = maps.inputs
 
--- the value at an address, if there is one
+-- The value at an address of a table, if the device has that address.
 abbrev pub value_in : List (Option ℕ) → ℕ → Option ℕ
 value_in table address = slice_index_or table address None
 
+-- The value of a kind at an address, if the device has that address.
 abbrev pub value_at : Maps → Kind → ℕ → Option ℕ
 value_at maps kind address = value_in (table_of maps kind) address
 
--- so many addresses as there are stand in each table, whether a value is there or not
+-- Each table has an entry for every address, with or without a value.
 abbrev pub HasAllAddresses : Maps → Type 0
 HasAllAddresses maps = (kind : Kind) → length (table_of maps kind) ≡ ADDRESSES
 
--- what is kept for a value: a coil or a discrete input is on or off
+-- The value that is stored: a coil or a discrete input is on (1) or off (0).
 abbrev pub kept : Kind → ℕ → ℕ
 kept Coil value = if value == 0 then 0 else 1
 kept Discrete value = if value == 0 then 0 else 1
 kept Holding value = value
 kept Input value = value
 
--- a table with another value at an address that it has
+-- A table with a new value at an address, if the device has that address.
 abbrev pub written : List (Option ℕ) → ℕ → ℕ → List (Option ℕ)
 written table address value =
     if is_some (value_in table address) then slice_set table address (Some value) else table
 
--- maps with another table
+-- A register map with another table.
 abbrev pub with_table : Maps → Kind → List (Option ℕ) → Maps
 with_table maps Coil table =
     record {
@@ -69,17 +71,17 @@ with_table maps Input table =
       inputs = table;
     }
 
--- what stands at so many addresses
+-- The values at `count` addresses from `address` on.
 abbrev pub values_at : List (Option ℕ) → ℕ → ℕ → List (Option ℕ)
 values_at table address count = take count (drop address table)
 
--- all of so many addresses are there
+-- The device has all `count` addresses from `address` on.
 abbrev pub are_there : List (Option ℕ) → ℕ → ℕ → Bool
 are_there table address count =
     nat_le (address + count) (length table)
     && list_all (λ value. is_some value) (values_at table address count)
 
--- a table with these values from an address on
+-- A table with these values from an address on.
 abbrev pub all_written : List (Option ℕ) → ℕ → List ℕ → List (Option ℕ)
 all_written table address [] = table
 all_written table address (value ∷ values) =

@@ -1,4 +1,5 @@
--- What a server sends in place of its true answers: the answers of a connection, put through tricks.
+-- What a server sends instead of its true responses: the responses of a connection, changed by
+-- tricks.
 use Rattle.std.specs.Prelude.{ℕ, ◌+◌, ◌-◌, ◌^◌, ◌%◌, ◌==◌, nat_lt, Bool, true, false, if◌then◌else◌, List, [], ◌∷◌, ◌++◌, take, find, Some, None}
 use Rattle.std.specs.Option.{option_map}
 use Rattle.std.specs.declared.option.Option.{Option}
@@ -8,23 +9,24 @@ use Rattle.mb_wire.specs.Reader.{Fields, spelling}
 use Rattle.mb_device.specs.declared.trick.Trick.{Trick}
 use Rattle.mb_device.specs.declared.trick.Trick.TheVariants as play
 
+-- The response with these fields.
 abbrev pub answer_of : ℕ → ℕ → List ℕ → Fields
 answer_of tid unit pdu = record { tid = tid; unit = unit; pdu = pdu }
 
--- the true frame of an answer
+-- The true frame of a response.
 abbrev pub frame_of : Fields → List ℕ
 frame_of answer = spelling answer.tid answer.unit answer.pdu
 
--- the first trick with the number
+-- The first trick with the number.
 abbrev pub first_trick : List (ℕ × Trick) → ℕ → Option Trick
 first_trick tricks number =
     option_map (λ (t : ℕ × Trick). t.1) (find (λ (t : ℕ × Trick). t.0 == number) tricks)
 
--- the trick on the frame with this number; from 2^64 - 1 on there is none
+-- The trick on the frame with this number. Frames from 2^64 - 1 on have none.
 unfoldable pub trick_at : List (ℕ × Trick) → ℕ → Option Trick
 trick_at tricks number = if nat_lt number (2 ^ 64 - 1) then first_trick tricks number else None
 
--- the frame of an answer as a trick has it: three of them change its header
+-- The frame of a response as a trick changes it. Three tricks change the header.
 abbrev pub spelled_by : Option Trick → Fields → List ℕ
 spelled_by None answer = frame_of answer
 spelled_by (Some play.Drop) answer = frame_of answer
@@ -36,7 +38,8 @@ spelled_by (Some play.Garble) answer =
     word answer.tid ++ word 0 ++ word 0 ++ answer.unit ∷ answer.pdu
 spelled_by (Some (play.Cut count)) answer = frame_of answer
 
--- What is sent once a frame has been dealt with: of that frame, and then the one that was buffered before it.
+-- What is sent after a frame is executed: what the trick sends of its response, and then the
+-- response that was buffered before it.
 abbrev pub sent_of : Option Trick → List ℕ → List ℕ → List ℕ
 sent_of None frame later = frame ++ later
 sent_of (Some play.Drop) frame later = later
@@ -47,25 +50,27 @@ sent_of (Some play.Unit) frame later = frame ++ later
 sent_of (Some play.Garble) frame later = frame ++ later
 sent_of (Some (play.Cut count)) frame later = take count frame
 
--- A connection: its tricks, the number of its next frame (2^64 - 1 for all from there on), and the frame
--- that is buffered, empty where none is; or it was cut.
+-- A connection: its tricks, the number of its next frame (2^64 - 1 for all from there on), and the
+-- buffered response, empty if there is none. Or a trick cut it.
 pub data Course : Type 0 where
   Playing : List (ℕ × Trick) → ℕ → List ℕ → Course
   CutOff : Course
 
--- a connection before its first frame
+-- A connection before its first frame.
 abbrev pub begun : List (ℕ × Trick) → Course
 begun tricks = Playing tricks 1 []
 
+-- The connection of a sender with these parts.
 abbrev pub course_in : Bool → List (ℕ × Trick) → ℕ → List ℕ → Course
 course_in true tricks number later = CutOff
 course_in false tricks number later = Playing tricks number later
 
+-- A trick cut the connection.
 abbrev pub is_cut : Course → Bool
 is_cut (Playing tricks number later) = false
 is_cut CutOff = true
 
--- the trick cuts the connection
+-- The trick cuts the connection.
 abbrev pub cuts : Option Trick → Bool
 cuts None = false
 cuts (Some play.Drop) = false
@@ -76,7 +81,7 @@ cuts (Some play.Unit) = false
 cuts (Some play.Garble) = false
 cuts (Some (play.Cut count)) = true
 
--- the frame that is buffered after a frame with this trick
+-- The response that is buffered after a frame with this trick.
 abbrev pub later_of : Option Trick → List ℕ → List ℕ
 later_of None frame = []
 later_of (Some play.Drop) frame = []
@@ -87,41 +92,43 @@ later_of (Some play.Unit) frame = []
 later_of (Some play.Garble) frame = []
 later_of (Some (play.Cut count)) frame = []
 
--- a connection after a frame with this trick
+-- A connection after a frame with this trick.
 abbrev pub following : Option Trick → List ℕ → Course → Course
 following trick frame (Playing tricks number later) =
     if cuts trick then CutOff else Playing tricks (risen true number) (later_of trick frame)
 following trick frame CutOff = CutOff
 
--- The next answer of a connection: what is sent, and how it goes on.
+-- What is sent for the next response of a connection.
 unfoldable pub sent_next : Course → Fields → List ℕ
 sent_next (Playing tricks number later) answer =
     sent_of (trick_at tricks number) (spelled_by (trick_at tricks number) answer) later
 sent_next CutOff answer = []
 
+-- The connection after its next response.
 unfoldable pub course_next : Course → Fields → Course
 course_next (Playing tricks number later) answer =
     following (trick_at tricks number) (spelled_by (trick_at tricks number) answer)
     (Playing tricks number later)
 course_next CutOff answer = CutOff
 
--- true answers, put through the tricks of a connection: what is sent
+-- What a connection sends for true responses, with its tricks.
 abbrev pub sent : Course → List Fields → List ℕ
 sent course [] = []
 sent course (answer ∷ answers) = sent_next course answer ++ sent (course_next course answer) answers
 
--- a connection after answers
+-- A connection after responses.
 abbrev pub course_after : Course → List Fields → Course
 course_after course [] = course
 course_after course (answer ∷ answers) = course_after (course_next course answer) answers
 
--- the frames that are dealt with, of those from this number on: all up to one that is cut
+-- The frames that are executed, from the frame with this number on: all up to a cut.
 abbrev pub up_to_cut : List (ℕ × Trick) → ℕ → List (List ℕ) → List (List ℕ)
 up_to_cut tricks number [] = []
 up_to_cut tricks number (frame ∷ frames) =
     frame ∷ (if cuts (trick_at tricks number) then []
     else up_to_cut tricks (risen true number) frames)
 
+-- The frames that a server executes on this connection.
 abbrev pub carried_out : Course → List (List ℕ) → List (List ℕ)
 carried_out (Playing tricks number later) frames = up_to_cut tricks number frames
 carried_out CutOff frames = []

@@ -1,4 +1,4 @@
-//! What a device answers to a request, and what becomes of a table.
+//! Executes each kind of request on a table, and writes the response.
 ghost use Rattle.std.specs.Prelude.{◌≡◌, ◌≤◌, ◌+◌, ◌*◌, ◌/◌, ◌∷◌, [], length, take, is_some, true};
 ghost use Rattle.std.specs.List.{list_all};
 ghost use Rattle.mb_wire.specs.Bytes.{words_of};
@@ -15,7 +15,7 @@ use mb_wire::{
     encode_reply,
 };
 
-// The exception code of a fault.
+// Returns the exception code of a fault.
 pub(crate) fn code_of(fault: RequestFault) -> u8
     ensures { result ≡ code_of_fault fault }
 {
@@ -28,7 +28,7 @@ pub(crate) fn code_of(fault: RequestFault) -> u8
     }
 }
 
-// Writes an exception to a PDU that is no request.
+// Writes the exception that answers a PDU that is no request.
 pub(crate) fn refuse(function: u8, code: u8, out: &mut [u8; MAX_PDU]) -> usize
     ensures count { result ≡ 2 }
     ensures written { take result out.new ≡ exception_bytes function code }
@@ -42,7 +42,7 @@ pub(crate) fn refuse(function: u8, code: u8, out: &mut [u8; MAX_PDU]) -> usize
     2
 }
 
-// All of so many addresses are there.
+// Returns whether the table has `count` addresses from `address` on.
 fn has_all(table: &[Option<u16>], address: u16, count: u16) -> bool
     ensures { result ≡ are_there table.now address count }
 {
@@ -57,7 +57,7 @@ fn are_some(values: &[Option<u16>]) -> bool
     values.iter().all(|value| value.is_some())
 }
 
-// All addresses are there from which on so many coils are written.
+// Returns whether the table has every address of a write of coils.
 fn has_coils(table: &[Option<u16>], address: u16, quantity: u16, bytes: &[u8]) -> bool
     requires { length bytes.now ≡ bytes_for quantity }
     ensures value { result ≡ are_there table.now address (length (coils_of quantity bytes.now)) }
@@ -66,7 +66,7 @@ fn has_coils(table: &[Option<u16>], address: u16, quantity: u16, bytes: &[u8]) -
     has_all(table, address, quantity)
 }
 
-// All addresses are there from which on registers are written.
+// Returns whether the table has every address of a write of registers.
 fn has_words(table: &[Option<u16>], address: u16, bytes: &[u8]) -> bool
     requires { length bytes.now ≤ 2 * MAX_WRITE_REGISTERS }
     ensures value { result ≡ are_there table.now address (length (words_of bytes.now)) }
@@ -75,7 +75,7 @@ fn has_words(table: &[Option<u16>], address: u16, bytes: &[u8]) -> bool
     has_all(table, address, (bytes.len() / 2) as u16)
 }
 
-// Writes the answer to a read of coils or discrete inputs.
+// Writes the response to a read of coils or discrete inputs.
 pub(crate) fn answer_bits(
     table: &[Option<u16>],
     request: &Request<'_>,
@@ -105,7 +105,7 @@ pub(crate) fn answer_bits(
     }
 }
 
-// Writes the answer to a read of registers.
+// Writes the response to a read of registers.
 pub(crate) fn answer_words(
     table: &[Option<u16>],
     request: &Request<'_>,
@@ -131,7 +131,7 @@ pub(crate) fn answer_words(
     }
 }
 
-// Carries out a write of one coil, and writes its answer.
+// Executes a write of one coil, and writes its response.
 pub(crate) fn answer_coil(
     table: &mut [Option<u16>],
     request: &Request<'_>,
@@ -155,7 +155,7 @@ pub(crate) fn answer_coil(
     }
 }
 
-// Carries out a write of coils, and writes its answer.
+// Executes a write of coils, and writes its response.
 pub(crate) fn answer_coils(
     table: &mut [Option<u16>],
     request: &Request<'_>,
@@ -181,7 +181,7 @@ pub(crate) fn answer_coils(
     }
 }
 
-// Carries out a write of registers, and writes its answer.
+// Executes a write of registers, and writes its response.
 pub(crate) fn answer_registers(
     table: &mut [Option<u16>],
     request: &Request<'_>,

@@ -1,4 +1,4 @@
-//! A device's values.
+//! A simulated device's register map.
 ghost use Rattle.std.specs.Prelude.{◌≡◌, ◌≤◌, ◌<◌, ◌+◌, ◌↔◌, IfOk, Ok, Err, take};
 ghost use Rattle.std.specs.Prelude.{true, false, is_some, if◌then◌else◌, length};
 ghost use Rattle.std.specs.Prelude.{None};
@@ -18,7 +18,7 @@ use mb_wire::{ADDRESSES, MAX_PDU, Request, decode_request};
 use std::alloc::{AllocError, Global};
 use std::marker::Model;
 
-/// The values of a device, each at its kind and address.
+/// The register map of a simulated device: the values of each kind, by address.
 #[derive(Drop)]
 pub struct Bank {
     coils: Vec<Option<u16>>,
@@ -40,14 +40,14 @@ impl Model for Bank {
     } };
 }
 
-// An area shares an address of its kind with one of the others.
+// Returns whether an area shares an address of its kind with any of the others.
 fn overlaps_any(area: &Area, others: &[Area]) -> bool
     ensures { result ≡ list_any (λ other. overlap area.now other) others.now }
 {
     others.iter().any(|other| area.overlaps(other))
 }
 
-// Two areas of one kind share an address.
+// Returns whether two areas of one kind share an address.
 fn has_overlap(areas: &[Area]) -> bool
     ensures { result ≡ any_overlap areas.now }
 {
@@ -57,21 +57,21 @@ fn has_overlap(areas: &[Area]) -> bool
     }
 }
 
-// An area is empty, or reaches past the last address.
+// Returns whether an area is empty, or extends past the last address.
 fn has_out_of_range(areas: &[Area]) -> bool
     ensures { result ≡ list_any is_out_of_range areas.now }
 {
     areas.iter().any(|area| area.is_out_of_range())
 }
 
-// An area contains the address.
+// Returns whether an area contains the address.
 fn any_contains(areas: &[Area], kind: Kind, address: u64) -> bool
     ensures { result ≡ list_any (λ area. contains kind address area) areas.now }
 {
     areas.iter().any(|area| area.contains(kind, address))
 }
 
-// What stands at an address in the beginning.
+// Returns the initial value at an address, or `None` if no area contains it.
 fn begin(areas: &[Area], kind: Kind, address: u64) -> Option<u16>
     ensures { result ≡ first_value areas.now kind address }
 {
@@ -82,7 +82,7 @@ fn begin(areas: &[Area], kind: Kind, address: u64) -> Option<u16>
     }
 }
 
-// The table of one kind.
+// Returns the initial table of one kind.
 fn begin_table(alloc: Global, areas: &[Area], kind: Kind) -> Result<Vec<Option<u16>>, AllocError>
     ensures values { IfOk result (λ table. BeginsAs areas.now kind table.items) }
     ensures end { IfOk result (λ table. length table.items ≡ ADDRESSES) }
@@ -94,14 +94,14 @@ fn begin_table(alloc: Global, areas: &[Area], kind: Kind) -> Result<Vec<Option<u
     Ok(table)
 }
 
-// One of the addresses is there.
+// Returns whether the device has any of the addresses.
 fn any_some(values: &[Option<u16>]) -> bool
     ensures { result ≡ list_any (λ value. is_some value) values.now }
 {
     values.iter().any(|value| value.is_some())
 }
 
-// One of so many addresses from an address on is there.
+// Returns whether the table has any of `count` addresses from `start` on.
 #[tactic(auto, using(crate::proofs::Adding::cut))]
 fn has_some(table: &[Option<u16>], start: usize, count: usize) -> bool
     ensures { result ≡ list_any (λ value. is_some value) (values_at table.now start count) }
@@ -110,7 +110,7 @@ fn has_some(table: &[Option<u16>], start: usize, count: usize) -> bool
     any_some(&rest[..count.min(rest.len())])
 }
 
-// So many addresses from an address on begin with the value 0.
+// Sets `count` addresses from `start` on to 0.
 #[tactic(auto, using(crate::proofs::Adding::pasted))]
 fn begin_area(table: &mut Vec<Option<u16>>, start: usize, count: usize)
     requires { start + count ≤ length table.old.items }
@@ -121,7 +121,7 @@ fn begin_area(table: &mut Vec<Option<u16>>, start: usize, count: usize)
     }
 }
 
-// A table with an area more, where it has none of its addresses.
+// Adds an area to a table that has none of its addresses.
 fn add_to(table: &mut Vec<Option<u16>>, start: u16, count: u32) -> Result<(), BankFault>
     ensures { Adds table.old.items start count result table.new.items }
 {
@@ -137,7 +137,7 @@ fn add_to(table: &mut Vec<Option<u16>>, start: u16, count: u32) -> Result<(), Ba
     Ok(())
 }
 
-// A table with another value at an address that it has, and whether it has it.
+// Changes the value at an address of the table. Returns whether the table has that address.
 fn write(table: &mut Vec<Option<u16>>, address: u16, value: u16) -> bool
     ensures there { result ≡ is_some (value_in table.old.items address) }
     ensures after { table.new.items ≡ written table.old.items address value }
@@ -152,7 +152,7 @@ fn write(table: &mut Vec<Option<u16>>, address: u16, value: u16) -> bool
 }
 
 impl Bank {
-    /// The bank of these areas, with all values 0.
+    /// Creates the register map of these areas, with all values 0.
     pub fn new(alloc: Global, areas: &[Area]) -> Result<Bank, BankFault>
         ensures overlap { (result ≡ Err BankFault.AreasOverlap) ↔ (any_overlap areas.now ≡ true) }
         ensures range { (result ≡ Err BankFault.OutOfRange) ↔
@@ -181,7 +181,7 @@ impl Bank {
         })
     }
 
-    /// Adds an area, with all values 0. A refused one changes nothing.
+    /// Adds an area, with all values 0. On error nothing changes.
     pub fn add(&mut self, area: &Area) -> Result<(), BankFault>
         ensures added { Adds (table_of self.old area.now.kind) area.now.start area.now.count
             result (table_of self.new area.now.kind) }
@@ -197,8 +197,8 @@ impl Bank {
         }
     }
 
-    /// Keeps a value, and says whether there is such an address. A coil or a discrete input is on where
-    /// the value is not 0, and is then kept as 1.
+    /// Sets the value at an address. Returns whether the map has that address. For a coil or a
+    /// discrete input, any value but 0 is stored as 1.
     pub fn set(&mut self, kind: Kind, address: u16, value: u16) -> bool
         ensures there { result ≡ is_some (value_at self.old kind address) }
         ensures after { self.new ≡
@@ -212,7 +212,8 @@ impl Bank {
         }
     }
 
-    /// The value at an address, if there is one: 0 or 1 of a coil or a discrete input.
+    /// Returns the value at an address, if the map has that address. A coil or a discrete input is
+    /// 0 or 1.
     pub fn get(&self, kind: Kind, address: u16) -> Option<u16>
         ensures { result ≡ value_at self.now kind address }
     {
@@ -225,9 +226,11 @@ impl Bank {
         value_of(table, address)
     }
 
-    /// Answers a PDU of 1 to 253 bytes at the front of `out`, and says how many bytes the answer has.
-    /// The function is looked at first, then the rest of the PDU, then the addresses; what is refused
-    /// changes nothing (Modbus Application Protocol V1.1b3, sections 6 and 7).
+    /// Executes a PDU of 1 to 253 bytes. Writes the response to the front of `out`, and returns its
+    /// length in bytes.
+    ///
+    /// Checks the function code first, then the rest of the PDU, then the addresses (Modbus
+    /// Application Protocol V1.1b3, sections 6 and 7). A refused request changes nothing.
     pub fn answer(&mut self, pdu: &[u8], out: &mut [u8; MAX_PDU]) -> usize
         requires some { 1 ≤ length pdu.now }
         requires few { length pdu.now ≤ MAX_PDU }
@@ -242,7 +245,7 @@ impl Bank {
         }
     }
 
-    // Carries out a request, and writes its answer.
+    // Executes a request, and writes its response.
     fn carry_out(&mut self, request: &Request<'_>, out: &mut [u8; MAX_PDU]) -> usize
         requires { IsLawful request.now }
         ensures some { 1 ≤ result }
@@ -289,7 +292,7 @@ impl Bank {
     }
 }
 
-// The value at an address of a table.
+// Returns the value at an address of a table.
 fn value_of(table: &[Option<u16>], address: u16) -> Option<u16>
     ensures { result ≡ value_in table.now address }
 {

@@ -1,4 +1,4 @@
-//! What faults say to a person.
+//! The sentence that describes each fault.
 use crate::kinds::BankFault;
 use crate::server::ServeFault;
 use std::error::Error;

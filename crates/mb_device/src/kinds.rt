@@ -1,4 +1,4 @@
-//! What a device keeps.
+//! The kinds of a device's values, and the areas of a register map.
 ghost use Rattle.std.specs.Prelude.{◌≡◌, ◌+◌};
 ghost use Rattle.mb_device.specs.Areas.{bank_fault_number, contains, is_out_of_range, kind_number};
 ghost use Rattle.mb_device.specs.Areas.{overlap};
@@ -8,17 +8,17 @@ use mb_wire::ADDRESSES;
 /// The four kinds of values of a device (Modbus Application Protocol V1.1b3, section 4.3).
 #[derive(Clone, Copy, Debug, PartialEq, Eq)]
 pub enum Kind {
-    /// A bit that is read and written.
+    /// A bit that clients read and write.
     Coil,
-    /// A bit that is read.
+    /// A bit that clients only read.
     Discrete,
-    /// A register that is read and written.
+    /// A register that clients read and write.
     Holding,
-    /// A register that is read.
+    /// A register that clients only read.
     Input,
 }
 
-/// Addresses of one kind that a device has: `count` of them from `start` on.
+/// Addresses of one kind that a device has: `count` of them, from `start` on.
 #[derive(Clone, Copy, Debug, PartialEq, Eq)]
 pub struct Area {
     pub kind: Kind,
@@ -26,19 +26,20 @@ pub struct Area {
     pub count: u32,
 }
 
-/// Why areas make no bank; the least fault is told.
+/// Why areas are not a register map. The fault with the lowest number is reported.
 #[derive(Clone, Copy, Debug, PartialEq, Eq)]
 pub enum BankFault {
     /// Two areas of one kind share an address.
     AreasOverlap,
-    /// An area is empty, or reaches past address 65535.
+    /// An area is empty, or extends past address 65535.
     OutOfRange,
-    /// Memory ran out.
+    /// Out of memory.
     Memory,
 }
 
 impl BankFault {
-    /// Its place in the order in which faults are looked for, from 1; the least that applies is told.
+    /// Returns the fault's number, from 1. Faults are checked in this order, and the first that
+    /// applies is reported.
     pub fn number(self) -> u8
         ensures { result ≡ bank_fault_number self }
     {
@@ -64,7 +65,7 @@ impl Kind {
 }
 
 impl Area {
-    // The address after the last.
+    // Returns the address after the area's last.
     fn end(&self) -> u64
         ensures { result ≡ self.now.start + self.now.count }
     {

@@ -1,4 +1,4 @@
-//! Laws of what a server exchanges over many turns.
+//! Theorems on what a server exchanges over many turns.
 ghost use Rattle.std.specs.Prelude.{◌≡◌, ◌-◌, ◌^◌, ℕ, List, [], false};
 ghost use Rattle.std.specs.List.{flat_map};
 ghost use Rattle.mb_wire.specs.Reader.{Fields};
@@ -6,8 +6,9 @@ ghost use Rattle.mb_device.specs.Exchanges.{AllAreOne, ServingExchanges, TurnExc
 ghost use Rattle.mb_device.specs.Tricks.{Playing, carried_out, course_after, frame_of, is_cut, sent};
 ghost use Rattle.mb_device.specs.declared.trick.Trick.{Trick};
 
-/// A turn that answers Ok exchanges bytes, and so does a serving; exchanges one after another are one
-/// exchange, whatever came to the link or left it between them.
+/// Theorem: a turn that returns `Ok` is an exchange of bytes, and so is a `serve` that returns
+/// `Ok`. Consecutive exchanges are one exchange, even if the link gained or lost bytes between
+/// them.
 pub fn turns_compose()
     ensures turn { TurnExchanges }
     ensures serving { ServingExchanges }
@@ -15,8 +16,8 @@ pub fn turns_compose()
     ensures all { AllAreOne }
 {}
 
-/// Where no frame has a trick, as without tricks and from frame 2^64 - 1 on, what is sent is the true
-/// answers, one after another; each frame is carried out, and the connection goes on.
+/// Theorem: if no frame has a trick, the server executes every frame, sends the true responses in
+/// order, and keeps the connection. That is the case without tricks, and from frame 2^64 - 1 on.
 pub fn no_trick_is_true()
     ensures sent { (number : ℕ) (answers : List Fields) →
         sent (Playing [] number []) answers ≡ flat_map frame_of answers }

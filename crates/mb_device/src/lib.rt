@@ -1,5 +1,5 @@
-//! A stand-in for a device on Modbus over TCP: it answers as the Modbus Application Protocol V1.1b3
-//! says, over coils and registers in memory.
+//! A simulator of a Modbus TCP device. It responds as the Modbus Application Protocol V1.1b3 says,
+//! over coils and registers in memory.
 #![tactic(auto)]
 
 mod answer;

@@ -1,4 +1,4 @@
-//! The answers of a connection, on their way to the peer.
+//! Sends the responses of a connection, changed by its tricks.
 ghost use Rattle.std.specs.Prelude.{◌≡◌, ◌≤◌, ◌++◌, length, take, false, is_err};
 ghost use Rattle.std.specs.Io.KnownBytes.{Keeps};
 ghost use Rattle.mb_wire.specs.Links.{Gives, risen};
@@ -9,7 +9,7 @@ use crate::trick::Trick;
 use mb_wire::{Link, LinkFailed, MAX_ADU, MAX_PDU, give_all, write_frame};
 use std::marker::Model;
 
-// Gives all of the bytes, and then all of the others.
+// Writes all bytes of both slices, in order.
 fn give_both<L: Link>(link: &mut L, first: &[u8], next: &[u8]) -> Result<(), LinkFailed>
     ensures given { Gives result (L.given link.old) (L.given link.new) (first.now ++ next.now) }
     ensures remaining { Keeps (L.remaining link.old) (L.remaining link.new) }
@@ -22,7 +22,7 @@ fn give_both<L: Link>(link: &mut L, first: &[u8], next: &[u8]) -> Result<(), Lin
     give_all(link, next)
 }
 
-// Gives what a trick sends of a frame, and of the one that was buffered before it.
+// Writes what a trick sends for a frame, and for the frame that was buffered before it.
 fn give_by<L: Link>(
     link: &mut L,
     trick: Option<Trick>,
@@ -48,7 +48,7 @@ fn give_by<L: Link>(
     }
 }
 
-// Writes a frame whose header has length 0, and says how many bytes it has.
+// Writes a frame whose header has length 0, and returns its length in bytes.
 fn write_without_length(tid: u16, unit: u8, pdu: &[u8], out: &mut [u8; MAX_ADU]) -> usize
     requires low { 1 ≤ length pdu.now }
     requires high { length pdu.now ≤ MAX_PDU }
@@ -62,7 +62,7 @@ fn write_without_length(tid: u16, unit: u8, pdu: &[u8], out: &mut [u8; MAX_ADU])
     end
 }
 
-// Writes an answer as a trick has it, and says how many bytes it has.
+// Writes a response as its trick changes it, and returns its length in bytes.
 fn write_by(trick: Option<Trick>, tid: u16, unit: u8, pdu: &[u8], out: &mut [u8; MAX_ADU]) -> usize
     requires low { 1 ≤ length pdu.now }
     requires high { length pdu.now ≤ MAX_PDU }
@@ -79,7 +79,7 @@ fn write_by(trick: Option<Trick>, tid: u16, unit: u8, pdu: &[u8], out: &mut [u8;
     }
 }
 
-// The first trick with this number.
+// Returns the first trick with this number.
 fn find_first(tricks: &[(u64, Trick)], number: u64) -> Option<Trick>
     ensures { result ≡ first_trick tricks.now number }
 {
@@ -89,7 +89,7 @@ fn find_first(tricks: &[(u64, Trick)], number: u64) -> Option<Trick>
         .map(|trick| trick.1)
 }
 
-// The trick on the frame with this number.
+// Returns the trick on the frame with this number.
 #[tactic(auto, unfolding(crate::specs::Tricks::trick_at))]
 fn find_trick(tricks: &[(u64, Trick)], number: u64) -> Option<Trick>
     ensures { result ≡ trick_at tricks.now number }
@@ -100,13 +100,13 @@ fn find_trick(tricks: &[(u64, Trick)], number: u64) -> Option<Trick>
     find_first(tricks, number)
 }
 
-// Sends the answers of a connection, each by the trick on its frame.
+// Sends the responses of a connection, each changed by the trick on its frame.
 #[derive(Drop)]
 pub(crate) struct Sender<'t> {
     tricks: &'t [(u64, Trick)],
     // The number of the next frame.
     next: u64,
-    // The answer that is buffered, in so many bytes; none where that is 0.
+    // The buffered response: its first `len` bytes. None is buffered if `len` is 0.
     later: [u8; MAX_ADU],
     len: usize,
     is_cut: bool,
@@ -137,14 +137,14 @@ impl<'t> Sender<'t> {
         }
     }
 
-    // The connection is over.
+    // Returns whether a trick cut the connection.
     pub(crate) fn is_cut(&self) -> bool
         ensures { result ≡ is_cut self.now }
     {
         self.is_cut
     }
 
-    // Goes on to the next frame, after one that was spelled so.
+    // Moves on to the next frame, after a frame with this trick.
     fn go_on(&mut self, trick: Option<Trick>, frame: [u8; MAX_ADU], end: usize)
         requires { end ≤ MAX_ADU }
         ensures { self.new ≡ following trick (take end frame) self.old }
@@ -161,7 +161,7 @@ impl<'t> Sender<'t> {
         }
     }
 
-    // Sends the next answer by the trick on its frame.
+    // Sends the next response, changed by the trick on its frame.
     pub(crate) fn send<L: Link>(
         &mut self,
         link: &mut L,

@@ -1,4 +1,4 @@
-//! A server: frames come over a link, and their answers go back.
+//! A server: reads frames from a link, and writes the responses.
 ghost use Rattle.std.specs.Prelude.{◌≡◌, ◌≤◌, ◌<◌, ◌+◌, ◌^◌, ◌++◌, ℕ, List, [], length, not, true};
 ghost use Rattle.std.specs.Prelude.{false, is_err, IfOk, Ok, Err};
 ghost use Rattle.std.specs.Io.KnownBytes.{Keeps};
@@ -22,18 +22,18 @@ use std::marker::Model;
 /// Why a server stopped.
 #[derive(Clone, Copy, Debug, PartialEq, Eq)]
 pub enum ServeFault {
-    /// A take failed.
+    /// A read failed.
     Read,
-    /// A give failed, or took nothing.
+    /// A write failed, or accepted no bytes.
     Write,
-    /// The stream is garbled, or a fault came before.
+    /// The stream is garbled, or an earlier call returned a fault.
     Garbled,
-    /// The input had not ended after the last turn.
+    /// The input did not end within the given turns.
     TurnsUsed,
 }
 
 impl ServeFault {
-    /// The number of the fault, from 1. The program neither prints nor keeps it.
+    /// Returns the fault's number, from 1. The program does not print or store it.
     pub fn number(self) -> u8
         ensures { result ≡ serve_fault_number self }
     {
@@ -46,22 +46,23 @@ impl ServeFault {
     }
 }
 
-/// What a turn did.
+/// The result of a turn.
 #[derive(Clone, Copy, Debug, PartialEq, Eq)]
 pub struct Turned {
-    /// How many frames were answered, those included that a trick dropped, buffered or cut off.
+    /// The number of frames that were executed, with those whose response a trick dropped, buffered
+    /// or cut off.
     pub answered: u64,
-    /// Nothing more will come, or a trick cut the connection.
+    /// Whether the input ended, or a trick cut the connection.
     pub ended: bool,
 }
 
-// What each turn tells once the connection was cut.
+// The result of each turn after a cut.
 const OVER: Turned = Turned {
     answered: 0,
     ended: true,
 };
 
-/// Answers the frames of one stream: truly, or by tricks.
+/// Responds to the frames of one stream: truly, or changed by tricks.
 #[derive(Drop)]
 pub struct Server<'t> {
     reader: FrameReader,
@@ -84,7 +85,7 @@ impl<'t> Model for Server<'t> {
         IsOpen server.reader.rest };
 }
 
-// Carries out a frame, and sends its answer.
+// Executes a frame, and sends its response.
 fn answer_frame<L: Link>(
     frame: &Frame<'_>,
     sender: &mut Sender<'_>,
@@ -110,7 +111,7 @@ fn answer_frame<L: Link>(
     sender.send(link, frame.tid, frame.unit, &pdu[..length])
 }
 
-// Answers the frame that the reader holds, if it holds one, and says how many that are.
+// Responds to the frame that the reader holds, if any. Returns the number of frames.
 fn answer_buffered<L: Link>(
     reader: &FrameReader,
     sender: &mut Sender<'_>,
@@ -140,7 +141,7 @@ fn answer_buffered<L: Link>(
     }
 }
 
-// Answers the frames that end in a piece, up to one that is cut, and says how many.
+// Responds to the frames that end in a piece, up to a cut. Returns the number of frames.
 fn answer_piece<L: Link>(
     reader: &mut FrameReader,
     sender: &mut Sender<'_>,
@@ -178,7 +179,7 @@ fn answer_piece<L: Link>(
     }
 }
 
-// One take, and the answers to the frames that it ended.
+// Reads once, and responds to the frames that the read completed.
 fn take_turn<L: Link>(
     reader: &mut FrameReader,
     sender: &mut Sender<'_>,
@@ -221,16 +222,18 @@ fn take_turn<L: Link>(
 }
 
 impl<'t> Server<'t> {
-    /// A server that answers truly.
+    /// Creates a server that sends true responses.
     pub fn new() -> Self
         ensures { result ≡ Holds [] (begun []) }
     {
         Server::tricked(&[])
     }
 
-    /// A server that plays tricks. The frames of its stream are counted from 1, those of another protocol
-    /// aside, and each is answered by the first trick with its number: truly where there is none, and from
-    /// frame 2^64 - 1 on.
+    /// Creates a server that plays tricks. The Modbus frames of its stream are numbered from 1;
+    /// frames of other protocols have no number.
+    ///
+    /// The first trick with a frame's number changes its response. A frame without a trick, and
+    /// every frame from 2^64 - 1 on, gets the true response.
     pub fn tricked(tricks: &'t [(u64, Trick)]) -> Self
         ensures { result ≡ Holds [] (begun tricks.now) }
     {
@@ -241,7 +244,7 @@ impl<'t> Server<'t> {
         }
     }
 
-    // It has answered a fault.
+    // Returns whether a call returned a fault.
     fn has_failed(&self) -> bool
         ensures failed { result ≡ has_faulted self.now }
         ensures buffered { (buffered : List ℕ) (course : Course) → self.now ≡ Holds buffered course
@@ -250,7 +253,7 @@ impl<'t> Server<'t> {
         self.failed
     }
 
-    // Its connection was cut.
+    // Returns whether a trick cut the connection.
     fn is_over(&self) -> bool
         ensures { result ≡ is_over self.now }
     {
@@ -263,11 +266,13 @@ impl<'t> Server<'t> {
         self.failed = true;
     }
 
-    /// Takes at most 260 bytes, and answers each frame that ends in them, with its transaction identifier and
-    /// unit or as a trick has it. What was carried out before a fault stands. After a fault each call
-    /// answers Garbled, and takes and gives nothing. After an answer that a trick cuts off nothing is
-    /// carried out: that turn and each later one answer that the input ended, and the later ones take and
-    /// give nothing.
+    /// Reads at most 260 bytes, and responds to each frame that ends in them. A response has the
+    /// frame's transaction identifier and unit, if no trick changes them.
+    ///
+    /// Requests that were executed before a fault keep their effect. After a fault, each call
+    /// returns `Garbled`, without a read or a write. After a trick cuts the connection, this
+    /// turn and each later one report the end of the input. The later turns execute, read and write
+    /// nothing.
     pub fn turn<L: Link>(&mut self, link: &mut L, bank: &mut Bank) -> Result<Turned, ServeFault>
         ensures serving { (buffered : List ℕ) (course : Course) → self.old ≡ Holds buffered course →
             Turns buffered course result (around (L.remaining link.old) (L.given link.old) bank.old)
@@ -296,10 +301,12 @@ impl<'t> Server<'t> {
         turned
     }
 
-    /// Takes turns to the end of the input, at most `max_turns`, and answers how many frames were
-    /// answered, those included that a trick dropped, buffered or cut off. What was carried out before a
-    /// fault stands. After a fault each call answers Garbled, and takes and gives nothing. After a cut
-    /// each call answers that no frame was, and takes and gives nothing.
+    /// Takes turns until the input ends, at most `max_turns`. Returns the number of executed
+    /// frames, with those whose response a trick dropped, buffered or cut off.
+    ///
+    /// Requests that were executed before a fault keep their effect. After a fault, each call
+    /// returns `Garbled`, without a read or a write. After a cut, each call returns 0, without a
+    /// read or a write.
     pub fn serve<L: Link>(
         &mut self,
         link: &mut L,

@@ -1,4 +1,4 @@
-//! A stand-in for a device, which answers on a listener.
+//! A simulated device on a listener.
 
 mod connections;
 

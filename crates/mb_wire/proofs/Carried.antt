@@ -1,4 +1,4 @@
--- What stands after a count of bytes.
+-- The data after a byte count.
 use Rattle.std.proofs.Common.{◌≡◌, ℕ, ◌*◌, List, length, ap, sym, ◌∙◌}
 use Rattle.mb_wire.specs.Bytes.{words_of, word_bytes}
 use Rattle.mb_wire.specs.Coils.{bytes_for, coils_of, packed}

@@ -1,5 +1,6 @@
--- The standard's own exchanges, and its limits: the last value that is allowed and the first that is not, as
--- numbers. The definitions cite the program's constants, so another constant is refused here.
+-- The standard's own exchanges and its limits, as numbers: the last value that is allowed and the
+-- first that is not. The definitions cite the program's constants, so the prover refuses any other
+-- constant here.
 use Rattle.std.proofs.Common.{◌≡◌, true, false, List, ℕ, [], ◌∷◌, length, replicate, Ok, Err, Some, None, refl, arith}
 use Rattle.mb_wire.specs.Coils.{bits_in, coils_in, packed_in}
 use Rattle.mb_wire.specs.Frames.{frames, frames_in, is_bad, is_garbled, rest, rest_in}
@@ -10,7 +11,7 @@ use Rattle.mb_wire.specs.Spans.{IsSpan}
 use Rattle.mb_wire.specs.declared.limits.TheConstants.{ADDRESSES, MAX_ADU, MAX_PDU, MBAP_HEADER}
 use Rattle.mb_wire.specs.declared.requests.RequestFault.TheVariants.{WrongQuantity}
 
--- ---- quantities: function code, address 0, quantity, and what is carried
+-- ---- quantities: function code, address 0, quantity, and data
 
 reads_0_coils : request_fault (1 ∷ 0 ∷ 0 ∷ 0 ∷ 0 ∷ []) ≡ Some WrongQuantity
 reads_0_coils = refl
@@ -98,7 +99,7 @@ a_header = refl
 addresses : ADDRESSES ≡ 65536
 addresses = refl
 
--- length fields 1 and 2, 254 and 255
+-- The length fields 1 and 2, 254 and 255.
 length_1 : is_bad (0 ∷ 0 ∷ 0 ∷ 0 ∷ 0 ∷ 1 ∷ []) ≡ true
 length_1 = refl
 
@@ -111,7 +112,7 @@ length_254 = refl
 length_255 : is_bad (0 ∷ 0 ∷ 0 ∷ 0 ∷ 0 ∷ 255 ∷ []) ≡ true
 length_255 = refl
 
--- the frame with the shortest PDU, and the one with the longest
+-- The frames with the shortest and the longest PDU.
 abbrev shortest : List ℕ
 shortest = 0 ∷ 0 ∷ 0 ∷ 0 ∷ 0 ∷ 2 ∷ 1 ∷ 3 ∷ []
 
@@ -129,7 +130,7 @@ longest_is_read : frames longest ≡ longest ∷ []
 unfolding frames frames_in
 longest_is_read = refl
 
--- one byte more
+-- One byte more than the longest frame.
 abbrev too_long : List ℕ
 too_long = 0 ∷ 0 ∷ 0 ∷ 0 ∷ 0 ∷ 255 ∷ 1 ∷ replicate 254 0
 
@@ -148,7 +149,8 @@ span_of_126 span = omega (arith, span.few)
 span_past_the_last : IsSpan 4 65412 125 → ⊥
 span_past_the_last span = omega (arith, span.inside)
 
--- ---- the standard's exchanges (MAP, section 6): a request is read and spelled, and so is its reply
+-- ---- the standard's exchanges (MAP, section 6): each request and its response is decoded and
+-- encoded
 
 read_coils_is_read : query_in (1 ∷ 0 ∷ 19 ∷ 0 ∷ 19 ∷ []) ≡ Ok (ReadCoils 19 19)
 unfolding coils_in bits_in packed_in
@@ -278,6 +280,6 @@ write_registers_reply_is_spelled : answer_bytes (WriteRegisters 1 (10 ∷ 258 �
 unfolding coils_in bits_in packed_in
 write_registers_reply_is_spelled = refl
 
--- an exception: no such address (MAP, section 7)
+-- An exception: no such address (MAP, section 7).
 no_such_address : answer_in (ReadCoils 1185 1) (129 ∷ 2 ∷ []) ≡ Ok (Exception 2)
 no_such_address = refl

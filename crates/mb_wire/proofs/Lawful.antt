@@ -1,4 +1,4 @@
--- What holds of requests and replies holds of their values.
+-- What holds of requests and responses also holds of their values.
 use Rattle.std.proofs.Common.{ℕ, sym, ap, ◌∙◌, subst}
 use Rattle.mb_wire.specs.Requests.{IsLawful, IsLawfulQuery, IsWithin, query_of}
 use Rattle.mb_wire.specs.Replies.{AnswersQuery, AnswersRequest, FitsRequest, answer_of}
@@ -27,7 +27,7 @@ answers_query request (Words bytes) h = h.0
 answers_query request Echo h = h
 answers_query request (Exception code) h = h
 
--- a reply that fits answers the request
+-- A fitting response answers the request.
 pub fitting_answers : (request : Request) (reply : Reply) → FitsRequest request reply → AnswersRequest request reply
 fitting_answers request (Bits quantity bytes) h = h.1
 fitting_answers request (Words bytes) h = h.1

@@ -1,10 +1,10 @@
--- A frame is the one spelling of its fields.
+-- A frame is the only encoding of its fields.
 use Rattle.std.proofs.Common.{◌≡◌, ℕ, ◌+◌, ◌*◌, ◌/◌, ◌%◌, ◌<◌, List, [], ◌∷◌, ◌++◌, length, sym, ap, ◌∙◌, arith}
 use Rattle.mb_wire.specs.Bytes.{AreBytes, word}
 use Rattle.mb_wire.specs.Frames.{IsFrame, IsOwn, tid_of, unit_of, pdu_of}
 use Rattle.mb_wire.specs.Reader.{Fields, fields_of, spelling}
 
--- two bytes are the word of their number
+-- Two bytes are the encoding of their number.
 word_again : (high low : ℕ) → low < 256 → word (256 * high + low) ≡ high ∷ low ∷ []
 word_again high low small =
     let first : (256 * high + low) / 256 ≡ high = omega arith in

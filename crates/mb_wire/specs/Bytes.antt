@@ -1,25 +1,25 @@
 -- Numbers of 16 bits in bytes, high byte first (Modbus Application Protocol V1.1b3, section 4.2).
 use Rattle.std.specs.Prelude.{ℕ, ◌+◌, ◌*◌, ◌/◌, ◌%◌, ◌<◌, List, [], ◌∷◌, ◌++◌, slice_index}
 
--- the two bytes of a number
+-- The two bytes of a 16-bit number.
 abbrev pub word : ℕ → List ℕ
 word n = n / 256 ∷ n % 256 ∷ []
 
--- the number that stands in two bytes
+-- The 16-bit number at a place.
 abbrev pub number_at : List ℕ → ℕ → ℕ
 number_at bytes place = 256 * slice_index bytes place + slice_index bytes (place + 1)
 
--- the numbers that stand in the bytes, two bytes each
+-- The 16-bit numbers that the bytes encode, two bytes each.
 abbrev pub words_of : List ℕ → List ℕ
 words_of [] = []
 words_of (high ∷ []) = []
 words_of (high ∷ low ∷ bytes) = (256 * high + low) ∷ words_of bytes
 
--- the bytes of the numbers
+-- The bytes of 16-bit numbers.
 abbrev pub word_bytes : List ℕ → List ℕ
 word_bytes [] = []
 word_bytes (n ∷ numbers) = word n ++ word_bytes numbers
 
--- each is a byte (past the end stands 0)
+-- Each is a byte (an index past the end reads as 0).
 abbrev pub AreBytes : List ℕ → Type 0
 AreBytes bytes = (place : ℕ) → slice_index bytes place < 256

@@ -1,39 +1,40 @@
--- Coils in bytes, eight to a byte: the lowest bit of the first byte is the first coil, and the
--- spare bits of the last byte are no coils (Modbus Application Protocol V1.1b3, section 6.1).
+-- Coils in bytes, eight to a byte (Modbus Application Protocol V1.1b3, section 6.1). The lowest bit
+-- of the first byte is the first coil. The spare bits of the last byte are not coils.
 use Rattle.std.specs.Prelude.{ℕ, zero, suc, ◌+◌, ◌-◌, ◌*◌, ◌/◌, ◌%◌, ◌^◌, ◌==◌, min, Bool, if◌then◌else◌, List, [], ◌∷◌, ◌++◌, length, take, drop}
 
--- the k lowest bits of a number, the lowest first
+-- The k lowest bits of a number, the lowest first.
 unfoldable pub bits_in : ℕ → ℕ → List Bool
 bits_in zero n = []
 bits_in (suc k) n = (n % 2 == 1) ∷ bits_in k (n / 2)
 
--- the number that has these bits, the lowest first
+-- The number that has these bits, the lowest first.
 abbrev pub number_of : List Bool → ℕ
 number_of [] = 0
 number_of (bit ∷ bits) = (if bit then 1 else 0) + 2 * number_of bits
 
--- all bits of the bytes
+-- All bits of the bytes.
 unfoldable pub coils_in : List ℕ → List Bool
 coils_in [] = []
 coils_in (byte ∷ bytes) = bits_in 8 byte ++ coils_in bytes
 
--- the first so many
+-- The first `quantity` coils in the bytes.
 abbrev pub coils_of : ℕ → List ℕ → List Bool
 coils_of quantity bytes = take quantity (coils_in bytes)
 
--- how many bytes hold so many coils
+-- The number of bytes that a quantity of coils needs.
 abbrev pub bytes_for : ℕ → ℕ
 bytes_for quantity = (quantity + 7) / 8
 
--- so many bytes that hold the coils, with spare bits 0
+-- This many bytes that encode the coils, with spare bits 0.
 unfoldable pub packed_in : ℕ → List Bool → List ℕ
 packed_in zero coils = []
 packed_in (suc count) coils = number_of (take 8 coils) ∷ packed_in count (drop 8 coils)
 
+-- The bytes that encode the coils, with spare bits 0.
 abbrev pub packed : List Bool → List ℕ
 packed coils = packed_in (bytes_for (length coils)) coils
 
--- the bytes with all bits after the first so many made 0
+-- The bytes with all bits after the first `quantity` set to 0.
 unfoldable pub cleared_after : ℕ → List ℕ → List ℕ
 cleared_after quantity [] = []
 cleared_after quantity (byte ∷ bytes) =

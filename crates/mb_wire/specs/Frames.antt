@@ -1,60 +1,65 @@
--- Frames of Modbus over TCP (Modbus Messaging on TCP/IP V1.0b, section 3.1.3): an MBAP header and a PDU.
+-- Frames of Modbus TCP (Modbus Messaging on TCP/IP V1.0b, section 3.1.3): an MBAP header and a PDU.
 -- A byte list is a list of frames and a rest.
 use Rattle.std.specs.Prelude.{◌≡◌, ℕ, zero, suc, ◌+◌, ◌*◌, ◌<◌, ◌≤◌, ◌⊎◌, Bool, ◌&&◌, ◌||◌, nat_le, nat_lt, if◌then◌else◌, List, [], ◌∷◌, ◌++◌, length, take, drop, slice_index}
 use Rattle.mb_wire.specs.declared.limits.TheConstants.{MAX_LENGTH, MIN_LENGTH}
 use Rattle.std.specs.List.{flat_map, AllByRecursion}
 
--- how many bytes follow the sixth, as bytes 5 and 6 say
+-- The length field, in bytes 5 and 6: the number of bytes after the sixth.
 abbrev pub span_of : List ℕ → ℕ
 span_of bytes = 256 * slice_index bytes 4 + slice_index bytes 5
 
--- bytes 1 and 2, 3 and 4, and 7
+-- The transaction identifier, in bytes 1 and 2.
 abbrev pub tid_of : List ℕ → ℕ
 tid_of bytes = 256 * slice_index bytes 0 + slice_index bytes 1
 
+-- The protocol identifier, in bytes 3 and 4: 0 for Modbus.
 abbrev pub protocol_of : List ℕ → ℕ
 protocol_of bytes = 256 * slice_index bytes 2 + slice_index bytes 3
 
+-- The unit identifier, in byte 7.
 abbrev pub unit_of : List ℕ → ℕ
 unit_of bytes = slice_index bytes 6
 
+-- The PDU, from byte 8.
 abbrev pub pdu_of : List ℕ → List ℕ
 pdu_of bytes = drop 7 bytes
 
--- a length that a header may have
+-- A length that the standard allows.
 abbrev pub IsGoodSpan : ℕ → Type 0
 IsGoodSpan n = (MIN_LENGTH ≤ n) × (n ≤ MAX_LENGTH)
 
--- six bytes with a good length, and as many more as it says
+-- A complete frame: six bytes with a good length, and as many bytes after them as the length says.
 pub record IsFrame (bytes : List ℕ) : Type 0 where
   pub good : IsGoodSpan (span_of bytes)
   pub whole : length bytes ≡ 6 + span_of bytes
 
--- a frame of this protocol; any other is skipped
+-- A frame of Modbus. A reader skips frames of other protocols.
 abbrev pub IsOwn : List ℕ → Type 0
 IsOwn frame = protocol_of frame ≡ 0
 
--- fewer than six bytes, or a good length and fewer bytes after it than it says
+-- The beginning of a frame that is not complete yet.
 abbrev pub IsOpen : List ℕ → Type 0
 IsOpen bytes =
     (length bytes < 6) ⊎ (IsGoodSpan (span_of bytes) × (length bytes < 6 + span_of bytes))
 
--- six bytes with a bad length, whatever follows
+-- Six bytes with a bad length, and any bytes after them.
 abbrev pub IsBad : List ℕ → Type 0
 IsBad bytes = (6 ≤ length bytes) × ((span_of bytes < MIN_LENGTH) ⊎ (MAX_LENGTH < span_of bytes))
 
--- The bytes are these frames, one after another, and this rest. A frame ends where the frames up to it do.
+-- The bytes are these complete frames in order, and this rest. Later bytes never move the end of a
+-- frame.
 pub record Reads (bytes : List ℕ) (frames : List (List ℕ)) (rest : List ℕ) : Type 0 where
   pub joined : bytes ≡ flat_map (λ frame. frame) frames ++ rest
   pub each : AllByRecursion IsFrame frames
   pub ends : IsOpen rest ⊎ IsBad rest
 
--- The one reading of a byte list, as functions: it is gone through at most once a byte.
+-- The bytes begin with a complete frame.
 abbrev pub begins_with_frame : List ℕ → Bool
 begins_with_frame bytes =
     nat_le MIN_LENGTH (span_of bytes) && nat_le (span_of bytes) MAX_LENGTH
     && nat_le (6 + span_of bytes) (length bytes)
 
+-- The frames that the bytes begin with, at most `k` of them.
 unfoldable pub frames_in : ℕ → List ℕ → List (List ℕ)
 frames_in zero bytes = []
 frames_in (suc k) bytes =
@@ -62,22 +67,26 @@ frames_in (suc k) bytes =
     then take (6 + span_of bytes) bytes ∷ frames_in k (drop (6 + span_of bytes) bytes)
     else []
 
+-- What is left of the bytes after at most `k` frames.
 unfoldable pub rest_in : ℕ → List ℕ → List ℕ
 rest_in zero bytes = bytes
 rest_in (suc k) bytes =
     if begins_with_frame bytes then rest_in k (drop (6 + span_of bytes) bytes) else bytes
 
+-- The frames of a byte list: a list of bytes has no more frames than bytes.
 unfoldable pub frames : List ℕ → List (List ℕ)
 frames bytes = frames_in (length bytes) bytes
 
+-- What is left of a byte list after its last complete frame.
 unfoldable pub rest : List ℕ → List ℕ
 rest bytes = rest_in (length bytes) bytes
 
--- the stream is garbled: its rest has a bad length
+-- Six bytes or more, with a bad length.
 abbrev pub is_bad : List ℕ → Bool
 is_bad bytes =
     nat_le 6 (length bytes)
     && (nat_lt (span_of bytes) MIN_LENGTH || nat_lt MAX_LENGTH (span_of bytes))
 
+-- The stream is garbled: after its last frame it has a bad length.
 unfoldable pub is_garbled : List ℕ → Bool
 is_garbled bytes = is_bad (rest bytes)

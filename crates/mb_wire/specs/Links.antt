@@ -1,4 +1,4 @@
--- What the calls of a link do, where its bytes are known, and when its counts rise.
+-- What the calls of a link do to its bytes, if the link knows them, and when its counts rise.
 use Rattle.std.specs.Prelude.{◌≡◌, ℕ, ◌+◌, ◌-◌, ◌^◌, ◌<◌, ◌≤◌, ◌==◌, ◌&&◌, nat_lt, min, Bool, true, false, if◌then◌else◌, List, ◌++◌, length, take, Ok, Err, Some, None}
 use Rattle.std.specs.Io.KnownBytes.{Appends, Consumes, IsAtEnd, Keeps}
 use Rattle.std.specs.declared.result.Result.{Result}
@@ -7,14 +7,15 @@ use Rattle.mb_wire.specs.declared.link.LinkFailed.{LinkFailed}
 use Rattle.mb_wire.specs.declared.link.Took.{Took}
 use Rattle.mb_wire.specs.declared.link.Took.TheVariants.{Bytes, End, Idle}
 
--- a take hands out at most what there is room for, and something if there is room
+-- A read returns at most as many bytes as its buffer has, and at least one if the buffer is not
+-- empty.
 abbrev pub TakesAtMost : Result Took LinkFailed → List ℕ → Type 0
 TakesAtMost (Ok (Bytes n)) piece = (n ≤ length piece) × (0 < length piece → 0 < n)
 TakesAtMost (Ok End) piece = Unit {0}
 TakesAtMost (Ok Idle) piece = Unit {0}
 TakesAtMost (Err failed) piece = Unit {0}
 
--- the bytes that are handed out are the next that the link still has, and the end comes when none is left
+-- A read returns the next bytes of the input. It reports the end only if no bytes are left.
 abbrev pub TakeConsumes : Option (List ℕ) → Option (List ℕ) → Result Took LinkFailed → List ℕ
     → Type 0
 TakeConsumes old new (Ok (Bytes n)) piece = Consumes old new (take n piece)
@@ -22,28 +23,28 @@ TakeConsumes old new (Ok End) piece = Keeps old new × IsAtEnd new
 TakeConsumes old new (Ok Idle) piece = Keeps old new
 TakeConsumes old new (Err failed) piece = Keeps old new
 
--- a count that may rise by one, up to 2^64 - 1
+-- A count that may rise by one. It saturates at 2^64 - 1.
 abbrev pub risen : Bool → ℕ → ℕ
 risen rises count = if rises then min (count + 1) (2 ^ 64 - 1) else count
 
--- a give failed, or took nothing of something
+-- A write failed, or accepted none of its bytes.
 abbrev pub is_failed_give : Result ℕ LinkFailed → List ℕ → Bool
 is_failed_give (Ok n) bytes = n == 0 && nat_lt 0 (length bytes)
 is_failed_give (Err failed) bytes = true
 
--- the call that is told to fail, if one is
+-- The call with this number is set to fail.
 abbrev pub is_call : Option ℕ → ℕ → Bool
 is_call None call = false
 is_call (Some fails) call = fails == call
 
--- the end came
+-- A read found the end of the input.
 abbrev pub is_end : Result Took LinkFailed → Bool
 is_end (Ok (Bytes n)) = false
 is_end (Ok End) = true
 is_end (Ok Idle) = false
 is_end (Err failed) = false
 
--- the peer took a part of the bytes, from the first on, and not the last
+-- The peer accepted a part of the bytes, from the first, and not the last.
 pub record GivesPart (old new : Option (List ℕ)) (bytes : List ℕ) : Type 0 where
   pub part : List ℕ
   pub unsent : List ℕ
@@ -51,7 +52,7 @@ pub record GivesPart (old new : Option (List ℕ)) (bytes : List ℕ) : Type 0 w
   pub whole : bytes ≡ part ++ unsent
   pub given : Appends old new part
 
--- bytes are given whole, or a part of them where the peer did not take all
+-- The peer accepted all bytes, or a part of them if writing failed.
 abbrev pub Gives : {X E : Type 0} → Result X E → Option (List ℕ) → Option (List ℕ) → List ℕ → Type 0
 Gives (Ok x) old new bytes = Appends old new bytes
 Gives (Err failed) old new bytes = GivesPart old new bytes

@@ -1,4 +1,4 @@
--- What a contract sees of a `FrameReader`, and what a `feed` tells.
+-- The model of a `FrameReader`, and the result of `feed`.
 use Rattle.std.specs.Prelude.{◌≡◌, ℕ, ◌+◌, List, [], ◌∷◌, ◌++◌, length, Some, None}
 use Rattle.std.specs.declared.option.Option.{Option}
 use Rattle.mb_wire.specs.Bytes.{AreBytes, word}
@@ -9,79 +9,82 @@ use Rattle.mb_wire.specs.declared.frames.Framing.TheVariants.{Need, Whole, Forei
 use Rattle.mb_wire.specs.declared.frames.State.{State}
 use Rattle.mb_wire.specs.declared.frames.State.TheVariants.{Reading, Ended, Stuck}
 
--- the bytes since the last frame's end, and the frame of this protocol that the last feed ended
+-- The bytes since the end of the last frame, and the frame of Modbus that the last feed ended.
 pub record Buffered : Type 0 where
   pub rest : List ℕ
   pub frame : Option (List ℕ)
 
+-- The model of a reader with this state and these buffered bytes.
 abbrev pub buffered_in : State → List ℕ → Buffered
 buffered_in Reading bytes = record { rest = bytes; frame = None }
 buffered_in Ended bytes = record { rest = []; frame = Some bytes }
 buffered_in Stuck bytes = record { rest = bytes; frame = None }
 
+-- The bytes that a reader may have buffered in each state.
 abbrev pub FitsState : State → List ℕ → Type 0
 FitsState Reading bytes = IsOpen bytes
 FitsState Ended bytes = IsFrame bytes × IsOwn bytes
 FitsState Stuck bytes = IsBad bytes × (length bytes ≡ 6)
 
--- what the bytes since the last frame's end are, those taken now included
+-- What the bytes since the end of the last frame are, with those that this feed took.
 abbrev pub TellsFraming : Framing → List ℕ → Type 0
 TellsFraming Need bytes = IsOpen bytes
 TellsFraming Whole bytes = IsFrame bytes × IsOwn bytes
 TellsFraming Foreign bytes = IsFrame bytes × (IsOwn bytes → ⊥)
 TellsFraming Garbled bytes = IsBad bytes × (length bytes ≡ 6)
 
--- a frame ended
+-- A frame ended.
 abbrev pub IsEnd : Framing → Type 0
 IsEnd Need = ⊥
 IsEnd Whole = Unit {0}
 IsEnd Foreign = Unit {0}
 IsEnd Garbled = ⊥
 
--- what is buffered when these bytes since the last frame's end were told so
+-- The model after a feed with this result, from the bytes since the end of the last frame.
 abbrev pub buffered_after : Framing → List ℕ → Buffered
 buffered_after Need bytes = record { rest = bytes; frame = None }
 buffered_after Whole bytes = record { rest = []; frame = Some bytes }
 buffered_after Foreign bytes = record { rest = []; frame = None }
 buffered_after Garbled bytes = record { rest = bytes; frame = None }
 
--- the frame that ended, if one did
+-- The frame that ended, if one did.
 abbrev pub ended : Framing → List ℕ → List (List ℕ)
 ended Need bytes = []
 ended Whole bytes = bytes ∷ []
 ended Foreign bytes = bytes ∷ []
 ended Garbled bytes = []
 
--- Whatever bytes came before, they and those taken now read as the frames so far, the one that ended, and
--- what is buffered.
+-- A feed continues the reading of the stream, for any earlier bytes. The frame that ended, if
+-- any, follows the earlier frames, and the new rest is buffered.
 abbrev pub ReadsOn : (old new : Buffered) → (taken : List ℕ) → Framing → Type 0
 ReadsOn old new taken what =
     (bytes : List ℕ) (before : List (List ℕ)) → Reads bytes before old.rest →
     Reads (bytes ++ taken) (before ++ ended what (old.rest ++ taken)) new.rest
 
--- the fields of a frame
+-- The fields of a frame.
 pub record Fields : Type 0 where
   pub tid : ℕ
   pub unit : ℕ
   pub pdu : List ℕ
 
+-- The fields that the bytes of a frame encode.
 abbrev pub fields_of : List ℕ → Fields
 fields_of frame = record { tid = tid_of frame; unit = unit_of frame; pdu = pdu_of frame }
 
--- a frame without where it lies in memory
+-- The fields of a borrowed frame.
 abbrev pub spelled : Frame → Fields
 spelled frame = record { tid = frame.tid; unit = frame.unit; pdu = frame.pdu.now }
 
--- the one spelling of a frame
+-- The only encoding of a frame with these fields.
 abbrev pub spelling : ℕ → ℕ → List ℕ → List ℕ
 spelling tid unit pdu = word tid ++ word 0 ++ word (1 + length pdu) ++ unit ∷ pdu
 
--- that spelling is a frame of this protocol, with these fields
+-- This encoding is a frame of Modbus with these fields.
 abbrev pub SpellsFrame : ℕ → ℕ → List ℕ → Type 0
 SpellsFrame tid unit pdu =
     IsFrame (spelling tid unit pdu) × IsOwn (spelling tid unit pdu)
     × (fields_of (spelling tid unit pdu) ≡ record { tid = tid; unit = unit; pdu = pdu })
 
--- bytes that are a frame of this protocol
+-- Bytes that are a complete frame of Modbus.
 abbrev pub IsOwnFrame : List ℕ → Type 0
 IsOwnFrame bytes = AreBytes bytes × IsFrame bytes × IsOwn bytes

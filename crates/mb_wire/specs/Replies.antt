@@ -1,4 +1,4 @@
--- Replies, as they stand in PDUs (Modbus Application Protocol V1.1b3, sections 4.1, 6 and 7).
+-- Responses, as PDUs encode them (Modbus Application Protocol V1.1b3, sections 4.1, 6 and 7).
 use Rattle.std.specs.Prelude.{◌≡◌, ℕ, ◌+◌, ◌*◌, Bool, true, false, ◌&&◌, ◌||◌, not, nat_lt, ◌==◌, if◌then◌else◌, List, [], ◌∷◌, ◌++◌, length, take, drop, slice_index, slice_get, Ok, Err, Some, None}
 use Rattle.std.specs.declared.result.Result.{Result}
 use Rattle.std.specs.declared.option.Option.{Option}
@@ -14,20 +14,21 @@ use Rattle.mb_wire.specs.declared.replies.Reply.TheVariants as lent
 use Rattle.mb_wire.specs.declared.replies.ReplyFault.{ReplyFault}
 use Rattle.mb_wire.specs.declared.replies.ReplyFault.TheVariants.{WrongFunction, WrongLength, WrongByteCount, WrongEcho}
 
--- what a device answers, without where the reply lies in memory
+-- A device's response, as a value.
 pub data Answer : Type 0 where
   Bits : (bits : List Bool) → Answer
   Words : (words : List ℕ) → Answer
   Echo : Answer
   Exception : (code : ℕ) → Answer
 
+-- The value of a borrowed response.
 abbrev pub answer_of : Reply → Answer
 answer_of (lent.Bits quantity bytes) = Bits (coils_of quantity bytes.now)
 answer_of (lent.Words bytes) = Words (words_of bytes.now)
 answer_of lent.Echo = Echo
 answer_of (lent.Exception code) = Exception code
 
--- what a reply that is no exception brings: so many coils, so many registers, or the request's own head
+-- The data of a response that is no exception: coils, registers, or the head of the request.
 abbrev pub wanted_by : Query → Wanted
 wanted_by (ReadCoils address quantity) = Coils quantity
 wanted_by (ReadDiscrete address quantity) = Coils quantity
@@ -38,52 +39,55 @@ wanted_by (WriteRegister address value) = Head
 wanted_by (WriteCoils address coils) = Head
 wanted_by (WriteRegisters address values) = Head
 
--- the reply brings so many coils, so many registers, or the head
+-- The response to the query has this many coils.
 abbrev pub WantsCoils : Query → ℕ → Type 0
 WantsCoils query quantity = wanted_by query ≡ Coils quantity
 
+-- The response to the query has this many registers.
 abbrev pub WantsRegisters : Query → ℕ → Type 0
 WantsRegisters query quantity = wanted_by query ≡ Registers quantity
 
+-- The response to the query repeats its head.
 abbrev pub WantsHead : Query → Type 0
 WantsHead query = wanted_by query ≡ Head
 
--- the head that the reply to a write repeats
+-- The head that the response to a write repeats.
 abbrev pub echo_of : Query → List ℕ
 echo_of query = take 5 (query_bytes query)
 
--- The PDU spells this answer to the query.
+-- The PDU encodes this answer to the query.
 abbrev pub SpellsReply : Query → List ℕ → Answer → Type 0
--- the function code, how many bytes follow, and the coils asked for
+-- Coils: the function code, the byte count, and the coils that the query asks for.
 SpellsReply query pdu (Bits bits) =
     (wanted_by query ≡ Coils (length bits))
     × ((bytes : List ℕ) × (pdu ≡ function_of query ∷ bytes_for (length bits) ∷ bytes)
     × (length bytes ≡ bytes_for (length bits)) × (bits ≡ coils_of (length bits) bytes))
--- the function code, how many bytes follow, and the registers asked for
+-- Registers: the function code, the byte count, and the registers that the query asks for.
 SpellsReply query pdu (Words words) =
     (wanted_by query ≡ Registers (length words))
     × ((bytes : List ℕ) × (pdu ≡ function_of query ∷ 2 * length words ∷ bytes)
     × (length bytes ≡ 2 * length words) × (words ≡ words_of bytes))
--- the head of the request
+-- A write: the head of the request.
 SpellsReply query pdu Echo = (wanted_by query ≡ Head) × (pdu ≡ echo_of query)
--- the function code with its top bit set, and one code
+-- An exception: the function code with its top bit set, and the exception code.
 SpellsReply query pdu (Exception code) = pdu ≡ (function_of query + 128) ∷ code ∷ []
 
--- the one spelling of an answer, its spare bits being 0
+-- The encoding of an answer whose spare bits are 0.
 abbrev pub answer_bytes : Query → Answer → List ℕ
 answer_bytes query (Bits bits) = function_of query ∷ bytes_for (length bits) ∷ packed bits
 answer_bytes query (Words words) = function_of query ∷ 2 * length words ∷ word_bytes words
 answer_bytes query Echo = echo_of query
 answer_bytes query (Exception code) = (function_of query + 128) ∷ code ∷ []
 
--- an answer that brings what the query asks for
+-- The answer has the data that the query asks for, or is an exception.
 abbrev pub AnswersQuery : Query → Answer → Type 0
 AnswersQuery query (Bits bits) = wanted_by query ≡ Coils (length bits)
 AnswersQuery query (Words words) = wanted_by query ≡ Registers (length words)
 AnswersQuery query Echo = wanted_by query ≡ Head
 AnswersQuery query (Exception code) = Unit {0}
 
--- a reply that brings what the request asks for, and as many bytes as it says
+-- The response has the data that the request asks for, with a matching number of bytes, or is an
+-- exception.
 abbrev pub AnswersRequest : Request → Reply → Type 0
 AnswersRequest request (lent.Bits quantity bytes) =
     (wanted_by (query_of request) ≡ Coils quantity) × (length bytes.now ≡ bytes_for quantity)
@@ -93,7 +97,7 @@ AnswersRequest request (lent.Words bytes) =
 AnswersRequest request lent.Echo = wanted_by (query_of request) ≡ Head
 AnswersRequest request (lent.Exception code) = Unit {0}
 
--- the reply fits the request: an exception fits any, and what answers a lawful request fits it
+-- The response fits the request: it is an exception, or the answer to a lawful request.
 abbrev pub FitsRequest : Request → Reply → Type 0
 FitsRequest request (lent.Bits quantity bytes) =
     IsLawful request × AnswersRequest request (lent.Bits quantity bytes)
@@ -102,39 +106,42 @@ FitsRequest request (lent.Words bytes) =
 FitsRequest request lent.Echo = IsLawful request × AnswersRequest request lent.Echo
 FitsRequest request (lent.Exception code) = Unit {0}
 
--- coil number i, from 0
+-- Coil `i`, from 0.
 abbrev pub bit_at : Answer → ℕ → Option Bool
 bit_at (Bits bits) i = slice_get bits i
 bit_at (Words words) i = None
 bit_at Echo i = None
 bit_at (Exception code) i = None
 
--- register number i, from 0
+-- Register `i`, from 0.
 abbrev pub word_at : Answer → ℕ → Option ℕ
 word_at (Bits bits) i = None
 word_at (Words words) i = slice_get words i
 word_at Echo i = None
 word_at (Exception code) i = None
 
--- whether a reply brings bytes, and how many
+-- The response has a byte count and data.
 abbrev pub brings_bytes : Wanted → Bool
 brings_bytes (Coils quantity) = true
 brings_bytes (Registers quantity) = true
 brings_bytes Head = false
 
+-- The number of data bytes in the response.
 abbrev pub byte_count : Wanted → ℕ
 byte_count (Coils quantity) = bytes_for quantity
 byte_count (Registers quantity) = 2 * quantity
 byte_count Head = 0
 
--- when each fault holds
+-- The PDU has the function code with its top bit set.
 abbrev pub is_exception : Query → List ℕ → Bool
 is_exception query pdu = slice_index pdu 0 == function_of query + 128
 
+-- The function code is not the query's, and not that of an exception to the query.
 abbrev pub is_wrong_function : Query → List ℕ → Bool
 is_wrong_function query pdu =
     nat_lt 0 (length pdu) && not (slice_index pdu 0 == function_of query || is_exception query pdu)
 
+-- The PDU is empty, or its length does not match its function and byte count.
 abbrev pub is_wrong_length : Query → List ℕ → Bool
 is_wrong_length query pdu =
     if is_exception query pdu
@@ -143,17 +150,19 @@ is_wrong_length query pdu =
     then nat_lt (length pdu) 2 || not (length pdu == 2 + slice_index pdu 1)
     else not (length pdu == 5)
 
+-- The byte count is not that of the data that the query asks for.
 abbrev pub is_wrong_byte_count : Query → List ℕ → Bool
 is_wrong_byte_count query pdu =
     not (is_exception query pdu) && brings_bytes (wanted_by query)
     && not (slice_index pdu 1 == byte_count (wanted_by query))
 
+-- The response to a write does not repeat the address and the field of the write.
 abbrev pub is_wrong_echo : Query → List ℕ → Bool
 is_wrong_echo query pdu =
     not (is_exception query pdu) && not (brings_bytes (wanted_by query))
     && not (number_at pdu 1 == address_of query && number_at pdu 3 == field_of query)
 
--- the least fault that holds
+-- The first fault that applies.
 abbrev pub reply_fault : Query → List ℕ → Option ReplyFault
 reply_fault query pdu =
     if is_wrong_function query pdu then Some WrongFunction
@@ -162,42 +171,46 @@ reply_fault query pdu =
     else if is_wrong_echo query pdu then Some WrongEcho
     else None
 
--- what a PDU without a fault brings
+-- The answer in a PDU with this data and no fault.
 abbrev pub brought : Wanted → List ℕ → Answer
 brought (Coils quantity) pdu = Bits (coils_of quantity (drop 2 pdu))
 brought (Registers quantity) pdu = Words (words_of (drop 2 pdu))
 brought Head pdu = Echo
 
+-- The answer in a PDU that has no fault.
 abbrev pub answer_from : Query → List ℕ → Answer
 answer_from query pdu =
     if is_exception query pdu then Exception (slice_index pdu 1) else brought (wanted_by query) pdu
 
--- what the PDU answers, or the least fault
+-- The answer in the PDU, or the first fault that applies.
 abbrev pub answer_in : Query → List ℕ → Result Answer ReplyFault
 answer_in query pdu = value_unless (reply_fault query pdu) (answer_from query pdu)
 
+-- The answer in the response to a request, or the first fault that applies.
 abbrev pub reply_of : Request → List ℕ → Result Answer ReplyFault
 reply_of request pdu = answer_in (query_of request) pdu
 
+-- The value of a decoder's result.
 abbrev pub read_as : Result Reply ReplyFault → Result Answer ReplyFault
 read_as (Ok reply) = Ok (answer_of reply)
 read_as (Err fault) = Err fault
 
--- a reply's PDU with its spare bits made 0
+-- A response's PDU with its spare bits set to 0.
 abbrev pub cleared_reply : Wanted → List ℕ → List ℕ
 cleared_reply (Coils quantity) pdu = take 2 pdu ++ cleared_after quantity (drop 2 pdu)
 cleared_reply (Registers quantity) pdu = pdu
 cleared_reply Head pdu = pdu
 
+-- The PDU of a response or an exception, with its spare bits set to 0.
 abbrev pub reply_cleared : Query → List ℕ → List ℕ
 reply_cleared query pdu =
     if is_exception query pdu then pdu else cleared_reply (wanted_by query) pdu
 
--- the one spelling of a reply is this PDU, its spare bits being 0
+-- Encoding the response gives the PDU again, with its spare bits set to 0.
 abbrev pub SpellsBack : Query → List ℕ → Reply → Type 0
 SpellsBack query pdu reply = answer_bytes query (answer_of reply) ≡ reply_cleared query pdu
 
--- the number of a fault: its place in the order in which faults are looked for
+-- The number of a fault: its position in the order in which faults are checked.
 abbrev pub fault_number : ReplyFault → ℕ
 fault_number WrongFunction = 1
 fault_number WrongLength = 2

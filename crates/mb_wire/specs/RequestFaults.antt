@@ -1,4 +1,4 @@
--- What a PDU asks for, or the least fault that holds of it.
+-- The request in a PDU, or the first fault that applies.
 use Rattle.std.specs.Prelude.{ℕ, ◌+◌, ◌*◌, Bool, ◌&&◌, ◌||◌, not, nat_le, nat_lt, ◌==◌, if◌then◌else◌, List, ◌++◌, length, take, drop, slice_index, Ok, Err, Some, None}
 use Rattle.std.specs.declared.result.Result.{Result}
 use Rattle.std.specs.declared.option.Option.{Option}
@@ -11,32 +11,35 @@ use Rattle.mb_wire.specs.declared.requests.Request.{Request}
 use Rattle.mb_wire.specs.declared.requests.RequestFault.{RequestFault}
 use Rattle.mb_wire.specs.declared.requests.RequestFault.TheVariants.{UnknownFunction, WrongLength, WrongQuantity, WrongByteCount, WrongCoilValue}
 
--- the parts of a PDU
+-- The function code.
 abbrev pub function_in : List ℕ → ℕ
 function_in pdu = slice_index pdu 0
 
+-- The address.
 abbrev pub address_in : List ℕ → ℕ
 address_in pdu = number_at pdu 1
 
+-- The field after the address: a quantity or a value.
 abbrev pub field_in : List ℕ → ℕ
 field_in pdu = number_at pdu 3
 
+-- The byte count.
 abbrev pub count_in : List ℕ → ℕ
 count_in pdu = slice_index pdu 5
 
--- one of the eight functions
+-- One of the eight functions that the crate decodes.
 abbrev pub is_known : ℕ → Bool
 is_known function = (nat_le 1 function && nat_le function 6) || function == 15 || function == 16
 
--- one of the two that carry bytes
+-- One of the two functions whose requests have a byte count and data.
 abbrev pub carries_bytes : ℕ → Bool
 carries_bytes function = function == 15 || function == 16
 
--- one of the two that write a single value
+-- One of the two functions that write a single value.
 abbrev pub writes_one : ℕ → Bool
 writes_one function = function == 5 || function == 6
 
--- the greatest quantity that a function allows
+-- The greatest quantity that a function allows.
 abbrev pub most_of : ℕ → ℕ
 most_of function =
     if nat_le function 2 then MAX_READ_COILS
@@ -44,34 +47,38 @@ most_of function =
     else if function == 15 then MAX_WRITE_COILS
     else MAX_WRITE_REGISTERS
 
--- how many bytes a function carries for a quantity
+-- The number of data bytes that a function has for a quantity.
 abbrev pub bytes_of : ℕ → ℕ → ℕ
 bytes_of function quantity = if function == 15 then bytes_for quantity else 2 * quantity
 
--- when each fault holds
+-- The function code is none of the eight.
 abbrev pub is_unknown_function : List ℕ → Bool
 is_unknown_function pdu = nat_lt 0 (length pdu) && not (is_known (function_in pdu))
 
+-- The PDU is empty, or its length does not match its function and byte count.
 abbrev pub is_wrong_request_length : List ℕ → Bool
 is_wrong_request_length pdu =
     if carries_bytes (function_in pdu)
     then nat_lt (length pdu) 6 || not (length pdu == 6 + count_in pdu)
     else not (length pdu == 5)
 
+-- The quantity is 0, or more than the function allows.
 abbrev pub is_wrong_quantity : List ℕ → Bool
 is_wrong_quantity pdu =
     not (writes_one (function_in pdu))
     && (nat_lt (field_in pdu) 1 || nat_lt (most_of (function_in pdu)) (field_in pdu))
 
+-- The byte count does not match the quantity.
 abbrev pub is_wrong_carried_count : List ℕ → Bool
 is_wrong_carried_count pdu =
     carries_bytes (function_in pdu)
     && not (count_in pdu == bytes_of (function_in pdu) (field_in pdu))
 
+-- The value of a coil is another than 0x0000 and 0xFF00 (65280).
 abbrev pub is_wrong_coil_value : List ℕ → Bool
 is_wrong_coil_value pdu = function_in pdu == 5 && not (field_in pdu == 0 || field_in pdu == 65280)
 
--- the least fault that holds
+-- The first fault that applies.
 abbrev pub request_fault : List ℕ → Option RequestFault
 request_fault pdu =
     if is_unknown_function pdu then Some UnknownFunction
@@ -81,7 +88,7 @@ request_fault pdu =
     else if is_wrong_coil_value pdu then Some WrongCoilValue
     else None
 
--- what a PDU without a fault asks for
+-- The request in a PDU that has no fault.
 abbrev pub query_from : List ℕ → Query
 query_from pdu =
     if function_in pdu == 1 then ReadCoils (address_in pdu) (field_in pdu)
@@ -94,25 +101,26 @@ query_from pdu =
     then WriteCoils (address_in pdu) (coils_of (field_in pdu) (drop 6 pdu))
     else WriteRegisters (address_in pdu) (words_of (drop 6 pdu))
 
--- a value, unless there is a fault
+-- The value, or the fault if there is one.
 abbrev pub value_unless : {V F : Type 0} → Option F → V → Result V F
 value_unless None value = Ok value
 value_unless (Some fault) value = Err fault
 
--- what the PDU asks for, or the least fault
+-- The request in the PDU, or the first fault that applies.
 abbrev pub query_in : List ℕ → Result Query RequestFault
 query_in pdu = value_unless (request_fault pdu) (query_from pdu)
 
+-- The value of a decoder's result.
 abbrev pub asked_as : Result Request RequestFault → Result Query RequestFault
 asked_as (Ok request) = Ok (query_of request)
 asked_as (Err fault) = Err fault
 
--- a request's PDU with its spare bits made 0
+-- A request's PDU with its spare bits set to 0.
 abbrev pub request_cleared : List ℕ → List ℕ
 request_cleared pdu =
     if function_in pdu == 15 then take 6 pdu ++ cleared_after (field_in pdu) (drop 6 pdu) else pdu
 
--- the number of a fault: its place in the order in which faults are looked for
+-- The number of a fault: its position in the order in which faults are checked.
 abbrev pub request_fault_number : RequestFault → ℕ
 request_fault_number UnknownFunction = 1
 request_fault_number WrongLength = 2

@@ -1,4 +1,4 @@
--- Requests, as they stand in PDUs (Modbus Application Protocol V1.1b3, sections 4.1 and 6).
+-- Requests, as PDUs encode them (Modbus Application Protocol V1.1b3, sections 4.1 and 6).
 use Rattle.std.specs.Prelude.{◌≡◌, ℕ, ◌*◌, ◌<◌, ◌≤◌, Bool, if◌then◌else◌, List, [], ◌∷◌, ◌++◌, length}
 use Rattle.mb_wire.specs.declared.limits.TheConstants.{MAX_READ_COILS, MAX_READ_REGISTERS}
 use Rattle.mb_wire.specs.declared.limits.TheConstants.{MAX_WRITE_COILS, MAX_WRITE_REGISTERS}
@@ -7,7 +7,7 @@ use Rattle.mb_wire.specs.Coils.{bytes_for, coils_of, packed}
 use Rattle.mb_wire.specs.declared.requests.Request.{Request}
 use Rattle.mb_wire.specs.declared.requests.Request.TheVariants as lent
 
--- what a client asks for, without where the request lies in memory
+-- A client's request, as a value.
 pub data Query : Type 0 where
   ReadCoils : (address quantity : ℕ) → Query
   ReadDiscrete : (address quantity : ℕ) → Query
@@ -18,6 +18,7 @@ pub data Query : Type 0 where
   WriteCoils : (address : ℕ) (coils : List Bool) → Query
   WriteRegisters : (address : ℕ) (values : List ℕ) → Query
 
+-- The value of a borrowed request.
 abbrev pub query_of : Request → Query
 query_of (lent.ReadCoils address quantity) = ReadCoils address quantity
 query_of (lent.ReadDiscrete address quantity) = ReadDiscrete address quantity
@@ -28,7 +29,7 @@ query_of (lent.WriteRegister address value) = WriteRegister address value
 query_of (lent.WriteCoils address quantity bytes) = WriteCoils address (coils_of quantity bytes.now)
 query_of (lent.WriteRegisters address bytes) = WriteRegisters address (words_of bytes.now)
 
--- the function code
+-- The function code.
 abbrev pub function_of : Query → ℕ
 function_of (ReadCoils address quantity) = 1
 function_of (ReadDiscrete address quantity) = 2
@@ -39,7 +40,7 @@ function_of (WriteRegister address value) = 6
 function_of (WriteCoils address coils) = 15
 function_of (WriteRegisters address values) = 16
 
--- the first address
+-- The first address.
 abbrev pub address_of : Query → ℕ
 address_of (ReadCoils address quantity) = address
 address_of (ReadDiscrete address quantity) = address
@@ -50,11 +51,11 @@ address_of (WriteRegister address value) = address
 address_of (WriteCoils address coils) = address
 address_of (WriteRegisters address values) = address
 
--- what stands for a coil that is written
+-- The encoding of a coil's value: 0xFF00 (65280) or 0.
 abbrev pub coil_value : Bool → ℕ
 coil_value on = if on then 65280 else 0
 
--- what stands after the address: the quantity, or the one value that is written
+-- The field after the address: the quantity, or the single value of a write.
 abbrev pub field_of : Query → ℕ
 field_of (ReadCoils address quantity) = quantity
 field_of (ReadDiscrete address quantity) = quantity
@@ -65,7 +66,7 @@ field_of (WriteRegister address value) = value
 field_of (WriteCoils address coils) = length coils
 field_of (WriteRegisters address values) = length values
 
--- what stands after that: how many bytes are written, and these
+-- The fields after the head: the byte count and the data, if the function has them.
 abbrev pub carried_by : Query → List ℕ
 carried_by (ReadCoils address quantity) = []
 carried_by (ReadDiscrete address quantity) = []
@@ -76,22 +77,24 @@ carried_by (WriteRegister address value) = []
 carried_by (WriteCoils address coils) = bytes_for (length coils) ∷ packed coils
 carried_by (WriteRegisters address values) = 2 * length values ∷ word_bytes values
 
--- the function code and two numbers
+-- The head of a request: the function code and two numbers.
 abbrev pub head_bytes : ℕ → ℕ → ℕ → List ℕ
 head_bytes function address field = function ∷ word address ++ word field
 
--- the one spelling of a request, its spare bits being 0
+-- The encoding of a request whose spare bits are 0.
 abbrev pub query_bytes : Query → List ℕ
 query_bytes query =
     head_bytes (function_of query) (address_of query) (field_of query) ++ carried_by query
 
+-- The encoding of a borrowed request whose spare bits are 0.
 abbrev pub request_bytes : Request → List ℕ
 request_bytes request = query_bytes (query_of request)
 
+-- A quantity from 1 to the limit.
 abbrev pub IsWithin : ℕ → ℕ → Type 0
 IsWithin quantity most = (1 ≤ quantity) × (quantity ≤ most)
 
--- a quantity that the standard allows
+-- A request with a quantity that the standard allows.
 abbrev pub IsLawfulQuery : Query → Type 0
 IsLawfulQuery (ReadCoils address quantity) = IsWithin quantity MAX_READ_COILS
 IsLawfulQuery (ReadDiscrete address quantity) = IsWithin quantity MAX_READ_COILS
@@ -102,7 +105,7 @@ IsLawfulQuery (WriteRegister address value) = Unit {0}
 IsLawfulQuery (WriteCoils address coils) = IsWithin (length coils) MAX_WRITE_COILS
 IsLawfulQuery (WriteRegisters address values) = IsWithin (length values) MAX_WRITE_REGISTERS
 
--- a request with such a quantity, and as many bytes as it says
+-- A borrowed request with such a quantity, and the matching number of data bytes.
 abbrev pub IsLawful : Request → Type 0
 IsLawful (lent.ReadCoils address quantity) = IsWithin quantity MAX_READ_COILS
 IsLawful (lent.ReadDiscrete address quantity) = IsWithin quantity MAX_READ_COILS
@@ -116,7 +119,7 @@ IsLawful (lent.WriteRegisters address bytes) =
     IsWithin (length (words_of bytes.now)) MAX_WRITE_REGISTERS
     × (length bytes.now ≡ 2 * length (words_of bytes.now))
 
--- The PDU spells the query.
+-- The PDU encodes the query.
 abbrev pub SpellsRequest : List ℕ → Query → Type 0
 SpellsRequest pdu (ReadCoils address quantity) =
     IsWithin quantity MAX_READ_COILS × (address < 65536) × (pdu ≡ head_bytes 1 address quantity)

@@ -1,4 +1,4 @@
--- Registers of a device that are read together.
+-- Consecutive registers that one request reads.
 use Rattle.std.specs.Prelude.{ℕ, ◌+◌, ◌≤◌}
 use Rattle.mb_wire.specs.declared.limits.TheConstants.{ADDRESSES, MAX_READ_REGISTERS}
 use Rattle.mb_wire.specs.declared.requests.Request.{Request}
@@ -7,21 +7,22 @@ use Rattle.mb_wire.specs.declared.span.ReadFunction.{ReadFunction}
 use Rattle.mb_wire.specs.declared.span.ReadFunction.TheVariants.{HoldingRegisters, InputRegisters}
 use Rattle.mb_wire.specs.declared.span.ReadSpan.{ReadSpan}
 
--- the function code
+-- The function code.
 abbrev pub code_of : ReadFunction → ℕ
 code_of HoldingRegisters = 3
 code_of InputRegisters = 4
 
--- a function, an address and a count
+-- A function, an address and a count.
 pub record Span : Type 0 where
   pub function : ReadFunction
   pub address : ℕ
   pub count : ℕ
 
+-- The value of a span.
 abbrev pub span_view : ReadSpan → Span
 span_view span = record { function = span.function; address = span.address; count = span.count }
 
--- function 3 or 4, and 1 to 125 registers inside the 65536 of a device
+-- Function 3 or 4, and 1 to 125 registers within the 65536 addresses of a device.
 pub record IsSpan (function address count : ℕ) : Type 0 where
   pub low : 3 ≤ function
   pub high : function ≤ 4
@@ -29,10 +30,11 @@ pub record IsSpan (function address count : ℕ) : Type 0 where
   pub few : count ≤ MAX_READ_REGISTERS
   pub inside : address + count ≤ ADDRESSES
 
--- the request that reads these registers
+-- The request that reads these registers.
 abbrev pub read_request : ReadFunction → ℕ → ℕ → Request
 read_request HoldingRegisters address count = ReadHolding address count
 read_request InputRegisters address count = ReadInput address count
 
+-- The request that reads the registers of a span.
 abbrev pub request_of : Span → Request
 request_of span = read_request span.function span.address span.count

@@ -1,4 +1,4 @@
-//! What faults say to a person.
+//! The sentence that describes each fault.
 use crate::link::LinkFailed;
 use crate::replies::ReplyFault;
 use crate::requests::RequestFault;

@@ -1,4 +1,4 @@
-//! Frames: an MBAP header and a PDU.
+//! Frames of Modbus TCP: an MBAP header and a PDU.
 ghost use Rattle.std.specs.Prelude.{◌≡◌, ℕ, ◌+◌, ◌≤◌, ◌<◌, List, [], ◌∷◌, ◌++◌, length};
 ghost use Rattle.std.specs.Prelude.{take, ◌⊎◌};
 ghost use Rattle.std.specs.Option.{option_map};
@@ -12,27 +12,27 @@ use crate::limits::{MAX_ADU, MAX_LENGTH, MAX_PDU, MBAP_HEADER, MIN_LENGTH};
 use byteorder::{BigEndian, ByteOrder};
 use std::marker::Model;
 
-/// What a feed ended with.
+/// How a call of `FrameReader::feed` ended.
 #[derive(Clone, Copy, Debug, PartialEq, Eq)]
 pub enum Framing {
-    /// All of the piece is taken, and no frame has ended.
+    /// The reader took the complete piece, and no frame ended.
     Need,
-    /// The last byte taken ended a frame.
+    /// The last byte taken ended a frame of Modbus.
     Whole,
     /// The last byte taken ended a frame of another protocol.
     Foreign,
-    /// The last byte taken is the low byte of a bad length. Nothing is taken from then on.
+    /// The last byte taken is the low byte of a bad length. The reader takes no further bytes.
     Garbled,
 }
 
-/// How many bytes of a piece a feed took, and what it ended with.
+/// The number of bytes that `FrameReader::feed` took from its piece, and how the call ended.
 #[derive(Clone, Copy, Debug, PartialEq, Eq)]
 pub struct Fed {
     pub taken: usize,
     pub what: Framing,
 }
 
-/// A frame that is lent from the reader: its transaction identifier, unit identifier and PDU.
+/// A frame borrowed from the reader: its transaction identifier, unit identifier and PDU.
 #[derive(Clone, Copy, Debug)]
 pub struct Frame<'a> {
     pub tid: u16,
@@ -47,7 +47,7 @@ enum State {
     Stuck,
 }
 
-/// Takes a stream of bytes apart, in whatever pieces it comes.
+/// Splits a stream of bytes into frames. The stream may arrive in pieces of any size.
 #[derive(Drop)]
 pub struct FrameReader {
     buf: [u8; MAX_ADU],
@@ -67,15 +67,15 @@ impl Model for FrameReader {
     ghost invariant = { λ r. (r.len ≤ MAX_ADU) × FitsState r.state (take r.len r.buf) };
 }
 
-// How far a step came: `len` bytes are buffered.
+// The state after one step: `len` bytes are in the buffer.
 #[derive(Drop)]
 struct Step {
     len: usize,
     fed: Fed,
 }
 
-// Copies bytes of the piece after the first `len` of `buf`, up to `limit` in all, and says how
-// many.
+// Copies bytes of the piece after the first `len` of `buf`, up to `limit` in all. Returns the
+// number of bytes copied.
 fn top_up(buf: &mut [u8; MAX_ADU], len: usize, piece: &[u8], limit: usize) -> usize
     requires within { len ≤ limit }
     requires fits { limit ≤ MAX_ADU }
@@ -90,7 +90,7 @@ fn top_up(buf: &mut [u8; MAX_ADU], len: usize, piece: &[u8], limit: usize) -> us
     count
 }
 
-// How many bytes follow the sixth.
+// Returns the header's length field: the number of bytes after the sixth.
 fn span_in(buf: &[u8; MAX_ADU]) -> usize
     ensures span { result ≡ span_of buf.now }
     ensures fits { result < 65536 }
@@ -98,8 +98,8 @@ fn span_in(buf: &[u8; MAX_ADU]) -> usize
     usize::from(BigEndian::read_u16(&buf[4..6]))
 }
 
-// Copies bytes of the piece after the first `len` of `buf`, until the header is whole, and says
-// how many.
+// Copies bytes of the piece after the first `len` of `buf` until the buffer has 6 bytes. Returns
+// the number of bytes copied.
 fn top_up_header(buf: &mut [u8; MAX_ADU], len: usize, piece: &[u8]) -> usize
     requires fits { len ≤ MAX_ADU }
     ensures count { result ≤ length piece.now }
@@ -116,7 +116,7 @@ fn top_up_header(buf: &mut [u8; MAX_ADU], len: usize, piece: &[u8]) -> usize
     }
 }
 
-// What the first `len` bytes of `buf` are, after a good header.
+// Classifies the first `len` bytes of `buf`, whose header has a good length.
 fn what_is(buf: &[u8; MAX_ADU], len: usize, span: usize) -> Framing
     requires span { span ≡ span_of buf.now }
     requires good { IsGoodSpan span }
@@ -135,7 +135,7 @@ fn what_is(buf: &[u8; MAX_ADU], len: usize, span: usize) -> Framing
     }
 }
 
-// One feed of a reader that holds the open `len` bytes in front of `buf`.
+// Does the work of one `feed`. The first `len` bytes of `buf` are an incomplete frame.
 fn take_in(buf: &mut [u8; MAX_ADU], len: usize, piece: &[u8]) -> Step
     requires fits { len ≤ MAX_ADU }
     requires before { IsOpen (take len buf.old) }
@@ -191,7 +191,7 @@ impl FrameReader {
         }
     }
 
-    /// Takes bytes of the piece, up to the end of the next frame.
+    /// Takes bytes of the piece, up to the end of the next frame. Feed the rest of the piece again.
     pub fn feed(&mut self, piece: &[u8]) -> Fed
         ensures taken { result.taken ≤ length piece.now }
         ensures need { result.what ≡ Framing.Need → result.taken ≡ length piece.now }
@@ -246,7 +246,7 @@ impl FrameReader {
         step.fed
     }
 
-    /// The frame of this protocol that the last feed ended.
+    /// Returns the frame of Modbus that the last feed ended, if it ended one.
     pub fn frame(&self) -> Option<Frame<'_>>
         ensures { option_map spelled result ≡ option_map fields_of self.now.frame }
     {
@@ -264,7 +264,7 @@ impl FrameReader {
     }
 }
 
-/// Writes the frame with this transaction identifier, unit and PDU to the front of `out`, and says how many bytes it has.
+/// Writes a frame to the front of `out`, and returns its length in bytes.
 pub fn write_frame(tid: u16, unit: u8, pdu: &[u8], out: &mut [u8; MAX_ADU]) -> usize
     requires low { 1 ≤ length pdu.now }
     requires high { length pdu.now ≤ MAX_PDU }
@@ -286,14 +286,15 @@ fn header(tid: u16, unit: u8, span: u16) -> [u8; MBAP_HEADER]
     [tid_high, tid_low, 0, 0, span_high, span_low, unit]
 }
 
-/// Each byte list has exactly one reading.
+/// Theorem: each byte list has exactly one reading as frames and a rest.
 pub fn one_reading()
     ensures exists { (bytes : List ℕ) → Reads bytes (frames bytes) (rest bytes) }
     ensures only { (bytes : List ℕ) (others : List (List ℕ)) (left : List ℕ) →
         Reads bytes others left → (frames bytes ≡ others) × (rest bytes ≡ left) }
 {}
 
-/// What is written is a frame with these fields, and a frame is the one spelling of its fields.
+/// Theorem: `write_frame` writes a frame with these fields, and no other bytes are a frame with the
+/// same fields.
 pub fn one_spelling()
     ensures frame { (tid unit : ℕ) (pdu : List ℕ) → tid < 65536 →
         1 ≤ length pdu → length pdu ≤ MAX_PDU → SpellsFrame tid unit pdu }

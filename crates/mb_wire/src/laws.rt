@@ -1,4 +1,4 @@
-//! Laws of the definitions, over all byte lists.
+//! Theorems on requests and responses, over all byte lists.
 ghost use Rattle.std.specs.Prelude.{◌≡◌, ◌↔◌, ℕ, List, Ok};
 ghost use Rattle.mb_wire.specs.Bytes.{AreBytes};
 ghost use Rattle.mb_wire.specs.Requests.{Query, IsLawfulQuery, SpellsRequest, query_bytes};
@@ -6,8 +6,9 @@ ghost use Rattle.mb_wire.specs.RequestFaults.{query_in, request_cleared};
 ghost use Rattle.mb_wire.specs.Replies.{Answer, AnswersQuery, SpellsReply, answer_bytes, answer_in};
 ghost use Rattle.mb_wire.specs.Replies.{reply_cleared};
 
-/// A PDU spells a request exactly where it is read as that request. A lawful request is read back
-/// from its spelling, and a PDU is the spelling of its request up to the spare bits.
+/// Theorem: a PDU encodes a request exactly if it decodes to that request. Each lawful request
+/// decodes from its encoding. Encoding a decoded request gives the PDU again, with its spare bits
+/// 0.
 pub fn one_request()
     ensures both { (pdu : List ℕ) (query : Query) → AreBytes pdu →
         SpellsRequest pdu query ↔ (query_in pdu ≡ Ok query) }
@@ -17,8 +18,9 @@ pub fn one_request()
         query_bytes query ≡ request_cleared pdu }
 {}
 
-/// A PDU spells an answer exactly where it is read as that answer. A fitting answer is read back
-/// from its spelling, and a PDU is the spelling of its answer up to the spare bits.
+/// Theorem: a PDU encodes a response exactly if it decodes to that response. Each fitting response
+/// decodes from its encoding. Encoding a decoded response gives the PDU again, with its spare bits
+/// 0.
 pub fn one_reply()
     ensures both { (query : Query) (pdu : List ℕ) (answer : Answer) → AreBytes pdu →
         SpellsReply query pdu answer ↔ (answer_in query pdu ≡ Ok answer) }

@@ -1,6 +1,7 @@
-//! Modbus over TCP: frames, requests and replies, as the Modbus Application Protocol V1.1b3 and the
-//! Messaging on TCP/IP Implementation Guide V1.0b have them, and the link that brings them. No call
-//! takes memory.
+//! Modbus TCP: frames, requests, responses, and the trait of a link.
+//!
+//! The standards are the Modbus Application Protocol V1.1b3 and the Messaging on TCP/IP
+//! Implementation Guide V1.0b. No call allocates.
 #![tactic(auto)]
 
 mod bytes;

@@ -1,4 +1,4 @@
-//! The sizes and counts that the standards allow, each with its section: "MAP" is the Modbus
+//! The sizes and counts that the standards allow, each with its section. "MAP" is the Modbus
 //! Application Protocol V1.1b3, "TCP" the Messaging on TCP/IP Implementation Guide V1.0b.
 //!
 //! A frame over TCP (an ADU) is a header (MBAP) and a PDU:
@@ -12,34 +12,34 @@
 //!                                                 |<- as many as length says -->|
 //! ```
 //!
-//! All numbers stand with their high byte first.
+//! All numbers are big-endian.
 
-/// The most bytes of a PDU, function code included (MAP 4.1).
+/// The greatest length of a PDU in bytes, with its function code (MAP 4.1).
 pub const MAX_PDU: usize = 253;
 
-/// The bytes of the header in front of a PDU (TCP 3.1.3).
+/// The length of the header before a PDU, in bytes (TCP 3.1.3).
 pub const MBAP_HEADER: usize = 7;
 
-/// The most bytes of a frame: a header and the longest PDU (MAP 4.1).
+/// The greatest length of a frame in bytes: a header and the longest PDU (MAP 4.1).
 pub const MAX_ADU: usize = 260;
 
-/// The least that a header's length field can say: a unit and a function code (TCP 3.1.3).
+/// The least value of a header's length field: a unit and a function code (TCP 3.1.3).
 pub const MIN_LENGTH: usize = 2;
 
-/// The most that a header's length field can say: a unit and the longest PDU (TCP 3.1.3).
+/// The greatest value of a header's length field: a unit and the longest PDU (TCP 3.1.3).
 pub const MAX_LENGTH: usize = 254;
 
-/// How many registers of a table a device has, and how many coils (MAP 4.3).
+/// The number of registers in each of a device's tables, and of coils (MAP 4.3).
 pub const ADDRESSES: u32 = 65536;
 
-/// The most coils or discrete inputs that a request can read (MAP 6.1 and 6.2).
+/// The greatest number of coils or discrete inputs in a read (MAP 6.1 and 6.2).
 pub const MAX_READ_COILS: u16 = 2000;
 
-/// The most registers that a request can read (MAP 6.3 and 6.4).
+/// The greatest number of registers in a read (MAP 6.3 and 6.4).
 pub const MAX_READ_REGISTERS: u16 = 125;
 
-/// The most coils that a request can write (MAP 6.11).
+/// The greatest number of coils in a write (MAP 6.11).
 pub const MAX_WRITE_COILS: u16 = 1968;
 
-/// The most registers that a request can write (MAP 6.12).
+/// The greatest number of registers in a write (MAP 6.12).
 pub const MAX_WRITE_REGISTERS: u16 = 123;

@@ -1,4 +1,4 @@
-//! The bytes to and from a peer.
+//! The trait of a byte stream to and from a peer.
 ghost use Rattle.std.specs.Prelude.{◌≡◌, ◌≤◌, ℕ, List, length, true, is_err, Some, None, IfOk};
 ghost use Rattle.std.specs.Io.KnownBytes.{Keeps, WriteAppends};
 ghost use Rattle.mb_wire.specs.Links.{Gives, TakeConsumes, TakesAtMost};
@@ -6,46 +6,46 @@ ghost use Rattle.mb_wire.specs.Links.{is_end, is_failed_give, risen};
 ghost use Rattle.std.specs.declared.option.Option.{Option};
 ghost use Rattle.mb_wire.specs.declared.link.LastTake.{LastTake};
 
-/// What a take gave.
+/// The result of a read from a link.
 #[derive(Clone, Copy, Debug, PartialEq, Eq)]
 pub enum Took {
-    /// So many bytes, at the front of the piece.
+    /// This many bytes arrived. They are at the front of the buffer.
     Bytes(usize),
-    /// Nothing more will come.
+    /// The peer closed its side: no further bytes will arrive.
     End,
-    /// Nothing came for now.
+    /// No bytes have arrived yet.
     Idle,
 }
 
-/// A take or a give failed.
+/// A read from a link, or a write to it, failed.
 #[derive(Clone, Copy, Debug, PartialEq, Eq)]
 pub struct LinkFailed;
 
-/// What a take had room for, and what it answered.
+/// The size of the buffer that was given to the last read, and the result of that read.
 #[derive(Clone, Copy, Debug, PartialEq, Eq)]
 pub struct LastTake {
     pub room: usize,
     pub answer: Result<Took, LinkFailed>,
 }
 
-/// A link to a peer. The counts stay at 2^64 - 1.
+/// A connection to a peer. The counts saturate at 2^64 - 1.
 pub trait Link {
-    // The bytes that takes will hand out from here on, and those given so far, where they are known.
+    // The bytes that later reads will return, and the bytes written so far, if the link knows them.
     ghost remaining: { Self → Option (List ℕ) } = { λ _. None };
 
     ghost given: { Self → Option (List ℕ) } = { λ _. None };
 
-    // How many calls failed, how many takes there were, and how many of them came to the end.
+    // The numbers of failed calls, of reads, and of reads that found the end of the input.
     ghost failed: { Self → ℕ };
 
     ghost taken: { Self → ℕ };
 
     ghost ended: { Self → ℕ };
 
-    // The last take, none before the first.
+    // The last read, or `None` before the first.
     ghost last: { Self → Option LastTake };
 
-    /// Takes what the peer sent, to the front of the piece.
+    /// Reads what the peer sent into the front of the buffer.
     fn take(&mut self, piece: &mut [u8]) -> Result<Took, LinkFailed>
         ensures bound { TakesAtMost result piece.new }
         ensures bytes { TakeConsumes (remaining self.old) (remaining self.new) result piece.new }
@@ -55,7 +55,7 @@ pub trait Link {
         ensures ends { ended self.new ≡ risen (is_end result) (ended self.old) }
         ensures last { last self.new ≡ Some (record { room = length piece.old; answer = result }) };
 
-    /// Gives bytes to the peer, and says how many it took: the first so many.
+    /// Writes bytes to the peer. Returns how many of them, from the first, the peer accepted.
     fn give(&mut self, bytes: &[u8]) -> Result<usize, LinkFailed>
         ensures bound { IfOk result (λ n. n ≤ length bytes.now) }
         ensures bytes { WriteAppends (given self.old) (given self.new) result bytes.now }
@@ -66,20 +66,22 @@ pub trait Link {
         ensures ends { ended self.new ≡ ended self.old }
         ensures last { last self.new ≡ last self.old };
 
-    /// How many calls failed: answered LinkFailed, or took nothing of what was given.
+    /// Returns the number of failed calls: `LinkFailed`, or a write that accepted none of its
+    /// bytes.
     fn failures(&self) -> u64
         ensures { result ≡ failed self.now };
 
-    /// How many takes there were.
+    /// Returns the number of reads.
     fn takes(&self) -> u64
         ensures { result ≡ taken self.now };
 
-    /// The last take, none before the first.
+    /// Returns the last read, or `None` before the first.
     fn last_take(&self) -> Option<LastTake>
         ensures { result ≡ last self.now };
 }
 
-/// Gives all of the bytes, in as many gives as it takes. After a give that failed, or took nothing, a part of them was given.
+/// Writes all bytes, in several writes if needed. On error the peer has accepted a part of the
+/// bytes.
 pub fn give_all<L: Link>(link: &mut L, bytes: &[u8]) -> Result<(), LinkFailed>
     ensures given { Gives result (L.given link.old) (L.given link.new) bytes.now }
     ensures remaining { Keeps (L.remaining link.old) (L.remaining link.new) }

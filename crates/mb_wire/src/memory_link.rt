@@ -1,4 +1,4 @@
-//! A link over slices, which fails where it is told to.
+//! A link over slices, for tests, that can fail at a given call.
 ghost use Rattle.std.specs.Prelude.{◌≡◌, ◌≤◌, ◌+◌, ◌-◌, ◌==◌, length, take};
 ghost use Rattle.std.specs.Prelude.{is_err, Some, None, IfOk};
 ghost use Rattle.mb_wire.specs.Links.{TakeConsumes, TakesAtMost, is_call, is_end};
@@ -7,8 +7,7 @@ ghost use Rattle.mb_wire.specs.Links.{risen};
 use crate::link::{LastTake, Link, LinkFailed, Took};
 use std::marker::Model;
 
-/// A link over an input and an output that lie in memory. Takes and gives are counted together from
-/// 1, and one of them may be told to fail.
+/// A link with its input and output in memory. The field `calls` counts reads and writes together.
 #[derive(Drop)]
 pub struct MemoryLink<'a> {
     input: &'a [u8],
@@ -48,8 +47,8 @@ impl<'a> Model for MemoryLink<'a> {
 impl<'a> MemoryLink<'a> {
     ghost use Rattle.mb_wire.specs.MemoryLinks.{IsFresh};
 
-    /// A link that hands out and takes at most `piece` bytes a call, and whose call number `fails`
-    /// fails.
+    /// Creates a link that moves at most `piece` bytes in a call. The call with the number `fails`,
+    /// from 1, fails.
     pub fn new(
         input: &'a [u8],
         output: &'a mut [u8],
@@ -77,7 +76,7 @@ impl<'a> MemoryLink<'a> {
         }
     }
 
-    /// The bytes given so far.
+    /// Returns the bytes written so far.
     pub fn given(&self) -> &[u8]
         ensures { result.now ≡ self.now.output }
     {
@@ -85,7 +84,7 @@ impl<'a> MemoryLink<'a> {
     }
 }
 
-// Whether this call is the one that fails.
+// Returns whether the call with this number is set to fail.
 fn fails_at(fails: Option<u64>, call: u64) -> bool
     ensures { result ≡ is_call fails call }
 {

@@ -1,4 +1,4 @@
-//! Replies and their PDUs.
+//! Responses and their PDUs.
 ghost use Rattle.std.specs.Prelude.{◌≡◌, ◌≤◌, ◌+◌, length, take, false, Ok};
 ghost use Rattle.std.specs.Prelude.{None, IfOk};
 ghost use Rattle.mb_wire.specs.Requests.{IsLawful, query_of};
@@ -14,35 +14,36 @@ use crate::limits::MAX_PDU;
 use crate::requests::{Request, Wanted};
 use byteorder::{BigEndian, ByteOrder};
 
-/// What a device answers, lent from the PDU.
+/// A device's response, borrowed from its PDU.
 #[derive(Clone, Copy, Debug)]
 pub enum Reply<'a> {
-    /// Coils or discrete inputs, eight to a byte, the lowest bit of the first byte first. Spare bits
-    /// of the last byte are ignored.
+    /// Coils or discrete inputs, eight to a byte. The lowest bit of the first byte is the first of
+    /// them. Spare bits of the last byte are ignored.
     Bits { quantity: u16, bytes: &'a [u8] },
     /// Registers, two bytes each, high byte first.
     Words(&'a [u8]),
-    /// A write was carried out: its head stands in the reply.
+    /// A write was executed: the response repeats the head of the request.
     Echo,
     /// An exception code.
     Exception(u8),
 }
 
-/// Why a PDU is no reply to a request; the least fault is told.
+/// Why a PDU is not a response to a request. The fault with the lowest number is reported.
 #[derive(Clone, Copy, Debug, PartialEq, Eq)]
 pub enum ReplyFault {
-    /// The first byte is neither the function code nor that with its top bit set.
+    /// The first byte is not the function code, with or without its top bit set.
     WrongFunction,
-    /// The PDU is empty, or longer or shorter than such a reply.
+    /// The PDU is empty, or its length does not match its function and byte count.
     WrongLength,
-    /// The bytes are not as many as were asked for.
+    /// The byte count does not match what the request asked for.
     WrongByteCount,
-    /// The reply to a write doesn't repeat it.
+    /// The response to a write does not repeat the write.
     WrongEcho,
 }
 
 impl ReplyFault {
-    /// Its place in the order in which faults are looked for, from 1; the least that applies is told.
+    /// Returns the fault's number, from 1. Faults are checked in this order, and the first that
+    /// applies is reported.
     pub fn number(self) -> u8
         ensures { result ≡ fault_number self }
     {
@@ -56,7 +57,7 @@ impl ReplyFault {
 }
 
 impl Wanted {
-    // Whether a reply brings bytes.
+    // Returns whether the response has a byte count and data.
     fn brings(self) -> bool
         ensures { result ≡ brings_bytes self }
     {
@@ -66,7 +67,7 @@ impl Wanted {
         }
     }
 
-    // How many bytes a reply brings.
+    // Returns the number of data bytes in the response.
     fn count(self) -> u32
         ensures { result ≡ byte_count self }
     {
@@ -78,7 +79,7 @@ impl Wanted {
     }
 }
 
-// The function code with its top bit set.
+// Returns whether the PDU has the request's function code with its top bit set.
 fn says_exception(request: &Request<'_>, pdu: &[u8]) -> bool
     requires { 1 ≤ length pdu.now }
     ensures { result ≡ is_exception (query_of request.now) pdu.now }
@@ -125,7 +126,7 @@ fn has_wrong_echo(request: &Request<'_>, pdu: &[u8]) -> bool
     read_number(pdu, 1) != request.address() || usize::from(read_number(pdu, 3)) != request.field()
 }
 
-// The least fault that holds.
+// Returns the first fault that applies.
 fn find_fault(request: &Request<'_>, pdu: &[u8]) -> Option<ReplyFault>
     ensures { result ≡ reply_fault (query_of request.now) pdu.now }
 {
@@ -142,7 +143,7 @@ fn find_fault(request: &Request<'_>, pdu: &[u8]) -> Option<ReplyFault>
     }
 }
 
-// What a PDU without a fault brings.
+// Decodes a PDU that has no fault.
 fn read_reply<'a>(request: &Request<'_>, pdu: &'a [u8]) -> Reply<'a>
     requires { reply_fault (query_of request.now) pdu.now ≡ None }
     ensures value { answer_of result ≡ answer_from (query_of request.now) pdu.now }
@@ -161,7 +162,7 @@ fn read_reply<'a>(request: &Request<'_>, pdu: &'a [u8]) -> Reply<'a>
     }
 }
 
-/// Reads the reply to a request from its PDU, or finds the least fault.
+/// Decodes the response to a request from its PDU. On error, returns the first fault that applies.
 pub fn decode_reply<'a>(request: &Request<'_>, pdu: &'a [u8]) -> Result<Reply<'a>, ReplyFault>
     ensures exact { read_as result ≡ reply_of request.now pdu.now }
     ensures answers { IfOk result (AnswersRequest request.now) }
@@ -199,7 +200,7 @@ fn write_reply(request: &Request<'_>, reply: &Reply<'_>, out: &mut [u8; MAX_PDU]
     }
 }
 
-/// Writes the reply's PDU to the front of `out`, and says how many bytes it has. Spare bits are
+/// Writes the response's PDU to the front of `out`, and returns its length in bytes. Spare bits are
 /// written as 0.
 pub fn encode_reply(request: &Request<'_>, reply: &Reply<'_>, out: &mut [u8; MAX_PDU]) -> usize
     requires { FitsRequest request.now reply.now }
@@ -215,7 +216,7 @@ pub fn encode_reply(request: &Request<'_>, reply: &Reply<'_>, out: &mut [u8; MAX
 }
 
 impl Reply<'_> {
-    /// Coil or discrete input number `i` of the reply, from 0.
+    /// Returns coil or discrete input `i` of the response, from 0.
     pub fn bit(&self, i: usize) -> Option<bool>
         ensures { result ≡ bit_at (answer_of self.now) i }
     {
@@ -231,7 +232,7 @@ impl Reply<'_> {
         }
     }
 
-    /// Register number `i` of the reply, from 0.
+    /// Returns register `i` of the response, from 0.
     pub fn word(&self, i: usize) -> Option<u16>
         ensures { result ≡ word_at (answer_of self.now) i }
     {

@@ -13,8 +13,7 @@ ghost use Rattle.mb_wire.specs.Replies.{wanted_by};
 use crate::bytes::{append, append_coils, append_words, head};
 use crate::limits::MAX_PDU;
 
-/// What a client asks a device for (Modbus Application Protocol V1.1b3, section 6). Addresses count
-/// from 0.
+/// A request to a device (Modbus Application Protocol V1.1b3, section 6). Addresses count from 0.
 #[derive(Clone, Copy, Debug)]
 pub enum Request<'a> {
     /// Function 1.
@@ -47,48 +46,49 @@ pub enum Request<'a> {
         address: u16,
         value: u16,
     },
-    /// Function 15: eight coils to a byte, the lowest bit of the first byte first. Spare bits of the
-    /// last byte are ignored.
+    /// Function 15: eight coils to a byte. The lowest bit of the first byte is the first coil.
+    /// Spare bits of the last byte are ignored.
     WriteCoils {
         address: u16,
         quantity: u16,
         bytes: &'a [u8],
     },
-    /// Function 16: two bytes to a register, high byte first.
+    /// Function 16: two bytes for each register, high byte first.
     WriteRegisters {
         address: u16,
         bytes: &'a [u8],
     },
 }
 
-/// Why a PDU is no request; the least fault is told.
+/// Why a PDU is not a request. The fault with the lowest number is reported.
 #[derive(Clone, Copy, Debug, PartialEq, Eq)]
 pub enum RequestFault {
     /// The first byte is none of the eight function codes.
     UnknownFunction,
-    /// The PDU is empty, or longer or shorter than such a request.
+    /// The PDU is empty, or its length does not match its function and byte count.
     WrongLength,
-    /// The quantity is none that the function allows.
+    /// The function does not allow this quantity.
     WrongQuantity,
-    /// The bytes that follow are not as many as the quantity needs.
+    /// The byte count does not match the quantity.
     WrongByteCount,
-    /// A coil is written with another value than 0x0000 and 0xFF00.
+    /// The value of a coil is another than 0x0000 and 0xFF00.
     WrongCoilValue,
 }
 
-// What a reply that is no exception brings.
+// The data of a response that is no exception.
 #[derive(Clone, Copy, Debug, PartialEq, Eq)]
 pub(crate) enum Wanted {
-    // So many coils.
+    // This many coils.
     Coils(u16),
-    // So many registers.
+    // This many registers.
     Registers(u16),
     // The head of the request.
     Head,
 }
 
 impl RequestFault {
-    /// Its place in the order in which faults are looked for, from 1; the least that applies is told.
+    /// Returns the fault's number, from 1. Faults are checked in this order, and the first that
+    /// applies is reported.
     pub fn number(self) -> u8
         ensures { result ≡ request_fault_number self }
     {
@@ -103,7 +103,7 @@ impl RequestFault {
 }
 
 impl Request<'_> {
-    /// The function code of the standard.
+    /// Returns the function code of the standard.
     pub fn function(&self) -> u8
         ensures { result ≡ function_of (query_of self.now) }
     {
@@ -119,7 +119,7 @@ impl Request<'_> {
         }
     }
 
-    /// The first address.
+    /// Returns the first address.
     pub fn address(&self) -> u16
         ensures { result ≡ address_of (query_of self.now) }
     {
@@ -135,7 +135,7 @@ impl Request<'_> {
         }
     }
 
-    // What stands after the address.
+    // Returns the field after the address: a quantity or a value.
     pub(crate) fn field(&self) -> usize
         ensures value { result ≡ field_of (query_of self.now) }
         ensures fits { IsLawful self.now → result < 65536 }
@@ -156,7 +156,7 @@ impl Request<'_> {
         }
     }
 
-    // What a reply that is no exception brings.
+    // Returns the data of a response that is no exception.
     pub(crate) fn wanted(&self) -> Wanted
         ensures { result ≡ wanted_by (query_of self.now) }
     {
@@ -172,28 +172,28 @@ impl Request<'_> {
     }
 }
 
-// What stands for a coil that is written.
+// Returns the encoding of a coil's value.
 fn field_of_coil(on: bool) -> usize
     ensures { result ≡ coil_value on }
 {
     if on { 0xFF00 } else { 0 }
 }
 
-// How many of so many coils are in the bytes.
+// Returns how many of `quantity` coils the bytes have.
 fn count_coils(quantity: u16, bytes: &[u8]) -> usize
     ensures { result ≡ length (coils_of quantity bytes.now) }
 {
     usize::from(quantity).min(bytes.len().saturating_mul(8))
 }
 
-// How many registers are in the bytes.
+// Returns how many registers the bytes have.
 fn count_words(bytes: &[u8]) -> usize
     ensures { result ≡ length (words_of bytes.now) }
 {
     bytes.len() / 2
 }
 
-// Writes how many bytes a request carries, and these, after its head.
+// Writes the byte count and data of a request after its head, if it has any.
 fn append_carried(out: &mut [u8; MAX_PDU], end: usize, request: &Request<'_>) -> usize
     requires lawful { IsLawful request.now }
     requires head { end ≡ 5 }
@@ -234,7 +234,7 @@ fn write_request(request: &Request<'_>, out: &mut [u8; MAX_PDU]) -> usize
     append_carried(out, end, request)
 }
 
-/// Writes the request's PDU to the front of `out`, and says how many bytes it has. Spare bits are
+/// Writes the request's PDU to the front of `out`, and returns its length in bytes. Spare bits are
 /// written as 0.
 pub fn encode_request(request: &Request<'_>, out: &mut [u8; MAX_PDU]) -> usize
     requires { IsLawful request.now }

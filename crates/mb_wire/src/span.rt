@@ -1,11 +1,11 @@
-//! Registers to be read together.
+//! Consecutive registers that one request reads.
 ghost use Rattle.mb_wire.specs.declared.limits.TheConstants.{ADDRESSES, MAX_READ_REGISTERS};
 ghost use Rattle.std.specs.Prelude.{◌≡◌, ◌≤◌, ◌+◌, ◌↔◌, IsSome, IfSome};
 
 use crate::limits::{ADDRESSES, MAX_READ_REGISTERS};
 use crate::requests::Request;
 
-/// The functions that read registers.
+/// A function that reads registers.
 #[derive(Clone, Copy, Debug, PartialEq, Eq)]
 pub enum ReadFunction {
     /// Function 3.
@@ -17,7 +17,7 @@ pub enum ReadFunction {
 impl ReadFunction {
     ghost use Rattle.mb_wire.specs.Spans.{code_of};
 
-    /// The function code of the standard.
+    /// Returns the function code of the standard.
     pub fn code(self) -> u8
         ensures { result ≡ code_of self }
     {
@@ -28,7 +28,7 @@ impl ReadFunction {
     }
 }
 
-/// 1 to 125 registers of one function, inside the 65536 of a device.
+/// 1 to 125 consecutive registers, within the 65536 addresses of a device.
 #[derive(Clone, Copy, Debug, PartialEq, Eq)]
 pub struct ReadSpan {
     pub function: ReadFunction,
@@ -42,7 +42,8 @@ pub struct ReadSpan {
 impl ReadSpan {
     ghost use Rattle.mb_wire.specs.Spans.{IsSpan, code_of, request_of, span_view};
 
-    /// The span of a function code, an address and a count that came from outside.
+    /// Returns the span of a function code, an address and a count, or `None` if they are not a
+    /// valid span.
     pub fn new(function: u8, address: u16, count: u16) -> Option<ReadSpan>
         ensures lawful { IsSome result ↔ IsSpan function address count }
         ensures function { IfSome result (λ span. code_of span.function ≡ function) }
@@ -68,7 +69,7 @@ impl ReadSpan {
         }
     }
 
-    /// The request that reads these registers.
+    /// Returns the request that reads these registers.
     pub fn request(self) -> Request<'static>
         ensures { result ≡ request_of (span_view self) }
     {

@@ -22,7 +22,7 @@ use Rattle.meter_audit.specs.Fitting.{AreFine}
 use Rattle.meter_audit.specs.Passing.{begun, passed}
 use Rattle.meter_audit.specs.Comparing.{next_fault}
 
--- a counter of 32 bits that showed 5000 at 1000, at a load of at most 100 kW
+-- A counter of 32 bits that showed 5000 at 1000, with a ceiling of 100 kW.
 abbrev house : Installed
 house = record { range = 4294967296; ceiling = 100000; opening = record { at = 1000; raw = 5000; sf = pos 0 } }
 
@@ -51,7 +51,7 @@ check_as place l total ended stands =
 abbrev check : (place : ℕ) → Last → (total : ℕ) → (ended : Bool) → Check
 check place l total ended = check_as place l total ended true
 
--- 200 Wh later
+-- 200 Wh later.
 abbrev first : TableRow
 first = told 2 row_kind.Reading 1900 5200 0 0 (pos 0) false
 
@@ -85,7 +85,7 @@ fine_tables = record {
   are = refl;
 }
 
--- one that was voided, and the next one
+-- A voided reading, and the next one.
 abbrev voided_first : TableRow
 voided_first = told 2 row_kind.Reading 1900 5200 0 0 (pos 0) true
 
@@ -93,7 +93,8 @@ after_voided : passed house (begun house) voided_first ≡ Ok (check_as 2 (last 
 unfolding unit_of
 after_voided = refl
 
--- directly after a row that stands it is looked at as if it stood, after another that was voided it isn't
+-- Directly after a valid row, a voided reading is checked like a valid one; after another voided
+-- one, it is not.
 voided_too_fast : passed house (begun house) (told 2 row_kind.Reading 1900 50000 0 0 (pos 0) true) ≡ Err (fault.Held cause.TooFast)
 unfolding unit_of
 voided_too_fast = refl
@@ -102,7 +103,7 @@ voided_after_a_voided : passed house (check_as 2 (last 1000 5000 (pos 0)) 0 fals
     ≡ Ok (check_as 3 (last 1000 5000 (pos 0)) 0 false false, None)
 voided_after_a_voided = refl
 
--- a closing, and what can't come after it
+-- A closing, and what may not follow it.
 closed : passed house (begun house) (told 2 row_kind.Closing 1900 5200 0 0 (pos 0) false)
     ≡ Ok (check 2 (last 1900 5200 (pos 0)) 200000 true, Some (record { from = 1000; till = 1900; mwh = 200000 }))
 unfolding unit_of
@@ -112,7 +113,7 @@ after_a_closing : passed house (check 2 (last 1900 5200 (pos 0)) 200000 true) (t
     ≡ Err fault.AfterClosing
 after_a_closing = refl
 
--- a rescaling sets the scale factor; a reset doesn't
+-- A rescale sets the scale factor; a reset does not.
 rescaled : passed house (begun house) (told 2 row_kind.Rescale 2000 5000 0 500 (pos 1) false)
     ≡ Ok (check 2 (last 2000 500 (pos 1)) 0 false, Some (record { from = 1000; till = 2000; mwh = 0 }))
 unfolding unit_of
@@ -121,7 +122,7 @@ rescaled = refl
 reset_to_a_scale : passed house (begun house) (told 2 row_kind.Reset 2000 5000 0 500 (pos 1) false) ≡ Err (fault.Scale (pos 0))
 reset_to_a_scale = refl
 
--- what else is refused
+-- What else is refused.
 a_gap : passed house (begun house) (told 3 row_kind.Reading 1900 5200 0 0 (pos 0) false) ≡ Err (fault.Place 2)
 a_gap = refl
 
@@ -150,7 +151,7 @@ by_hand_it_may_be = refl
 it_went_back : passed house (begun house) (told 2 row_kind.Manual 1900 4999 0 0 (pos 0) false) ≡ Err (fault.Refused term.NegativeStep)
 it_went_back = refl
 
--- interval rows
+-- Interval rows.
 one_is_changed : next_fault (share 900 177777 ∷ share 1800 22223 ∷ []) (share 900 177778 ∷ share 1800 22223 ∷ [])
     ≡ Some (interval.Differs 900 177778 177777)
 one_is_changed = refl

@@ -28,7 +28,7 @@ use Rattle.meter_audit.specs.Passing.{IsSoundCheck, passed}
 use Rattle.meter_audit.specs.Laws.{PassedRowsFit, HasTaken, IsTaken}
 use Rattle.meter_audit.specs.Going.{HasGone, IsSoundProgress, settled_in, DropsDone}
 
--- shares are joined to the last row
+-- Shares are merged with the last row.
 pub joins_last : (done : List Share) (row : Share) (rows shares : List Share)
     → with_shares (done ++ row ∷ rows) shares ≡ done ++ with_shares (row ∷ rows) shares
 joins_last [] row rows shares = refl
@@ -48,7 +48,7 @@ joined_some row share shares h =
       | inr other ↦ let e = sym (cond-false _ _ _ other) ∙ h in absurd (cc)
     ]
 
--- where there is a row, there is one after
+-- Rows stay non-empty.
 still_some : (rows shares : List Share) → with_shares rows shares ≡ [] → rows ≡ []
 still_some [] shares h = refl
 still_some (row ∷ []) [] h = absurd (cc)
@@ -113,7 +113,7 @@ goes_voided law meter old new told next well passes check_is wanted_is before do
       begun = λ none. gone.begun (sym wanted_is ∙ none);
     }
 
--- ---- there is room for its energy
+-- ---- its energy fits
 
 pub within_more : SharesAddUp → (old new : List Share) (step : Step) (total next : ℕ) → IsShareable step → energy_of old ≤ total
     → next ≡ total + step.mwh → new ≡ with_shares old (shares_of step) → energy_of new ≤ next
@@ -125,7 +125,7 @@ pub passed_as : (r : Result (Check × Option Step) RowFault) (next : Check) (ste
 passed_as r next step step' h is =
     sym h ∙ ap (λ (o : Option Step). let q : Result (Check × Option Step) RowFault = Ok (next, o) in q) is
 
--- what is left of rows has no more energy
+-- The remaining rows have no more energy.
 less_left : (n : ℕ) (rows : List Share) → energy_of (drop n rows) ≤ energy_of rows
 less_left zero rows = omega (arith)
 less_left (suc n) [] = omega (arith)
@@ -134,7 +134,7 @@ less_left (suc n) (row ∷ rows) =
     let left : energy_of (drop (suc n) (row ∷ rows)) ≡ energy_of (drop n rows) = refl in
     omega (arith, whole, left, less_left n rows)
 
--- a check from which rows were dropped is as sound as it was
+-- A check stays sound after rows were removed.
 pub left_is_sound : (n : ℕ) (meter : Installed) (old new : Progress) → new.check ≡ old.check → new.wanted.items ≡ drop n old.wanted.items
     → IsSoundProgress meter old → IsSoundProgress meter new
 left_is_sound n meter old new same left sound = record {
@@ -142,7 +142,7 @@ left_is_sound n meter old new same left sound = record {
   within = omega (arith, sound.within, less_left n old.wanted.items, ap energy_of left, ap (λ (check : Check). check.total) same);
 }
 
--- where rows are dropped but the last, one is left if there was one
+-- If rows are removed but the last, one is left if there was one.
 none_left : (rows : List Share) → drop (settled_in rows) rows ≡ [] → rows ≡ []
 none_left [] h = refl
 none_left (row ∷ rows) h =
@@ -152,7 +152,7 @@ none_left (row ∷ rows) h =
       ap (λ (rs : List Share). length rs) h,
     ))
 
--- those that were dropped are done with
+-- The removed rows are done.
 pub drops_done : (old new : Progress) → new.check ≡ old.check
     → new.wanted.items ≡ drop (settled_in old.wanted.items) old.wanted.items → DropsDone old new
 drops_done old new same left meter told done gone =

@@ -37,7 +37,7 @@ ended_alike whole (Entered k e ∷ lines) (row ∷ rows) h =
 ended_alike whole (Held reading cause ∷ lines) rows h = ended_alike whole lines rows h
 ended_alike whole (Voided place ∷ lines) rows h = ended_alike whole lines rows h
 
--- no row stands after a closing
+-- No row follows a closing.
 abbrev AllUnended : List EntryRow → Type 0
 AllUnended [] = Unit {0}
 AllUnended (row ∷ rows) = (is_ended rows ≡ false) × AllUnended rows
@@ -51,9 +51,9 @@ all_unended meter whole (Entered k e ∷ lines) (row ∷ rows) fit h =
 all_unended meter whole (Held reading cause ∷ lines) rows fit h = all_unended meter whole lines rows fit.1 h
 all_unended meter whole (Voided place ∷ lines) rows fit h = all_unended meter whole lines rows fit.1 h
 
--- ---- rows that were voided
+-- ---- voided rows
 
--- each row that was voided fits as such
+-- Each voided row fits as such.
 abbrev AllVoidedFit : Installed → List EntryRow → Type 0
 AllVoidedFit meter [] = Unit {0}
 AllVoidedFit meter (row ∷ rows) =
@@ -64,7 +64,7 @@ one_at_most : (b : Bool) (n : ℕ) → n ≡ (if b then 1 else 0) → n ≤ 1
 one_at_most true n h = omega (arith, h)
 one_at_most false n h = omega (arith, h)
 
--- a reading that was accepted showed something that the counter can show
+-- An accepted reading showed a number that the counter can show.
 was_accepted : (meter : Installed) (es : List Entry) (at raw rolls : ℕ) → IsAcceptedAs meter es at raw rolls
     → WasReading meter.range (last_after meter es) at raw rolls
 was_accepted meter es at raw rolls h =
@@ -77,14 +77,14 @@ was_accepted meter es at raw rolls h =
       once = one_at_most (nat_lt raw l.raw) rolls (rolls_of meter es at raw rolls h);
     }
 
--- so does one that is voided
+-- A row that is voided now fits as a voided one.
 voided_now : (meter : Installed) (es : List Entry) (k : EntryKind) (e : Entry) → is_read k e ≡ true → EntryFits meter es k e
     → VoidedFits meter.range (last_after meter es) k e
 voided_now meter es =
     by_read (λ k e. EntryFits meter es k e → VoidedFits meter.range (last_after meter es) k e)
     (λ at raw rolls h. was_accepted meter es at raw rolls h)
 
--- and one after an earlier moment
+-- A voided row still fits after an earlier time.
 voided_earlier : (range : ℕ) (l l' : Last) (k : EntryKind) (e : Entry) → l'.at ≤ l.at → VoidedFits range l k e → VoidedFits range l' k e
 voided_earlier range l l' kind.Reading (entry.Step at raw rolls) le h =
     record { accumulated = h.accumulated; below = h.below; later = omega (arith, h.later, le); once = h.once }
@@ -94,7 +94,7 @@ voided_earlier range l l' kind.Closing e le h = absurd h
 voided_earlier range l l' kind.Reset e le h = absurd h
 voided_earlier range l l' kind.Rescale e le h = absurd h
 
--- ---- a void goes back
+-- ---- a void removes an entry
 
 moment_rolled : (k : EntryKind) (last : Last) (place : ℕ) (e : Entry) (stands : Bool)
     → moment_of (rolled last (record { place = place; kind = k; entry = e; stands = stands })).entry ≡ moment_of e
@@ -124,13 +124,13 @@ stands_rolled kind.Reset last place e false = refl
 stands_rolled kind.Rescale last place e true = refl
 stands_rolled kind.Rescale last place e false = refl
 
--- after a row that stands the counter stands at its moment
+-- After a valid row, the last entry has its time.
 moment_after : (meter : Installed) (row : EntryRow) (rows : List EntryRow) → row.stands ≡ true
     → (last_after meter (entries_in (row ∷ rows))).at ≡ moment_of row.entry
 moment_after meter row rows on =
     ap (λ (es : List Entry). (last_after meter es).at) (entries_standing row rows on) ∙ last_moment meter row.entry (entries_in rows)
 
--- without its row the counter stands no later
+-- Without its row, the last entry is no later.
 last_without : (meter : Installed) (row : EntryRow) (rows : List EntryRow) → AllFollow meter.range meter.opening (entries_in (row ∷ rows))
     → (last_after meter (entries_in rows)).at ≤ (last_after meter (entries_in (row ∷ rows))).at
 last_without meter row rows h =
@@ -175,7 +175,7 @@ goes_back meter place (row ∷ rows) h =
           ]
     ]
 
--- ---- after a void those that were voided fit as such
+-- ---- after a void, the voided rows fit as such
 
 follows_below : (meter : Installed) (row : EntryRow) (rows : List EntryRow) → AllFollow meter.range meter.opening (entries_in (row ∷ rows))
     → AllFollow meter.range meter.opening (entries_in rows)
@@ -225,9 +225,9 @@ all_voided_fit meter (Voided place ∷ lines) well h =
     let sound = rows_are_sound meter lines well.raw h.1 in
     voided_still meter place rows a fits.there may.0 may.1 sound.account.follow sound.still (all_voided_fit meter lines well h.1)
 
--- ---- rows that were voided directly after one that stands
+-- ---- voided rows directly after a valid one
 
--- each of these may follow what still stands
+-- Each of these may follow the valid entries.
 abbrev AllAfterFit : Installed → List EntryRow → Type 0
 AllAfterFit meter [] = Unit {0}
 AllAfterFit meter (row ∷ rows) =
@@ -242,7 +242,7 @@ voided_is_read range l kind.Closing e h = absurd h
 voided_is_read range l kind.Reset e h = absurd h
 voided_is_read range l kind.Rescale e h = absurd h
 
--- an accepted reading is one with no more energy before it too
+-- An accepted reading is accepted with less energy before it too.
 accepted_lower : (meter : Installed) (es es' : List Entry) (at raw rolls : ℕ) → Lower meter es es' → IsAcceptedAs meter es at raw rolls
     → IsAcceptedAs meter es' at raw rolls
 accepted_lower meter es es' at raw rolls low h =
@@ -266,7 +266,7 @@ lower_with_next : (meter : Installed) (place : ℕ) (rows : List EntryRow) (a : 
 lower_with_next meter place rows a None next is h = absurd (cc)
 lower_with_next meter place rows a (Some n) next is h = h
 
--- where the last row still stands, it stood, and no more energy is before it
+-- If the last row is still valid, it was valid, and no more energy is before it.
 last_still : (meter : Installed) (place : ℕ) (rows : List EntryRow) (a : Around) → row_at place rows ≡ Some a
     → Leaves meter place rows a a.next → last_stands (with_void meter.opening place rows) ≡ true
     → (last_stands rows ≡ true) × Lower meter (entries_in rows) (entries_in (with_void meter.opening place rows))

@@ -19,7 +19,7 @@ use Rattle.meter_audit.specs.Laws.{FineTablesAreLawful, LawfulTablesAreFine}
 use Rattle.meter_audit.proofs.Alone.{fitting_rows_stand_alone}
 use Rattle.meter_audit.proofs.Journals.{rows_of_journals_fit}
 
--- no closing is ever voided
+-- A closing is never voided.
 voided_goes_on : (range : ℕ) (last : Last) (k : EntryKind) (e : Entry) → VoidedFits range last k e → is_closing k ≡ false
 voided_goes_on range last kind.Reading e h = refl
 voided_goes_on range last kind.Manual e h = absurd h

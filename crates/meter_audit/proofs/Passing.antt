@@ -1,4 +1,4 @@
--- What the table has for a row that fits passes.
+-- The table row of each row that fits passes.
 use Rattle.std.proofs.Common.{◌≡◌, ◌≢◌, ℕ, ℤ, ◌+◌, ◌<◌, ◌≤◌, ◌==◌, nat_lt, nat_le, Bool, true, false, not, ◌&&◌, List, ◌∷◌, length, Option, Some, None, Result, Ok, IsOk, refl, sym, ap, subst, ◌∙◌, inl, inr, arith, eq-eqb}
 use Rattle.std.specs.Ordering.{int_eq}
 use Rattle.std.proofs.lemmas.Bool.{cases_Bool, cond-true, cond-false}
@@ -27,7 +27,7 @@ use Rattle.meter_audit.specs.Passing.{kind_in, entry_in, has_unused, is_off_scal
 use Rattle.meter_audit.specs.Laws.{check_after, FittingRowsPass}
 use Rattle.meter_audit.proofs.Alone.{fitting_account}
 
--- ---- its place, its kind and its columns
+-- ---- its sequence number, kind and columns
 
 kind_there : (k : EntryKind) → kind_in (kind_as k) ≡ Some k
 kind_there kind.Reading = refl
@@ -46,7 +46,7 @@ shape_is check told k place kind unended voidable used scale =
 differs : (a b : ℤ) → a ≡ b → not (int_eq a b) ≡ false
 differs a b h = ap not ((Decides-int_eq a b).1 h)
 
--- ---- one that stands, and one that was voided
+-- ---- a valid row, and a voided one
 
 pub passes_standing : (meter : Installed) (check : Check) (told : TableRow) (k : EntryKind) (next : Last) (step : Step)
     → shape_of check told ≡ Ok k → told.is_voided ≡ false → reading_fault meter check k told ≡ None
@@ -88,7 +88,7 @@ no_voided_fault meter check told h =
 no_reading_fault : (rolls step : ℕ) → fault_by rolls (verdict.Accepted rolls step) ≡ None
 no_reading_fault rolls step = cond-true _ _ _ (eq-eqb rolls rolls refl)
 
--- directly after a row that stands it was accepted after what stands
+-- Directly after a valid row, it was accepted after the valid entries.
 no_stood_fault : (meter : Installed) (rows : List EntryRow) (told : TableRow)
     → (last_stands rows ≡ true → IsAcceptedAs meter (entries_in rows) told.moment told.raw told.rolls)
     → stood_fault meter (check_after meter rows) kind.Reading told ≡ None
@@ -105,7 +105,7 @@ no_stood_fault meter rows told h =
 abbrev row_with : (place : ℕ) → EntryKind → Entry → Bool → EntryRow
 row_with place k e stands = record { place = place; kind = k; entry = e; stands = stands }
 
--- what the table has for a row after these
+-- The table row of a row after these.
 abbrev told_after : Installed → List EntryRow → EntryRow → TableRow
 told_after meter rows row = table_row (scale_after meter (row ∷ rows)) row
 

@@ -1,5 +1,5 @@
--- What two files hold of a meter that is carried from the one into the other: it is installed in the new file where its
--- counter stands in the old one. `lines` is its journal in the old file, `more` that in the new one, the latest line first.
+-- A meter in two files: it is installed in the new file with its last entry of the old one. `lines`
+-- is its journal in the old file, `more` its journal in the new one, the latest line first.
 use Rattle.std.specs.Prelude.{◌≡◌, ◌≢◌, ℕ, ℤ, ◌+◌, ◌==◌, ◌≤◌, false, List, [], ◌∷◌, ◌++◌, map, filter}
 use Rattle.energy_core.specs.declared.limits.TheConstants.{MAX_TOTAL}
 use Rattle.energy_core.specs.declared.verdicts.Cause.TheVariants.{TotalFull}
@@ -15,14 +15,15 @@ use Rattle.meter_journal.specs.Intervals.{with_shares}
 use Rattle.meter_journal.specs.Journal.{Line, Entered, Held, Voided, Journal, is_ended, rows_of, entries_of}
 use Rattle.meter_journal.specs.Standing.{entered_count}
 
--- the meter in the new file: its opening shows what the last entry that stands in the old one shows, at the same moment
--- and scale
+-- The meter in the new file. Its opening shows what its last valid entry in the old file shows, at
+-- the same time and scale.
 abbrev pub carried : Installed → (lines : Journal) → Installed
 carried meter lines =
     record { range = meter.range; ceiling = meter.ceiling; opening = last_in meter lines }
 
--- A line after so many entries of the old file. The opening has the place 1 in each file, so a void names a place that is
--- so many later.
+-- A line of the new file in the journal of both. The opening has the sequence number 1 in each
+-- file. A void in the new file therefore names a number that is too low by the number of entries in
+-- the old file.
 abbrev pub moved_line : (count : ℕ) → Line → Line
 moved_line count (Entered k e) = Entered k e
 moved_line count (Held reading cause) = Held reading cause
@@ -32,14 +33,15 @@ moved_line count (Voided place) = Voided (place + count)
 abbrev pub joined_journal : (lines more : Journal) → Journal
 joined_journal lines more = map (moved_line (entered_count lines)) more ++ lines
 
--- a row after so many entries of the old file
+-- A row of the new file in the journal of both.
 abbrev pub moved_row : (count : ℕ) → EntryRow → EntryRow
 moved_row count row = record row { place = row.place + count }
 
--- The meter is well installed in the new file. The rows and entries of the joined journal are those of the new file after
--- those of the old one, and so are its steps; so the energies add up. The interval rows of the new file follow those of the
--- old one; where its first and the last of the old one are of the same quarter hour, they are one, with the energy of both.
--- A meter that is carried again is the one that is carried from the joined journal.
+-- The meter is well installed in the new file. The journal of both files has the rows, entries and
+-- steps of the new file after those of the old one. The energies therefore add up. The interval
+-- rows of the new file follow those of the old one. If the two at the change of files are of the
+-- same quarter hour, they are one row with the energy of both. A meter that continues in a third
+-- file continues from the journal of both.
 pub record GoesOn (meter : Installed) (lines more : Journal) : Type 0 where
   pub well : IsWellInstalled (carried meter lines)
   pub rows : rows_of meter.opening (joined_journal lines more)
@@ -56,19 +58,20 @@ pub record GoesOn (meter : Installed) (lines more : Journal) : Type 0 where
       ≡ with_shares (interval_rows meter lines) (interval_rows (carried meter lines) more)
   pub again : carried (carried meter lines) more ≡ carried meter (joined_journal lines more)
 
+-- Every meter continues so, for any lawful journals of the two files.
 abbrev pub CarriesGoOn : Type 0
 CarriesGoOn = (meter : Installed) (lines more : Journal) → IsWellInstalled meter
     → AreFitting meter lines
     → AreFitting (carried meter lines) more
     → GoesOn meter lines more
 
--- the energy of the rows of the quarter hour from a moment
+-- The energy of the rows of the quarter hour from `start`.
 abbrev pub energy_from : (start : ℕ) → List Share → ℕ
 energy_from start rows = energy_of (filter (λ row. row.start == start) rows)
 
--- Rows of both files count each quarter hour and each civil day once. A quarter hour has the energy of both, also that in
--- which the meter was carried. A day has the account of the rows of both: it counts a quarter hour of both once, and has
--- the energy of both.
+-- The rows of both files count each quarter hour and each civil day once. A quarter hour has the
+-- energy of both files, also the one at the change of files. A day has the account of the rows of
+-- both files: it counts a quarter hour of both once, and has the energy of both.
 pub record AreCountedOnce (old new both : List Share) : Type 0 where
   pub ascending : IsAscending (starts_of both)
   pub quarters : (start : ℕ) → energy_from start both
@@ -78,28 +81,31 @@ pub record AreCountedOnce (old new both : List Share) : Type 0 where
       ≡ (account_on zone old day).mwh + (account_on zone new day).mwh
   pub whole : energy_of both ≡ energy_of old + energy_of new
 
--- The interval rows of the joined journal are the account of the steps of both files, and count those of both once.
+-- The interval rows of both files are the account of the steps of both, and count those of both
+-- once.
 pub record CountsOnce (meter : Installed) (lines more : Journal) : Type 0 where
   pub account : IsAccount (steps_in (carried meter lines) more ++ steps_in meter lines)
       (interval_rows meter (joined_journal lines more))
   pub rows : AreCountedOnce (interval_rows meter lines) (interval_rows (carried meter lines) more)
       (interval_rows meter (joined_journal lines more))
 
+-- For any lawful journals of the two files, each quarter hour counts once.
 abbrev pub CarriesCountOnce : Type 0
 CarriesCountOnce = (meter : Installed) (lines more : Journal) → IsWellInstalled meter
     → AreFitting meter lines
     → AreFitting (carried meter lines) more
     → CountsOnce meter lines more
 
--- after each line of the new file the energies of both are together within the limit of one journal
+-- After each line of the new file, the energies of both files together are within the limit of one
+-- journal.
 abbrev pub StaysWithin : Installed → (lines more : Journal) → Type 0
 StaysWithin meter lines [] = Unit {0}
 StaysWithin meter lines (line ∷ more) =
     (total_in meter lines + total_in (carried meter lines) (line ∷ more) ≤ MAX_TOTAL)
     × StaysWithin meter lines more
 
--- Where an open meter is carried, the joined journal is lawful too: the verdict accepts and holds the same readings, with
--- the same rollovers and for the same causes, and the same may be entered and voided.
+-- If the meter was open, the journal of both files is lawful too. The same readings are accepted
+-- and rejected, with the same rollovers and causes. The same entries may be recorded and voided.
 abbrev pub CarriedJournalsFit : Type 0
 CarriedJournalsFit = (meter : Installed) (lines more : Journal) → IsWellInstalled meter
     → AreFitting meter lines
@@ -108,24 +114,25 @@ CarriedJournalsFit = (meter : Installed) (lines more : Journal) → IsWellInstal
     → StaysWithin meter lines more
     → AreFitting meter (joined_journal lines more)
 
--- A line that comes later than so many entries: a void names none of these, and no reading was held because the energy
--- would have passed its limit.
+-- A line that may be in the new file. A void names no entry of the old file. No reading was
+-- rejected because the energy would have exceeded its limit.
 abbrev pub ComesLater : (count : ℕ) → Line → Type 0
 ComesLater count (Entered k e) = Unit {0}
 ComesLater count (Held reading cause) = cause ≢ TotalFull
 ComesLater count (Voided place) = count + 2 ≤ place
 
+-- All lines may be in the new file.
 abbrev pub AllComeLater : (count : ℕ) → Journal → Type 0
 AllComeLater count [] = Unit {0}
 AllComeLater count (line ∷ lines) = ComesLater count line × AllComeLater count lines
 
--- These lines after a journal are those of a new file, where they are lawful.
+-- These lines after a journal are those of a new file, if they are lawful.
 pub record IsSplit (meter : Installed) (lines later : Journal) : Type 0 where
   pub more : Journal
   pub joined : joined_journal lines more ≡ later ++ lines
   pub fit : AreFitting (carried meter lines) more
 
--- What may come to a meter in one file may come to it in a new one, if it voids no entry of the old one.
+-- Lines that may follow in one file may follow in a new one, if they void no entry of the old one.
 abbrev pub LaterLinesAreCarried : Type 0
 LaterLinesAreCarried = (meter : Installed) (lines later : Journal) → IsWellInstalled meter
     → AreFitting meter (later ++ lines)

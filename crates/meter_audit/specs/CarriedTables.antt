@@ -1,5 +1,5 @@
--- What the tables of two files come to, of a meter that is carried from the one into the other. Each file is audited by
--- itself. Lists of rows have the latest first.
+-- The tables of two files, of a meter that continues from the old file into the new one. Each file
+-- is audited by itself. Lists of rows have the latest first.
 use Rattle.std.specs.Prelude.{◌≡◌, ℕ, ◌+◌, ◌-◌, ◌≤◌, false, List, [], ◌∷◌, ◌++◌, map, take, length}
 use Rattle.energy_core.specs.declared.limits.TheConstants.{MAX_TOTAL}
 use Rattle.energy_core.specs.Account.{energy_of}
@@ -12,7 +12,7 @@ use Rattle.meter_audit.specs.declared.rows.TableRow.{TableRow}
 use Rattle.meter_audit.specs.Fitting.{AllFit, Tables, tables_of, AreFine, is_ended}
 use Rattle.meter_audit.specs.Carried.{moved_row, AreCountedOnce}
 
--- the meter in the new file, by its rows in the old one
+-- The meter in the new file, by its rows in the old one.
 abbrev pub carried_from : Installed → (old : List EntryRow) → Installed
 carried_from meter old = record {
   range = meter.range;
@@ -20,21 +20,23 @@ carried_from meter old = record {
   opening = last_after meter (entries_in old);
 }
 
--- The rows of both files: those of the new one have the places after those of the old one.
+-- The rows of both files: those of the new one have the sequence numbers after those of the old
+-- one.
 abbrev pub joined_rows : (old new : List EntryRow) → List EntryRow
 joined_rows old new = map (moved_row (length old)) new ++ old
 
--- what the table has for such a row
+-- The table row of a row of the new file, in the tables of both.
 abbrev pub moved_told : (count : ℕ) → TableRow → TableRow
 moved_told count told = record told { place = told.place + count }
 
--- the opening is the first entry, so the last of these
+-- The rows without the opening, which is the first entry and so the last of the list.
 abbrev pub without_opening : List TableRow → List TableRow
 without_opening entries = take (length entries - 1) entries
 
--- Tables of both files: the entries of the new one but for its opening come after those of the old one, and the energies
--- add up. The meter stands where the new one says. The interval rows of the new one follow those of the old one; where its
--- first and the last of the old one are of the same quarter hour, they are one, with the energy of both.
+-- The tables of both files. The entries of the new file, without its opening, follow those of the
+-- old one, and the energies add up. The last entry is that of the new file. The interval rows of
+-- the new file follow those of the old one. If the two at the change of files are of the same
+-- quarter hour, they are one row with the energy of both.
 pub record AreOne (count : ℕ) (old new both : Tables) : Type 0 where
   pub entries : both.entries ≡ map (moved_told count) (without_opening new.entries) ++ old.entries
   pub last : both.last ≡ new.last
@@ -43,7 +45,7 @@ pub record AreOne (count : ℕ) (old new both : Tables) : Type 0 where
   pub once : AreCountedOnce old.intervals new.intervals both.intervals
   pub ended : both.ended ≡ new.ended
 
--- Where an open meter is carried, the tables of its rows in both files are such.
+-- The tables of an open meter's rows in both files are these.
 abbrev pub CarriedTablesAreOne : Type 0
 CarriedTablesAreOne = (meter : Installed) (old new : List EntryRow) → IsWellInstalled meter
     → AllFit meter old
@@ -52,7 +54,8 @@ CarriedTablesAreOne = (meter : Installed) (old new : List EntryRow) → IsWellIn
     → AreOne (length old) (tables_of meter old) (tables_of (carried_from meter old) new)
     (tables_of meter (joined_rows old new))
 
--- no entry of the new file, also none that was voided, takes the energy of both past the limit of one meter
+-- No entry of the new file, voided or not, takes the energy of both files past the limit of one
+-- meter.
 abbrev pub EntriesStayWithin : Installed → (old new : List EntryRow) → Type 0
 EntriesStayWithin meter old [] = Unit {0}
 EntriesStayWithin meter old (row ∷ rows) =
@@ -62,7 +65,7 @@ EntriesStayWithin meter old (row ∷ rows) =
     ≤ MAX_TOTAL)
     × EntriesStayWithin meter old rows
 
--- Where the tables of each file are fine, so are those of both.
+-- If the tables of each file are fine, the tables of both are fine.
 abbrev pub CarriedTablesAreFine : Type 0
 CarriedTablesAreFine = (meter : Installed) (old new : List EntryRow) → IsWellInstalled meter
     → AllFit meter old

@@ -5,7 +5,7 @@ use Rattle.meter_audit.specs.declared.intervals.IntervalFault.{IntervalFault}
 use Rattle.meter_audit.specs.declared.intervals.IntervalFault.TheVariants as fault
 use Rattle.meter_audit.specs.declared.intervals.IntervalDifference.{IntervalDifference}
 
--- how two rows differ; where they start apart, the earlier one is alone
+-- How two rows differ. If their starts differ, only the earlier row is reported.
 abbrev pub fault_between : (wanted found : Share) → Option IntervalFault
 fault_between wanted found =
     if nat_lt wanted.start found.start then Some (fault.Missing wanted.start wanted.mwh) else
@@ -13,24 +13,26 @@ fault_between wanted found =
     if wanted.mwh == found.mwh then None else
     Some (fault.Differs wanted.start found.mwh wanted.mwh)
 
--- how the next rows differ
+-- How the next rows differ.
 abbrev pub next_fault : (wanted found : List Share) → Option IntervalFault
 next_fault [] [] = None
 next_fault [] (row ∷ found) = Some (fault.Unwanted row.start row.mwh)
 next_fault (row ∷ wanted) [] = Some (fault.Missing row.start row.mwh)
 next_fault (row ∷ wanted) (other ∷ found) = fault_between row other
 
--- how many of the rows that the entries give are done with, and of those that were found
+-- How many of the rows that the entries give a difference is about.
 abbrev pub wanted_with : IntervalFault → ℕ
 wanted_with (fault.Missing start wanted) = 1
 wanted_with (fault.Unwanted start has) = 0
 wanted_with (fault.Differs start has wanted) = 1
 
+-- How many of the rows that were found a difference is about.
 abbrev pub found_with : IntervalFault → ℕ
 found_with (fault.Missing start wanted) = 0
 found_with (fault.Unwanted start has) = 1
 found_with (fault.Differs start has wanted) = 1
 
+-- The difference after this many equal rows.
 abbrev pub difference_after : (same : ℕ) → IntervalFault → IntervalDifference
 difference_after same f = record {
   same = same;
@@ -39,7 +41,7 @@ difference_after same f = record {
   found_done = same + found_with f;
 }
 
--- Both sides begin with the same rows, and the next rows differ so.
+-- Both sides begin with the same rows, and the next rows differ in this way.
 pub record IsFirst (wanted found : List Share) (difference : IntervalDifference) : Type 0 where
   pub rows : List Share
   pub wanted_left : List Share

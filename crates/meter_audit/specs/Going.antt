@@ -1,4 +1,4 @@
--- A check of a meter under way.
+-- A check of a meter in progress.
 use Rattle.std.specs.Prelude.{◌≡◌, ◌↔◌, ℕ, ◌-◌, ◌≤◌, List, [], ◌∷◌, ◌++◌, length, take, Option, Some, None, Err}
 use Rattle.interval_core.specs.declared.shares.Share.{Share}
 use Rattle.interval_core.specs.Account.{energy_of}
@@ -15,13 +15,14 @@ use Rattle.meter_audit.specs.Fitting.{AreTold, Tables, AreFine}
 use Rattle.meter_audit.specs.Passing.{IsSoundCheck, passed}
 use Rattle.meter_audit.specs.Laws.{HasTaken}
 
--- what a check under way keeps, whatever rows it was given
+-- The invariant of a check in progress, after any rows.
 pub record IsSoundProgress (meter : Installed) (progress : Progress) : Type 0 where
   pub check : IsSoundCheck meter progress.check
   pub within : energy_of progress.wanted.items ≤ progress.check.total
 
--- It went over these rows of the table, the latest first, and they are those of rows that fit. Interval rows were looked
--- up and done with; they and those that are still wanted are all that the entries give.
+-- The check has passed these table rows, the latest first, and they are those of rows that fit. The
+-- interval rows that were compared and removed, and those still pending, are all that the entries
+-- give.
 pub record HasGone (meter : Installed) (told : List TableRow) (done : List Share)
     (progress : Progress) : Type 0 where
   pub rows : List EntryRow
@@ -29,41 +30,43 @@ pub record HasGone (meter : Installed) (told : List TableRow) (done : List Share
   pub told_is : told ≡ later_rows meter rows
   pub intervals : done ++ progress.wanted.items
       ≡ rows_of_steps (steps_after meter (entries_in rows))
-  -- nothing was done with before there was a row to leave
+  -- nothing was removed before there was a row to keep
   pub begun : progress.wanted.items ≡ [] → done ≡ []
 
--- What a check that went over rows makes of one more: it went over that one too, or tells why that is refused.
+-- The result for one more row: the check has passed it too, or reports why the row is refused.
 abbrev pub GoesOver : Installed → Progress → TableRow → Progress → Option RowFault → Type 0
 GoesOver meter old row new None = (told : List TableRow) (done : List Share)
     → HasGone meter told done old → HasGone meter (row ∷ told) done new
 GoesOver meter old row new (Some fault) = passed meter old.check row ≡ Err fault
 
--- how many interval rows no later entry adds to: all but the last
+-- The number of interval rows that no later entry adds to: all but the last.
 abbrev pub settled_in : List Share → ℕ
 settled_in rows = length rows - 1
 
--- A check from which those were dropped went over the same rows, and they are done with too.
+-- A check after the removal of these rows has passed the same rows, and has compared the removed
+-- ones.
 abbrev pub DropsDone : (old new : Progress) → Type 0
 DropsDone old new = (meter : Installed) (told : List TableRow) (done : List Share)
     → HasGone meter told done old
     → HasGone meter told (done ++ take (settled_in old.wanted.items) old.wanted.items) new
 
--- What the other tables tell agrees with the check: the intervals that were done with and those that are still wanted, where
--- the counter stands, the energy, and whether the meter has ended.
+-- The other tables agree with the check: the compared and the pending intervals, the last entry,
+-- the energy, and whether the meter was closed.
 pub record Agrees (tables : Tables) (done : List Share) (progress : Progress) : Type 0 where
   pub intervals : tables.intervals ≡ done ++ progress.wanted.items
   pub last : tables.last ≡ progress.check.last
   pub total : tables.total ≡ progress.check.total
   pub ended : tables.ended ≡ progress.check.is_ended
 
--- After all rows of a meter its tables are fine exactly if they agree with the check.
+-- After all rows of a meter, its tables are fine exactly if they agree with the check.
 abbrev pub FinishedIsFine : Type 0
 FinishedIsFine = (meter : Installed) (told : List TableRow) (done : List Share)
     (progress : Progress) (tables : Tables) → HasGone meter told done progress
     → tables.entries ≡ told ++ opening_row meter.opening ∷ []
     → AreFine meter tables ↔ Agrees tables done progress
 
--- A row that is refused makes that no rows with it are those of rows that fit, whatever comes after it.
+-- If a row is refused, no list of rows that contains it is that of rows that fit, with any rows
+-- after it.
 abbrev pub RefusedIsNotFine : Type 0
 RefusedIsNotFine = (meter : Installed) (told newer : List TableRow) (done : List Share)
     (progress : Progress) (row : TableRow) (fault : RowFault) → IsWellInstalled meter

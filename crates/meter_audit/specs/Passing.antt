@@ -1,4 +1,4 @@
--- The table by which a row passes after those before it, or is refused for the first fault.
+-- The rules by which a row passes after those before it, or is refused for the first fault.
 use Rattle.std.specs.Prelude.{ℕ, ◌+◌, ◌^◌, ◌<◌, ◌≤◌, ◌==◌, nat_lt, nat_le, Bool, true, false, not, ◌&&◌, Option, Some, None, Result, Ok, Err, if◌then◌else◌}
 use Rattle.std.specs.Ordering.{int_eq}
 use Rattle.energy_core.specs.declared.limits.TheConstants.{MAX_CEILING, MAX_TOTAL}
@@ -28,20 +28,20 @@ use Rattle.meter_audit.specs.declared.rows.RowKind.{RowKind}
 use Rattle.meter_audit.specs.declared.rows.RowKind.TheVariants as row_kind
 use Rattle.meter_audit.specs.declared.rows.TableRow.{TableRow}
 
--- a meter that may be checked: its range and its ceiling are lawful, and so is where it was opened
+-- A meter that may be checked: its range, its ceiling and its opening are lawful.
 pub record MayBeChecked (meter : Installed) : Type 0 where
   pub range : IsRange meter.range
   pub ceiling : (1 ≤ meter.ceiling) × (meter.ceiling ≤ MAX_CEILING)
   pub installed : IsWellInstalled meter
 
--- what a check keeps, whatever rows it was given
+-- The invariant of a check, after any rows.
 pub record IsSoundCheck (meter : Installed) (check : Check) : Type 0 where
   pub place : check.place < 2 ^ 63
   pub total : check.total ≤ MAX_TOTAL
   pub raw : check.last.raw < meter.range
   pub scale : IsScale check.last.sf
 
--- after the opening
+-- The check after the opening.
 abbrev pub begun : Installed → Check
 begun meter = record {
   place = 1;
@@ -51,7 +51,7 @@ begun meter = record {
   stands = true;
 }
 
--- the kind of the entry; an opening is none
+-- The kind of the entry, or `None` for an opening.
 abbrev pub kind_in : RowKind → Option EntryKind
 kind_in row_kind.Opening = None
 kind_in row_kind.Reading = Some kind.Reading
@@ -60,31 +60,32 @@ kind_in row_kind.Closing = Some kind.Closing
 kind_in row_kind.Reset = Some kind.Reset
 kind_in row_kind.Rescale = Some kind.Rescale
 
--- a change sets the counter, at its own scale factor
+-- A change sets the counter, at its own scale factor.
 abbrev pub is_change : EntryKind → Bool
 is_change kind.Reset = true
 is_change kind.Rescale = true
 is_change _ = false
 
--- the entry that a row tells, by its kind
+-- The entry of a row, by its kind.
 abbrev pub entry_in : EntryKind → TableRow → Entry
 entry_in k row =
     if is_change k then entry.Change row.moment row.raw row.after row.sf
     else entry.Step row.moment row.raw row.rolls
 
--- a column that entries of this kind have no use for is not 0
+-- A column that entries of this kind do not use is not 0.
 abbrev pub has_unused : EntryKind → TableRow → Bool
 has_unused k row = if is_change k then not (row.rolls == 0) else not (row.after == 0)
 
--- another scale factor, though only a rescaling may set one
+-- The kind is a rescale.
 abbrev pub is_rescale : EntryKind → Bool
 is_rescale kind.Rescale = true
 is_rescale _ = false
 
+-- The row changes the scale factor, which only a rescale may do.
 abbrev pub is_off_scale : Check → EntryKind → TableRow → Bool
 is_off_scale check k row = not (is_rescale k) && not (int_eq row.sf check.last.sf)
 
--- the kind of a row with the next place, whose columns are such as its kind can have
+-- The kind of a row whose columns its kind may have, or the first fault.
 abbrev pub shape_by : Check → TableRow → Option EntryKind → Result EntryKind RowFault
 shape_by check row None = Err fault.OpenedAgain
 shape_by check row (Some k) =
@@ -93,20 +94,24 @@ shape_by check row (Some k) =
     if has_unused k row then Err fault.Unused else
     if is_off_scale check k row then Err (fault.Scale check.last.sf) else Ok k
 
+-- The kind of a row with the next sequence number and with columns that its kind may have, or the
+-- first fault.
 abbrev pub shape_of : Check → TableRow → Result EntryKind RowFault
 shape_of check row =
     if row.place == check.place + 1 then shape_by check row (kind_in row.kind)
     else Err (fault.Place (check.place + 1))
 
--- A reading that stands is one that the verdict accepts, with its rollovers.
+-- The fault of a reading by its verdict: a valid reading is accepted, with its rollovers.
 abbrev pub fault_by : (rolls : ℕ) → Verdict → Option RowFault
 fault_by rolls (verdict.Held why) = Some (fault.Held why)
 fault_by rolls (verdict.Accepted wanted step) =
     if rolls == wanted then None else Some (fault.Rolls wanted)
 
+-- The terms by which a check judges a reading.
 abbrev pub terms_of : Installed → Check → Terms
 terms_of meter check = record { ceiling = meter.ceiling; total = check.total }
 
+-- The fault of a valid reading.
 abbrev pub reading_fault : Installed → Check → EntryKind → TableRow → Option RowFault
 reading_fault meter check k row =
     if is_reading k
@@ -114,11 +119,12 @@ reading_fault meter check k row =
     (reading_at check.last row.moment row.raw))
     else None
 
--- Directly after a row that stands, one that was voided is as one that stands.
+-- The fault of a voided reading directly after a valid row: it is checked like a valid one.
 abbrev pub stood_fault : Installed → Check → EntryKind → TableRow → Option RowFault
 stood_fault meter check k row = if check.stands then reading_fault meter check k row else None
 
--- One that was voided showed something that the counter can show, later than what stands.
+-- The fault of any voided reading: it shows a number that the counter can show, later than the last
+-- valid entry.
 abbrev pub voided_fault : Installed → Check → TableRow → Option RowFault
 voided_fault meter check row =
     if row.raw == 0 then Some (fault.Held cause.NotAccumulated) else
@@ -126,17 +132,17 @@ voided_fault meter check row =
     if nat_le row.moment check.last.at then Some (fault.Held cause.NotLater) else
     if nat_lt 1 row.rolls then Some (fault.Rolls 1) else None
 
--- a fault, or what comes else
+-- The fault, or else this result.
 abbrev pub unless : {X : Type 0} → Option RowFault → Result X RowFault → Result X RowFault
 unless (Some f) answer = Err f
 unless None answer = answer
 
--- the energy of a step, if there is one, in mWh
+-- The energy of a step in mWh, if there is one.
 abbrev pub energy_in : Option Step → ℕ
 energy_in None = 0
 energy_in (Some step) = step.mwh
 
--- after an entry that was booked, and the step to it
+-- The check after a recorded entry, and the step to it.
 abbrev pub following : Check → EntryKind → TableRow → Result (Last × Step) TermFault
     → Result (Check × Option Step) RowFault
 following check k row (Err f) = Err (fault.Refused f)
@@ -151,12 +157,13 @@ following check k row (Ok (last, step)) = Ok (
   Some step,
 )
 
+-- The check after a valid row, and the step to it, or the first fault.
 abbrev pub stood : Installed → Check → EntryKind → TableRow → Result (Check × Option Step) RowFault
 stood meter check k row =
     unless (reading_fault meter check k row)
     (following check k row (entered meter.range check.total check.last (entry_in k row)))
 
--- after a row that was voided; there is no step to it
+-- The check after a voided row, which has no step, or the first fault.
 abbrev pub voided : Installed → Check → EntryKind → TableRow
     → Result (Check × Option Step) RowFault
 voided meter check k row =
@@ -164,12 +171,13 @@ voided meter check k row =
     (unless (stood_fault meter check k row)
     (Ok (record check { place = row.place; stands = false }, None)))
 
+-- The check after a row of this kind, or the first fault.
 abbrev pub passed_by : Installed → Check → TableRow → Result EntryKind RowFault
     → Result (Check × Option Step) RowFault
 passed_by meter check row (Err f) = Err f
 passed_by meter check row (Ok k) =
     if row.is_voided then voided meter check k row else stood meter check k row
 
--- Where the check stands after a row, and the step to it, if it stands.
+-- The check after a row, and the step to it, if it is valid; or the first fault.
 abbrev pub passed : Installed → Check → TableRow → Result (Check × Option Step) RowFault
 passed meter check row = passed_by meter check row (shape_of check row)

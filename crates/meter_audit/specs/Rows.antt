@@ -1,4 +1,4 @@
--- The rows that the table of entries has for a meter.
+-- The rows of a meter in the table of entries.
 use Rattle.std.specs.Prelude.{ℕ, ℤ, false, not, List, [], ◌∷◌, ◌++◌}
 use Rattle.energy_core.specs.declared.entries.Last.{Last}
 use Rattle.energy_core.specs.declared.entries.Entry.{Entry}
@@ -14,6 +14,7 @@ use Rattle.meter_audit.specs.declared.rows.RowKind.{RowKind}
 use Rattle.meter_audit.specs.declared.rows.RowKind.TheVariants as row_kind
 use Rattle.meter_audit.specs.declared.rows.TableRow.{TableRow}
 
+-- The kind of the table's row.
 abbrev pub kind_as : EntryKind → RowKind
 kind_as kind.Reading = row_kind.Reading
 kind_as kind.Manual = row_kind.Manual
@@ -21,24 +22,26 @@ kind_as kind.Closing = row_kind.Closing
 kind_as kind.Reset = row_kind.Reset
 kind_as kind.Rescale = row_kind.Rescale
 
--- the counter; of a change the counter before
+-- What the counter showed. For a change, that is the number before it.
 abbrev pub raw_of : Entry → ℕ
 raw_of (entry.Step at raw rolls) = raw
 raw_of (entry.Change at before after sf) = before
 
+-- The recorded rollovers.
 abbrev pub rolls_of : Entry → ℕ
 rolls_of (entry.Step at raw rolls) = rolls
 rolls_of (entry.Change at before after sf) = 0
 
+-- What a change set the counter to, or 0.
 abbrev pub after_of : Entry → ℕ
 after_of (entry.Step at raw rolls) = 0
 after_of (entry.Change at before after sf) = after
 
--- the scale factor after these rows
+-- The scale factor after these rows.
 abbrev pub scale_after : Installed → List EntryRow → ℤ
 scale_after meter rows = (last_after meter (entries_in rows)).sf
 
--- a row, and the scale factor after it
+-- The table row of a row, with the scale factor after it.
 abbrev pub table_row : (sf : ℤ) → EntryRow → TableRow
 table_row sf row = record {
   place = row.place;
@@ -51,6 +54,7 @@ table_row sf row = record {
   is_voided = not row.stands;
 }
 
+-- The table row of an opening.
 abbrev pub opening_row : Last → TableRow
 opening_row opening = record {
   place = 1;
@@ -63,12 +67,12 @@ opening_row opening = record {
   is_voided = false;
 }
 
--- These rows, each with the scale factor after it, the latest first.
+-- The table rows of these rows, each with the scale factor after it, the latest first.
 abbrev pub later_rows : Installed → List EntryRow → List TableRow
 later_rows meter [] = []
 later_rows meter (row ∷ rows) =
     table_row (scale_after meter (row ∷ rows)) row ∷ later_rows meter rows
 
--- They and the opening before them.
+-- The table rows of these rows, and of the opening before them.
 abbrev pub table_rows : Installed → List EntryRow → List TableRow
 table_rows meter rows = later_rows meter rows ++ opening_row meter.opening ∷ []

@@ -1,4 +1,4 @@
-//! A check of a meter's rows, one after the other, in memory that doesn't grow.
+//! Checks the rows of a meter, one after another, in constant memory.
 ghost use Rattle.std.specs.Prelude.{◌≡◌, ◌+◌, ◌<◌, ◌^◌, IfOk};
 ghost use Rattle.std.specs.Option.{ForSome};
 ghost use Rattle.energy_core.specs.Laws.{IsShareable};
@@ -10,8 +10,8 @@ use crate::rows::{TableRow, entry_of, has_unused, kind_of};
 use energy_core::{Cause, Last, Ranged, Reading, Step, Terms, Verdict, enter, judge};
 use meter_journal::{EntryKind, Installed};
 
-/// Where a check stands after a row: the place of the row, where the counter stands after the entries that stand, their
-/// energy in mWh, whether the meter was closed, and whether the row itself stands.
+/// The state of a check after a row: the row's sequence number, the last valid entry, the energy in
+/// mWh, whether the meter was closed, and whether the row is valid.
 #[derive(Clone, Copy, Debug, PartialEq, Eq)]
 pub struct Check {
     pub place: u64,
@@ -21,7 +21,7 @@ pub struct Check {
     pub stands: bool,
 }
 
-/// A check after the opening.
+/// Returns the check after the opening.
 pub fn begin(meter: &Installed) -> Check
     requires { passing.MayBeChecked meter.now }
     ensures value { result ≡ passing.begun meter.now }
@@ -36,7 +36,7 @@ pub fn begin(meter: &Installed) -> Check
     }
 }
 
-/// Whether entries of this kind are readings.
+/// Returns whether entries of this kind are readings.
 fn is_reading(kind: EntryKind) -> bool
     ensures { result ≡ journal.is_reading kind }
 {
@@ -46,7 +46,7 @@ fn is_reading(kind: EntryKind) -> bool
     }
 }
 
-/// Whether a row has another scale factor, though only a rescaling may set one.
+/// Returns whether a row changes the scale factor, which only a rescale may do.
 fn is_off_scale(check: &Check, kind: EntryKind, row: &TableRow) -> bool
     ensures { result ≡ passing.is_off_scale check.now kind row.now }
 {
@@ -58,7 +58,7 @@ fn is_off_scale(check: &Check, kind: EntryKind, row: &TableRow) -> bool
     }
 }
 
-/// The kind of a row that has the next place and columns such as its kind can have.
+/// Returns the kind of a row with the next sequence number and with columns that its kind may have.
 fn shape(check: &Check, row: &TableRow) -> Result<EntryKind, RowFault>
     requires { check.now.place < 2 ^ 63 }
     ensures { result ≡ passing.shape_of check.now row.now }
@@ -87,7 +87,7 @@ fn shape(check: &Check, row: &TableRow) -> Result<EntryKind, RowFault>
     Ok(kind)
 }
 
-/// What is wrong with a reading that stands.
+/// Returns what is wrong with a valid reading.
 fn reading_fault(
     meter: &Installed,
     check: &Check,
@@ -125,7 +125,7 @@ fn reading_fault(
     }
 }
 
-/// What is wrong with a reading that was voided directly after a row that stands.
+/// Returns what is wrong with a voided reading that directly follows a valid row.
 fn stood_fault(
     meter: &Installed,
     check: &Check,
@@ -143,7 +143,7 @@ fn stood_fault(
     }
 }
 
-/// What is wrong with a reading that was voided, wherever it stood.
+/// Returns what is wrong with a voided reading after any row.
 fn voided_fault(meter: &Installed, check: &Check, row: &TableRow) -> Option<RowFault>
     ensures { result ≡ passing.voided_fault meter.now check.now row.now }
 {
@@ -162,7 +162,7 @@ fn voided_fault(meter: &Installed, check: &Check, row: &TableRow) -> Option<RowF
     None
 }
 
-/// Where the check stands after a row that stands, and the step to it.
+/// Returns the check after a valid row, and the step to it.
 fn stand(
     meter: &Installed,
     check: &Check,
@@ -202,8 +202,11 @@ fn stand(
     }
 }
 
-/// Takes the next row: where the check stands after it, and the step to it, which a voided one has not; or the first
-/// fault. After a row that was refused a check goes on from the place of that row, and is otherwise as it was.
+/// Checks the next row. Returns the check after it, and the step to it, which a voided row does not
+/// have. On error, returns the first fault.
+///
+/// To continue after a refused row, set the check's `place` to that of the row, and change nothing
+/// else.
 pub fn pass(
     meter: &Installed,
     check: &Check,

@@ -1,4 +1,4 @@
-//! Interval rows of a table against those that the entries give.
+//! Compares the interval rows of a table with those that the entries give.
 ghost use Rattle.std.specs.Prelude.{◌≡◌, ◌↔◌, ◌<◌, ◌^◌, IsNone, IfSome};
 ghost use Rattle.meter_audit.specs.Comparing.{fault_between, difference_after, IsFirst};
 
@@ -7,15 +7,16 @@ use interval_core::Share;
 /// How an interval row of a table differs from what the entries give, in mWh.
 #[derive(Clone, Copy, Debug, PartialEq, Eq)]
 pub enum IntervalFault {
-    /// The table has no row where the entries give one.
+    /// The table lacks a row that the entries give.
     Missing { start: u64, wanted: u64 },
-    /// The table has a row where the entries give none.
+    /// The table has a row that the entries do not give.
     Unwanted { start: u64, has: u64 },
-    /// The table has a row with another energy.
+    /// The row in the table has another energy.
     Differs { start: u64, has: u64, wanted: u64 },
 }
 
-/// A difference, how many rows on both sides are the same before it, and how many of each side are done with after it.
+/// The first difference, the number of equal rows before it, and the number of rows of each side up
+/// to and with it.
 #[derive(Clone, Copy, Debug, PartialEq, Eq)]
 pub struct IntervalDifference {
     pub same: usize,
@@ -24,7 +25,7 @@ pub struct IntervalDifference {
     pub found_done: usize,
 }
 
-/// How two rows differ. Where they start apart, the earlier one is alone.
+/// Returns how two rows differ. If their starts differ, only the earlier row is reported.
 fn between(wanted: &Share, found: &Share) -> Option<IntervalFault>
     ensures { result ≡ fault_between wanted.now found.now }
 {
@@ -50,7 +51,7 @@ fn between(wanted: &Share, found: &Share) -> Option<IntervalFault>
     })
 }
 
-/// Where a row after so many that are the same differs.
+/// Returns the difference after this many equal rows.
 fn difference_at(same: usize, fault: IntervalFault) -> IntervalDifference
     requires { same < 2 ^ 63 }
     ensures { result ≡ difference_after same fault }
@@ -68,8 +69,8 @@ fn difference_at(same: usize, fault: IntervalFault) -> IntervalDifference
     }
 }
 
-/// The first difference between the rows that the entries give and those that were found, both in order of their starts.
-/// To go on, leave off so many rows of each as are done with.
+/// Returns the first difference between the rows that the entries give and those that were found,
+/// both in order of their starts. To continue, skip `wanted_done` and `found_done` rows.
 pub fn first_difference(wanted: &[Share], found: &[Share]) -> Option<IntervalDifference>
     ensures none { IsNone result ↔ (found.now ≡ wanted.now) }
     ensures first { IfSome result (IsFirst wanted.now found.now) }

@@ -1,5 +1,5 @@
-//! Laws of rows that fit. Each function's clause is the law; its body calls the law below that it stands on, or is
-//! empty.
+//! Theorems on rows that fit. Each is the contract of a function. Its body calls the theorem that
+//! the proof needs, or is empty.
 ghost use Rattle.meter_audit.specs.Laws.{RowsOfJournalsFit, FittingRowsStandAlone};
 ghost use Rattle.meter_audit.specs.Laws.{FineTablesAreLawful, LawfulTablesAreFine};
 ghost use Rattle.meter_audit.specs.Laws.{PassedRowsFit, FittingRowsPass, RowsAreToldApart};
@@ -7,49 +7,50 @@ ghost use Rattle.meter_audit.specs.Going.{FinishedIsFine, RefusedIsNotFine};
 
 use meter_journal::interval_rows_add_up;
 
-/// The rows of every lawful journal fit, those that were voided too.
+/// Theorem: the rows of every lawful journal fit, also voided ones.
 pub fn rows_of_journals_fit()
     ensures { RowsOfJournalsFit }
 {}
 
-/// What stands of rows that fit is a lawful journal by itself.
+/// Theorem: the valid ones of rows that fit are a lawful journal by themselves.
 pub fn fitting_rows_stand_alone()
     ensures { FittingRowsStandAlone }
 {}
 
-/// Fine tables tell what some lawful journal comes to, so their interval rows add up to the energy.
+/// Theorem: fine tables report what some lawful journal gives, so their interval rows add up to the
+/// energy.
 pub fn fine_tables_are_lawful()
     ensures { FineTablesAreLawful }
 {
     interval_rows_add_up();
 }
 
-/// The tables of every lawful journal are fine.
+/// Theorem: the tables of every lawful journal are fine.
 pub fn lawful_tables_are_fine()
     ensures { LawfulTablesAreFine }
 {}
 
-/// What passes is the row of the table of a row that fits.
+/// Theorem: each table row that passes is the row of an entry that fits.
 pub fn passed_rows_fit()
     ensures { PassedRowsFit }
 {}
 
-/// What the table has for a row that fits passes.
+/// Theorem: the table row of each entry that fits passes.
 pub fn fitting_rows_pass()
     ensures { FittingRowsPass }
 {}
 
-/// Rows that fit can be read back from the table.
+/// Theorem: rows that fit can be read back from the table.
 pub fn rows_are_told_apart()
     ensures { RowsAreToldApart }
 {}
 
-/// After all rows of a meter its tables are fine exactly if they agree with the check.
+/// Theorem: after all rows of a meter, its tables are fine exactly if they agree with the check.
 pub fn finished_is_fine()
     ensures { FinishedIsFine }
 {}
 
-/// No rows with one that was refused are those of rows that fit.
+/// Theorem: after a refused row, no rows that contain it are those of entries that fit.
 pub fn refused_is_not_fine()
     ensures { RefusedIsNotFine }
 {}

@@ -1,4 +1,4 @@
-//! Whether a meter's rows are those of a lawful journal, whoever wrote them.
+//! Whether the rows of a meter are those of a lawful journal, regardless of who wrote them.
 #![tactic(auto)]
 
 mod carried;

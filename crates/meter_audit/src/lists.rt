@@ -1,4 +1,4 @@
-//! All rows of a meter at once.
+//! Checks all rows of a meter at once.
 ghost use Rattle.std.specs.Prelude.{◌<◌, ◌^◌, All, reverse, IfOk, IfErr};
 ghost use Rattle.meter_audit.specs.Fitting.{AreTold};
 ghost use Rattle.meter_audit.specs.Passing.{MayBeChecked};
@@ -10,15 +10,15 @@ use crate::laws::passed_rows_fit;
 use crate::rows::TableRow;
 use meter_journal::Installed;
 
-/// A row that can't come after those before it, by its index, and why.
+/// The first row that may not follow those before it, by its index, and the reason.
 #[derive(Clone, Copy, Debug, PartialEq, Eq)]
 pub struct RefusedRow {
     pub index: usize,
     pub fault: RowFault,
 }
 
-/// Checks the rows after an opening, in order of their places: where the check stands after all of them, or the first
-/// that is refused.
+/// Checks the rows after an opening, in order of their sequence numbers. Returns the check after
+/// all of them, or the first row that is refused.
 pub fn check_rows(meter: &Installed, rows: &[TableRow]) -> Result<Check, RefusedRow>
     requires meter { MayBeChecked meter.now }
     requires places { All (λ row. row.place < 2 ^ 63) rows.now }

@@ -1,4 +1,4 @@
-//! A check of a meter under way: of its rows, and of the interval rows that they give.
+//! A check of a meter in progress: of its rows, and of the interval rows that they give.
 ghost use Rattle.std.specs.Prelude.{◌≡◌, ◌<◌, ◌^◌, [], drop};
 ghost use Rattle.std.specs.Prelude.{IfOk, OnOk};
 ghost use Rattle.meter_journal.specs.declared.lines.Installed.{Installed as TheMeter};
@@ -13,15 +13,15 @@ use interval_core::{Share, shares_add_up};
 use meter_journal::{Installed, append_shares};
 use std::alloc::{AllocError, Global};
 
-/// Where the check stands after a row, and the interval rows that the entries so far give and that were not yet looked
-/// up. The next entry may add to the last of them, and to none before it.
+/// The check after a row, and the pending interval rows. The entries so far give these rows, and
+/// nobody has compared them yet. The next entry may add to the last of them, and to no earlier one.
 #[derive(Debug, Drop)]
 pub struct Progress {
     pub check: Check,
     pub wanted: Vec<Share>,
 }
 
-/// A check after the opening. The allocator is kept; no memory is taken.
+/// Begins a check after the opening. Keeps the allocator, and allocates nothing.
 pub fn start(alloc: Global, meter: &Installed) -> Progress
     requires { MayBeChecked meter.now }
     ensures sound { IsSoundProgress meter.now result }
@@ -33,8 +33,10 @@ pub fn start(alloc: Global, meter: &Installed) -> Progress
     }
 }
 
-/// Takes the next row, or tells why it is refused; then the check goes on from its place, and is otherwise as it was. Where
-/// memory is wanting, nothing is known of the interval rows.
+/// Checks the next row. Returns its fault, if it is refused. The check then has the row's sequence
+/// number, and is otherwise unchanged.
+///
+/// The only error is out of memory, after which the pending interval rows are unspecified.
 pub fn take_row(
     meter: &Installed,
     progress: &mut Progress,
@@ -63,7 +65,7 @@ pub fn take_row(
     }
 }
 
-// Leaves the last of some interval rows.
+// Removes all interval rows but the last.
 fn leave_last(wanted: &mut Vec<Share>)
     ensures { let done = settled_in wanted.old.items in
         wanted.new.items ≡ drop done wanted.old.items }
@@ -76,7 +78,7 @@ fn leave_last(wanted: &mut Vec<Share>)
     }
 }
 
-/// Drops the interval rows that no later entry adds to: all but the last.
+/// Removes the interval rows that no later entry adds to: all but the last.
 pub fn drop_done(progress: &mut Progress)
     ensures sound { (meter : TheMeter) → IsSoundProgress meter progress.old
         → IsSoundProgress meter progress.new }

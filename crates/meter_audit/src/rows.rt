@@ -5,16 +5,16 @@ ghost use Rattle.meter_audit.specs.Passing as passing;
 use energy_core::Entry;
 use meter_journal::EntryKind;
 
-/// What a row says of where its entry comes from.
+/// The source of an entry, as the table says.
 #[derive(Clone, Copy, Debug, PartialEq, Eq)]
 pub enum RowKind {
     /// The meter was opened.
     Opening,
     /// An accepted reading.
     Reading,
-    /// A number that someone read and handed in.
+    /// A number that a person read and entered.
     Manual,
-    /// The last number of a meter, when it was closed.
+    /// The last number of a meter, when a person closed it.
     Closing,
     /// The counter was set to another number.
     Reset,
@@ -22,8 +22,8 @@ pub enum RowKind {
     Rescale,
 }
 
-/// A row of the table of entries, but for its meter: moments are seconds since 1970-01-01 UTC, and `sf` is the scale factor
-/// after the entry.
+/// A row of the table of entries, without its meter. `moment` is in seconds since 1970-01-01 UTC,
+/// and `sf` is the scale factor after the entry.
 #[derive(Clone, Copy, Debug, PartialEq, Eq)]
 pub struct TableRow {
     pub place: u64,
@@ -33,11 +33,11 @@ pub struct TableRow {
     pub rolls: u8,
     pub after: u32,
     pub sf: i16,
-    /// A row of the table of voids names it.
+    /// Whether a row of the table of voids names this row.
     pub is_voided: bool,
 }
 
-/// The kind of the entry; an opening is none.
+/// Returns the kind of the entry, or `None` for an opening.
 pub(crate) fn kind_of(row: &TableRow) -> Option<EntryKind>
     ensures { result ≡ passing.kind_in row.now.kind }
 {
@@ -51,7 +51,7 @@ pub(crate) fn kind_of(row: &TableRow) -> Option<EntryKind>
     }
 }
 
-/// The entry that a row tells, by its kind.
+/// Returns the entry of a row, by its kind.
 pub(crate) fn entry_of(kind: EntryKind, row: &TableRow) -> Entry
     ensures { result ≡ passing.entry_in kind row.now }
 {
@@ -70,7 +70,7 @@ pub(crate) fn entry_of(kind: EntryKind, row: &TableRow) -> Entry
     }
 }
 
-/// Whether a column that entries of this kind have no use for is not 0.
+/// Returns whether a column that entries of this kind do not use is not 0.
 pub(crate) fn has_unused(kind: EntryKind, row: &TableRow) -> bool
     ensures { result ≡ passing.has_unused kind row.now }
 {

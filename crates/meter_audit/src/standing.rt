@@ -1,10 +1,10 @@
-//! What the row of an installation tells, against what its entries give.
+//! Compares the row of an installation with what its entries give.
 ghost use Rattle.std.specs.Prelude.{◌≡◌, ◌↔◌, IsTrue, IsNone, IfSome};
 
 use crate::checks::Check;
 use energy_core::Last;
 
-/// What the row of an installation tells of where its meter stands: its last entry that stands, its energy in mWh, and
+/// What the row of an installation says of its meter: its last valid entry, its energy in mWh, and
 /// whether it was closed.
 #[derive(Clone, Copy, Debug, PartialEq, Eq)]
 pub struct Standing {
@@ -13,7 +13,7 @@ pub struct Standing {
     pub is_ended: bool,
 }
 
-/// What was wanted, of each that differs.
+/// What was wanted, for each value that differs.
 #[derive(Clone, Copy, Debug, PartialEq, Eq)]
 pub struct StandingFaults {
     pub last: Option<Last>,
@@ -21,14 +21,14 @@ pub struct StandingFaults {
     pub is_ended: Option<bool>,
 }
 
-/// Whether a counter stands the same.
+/// Returns whether two entries of a counter are the same.
 fn is_same(last: &Last, other: &Last) -> bool
     ensures { IsTrue result ↔ (last.now ≡ other.now) }
 {
     last.at == other.at && last.raw == other.raw && last.sf == other.sf
 }
 
-/// How the row of an installation differs from where the check stands after all entries.
+/// Returns how the row of an installation differs from the check after all entries.
 pub fn standing_faults(check: &Check, standing: &Standing) -> StandingFaults
     ensures last { IsNone result.last ↔ (standing.now.last ≡ check.now.last) }
     ensures total { IsNone result.total ↔ (standing.now.total ≡ check.now.total) }

@@ -1,4 +1,4 @@
--- What stands is a journal by itself.
+-- The valid entries are a journal by themselves.
 use Rattle.std.proofs.Common.{◌≡◌, true, false, List, [], ◌∷◌, map, refl, sym, ap, subst, ◌∙◌, inl, inr}
 use Rattle.std.proofs.lemmas.Bool.{cases_Bool, cond-true, cond-false}
 use Rattle.energy_core.specs.declared.entries.Last.{Last}
@@ -14,12 +14,12 @@ use Rattle.meter_journal.specs.Laws.{VoidsLeaveNoTrace}
 use Rattle.meter_journal.proofs.Keeping.{rows_are_sound}
 use Rattle.meter_journal.proofs.AsEntered.{AreRowsOf, rows_are_entered, stands_on}
 
--- entered one after the other, rows leave their own entries
+-- Rows that are entered in order leave their own entries.
 entries_alone : (opening : Last) (rows : List EntryRow) → entries_of opening (entering rows) ≡ map (λ row. row.entry) rows
 entries_alone opening [] = refl
 entries_alone opening (row ∷ rows) = ap (λ (es : List Entry). row.entry ∷ es) (entries_alone opening rows)
 
--- no row is that of a closing; and none before another
+-- No row is a closing, or none that another follows.
 abbrev AllOpen : List EntryRow → Type 0
 AllOpen [] = Unit {0}
 AllOpen (row ∷ rows) = (is_closing row.kind ≡ false) × AllOpen rows

@@ -1,4 +1,5 @@
--- The rows of a journal are those that were entered, in their order. A void strikes the row that it names, and no other.
+-- The rows of a journal are those that were entered, in order. A void marks the row that it names,
+-- and no other.
 use Rattle.std.proofs.Common.{◌≡◌, ℕ, ◌+◌, ◌<◌, ◌≤◌, ◌==◌, Bool, true, false, not, cond, ◌&&◌, ◌||◌, List, [], ◌∷◌, map, length, refl, sym, ap, subst, ◌∙◌, inl, inr, Some, arith}
 use Rattle.std.proofs.lemmas.Bool.{cases_Bool, cond-true, cond-false, eqb-true}
 use Rattle.std.proofs.lemmas.Bool.Decides.{nat_tests}
@@ -19,11 +20,11 @@ use Rattle.meter_journal.specs.Laws.{RowsStand}
 use Rattle.meter_journal.proofs.Keeping.{mapped_some, rows_are_sound}
 use Rattle.meter_journal.proofs.StillFitting.{rolls_of}
 
--- the rollovers that its neighbour gives a reading; another entry keeps its own
+-- The rollovers that a reading's neighbor gives it. Any other entry keeps its own.
 abbrev pub own_rolls : EntryKind → Last → Entry → Entry
 own_rolls k last e = cond (is_reading k) (with_rolls last e) e
 
--- the row of what was entered at a place, but for its rollovers; it stands if no void of the whole names it
+-- The row of an entry, but for its rollovers. It is valid if no void of the whole journal names it.
 pub record IsRowOf (whole : Journal) (place : ℕ) (k : EntryKind) (e : Entry) (row : EntryRow) : Type 0 where
   pub place_is : row.place ≡ place
   pub kind_is : row.kind ≡ k
@@ -46,7 +47,7 @@ count_of whole (Entered k e ∷ lines) (row ∷ rows) h = omega (arith, count_of
 count_of whole (Held reading cause ∷ lines) rows h = count_of whole lines rows h
 count_of whole (Voided place ∷ lines) rows h = count_of whole lines rows h
 
--- only voids of these places matter
+-- Only voids of these sequence numbers matter.
 renamed : (whole whole' : Journal) (bound : ℕ) (lines : Journal) (rows : List EntryRow) → entered_count lines + 2 ≤ bound
     → ((place : ℕ) → place < bound → is_voided place whole' ≡ is_voided place whole)
     → AreRowsOf whole lines rows → AreRowsOf whole' lines rows
@@ -94,7 +95,7 @@ rolled_twice kind.Closing l last e is = absurd (let f : false ≡ true = is in c
 rolled_twice kind.Reset l last e is = absurd (let f : false ≡ true = is in cc)
 rolled_twice kind.Rescale l last e is = absurd (let f : false ≡ true = is in cc)
 
--- a row that the void does not name
+-- A row that the void does not name.
 row_kept : (opening : Last) (place : ℕ) (whole : Journal) (n : ℕ) (k : EntryKind) (e : Entry) (last : Last) (row : EntryRow)
     → IsRowOf whole n k e row → n == place ≡ false → IsRowOf (Voided place ∷ whole) n k e (rolled last row)
 row_kept opening place whole n k e last row h off =
@@ -109,7 +110,7 @@ row_kept opening place whole n k e last row h off =
       stands_is = stands;
     })
 
--- the one that it names
+-- The row that the void names.
 row_struck : (place : ℕ) (whole : Journal) (n : ℕ) (k : EntryKind) (e : Entry) (row : EntryRow)
     → IsRowOf whole n k e row → n == place ≡ true → IsRowOf (Voided place ∷ whole) n k e (struck row)
 row_struck place whole n k e row h at =
@@ -145,7 +146,7 @@ void_strikes opening place whole (Entered k e ∷ lines) (row ∷ rows) h =
 void_strikes opening place whole (Held reading cause ∷ lines) rows h = void_strikes opening place whole lines rows h
 void_strikes opening place whole (Voided p ∷ lines) rows h = void_strikes opening place whole lines rows h
 
--- a void names a place that there is
+-- A void names an existing sequence number.
 there_below : (place : ℕ) (whole lines : Journal) (rows : List EntryRow) (a : Around) → AreRowsOf whole lines rows
     → row_at place rows ≡ Some a → place < entered_count lines + 2
 there_below place whole [] [] a h there = absurd (cc)
@@ -161,7 +162,7 @@ there_below place whole (Entered k e ∷ lines) (row ∷ rows) a h there =
 there_below place whole (Held reading cause ∷ lines) rows a h there = there_below place whole lines rows a h there
 there_below place whole (Voided p ∷ lines) rows a h there = there_below place whole lines rows a h there
 
--- the rows are those of the lines, and no void names a place that is still to come
+-- The rows are those of the lines, and no void names a sequence number that does not exist yet.
 pub record AreEntered (meter : Installed) (lines : Journal) : Type 0 where
   pub rows : AreRowsOf lines lines (rows_of meter.opening lines)
   pub unnamed : (place : ℕ) → entered_count lines + 2 ≤ place → is_voided place lines ≡ false
@@ -202,7 +203,7 @@ rows_are_entered meter (Voided place ∷ lines) h =
       unnamed = λ p le. not_named p place (is_voided p lines) (above_another p place (omega (arith, lt, le))) ∙ before.unnamed p le;
     }
 
--- an entry that fits has the rollovers that its neighbour gives it
+-- An entry that fits has the rollovers that its neighbor gives it.
 pub settled : (meter : Installed) (es : List Entry) (k : EntryKind) (e : Entry) → EntryFits meter es k e → own_rolls k (last_after meter es) e ≡ e
 settled meter es kind.Reading (entry.Step at raw rolls) h = ap (λ n. entry.Step at raw n) (sym (rolls_of meter es at raw rolls h))
 settled meter es kind.Reading (entry.Change at before new sf) h = absurd h

@@ -1,4 +1,4 @@
--- The steps between entries follow one another from the opening to where the counter stands, without a gap.
+-- The steps between entries follow one another from the opening to the last entry, without a gap.
 use Rattle.std.proofs.Common.{◌≡◌, ℕ, ◌+◌, ◌%◌, ◌<◌, ◌≤◌, List, [], ◌∷◌, inl, inr, ap, subst, Option, Some, None, arith}
 use Rattle.std.specs.List.{All}
 use Rattle.std.proofs.lemmas.Bool.{cases_lt}
@@ -18,17 +18,17 @@ use Rattle.meter_journal.proofs.Keeping.{Leaves, voids_leave, rows_are_sound, jo
 use Rattle.meter_journal.proofs.InTime.{in_time}
 use Rattle.meter_journal.proofs.Merging.{Among, TouchedBy, has_rows}
 
--- after an entry the counter stands at its moment
+-- The last entry's time is that of the latest entry.
 pub last_moment : (meter : Installed) (e : Entry) (es : List Entry) → (last_after meter (e ∷ es)).at ≡ moment_of e
 last_moment meter (entry.Step at raw rolls) es = omega arith
 last_moment meter (entry.Change at before new sf) es = omega arith
 
--- the counter never stands before its opening
+-- The last entry is never before the opening.
 pub not_before : (meter : Installed) (es : List Entry) → AllFollow meter.range meter.opening es → meter.opening.at ≤ (last_after meter es).at
 not_before meter [] h = omega arith
 not_before meter (e ∷ es) h = omega (arith, h.0.later, last_moment meter e es, not_before meter es h.1)
 
--- a quarter hour between the opening and a later moment
+-- A quarter hour between the opening and a later time.
 pub record Lies (opened last s : ℕ) : Type 0 where
   pub whole : s % 900 ≡ 0
   pub following : opened < s + 900

@@ -17,7 +17,7 @@ reverse_cons x xs = reverse-append (x ∷ []) xs
 pub reverse_onto : {X : Type 0} (x : X) (xs ys : List X) → reverse (x ∷ xs) ++ ys ≡ reverse xs ++ x ∷ ys
 reverse_onto x xs ys = ap (λ zs. zs ++ ys) (reverse_cons x xs) ∙ append_assoc (reverse xs) (x ∷ []) ys
 
--- where the counter stands after one more row
+-- The last entry after one more row.
 pub last_on : (opening : Last) (row : EntryRow) (rows : List EntryRow) → last_of opening (entries_in (row ∷ rows)) ≡ following (last_of opening (entries_in rows)) row
 last_on opening row rows =
     elim (cases_Bool row.stands) [
@@ -42,13 +42,13 @@ pub last_all : (opening : Last) (rows : List EntryRow) (i : ℕ) (last : Last) �
     → last ≡ last_of opening (entries_in (latest_first (take i rows))) → last ≡ last_of opening (entries_in (latest_first rows))
 last_all opening rows i last le is = is ∙ ap (λ (rs : List EntryRow). last_of opening (entries_in (latest_first rs))) (take_all i rows le)
 
--- ---- what stands after the first rows
+-- ---- the valid entries of the first rows
 
 pub numbered_below : (newer older : List EntryRow) → AreNumbered (newer ++ older) → AreNumbered older
 numbered_below [] older h = h
 numbered_below (row ∷ newer) older h = numbered_below newer older h.1
 
--- rows in their order, each with its place, from a place on
+-- Rows in order, each with its sequence number, from a number on.
 abbrev pub NumberedFrom : ℕ → List EntryRow → Type 0
 NumberedFrom n [] = Unit {0}
 NumberedFrom n (row ∷ rows) = (row.place ≡ n) × NumberedFrom (suc n) rows
@@ -64,7 +64,7 @@ numbered_onto (row ∷ rows) done h =
 pub numbered_from : (rows : List EntryRow) → AreNumbered (latest_first rows) → NumberedFrom 2 rows
 numbered_from rows h = numbered_onto rows [] (subst AreNumbered (sym (append-nil (reverse rows))) h)
 
--- from an index on
+-- From an index on.
 pub numbered_drop : (n m i : ℕ) (rows : List EntryRow) → m ≡ i + n → NumberedFrom n rows → NumberedFrom m (drop i rows)
 numbered_drop n m zero rows is h = let e : n ≡ m = omega (arith, is) in subst (λ k. NumberedFrom k rows) e h
 numbered_drop n m (suc i) [] is h = tt
@@ -72,7 +72,7 @@ numbered_drop n m (suc i) (row ∷ rows) is h = numbered_drop (suc n) m i rows (
 
 -- ---- a void
 
--- rows after the struck one
+-- Rows after the voided one.
 void_onto : (opening : Last) (place n : ℕ) (newer before done : List EntryRow) → place < n → NumberedFrom n newer
     → with_void opening place before ≡ done
     → with_void opening place (reverse newer ++ before) ≡ reverse (rolled_on (last_of opening (entries_in done)) newer) ++ done
@@ -87,7 +87,7 @@ void_onto opening place n (row ∷ newer) before done lt h is =
     ∙ ap (λ (l : Last). reverse (rolled_on l newer) ++ next ∷ done) (last_on opening next done)
     ∙ sym (reverse_onto next (rolled_on (following (last_of opening (entries_in done)) next) newer) done)
 
--- one more row takes the rollovers of its neighbour
+-- One more row gets the rollovers that its neighbor gives it.
 pub roll_step : (rows : List EntryRow) (i : ℕ) (last stand : Last) (d next : EntryRow) → i < length rows → next ≡ rolled last (get_or rows i d)
     → stand ≡ following last next
     → take (i + 1) (set rows i next) ++ rolled_on stand (drop (i + 1) (set rows i next)) ≡ take i rows ++ rolled_on last (drop i rows)
@@ -104,7 +104,7 @@ roll_step rows i last stand d next lt next_is stand_is =
 pub roll_end : (rows : List EntryRow) (i : ℕ) (last : Last) → length rows ≤ i → take i rows ++ rolled_on last (drop i rows) ≡ rows
 roll_end rows i last le = ap (λ rs. take i rows ++ rolled_on last rs) (drop_all i rows le) ∙ append-nil (take i rows) ∙ take_all i rows le
 
--- older rows, the struck one, and those after it
+-- Older rows, the voided one, and those after it.
 pub void_at : (opening : Last) (place n : ℕ) (older : List EntryRow) (row : EntryRow) (newer : List EntryRow) → place < n → NumberedFrom n newer
     → row.place == place ≡ true
     → with_void opening place (latest_first (older ++ row ∷ newer))
@@ -119,7 +119,7 @@ void_at opening place n older row newer lt h at =
     ∙ sym (turn (struck row) (rolled_on (last_of opening (entries_in (latest_first older))) newer))
     ∙ ap reverse (sym (append_assoc older (struck row ∷ []) (rolled_on (last_of opening (entries_in (latest_first older))) newer)))
 
--- ---- a row that is looked for
+-- ---- a row that is searched
 
 or_assoc : {X : Type 0} (a b c : Option X) → option_or (option_or a b) c ≡ option_or a (option_or b c)
 or_assoc None b c = refl

@@ -1,4 +1,4 @@
--- The steps of entries that follow one another are in time, so that their rows are their account.
+-- The steps of consecutive entries are in time, so their rows are their account.
 use Rattle.std.proofs.Common.{◌<◌, List, [], ◌∷◌, sym, ◌∙◌, arith}
 use Rattle.std.specs.List.{All}
 use Rattle.std.proofs.lemmas.List.Elements.{All-nil, All-cons}

@@ -1,4 +1,4 @@
--- Shares joined one by one.
+-- Shares that are merged one by one.
 use Rattle.std.proofs.Common.{◌≡◌, ℕ, zero, suc, ◌+◌, ◌<◌, ◌≤◌, ◌==◌, Bool, true, false, cond, List, [], ◌∷◌, ◌++◌, length, get_or, set, refl, sym, ap, ◌∙◌, arith, eq-eqb}
 use Rattle.std.proofs.lemmas.Bool.{cond-true, cond-false, eqb-true}
 use Rattle.std.proofs.lemmas.Bool.Decides.{nat_tests}
@@ -17,7 +17,7 @@ use Rattle.meter_journal.proofs.Merging.{Above, Rising}
 different : (a b : ℕ) → a < b → a == b ≡ false
 different a b lt = grind (arith, nat_tests, lt)
 
--- the last row, and one more share in its interval
+-- The last row, and one more share in its interval.
 pub joined_same : (rows : List Share) (n : ℕ) (row share : Share) → length rows ≡ suc n → get_or rows n row ≡ row → row.start ≡ share.start
     → set rows n (record { start = row.start; mwh = row.mwh + share.mwh }) ≡ with_shares rows (share ∷ [])
 joined_same [] n row share long is at = absurd (omega (arith, long))
@@ -29,7 +29,7 @@ joined_same (first ∷ next ∷ rows) zero row share long is at = absurd (omega 
 joined_same (first ∷ next ∷ rows) (suc n) row share long is at =
     ap (λ rs. first ∷ rs) (joined_same (next ∷ rows) n row share (omega (arith, long)) is at)
 
--- or in a later one
+-- The last row, and one more share in a later interval.
 pub joined_other : (rows : List Share) (n : ℕ) (row share : Share) → length rows ≡ suc n → get_or rows n row ≡ row → row.start == share.start ≡ false
     → rows ++ share ∷ [] ≡ with_shares rows (share ∷ [])
 joined_other [] n row share long is at = absurd (omega (arith, long))
@@ -54,7 +54,7 @@ no_shares [] = refl
 no_shares (row ∷ []) = refl
 no_shares (row ∷ next ∷ rows) = ap (λ rs. row ∷ rs) (no_shares (next ∷ rows))
 
--- shares that begin later stay after a row
+-- Shares that begin later stay after a row.
 after_row : (row : Share) (shares : List Share) → Above row.start shares → joined row shares ≡ row ∷ shares
 after_row row [] h = refl
 after_row row (share ∷ shares) h = cond-false _ _ _ (different row.start share.start h.0)
@@ -122,7 +122,7 @@ one_more rows share =
 pub first_and_rest : (share : Share) (shares : List Share) → energy_of (share ∷ shares) ≡ share.mwh + energy_of shares
 first_and_rest share shares = let mwh : Share → ℕ = λ r. r.mwh in sum_by-cons mwh share shares
 
--- the rows of the steps of entries hold their energy
+-- The rows of the steps of entries have their energy.
 pub energy_is_total : SharesAddUp → (meter : Installed) (es : List Entry) → AllFollow meter.range meter.opening es
     → energy_of (rows_of_steps (steps_after meter es)) ≡ total_after meter es
 energy_is_total law meter [] h = omega arith

@@ -1,4 +1,4 @@
--- Shares taken out of interval rows, and others put in.
+-- Shares that are removed from interval rows, and others that are added.
 use Rattle.std.proofs.Common.{◌≡◌, ℕ, ◌+◌, ◌-◌, ◌%◌, ◌<◌, ◌≤◌, ◌==◌, true, false, cond, List, [], ◌∷◌, ◌++◌, refl, sym, ap, subst, ◌∙◌, inl, inr, arith, nat_lt, eq-eqb}
 use Rattle.std.specs.Prelude.{All, Contains}
 use Rattle.std.specs.List.{filter}
@@ -22,7 +22,7 @@ use Rattle.meter_journal.proofs.InTime.{in_time}
 use Rattle.meter_journal.proofs.Merging.{Among, Above, Rising, EachIs, HasRows, above_among, each_with, total_at, has_rows, rising_of, each_of, among_of, contains_of, ascending}
 use Rattle.meter_journal.proofs.Striking.{weigh, AllBetween, AreMoved}
 
--- ---- what shares there are of an interval
+-- ---- the shares in an interval
 
 abbrev one_at : Share → ℕ → ℕ
 one_at share s = cond (s == share.start) share.mwh 0
@@ -64,7 +64,7 @@ amount_append : (xs ys : List Share) (s : ℕ) → amount_at (xs ++ ys) s ≡ am
 amount_append [] ys s = omega arith
 amount_append (x ∷ xs) ys s = omega (arith, amount_append xs ys s)
 
--- the shares of a step have in each interval what is due there
+-- The shares of a step have in each interval the energy that is due there.
 amount_of_step : SharesAddUp → (step : Step) (s : ℕ) → step.from < step.till → s % 900 ≡ 0 → amount_at (shares_of step) s ≡ share_at step s
 amount_of_step law step s lt whole =
     let spread = law step lt in
@@ -112,7 +112,7 @@ each_same f g [] is h = tt
 each_same f g (row ∷ rows) is h =
     (h.0 ∙ is row.start (inl refl), each_same f g rows (λ s there. is s (inr there)) h.1)
 
--- ---- shares taken out
+-- ---- shares removed
 
 less_start : (share row : Share) → (less share row).start ≡ row.start
 less_start share row =
@@ -175,7 +175,7 @@ therein f (share ∷ shares) rows h enough = (
       (λ s there. omega (arith, enough s (among_same s (without_share share rows) rows (starts_less share rows) there))),
 )
 
--- ---- shares put in
+-- ---- shares added
 
 starts_with : (share : Share) (rows : List Share) → Among share.start rows → starts_of (with_share share rows) ≡ starts_of rows
 starts_with share [] there = absurd there
@@ -213,7 +213,7 @@ each_more f share (row ∷ rows) rising h there =
           )
     ]
 
--- all of these have a row
+-- All of these have a row.
 abbrev HaveRows : List Share → List Share → Type 0
 HaveRows [] rows = Unit {0}
 HaveRows (share ∷ shares) rows = Among share.start rows × HaveRows shares rows
@@ -261,7 +261,7 @@ same_share : (a b : Share) → a.start ≡ b.start → a.mwh ≡ b.mwh → a ≡
 same_share a b start mwh =
     ap (λ s. let r : Share = record { start = s; mwh = a.mwh } in r) start ∙ ap (λ n. let r : Share = record { start = b.start; mwh = n } in r) mwh
 
--- rows in order that start alike and hold what is due are the same
+-- Rows in order with the same starts and the energy that is due are the same.
 pub same_rows : (f : ℕ → ℕ) (xs ys : List Share) → Rising xs → Rising ys → EachIs f xs → EachIs f ys
     → ((s : ℕ) → Among s xs → Among s ys) → ((s : ℕ) → Among s ys → Among s xs) → xs ≡ ys
 same_rows f [] [] up up' each each' to from = refl
@@ -277,7 +277,7 @@ same_rows f (x ∷ xs) (y ∷ ys) up up' each each' to from =
     (λ s there. let lt = above_among y.start s ys up'.0 there in later x xs s (omega (arith, lt, start)) (from s (inr there))) in
     ap (λ r. r ∷ xs) first ∙ ap (λ rs. y ∷ rs) rest
 
--- ---- rows before a moment
+-- ---- rows before a time
 
 abbrev before_it : (last : ℕ) → List Share → List Share
 before_it last rows = filter (λ row. nat_lt row.start last) rows
@@ -402,7 +402,7 @@ none_there (row ∷ rows) h = absurd (h row.start (inl refl))
 due_then : (steps steps' out put : ℕ) → steps + put ≡ steps' + out → out ≤ steps → put + (steps - out) ≡ steps'
 due_then steps steps' out put is le = omega (arith, is, le)
 
--- rows that hold what is due after the void, until its last moment
+-- Rows with the energy that is due after the void, until its last entry.
 pub until_last : (f : ℕ → ℕ) (opened last last' : ℕ) (rows target : List Share) → opened ≤ last' → last' ≤ last
     → Rising rows → EachIs f rows → ((s : ℕ) → Among s rows → Lies opened last s) → ((s : ℕ) → Lies opened last s → Among s rows)
     → Rising target → EachIs f target → ((s : ℕ) → Among s target → Lies opened last' s) → ((s : ℕ) → Lies opened last' s → Among s target)
@@ -430,7 +430,7 @@ until_last f opened last last' rows target begun le up each lie back up' each' l
           ∙ sym (cond-false _ _ _ e)
     ]
 
--- what a void leaves of the interval rows
+-- The interval rows after a void.
 pub record AreExchanged (meter : Installed) (es es' : List Entry) (out put : List Step) : Type 0 where
   pub therein : AreTherein (all_shares out) (rows_of_steps (steps_after meter es))
   pub intervals : rows_of_steps (steps_after meter es')

@@ -25,9 +25,9 @@ use Rattle.meter_journal.proofs.Forward.{last_on}
 use Rattle.meter_journal.proofs.Keeping.{IsGap, entries_standing, entries_struck, follow_rest, above, here, unrolled, mapped_some}
 use Rattle.meter_journal.proofs.StillFitting.{StandFits}
 
--- ---- rows that a void leaves
+-- ---- rows after a void
 
--- a row that fits has the rollovers that its neighbour gives it
+-- A row that fits has the rollovers that its neighbor gives it.
 rolled_alike : (meter : Installed) (es : List Entry) (n : ℕ) (k : EntryKind) (e : Entry) (stands : Bool)
     → StandFits meter es (row_with n k e stands) → rolled (last_after meter es) (row_with n k e stands) ≡ row_with n k e stands
 rolled_alike meter es n k e false fits = refl
@@ -37,7 +37,7 @@ rolled_alike meter es n k e true fits =
 pub rolled_same : (meter : Installed) (es : List Entry) (row : EntryRow) → StandFits meter es row → rolled (last_after meter es) row ≡ row
 rolled_same meter es row fits = rolled_alike meter es row.place row.kind row.entry row.stands fits
 
--- what the void names is changed, and what stands next; nothing else is
+-- The named row and the next valid row change, and no other.
 unchanged : (place : ℕ) (next : Option EntryRow) (l : Last) (row : EntryRow) → row.place == place ≡ false → is_next next row ≡ false
     → changed_by place next l row ≡ row
 unchanged place next l row off other = cond-false _ _ _ off ∙ cond-false _ _ _ other
@@ -50,7 +50,7 @@ all_unchanged place l (row ∷ rows) h le =
     ap (λ r. r ∷ map (changed_by place None l) rows) (unchanged place None l row off refl)
     ∙ ap (λ rs. row ∷ rs) (all_unchanged place l rows h.1 (omega (arith, le)))
 
--- the next row lies above these
+-- The next row is above these.
 next_above : (place : ℕ) (next : EntryRow) (l : Last) (rows : List EntryRow) → AreNumbered rows → length rows + 2 ≤ next.place
     → map (changed_by place (Some next) l) rows ≡ map (changed_by place None l) rows
 next_above place next l [] h le = refl
@@ -67,7 +67,7 @@ abbrev pub weigh : (Step → ℕ) → List Step → ℕ
 weigh w [] = 0
 weigh w (step ∷ steps) = w step + weigh w steps
 
--- the weight of the step to a row, if it stands
+-- The weight of the step to a row, if the row is valid.
 abbrev weigh_to : (Step → ℕ) → Installed → Last → EntryRow → ℕ
 weigh_to w meter last row = cond row.stands (w (step_to meter.range last row.entry)) 0
 
@@ -88,9 +88,9 @@ weigh_row w meter row rows =
           omega (arith, here, all)
     ]
 
--- ---- steps that a void exchanges
+-- ---- steps that a void removes and adds
 
--- each goes forward, between these moments
+-- Each goes forward, between these times.
 abbrev pub AllBetween : (opened last : ℕ) → List Step → Type 0
 AllBetween opened last [] = Unit {0}
 AllBetween opened last (step ∷ steps) = (opened ≤ step.from) × (step.from < step.till) × (step.till ≤ last) × AllBetween opened last steps
@@ -99,12 +99,12 @@ between_later : (opened m n : ℕ) (steps : List Step) → m ≤ n → AllBetwee
 between_later opened m n [] le h = tt
 between_later opened m n (step ∷ steps) le h = (h.0, h.1, omega (arith, h.2, le), between_later opened m n steps le h.3)
 
--- it is one of the steps
+-- The step is one of these.
 abbrev pub IsOneOf : Step → List Step → Type 0
 IsOneOf step [] = ⊥
 IsOneOf step (first ∷ steps) = (first ≡ step) ⊎ IsOneOf step steps
 
--- the steps to the second entries are those to the first, some taken out and others put in
+-- The steps to the second entries are those to the first, some removed and others added.
 pub record AreMoved (meter : Installed) (es es' : List Entry) (out put : List Step) : Type 0 where
   pub moves : (w : Step → ℕ) → weigh w (steps_after meter es) + weigh w put ≡ weigh w (steps_after meter es') + weigh w out
   pub within : (w : Step → ℕ) → weigh w out ≤ weigh w (steps_after meter es)
@@ -113,19 +113,19 @@ pub record AreMoved (meter : Installed) (es es' : List Entry) (out put : List St
   pub out_between : AllBetween meter.opening.at (last_after meter es).at out
   pub put_between : AllBetween meter.opening.at (last_after meter es).at put
 
--- the steps taken out and put in, where this one is next
+-- The steps removed and added if this row is next.
 abbrev pub out_to : Installed → Around → Option EntryRow → List Step
 out_to meter x next = steps_out meter (record { before = x.before; row = x.row; next = next })
 
 abbrev pub put_to : Installed → Around → Option EntryRow → List Step
 put_to meter x next = steps_put meter (record { before = x.before; row = x.row; next = next })
 
--- no entry stands after the voided one
+-- No valid entry follows the voided one.
 pub record IsLast (meter : Installed) (place : ℕ) (rows : List EntryRow) (x : Around) : Type 0 where
   pub gap : IsGap meter.opening place rows x
   pub rows_are : with_void meter.opening place rows ≡ map (changed_by place None (last_before meter.opening x)) rows
 
--- this one does
+-- This valid entry follows the voided one.
 pub record IsFollowed (meter : Installed) (place : ℕ) (rows : List EntryRow) (x : Around) (next : EntryRow) : Type 0 where
   pub rows_are : with_void meter.opening place rows ≡ map (changed_by place (Some next) (last_before meter.opening x)) rows
   pub last : last_after meter (entries_in (with_void meter.opening place rows)) ≡ last_after meter (entries_in rows)
@@ -136,7 +136,7 @@ abbrev pub Changes : Installed → (place : ℕ) → List EntryRow → Around �
 Changes meter place rows x None = IsLast meter place rows x
 Changes meter place rows x (Some next) = IsFollowed meter place rows x next
 
--- the counter goes on from row to row
+-- The counter advances from row to row.
 last_grows : (meter : Installed) (row : EntryRow) (rows : List EntryRow) → AllFollow meter.range meter.opening (entries_in (row ∷ rows))
     → (last_after meter (entries_in rows)).at ≤ (last_after meter (entries_in (row ∷ rows))).at
 last_grows meter row rows h =
@@ -153,7 +153,7 @@ last_grows meter row rows h =
       | inr off ↦ omega (arith, ap (λ (es : List Entry). (last_after meter es).at) (entries_struck row rows off))
     ]
 
--- a step before the row
+-- A step before the row.
 one_below : (meter : Installed) (row : EntryRow) (rows : List EntryRow) (step : Step) → IsOneOf step (steps_after meter (entries_in rows))
     → IsOneOf step (steps_after meter (entries_in (row ∷ rows)))
 one_below meter row rows step there =
@@ -162,7 +162,7 @@ one_below meter row rows step there =
       | inr off ↦ subst (λ (es : List Entry). IsOneOf step (steps_after meter es)) (sym (entries_struck row rows off)) there
     ]
 
--- a row after the next one
+-- A row after the next one.
 row_after : (meter : Installed) (place : ℕ) (row : EntryRow) (rows : List EntryRow) (x : Around) (next : EntryRow)
     → row.place == place ≡ false → AreNumbered (row ∷ rows) → StandFits meter (entries_in rows) row
     → AllFollow meter.range meter.opening (entries_in (row ∷ rows))
@@ -204,7 +204,7 @@ row_after meter place row rows x next off numbers fits follow h =
       };
     }
 
--- a struck row after the voided one
+-- A voided row after the voided one.
 struck_after : (meter : Installed) (place : ℕ) (row : EntryRow) (rows : List EntryRow) (x : Around)
     → row.place == place ≡ false → row.stands ≡ false
     → IsLast meter place rows x → IsLast meter place (row ∷ rows) (passed row x)
@@ -222,7 +222,7 @@ struck_after meter place row rows x off struck h =
           ∙ ap (λ r. r ∷ map (changed_by place None l) rows) (sym (unchanged place None l row off refl));
     }
 
--- what a reading is, and what it is with other rollovers
+-- A reading, and the same with other rollovers.
 record IsRead (row : EntryRow) : Type 0 where
   reading : is_reading row.kind ≡ true
   at : ℕ
@@ -238,7 +238,7 @@ read_of n kind.Closing e b is = absurd (let f : false ≡ true = is in cc)
 read_of n kind.Reset e b is = absurd (let f : false ≡ true = is in cc)
 read_of n kind.Rescale e b is = absurd (let f : false ≡ true = is in cc)
 
--- a reading leaves the scale as it was
+-- A reading leaves the scale unchanged.
 after_step : (l l' : Last) (at raw rolls rolls' : ℕ) → l.sf ≡ l'.sf → after l (entry.Step at raw rolls) ≡ after l' (entry.Step at raw rolls')
 after_step l l' at raw rolls rolls' is = ap (λ sf. let k : Last = record { at = at; raw = raw; sf = sf } in k) is
 
@@ -246,7 +246,7 @@ rolled_stands : (l : Last) (row : EntryRow) → row.stands ≡ true → is_readi
     → rolled l row ≡ record row { entry = with_rolls l row.entry }
 rolled_stands l row on reading = cond-true _ _ _ (ap (λ b. b && is_reading row.kind) on ∙ reading)
 
--- the entries around the voided one, the next one being a reading
+-- The entries around the voided one, if the next one is a reading.
 next_moved : (meter : Installed) (before : List Entry) (e0 : Entry) (at raw rolls rolls' : ℕ)
     → AllFollow meter.range meter.opening (entry.Step at raw rolls ∷ e0 ∷ before)
     → AreMoved meter (entry.Step at raw rolls ∷ e0 ∷ before) (entry.Step at raw rolls' ∷ before)
@@ -269,7 +269,7 @@ next_moved meter before e0 at raw rolls rolls' h =
       put_between = (begun, omega (arith, there, first, second), omega arith, tt);
     }
 
--- the next row itself
+-- The next row itself.
 next_after : (meter : Installed) (place : ℕ) (row : EntryRow) (rows : List EntryRow) (x : Around)
     → row.place == place ≡ false → row.stands ≡ true → is_read row.kind row.entry ≡ true → is_read x.row.kind x.row.entry ≡ true
     → AreNumbered (row ∷ rows) → AllFollow meter.range meter.opening (entries_in (row ∷ rows))

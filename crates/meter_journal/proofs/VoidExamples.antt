@@ -1,4 +1,5 @@
--- Worked examples of what an entry and a void change of the books, computed from the definitions.
+-- Worked examples of what an entry and a void change in the state of a meter, computed from the
+-- definitions.
 use Rattle.std.proofs.Common.{◌≡◌, ℕ, pos, true, false, List, [], ◌∷◌, map, Some, None, refl}
 use Rattle.energy_core.specs.declared.entries.Last.{Last}
 use Rattle.energy_core.specs.declared.entries.Step.{Step}
@@ -28,14 +29,14 @@ row place e = record { place = place; kind = kind.Reading; entry = e; stands = t
 abbrev house : Installed
 house = record { range = 4294967296; ceiling = 100000; opening = record { at = 1000; raw = 5000; sf = pos 0 } }
 
--- 5200 at 1900, and 5300 at 2800
+-- 5200 at 1900, and 5300 at 2800.
 abbrev one : Journal
 one = Entered kind.Reading (entry.Step 1900 5200 0) ∷ []
 
 abbrev two : Journal
 two = Entered kind.Reading (entry.Step 2800 5300 0) ∷ one
 
--- The second reading adds its shares, one to a row that stands and one as a row of its own.
+-- The second reading adds its shares, one to an existing row and one as a new row.
 
 second_step : step_on house one (entry.Step 2800 5300 0) ≡ step 1900 2800 100000
 unfolding unit_of
@@ -92,13 +93,14 @@ second_taken : rows_until 1000 1900 (without_each (all_shares (step 1900 2800 10
     ≡ share 900 177777 ∷ share 1800 22223 ∷ []
 second_taken = refl
 
--- A void of the only reading: no row is left, also none in the quarter hour in which the meter was opened.
+-- A void of the only reading: no row is left, also none in the quarter hour of the opening.
 
 only_taken : rows_until 1000 1000 (without_each (all_shares (step 1000 1900 200000 ∷ [])) (share 900 177777 ∷ share 1800 22223 ∷ []))
     ≡ []
 only_taken = refl
 
--- A void after which the counter turned over: the next row has the rollover from then on, and the first is struck.
+-- A void after which the counter rolled over: the next row then has the rollover, and the first is
+-- voided.
 
 abbrev turning : Last
 turning = record { at = 1000; raw = 4294967200; sf = pos 0 }

@@ -1,4 +1,4 @@
--- What the books of a meter are after entries, and after a journal.
+-- The state of a meter after entries, and after a journal.
 use Rattle.std.specs.Prelude.{ℕ, ◌<◌, List}
 use Rattle.energy_core.specs.declared.entries.Last.{Last}
 use Rattle.energy_core.specs.declared.entries.Step.{Step}
@@ -12,40 +12,44 @@ use Rattle.meter_journal.specs.declared.lines.Installed.{Installed}
 use Rattle.meter_journal.specs.Journal.{Journal, entries_of}
 use Rattle.meter_journal.specs.Intervals.{rows_of_steps}
 
--- at opening the counter showed what it can show, at a scale that a register may have
+-- The opening has a number that the counter can show, at a scale that a register may have.
 pub record IsWellInstalled (meter : Installed) : Type 0 where
   pub raw : meter.opening.raw < meter.range
   pub scale : IsScale meter.opening.sf
 
--- where the counter stands after these entries
+-- The last entry of a meter after these entries.
 abbrev pub last_after : Installed → List Entry → Last
 last_after meter es = last_of meter.opening es
 
--- their whole energy, in mWh, and the steps between them, the latest first
+-- The total energy of these entries, in mWh.
 abbrev pub total_after : Installed → List Entry → ℕ
 total_after meter es = whole_energy meter.range meter.opening es
 
+-- The steps between these entries, the latest first.
 abbrev pub steps_after : Installed → List Entry → List Step
 steps_after meter es = steps_of meter.range meter.opening es
 
--- the verdict on a reading that comes after these entries
+-- The verdict on a reading after these entries.
 abbrev pub verdict_after : Installed → List Entry → Reading → Verdict
 verdict_after meter es reading = verdict_on meter.range meter.ceiling meter.opening es reading
 
--- these entries have an account, with this energy
+-- These entries have an account, with this energy.
 abbrev pub HasAccount : Installed → List Entry → Type 0
 HasAccount meter es =
     IsAccount meter.range meter.opening es (last_after meter es) (total_after meter es)
 
--- Where the counter stands, the energy, the steps and the interval rows of the entries of a journal that stand.
+-- The last valid entry of a journal.
 abbrev pub last_in : Installed → Journal → Last
 last_in meter lines = last_after meter (entries_of meter.opening lines)
 
+-- The energy of the valid entries of a journal.
 abbrev pub total_in : Installed → Journal → ℕ
 total_in meter lines = total_after meter (entries_of meter.opening lines)
 
+-- The steps between the valid entries of a journal, the latest first.
 abbrev pub steps_in : Installed → Journal → List Step
 steps_in meter lines = steps_after meter (entries_of meter.opening lines)
 
+-- The interval rows of the valid entries of a journal.
 abbrev pub interval_rows : Installed → Journal → List Share
 interval_rows meter lines = rows_of_steps (steps_in meter lines)

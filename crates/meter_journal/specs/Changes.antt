@@ -1,4 +1,4 @@
--- What one more line changes in the books of a meter.
+-- What one more line changes in the state of a meter.
 use Rattle.std.specs.Prelude.{◌≡◌, ℕ, ◌+◌, ◌%◌, ◌<◌, ◌≤◌, List, ◌∷◌, All, Some, Ok}
 use Rattle.energy_core.specs.declared.entries.Entry.{Entry}
 use Rattle.energy_core.specs.declared.entries.Step.{Step}
@@ -17,33 +17,33 @@ use Rattle.meter_journal.specs.Journal.{Entered, Voided, Journal, Around, entrie
 use Rattle.meter_journal.specs.Lists.{MayGoOn}
 use Rattle.meter_journal.specs.Fitting.{AreFitting}
 
--- the row is that of a quarter hour that begins before the counter's last moment and ends after its opening; so the
--- counter has gone on since then
+-- The row is a quarter hour that begins before the last entry and ends after the opening. The last
+-- entry is later than the opening.
 pub record LiesWithin (opened last : ℕ) (row : Share) : Type 0 where
   pub quarter : row.start % INTERVAL_SECONDS ≡ 0
   pub following : opened < row.start + INTERVAL_SECONDS
   pub before : row.start < last
   pub gone_on : opened < last
 
--- The interval rows of a journal lie between its opening and where its counter stands.
+-- The interval rows of a journal are between its opening and its last valid entry.
 abbrev pub RowsLieWithin : Type 0
 RowsLieWithin = (meter : Installed) (lines : Journal) → IsWellInstalled meter
     → AreFitting meter lines
     → All (LiesWithin meter.opening.at (last_in meter lines).at) (interval_rows meter lines)
 
--- After a void the counter stands at no later moment.
+-- After a void the last entry is no later than before.
 abbrev pub VoidsGoNoFurther : Type 0
 VoidsGoNoFurther = (meter : Installed) (lines : Journal) (place : ℕ) → IsWellInstalled meter
     → AreFitting meter (Voided place ∷ lines)
     → (last_in meter (Voided place ∷ lines)).at ≤ (last_in meter lines).at
 
--- the step from where the counter stands to one more entry
+-- The step from the last entry to one more.
 abbrev pub step_on : Installed → Journal → Entry → Step
 step_on meter lines e = step_to meter.range (last_in meter lines) e
 
--- One more entry is booked where the counter stands. The counter then stands where the entry says, the energy grows by
--- that of the step, and the interval rows by its shares: these are joined to the last row, or added each to the row of its
--- interval.
+-- One more entry is recorded after the last one. It is then the last entry, and the energy grows by
+-- its step. The interval rows grow by the shares of the step. They are merged with the last row, or
+-- equally, each is added to the row of its interval.
 pub record ContinuesJournal (meter : Installed) (lines : Journal) (k : EntryKind) (e : Entry) :
     Type 0 where
   pub may : MayGoOn meter (last_in meter lines) (total_in meter lines) e
@@ -57,25 +57,28 @@ pub record ContinuesJournal (meter : Installed) (lines : Journal) (k : EntryKind
   pub added : interval_rows meter (Entered k e ∷ lines)
       ≡ with_each (shares_of (step_on meter lines e)) (interval_rows meter lines)
 
+-- One more entry that fits extends the journal in this way.
 abbrev pub EntriesGoOn : Type 0
 EntriesGoOn = (meter : Installed) (lines : Journal) (k : EntryKind) (e : Entry)
     → IsWellInstalled meter
     → AreFitting meter (Entered k e ∷ lines) → ContinuesJournal meter lines k e
 
--- Shares that are added bring their energy, and rows from which shares are taken have no more than before.
+-- Adding shares to rows adds their energy. Removing shares adds none.
 pub record MoveEnergy (shares rows : List Share) : Type 0 where
   pub added : energy_in_rows (with_each shares rows) ≡ energy_in_rows rows + energy_in_rows shares
   pub taken : energy_in_rows (without_each shares rows) ≤ energy_in_rows rows
 
+-- All shares and rows move energy in this way.
 abbrev pub SharesMoveEnergy : Type 0
 SharesMoveEnergy = (shares rows : List Share) → MoveEnergy shares rows
 
--- Where the counter stood before an entry there was an account, and it was sound.
+-- The entries before this row have an account, and it is sound.
 pub record WasKept (meter : Installed) (around : Around) : Type 0 where
   pub account : HasAccount meter (entries_in around.before)
   pub sound : let es = entries_in around.before in
       IsSound meter.range meter.opening es (last_after meter es) (total_after meter es)
 
+-- The entries before each row of a journal have a sound account.
 abbrev pub PlacesWereKept : Type 0
 PlacesWereKept = (meter : Installed) (lines : Journal) (place : ℕ) (around : Around)
     → IsWellInstalled meter

@@ -5,7 +5,7 @@ use Rattle.energy_core.specs.declared.entries.Step.{Step}
 use Rattle.interval_core.specs.declared.shares.Share.{Share}
 use Rattle.interval_core.specs.Share.{shares_of}
 
--- shares after a row: the first may lie in the same interval
+-- Shares after a row. The first share may be in the same interval, and is then merged with the row.
 abbrev pub joined : Share → List Share → List Share
 joined row [] = row ∷ []
 joined row (share ∷ shares) =
@@ -13,7 +13,7 @@ joined row (share ∷ shares) =
     then record { start = row.start; mwh = row.mwh + share.mwh } ∷ shares
     else row ∷ share ∷ shares
 
--- rows with the shares of a later step after them
+-- Rows, and the shares of a later step after them.
 abbrev pub with_shares : List Share → List Share → List Share
 with_shares [] shares = shares
 with_shares (row ∷ []) shares = joined row shares
@@ -24,13 +24,13 @@ abbrev pub rows_of_steps : List Step → List Share
 rows_of_steps [] = []
 rows_of_steps (step ∷ steps) = with_shares (rows_of_steps steps) (shares_of step)
 
--- the energy of the rows that start before a moment
+-- The energy of the rows that start before a time.
 abbrev pub energy_before : (bound : ℕ) → List Share → ℕ
 energy_before bound [] = 0
 energy_before bound (row ∷ rows) =
     (if nat_lt row.start bound then row.mwh else 0) + energy_before bound rows
 
--- a share added to the row of its interval; where there is none, it stands after the others
+-- A share added to the row of its interval. Without such a row, the share becomes the last row.
 abbrev pub with_share : Share → List Share → List Share
 with_share share [] = share ∷ []
 with_share share (row ∷ rows) =
@@ -38,23 +38,26 @@ with_share share (row ∷ rows) =
     then record { start = row.start; mwh = row.mwh + share.mwh } ∷ rows
     else row ∷ with_share share rows
 
+-- Shares added to rows, one by one.
 abbrev pub with_each : (shares : List Share) → List Share → List Share
 with_each [] rows = rows
 with_each (share ∷ shares) rows = with_each shares (with_share share rows)
 
--- a share taken out of the row of its interval
+-- A row less a share in its interval.
 abbrev pub less : Share → Share → Share
 less share row =
     if row.start == share.start then record { start = row.start; mwh = row.mwh - share.mwh }
     else row
 
+-- Rows less a share.
 abbrev pub without_share : Share → List Share → List Share
 without_share share rows = map (less share) rows
 
+-- Rows less shares, one by one.
 abbrev pub without_each : (shares : List Share) → List Share → List Share
 without_each [] rows = rows
 without_each (share ∷ shares) rows = without_each shares (without_share share rows)
 
--- the shares of several steps, step by step
+-- The shares of several steps, step by step.
 abbrev pub all_shares : List Step → List Share
 all_shares steps = flat_map shares_of steps

@@ -1,4 +1,4 @@
--- What a void changes in the books of a meter.
+-- What a void changes in the state of a meter.
 use Rattle.std.specs.Prelude.{◌≡◌, ℕ, ◌+◌, ◌==◌, ◌≤◌, nat_lt, Bool, false, List, [], ◌∷◌, ◌++◌, map, filter, sum_by, All, Option, Some, None, is_some, if◌then◌else◌}
 use Rattle.std.specs.Option.{option_map}
 use Rattle.energy_core.specs.declared.entries.Last.{Last}
@@ -13,56 +13,60 @@ use Rattle.meter_journal.specs.Intervals.{with_each, without_share, without_each
 use Rattle.meter_journal.specs.Journal.{Voided, Journal, Around, entries_in, rolled, struck, rows_of, row_at}
 use Rattle.meter_journal.specs.Fitting.{AreFitting}
 
--- where the counter stood before an entry
+-- The last valid entry before a row.
 abbrev pub last_before : (opening : Last) → Around → Last
 last_before opening around = last_of opening (entries_in around.before)
 
+-- The row is the next valid one.
 abbrev pub is_next : (next : Option EntryRow) → EntryRow → Bool
 is_next None row = false
 is_next (Some next) row = row.place == next.place
 
--- A row after the one at a place was voided, which stands no more. The next that stood has the rollovers that its new
--- neighbour gives it. All others are as they were.
+-- A row after the one with this sequence number was voided: that row is voided. The next valid row
+-- has the rollovers that its new neighbor gives. All other rows are unchanged.
 abbrev pub changed_by : (place : ℕ) → (next : Option EntryRow) → (before : Last) → EntryRow
     → EntryRow
 changed_by place next before row =
     if row.place == place then struck row else if is_next next row then rolled before row else row
 
--- the step to the entry of a row, if there is one
+-- The step to the entry of a row, if there is one.
 abbrev pub step_if : (range : ℕ) → Last → Option EntryRow → List Step
 step_if range last None = []
 step_if range last (Some row) = step_to range last row.entry ∷ []
 
--- The steps that a void takes out: that to its entry, and that from there to the next entry.
+-- The steps that a void removes: to its entry, and from there to the next entry.
 abbrev pub steps_out : Installed → Around → List Step
 steps_out meter around =
     let before = last_before meter.opening around in
     step_if meter.range (after before around.row.entry) around.next
     ++ step_to meter.range before around.row.entry ∷ []
 
--- The step that it puts in: that from the entry before it to the next one, with the rollovers that it has then.
+-- The step that a void adds: from the entry before it to the next one, with the next one's new
+-- rollovers.
 abbrev pub steps_put : Installed → Around → List Step
 steps_put meter around =
     let before = last_before meter.opening around in step_if meter.range before
     (option_map (rolled before) around.next)
 
+-- The energy of steps in mWh.
 abbrev pub energy_in : List Step → ℕ
 energy_in steps = sum_by (λ step. step.mwh) steps
 
--- The rows that begin before the counter's last moment. Where it stands at its opening there are none.
+-- The rows that begin before the last entry. If the last entry is the opening, there are none.
 abbrev pub rows_until : (opened last : ℕ) → List Share → List Share
 rows_until opened last rows =
     if last == opened then [] else filter (λ row. nat_lt row.start last) rows
 
--- each share is in the row of its interval when it is taken out
+-- The row of each share's interval has at least the energy of the share when the share is removed.
 abbrev pub AreTherein : (shares : List Share) → List Share → Type 0
 AreTherein [] rows = Unit {0}
 AreTherein (share ∷ shares) rows =
     All (λ row. row.start ≡ share.start → share.mwh ≤ row.mwh) rows
     × AreTherein shares (without_share share rows)
 
--- The energy is that of the steps that stay and of those that are taken out; after the void, of those that are put in.
--- Each of these can be shared out over its intervals.
+-- The energy before the void is that of the steps that stay and of those that it removes. After the
+-- void it is that of the steps that stay and of those that it adds. Each of the steps removed and
+-- added can be divided among its intervals.
 pub record ExchangesSteps (meter : Installed) (lines : Journal) (place : ℕ) (around : Around) : Type
     0 where
   pub staying : ℕ
@@ -71,8 +75,8 @@ pub record ExchangesSteps (meter : Installed) (lines : Journal) (place : ℕ) (a
   pub out : All IsShareable (steps_out meter around)
   pub put : All IsShareable (steps_put meter around)
 
--- Of the interval rows the shares of the steps out are taken out and those of the step put in are added, and rows that
--- no step reaches any more are gone.
+-- The shares of the removed steps leave the interval rows, and the shares of the added step join
+-- them. Rows that no step reaches any more are gone.
 pub record ExchangesShares (meter : Installed) (lines : Journal) (place : ℕ) (around : Around) :
     Type 0 where
   pub therein : AreTherein (all_shares (steps_out meter around)) (interval_rows meter lines)
@@ -82,8 +86,9 @@ pub record ExchangesShares (meter : Installed) (lines : Journal) (place : ℕ) (
       ≡ rows_until meter.opening.at (last_in meter (Voided place ∷ lines)).at
       (with_each (all_shares (steps_put meter around)) rest)
 
--- The entry at the place was voided. Two rows change: its own, and that of the next entry. The counter stands where it
--- stood, or where it stood before the entry if none came next.
+-- The entry with this sequence number was voided. Two rows change: its own, and that of the next
+-- valid entry. The last entry is unchanged if a valid one follows the voided one. Otherwise it is
+-- the entry before the voided one.
 pub record IsVoided (meter : Installed) (lines : Journal) (place : ℕ) (around : Around) : Type 0
   where
     pub rows : rows_of meter.opening (Voided place ∷ lines)
@@ -94,6 +99,7 @@ pub record IsVoided (meter : Installed) (lines : Journal) (place : ℕ) (around 
     pub steps : ExchangesSteps meter lines place around
     pub shares : ExchangesShares meter lines place around
 
+-- Each void that fits changes a journal in this way.
 abbrev pub VoidsChangeTwoRows : Type 0
 VoidsChangeTwoRows = (meter : Installed) (lines : Journal) (place : ℕ) (around : Around)
     → IsWellInstalled meter

@@ -1,4 +1,4 @@
-//! A meter's books, anew from the rows that stand.
+//! The state of a meter, computed from its valid rows.
 ghost use Rattle.std.specs.Prelude.{◌≡◌, ◌+◌, ◌≤◌, ◌<◌, true, IfOk, IfSome, IsTrue, is_some};
 ghost use Rattle.energy_core.specs.Account as account;
 ghost use Rattle.meter_journal.specs.Books as books;
@@ -15,14 +15,14 @@ use energy_core::{
 use interval_core::{Share, shares_add_up};
 use std::alloc::{AllocError, Global};
 
-/// Where a meter's counter stands, and its energy, in mWh.
+/// The last entry of a meter, and its energy in mWh.
 #[derive(Clone, Copy, Debug, PartialEq, Eq)]
 pub struct Tally {
     pub last: Last,
     pub total: u64,
 }
 
-/// Goes on by one entry, and answers the step to it.
+/// Advances the tally by one entry, and returns the step to it.
 fn go_on(meter: &Installed, tally: &mut Tally, entry: &Entry) -> Step
     requires range_low { MIN_RANGE ≤ meter.now.range }
     requires range_high { meter.now.range ≤ MAX_RANGE }
@@ -48,7 +48,8 @@ fn go_on(meter: &Installed, tally: &mut Tally, entry: &Entry) -> Step
     }
 }
 
-/// Goes on by a row, and answers the step to it. One that was struck changes nothing, and has none.
+/// Advances the tally by one row, and returns the step to it. A voided row changes nothing, and has
+/// no step.
 fn go_past(meter: &Installed, tally: &mut Tally, row: &EntryRow) -> Option<Step>
     requires range_low { MIN_RANGE ≤ meter.now.range }
     requires range_high { meter.now.range ≤ MAX_RANGE }
@@ -65,7 +66,7 @@ fn go_past(meter: &Installed, tally: &mut Tally, row: &EntryRow) -> Option<Step>
     Some(go_on(meter, tally, &row.entry))
 }
 
-/// The tally after these rows.
+/// Returns the tally after these rows.
 pub fn tally_after(meter: &Installed, rows: &[EntryRow]) -> Tally
     requires range_low { MIN_RANGE ≤ meter.now.range }
     requires range_high { meter.now.range ≤ MAX_RANGE }
@@ -86,7 +87,8 @@ pub fn tally_after(meter: &Installed, rows: &[EntryRow]) -> Tally
     tally
 }
 
-/// The tally after rows that may be any; none where an entry that stands can't follow those before it.
+/// Returns the tally after any rows, or `None` if a valid entry may not follow the valid ones
+/// before it.
 pub fn checked_tally(meter: &Installed, rows: &[EntryRow]) -> Option<Tally>
     requires range_low { MIN_RANGE ≤ meter.now.range }
     requires range_high { meter.now.range ≤ MAX_RANGE }
@@ -124,7 +126,7 @@ pub fn checked_tally(meter: &Installed, rows: &[EntryRow]) -> Option<Tally>
     Some(tally)
 }
 
-/// The interval rows of the entries that stand, in order. Refused only for want of memory.
+/// Returns the interval rows of the valid entries, in order. The only error is out of memory.
 pub fn interval_rows(
     alloc: Global,
     meter: &Installed,

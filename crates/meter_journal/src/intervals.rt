@@ -1,4 +1,4 @@
-//! Shares of one step after the other, joined where they lie in one interval.
+//! Merges the shares of consecutive steps that are in the same interval.
 ghost use Rattle.std.specs.Prelude.{◌≡◌, ◌+◌, ◌^◌, ◌≤◌, ◌<◌, ◌++◌, ◌∷◌, [], IsSome};
 ghost use Rattle.std.specs.Prelude.{OnOk, OnErr};
 ghost use Rattle.std.specs.Option.{ForSome, option_to_list};
@@ -11,7 +11,8 @@ use energy_core::{MAX_INTERVALS, MAX_TOTAL, Step};
 use interval_core::{Share, Shares, shares_add_up};
 use std::alloc::AllocError;
 
-/// Takes one more share after the row that is still open, and answers the row that is done, if it lies in another interval.
+/// Adds one more share to the pending row. Returns the pending row if it is complete, because the
+/// share is in another interval.
 pub fn join(pending: &mut Option<Share>, share: Share) -> Option<Share>
     requires { ForSome pending.old (λ row. row.mwh + share.mwh < 2 ^ 64) }
     ensures rows { let so_far = option_to_list pending.old in
@@ -34,7 +35,7 @@ pub fn join(pending: &mut Option<Share>, share: Share) -> Option<Share>
     }
 }
 
-/// Joins one more share to these rows.
+/// Adds one more share to these rows.
 fn join_last(rows: &mut Vec<Share>, share: Share) -> Result<(), AllocError>
     requires { energy_of rows.old.items + share.mwh < 2 ^ 64 }
     ensures ok { OnOk result (rows.new.items ≡ with_shares rows.old.items (share ∷ [])) }
@@ -56,7 +57,7 @@ fn join_last(rows: &mut Vec<Share>, share: Share) -> Result<(), AllocError>
     Ok(())
 }
 
-/// Joins the shares of a later step to these rows. Refused only for want of memory.
+/// Adds the shares of a later step to these rows. The only error is out of memory.
 pub fn append_shares(rows: &mut Vec<Share>, step: &Step) -> Result<(), AllocError>
     requires forward { step.now.from < step.now.till }
     requires intervals { intervals_touched step.now.from step.now.till ≤ MAX_INTERVALS }

@@ -1,4 +1,4 @@
-//! A meter's rows in a list, the oldest first.
+//! The rows of a meter in a list, the oldest first.
 ghost use Rattle.std.specs.Prelude.{◌≡◌, ◌+◌, ◌≤◌, ◌<◌, ◌++◌, length, take, drop, find, IfSome};
 ghost use Rattle.std.specs.Prelude.{IfNone, IsTrue, None};
 ghost use Rattle.energy_core.specs.Account.{last_of};
@@ -9,7 +9,7 @@ ghost use Rattle.meter_journal.specs.Lists as lists;
 use crate::lines::{EntryKind, EntryRow};
 use energy_core::{Entry, Last};
 
-/// The row of a new entry after these.
+/// Returns the row of a new entry after these rows.
 pub fn row_after(rows: &[EntryRow], kind: EntryKind, entry: Entry) -> EntryRow
     ensures { result ≡ journal.new_row rows.now kind entry }
 {
@@ -21,7 +21,7 @@ pub fn row_after(rows: &[EntryRow], kind: EntryKind, entry: Entry) -> EntryRow
     }
 }
 
-/// Whether each row has its place.
+/// Returns whether each row has the sequence number of its index.
 pub fn are_numbered(rows: &[EntryRow]) -> bool
     ensures so { IsTrue result → lists.AreNumbered (lists.latest_first rows.now) }
     ensures if_so { lists.AreNumbered (lists.latest_first rows.now) → IsTrue result }
@@ -34,7 +34,7 @@ pub fn are_numbered(rows: &[EntryRow]) -> bool
     true
 }
 
-/// Whether entries of this kind are readings.
+/// Returns whether entries of this kind are readings.
 fn is_reading(kind: EntryKind) -> bool
     ensures { result ≡ journal.is_reading kind }
 {
@@ -44,7 +44,7 @@ fn is_reading(kind: EntryKind) -> bool
     }
 }
 
-/// Whether a row is that of an accepted reading.
+/// Returns whether the row is an accepted reading.
 fn is_read(row: &EntryRow) -> bool
     ensures { result ≡ journal.is_read row.now.kind row.now.entry }
 {
@@ -54,7 +54,7 @@ fn is_read(row: &EntryRow) -> bool
     }
 }
 
-/// Whether a row may be voided, as far as its kind and that of the next row that stands go.
+/// Returns whether a row may be voided, by its kind and the kind of the next valid row.
 pub fn is_voidable(row: &EntryRow, next: &Option<EntryRow>) -> bool
     ensures { result ≡ fitting.is_voidable row.now next.now }
 {
@@ -65,7 +65,7 @@ pub fn is_voidable(row: &EntryRow, next: &Option<EntryRow>) -> bool
     row.stands && is_read(row) && is_free
 }
 
-/// Where the counter stands after a row. One that was struck changes nothing.
+/// Returns the counter's state after a row. A voided row changes nothing.
 fn following(last: &Last, row: &EntryRow) -> Last
     ensures { result ≡ lists.following last.now row.now }
 {
@@ -82,7 +82,7 @@ fn following(last: &Last, row: &EntryRow) -> Last
     }
 }
 
-/// Where the counter stands after these rows.
+/// Returns the counter's state after these rows.
 pub fn last_of_rows(opening: &Last, rows: &[EntryRow]) -> Last
     ensures { let es = journal.entries_in (lists.latest_first rows.now) in
         result ≡ last_of opening.now es }
@@ -94,7 +94,8 @@ pub fn last_of_rows(opening: &Last, rows: &[EntryRow]) -> Last
     last
 }
 
-/// An entry with the rollovers that its neighbour gives it.
+/// Returns the entry with one rollover if it shows less than the entry before it, and otherwise
+/// none.
 fn with_rolls(last: &Last, entry: &Entry) -> Entry
     ensures { result ≡ journal.with_rolls last.now entry.now }
 {
@@ -108,7 +109,7 @@ fn with_rolls(last: &Last, entry: &Entry) -> Entry
     }
 }
 
-/// A row after where the counter stands: a reading that stands takes the rollovers of its neighbour.
+/// Returns the row after `last`. A valid reading gets the rollovers that the entry before it gives.
 fn rolled(last: &Last, row: &EntryRow) -> EntryRow
     ensures { result ≡ journal.rolled last.now row.now }
 {
@@ -119,7 +120,7 @@ fn rolled(last: &Last, row: &EntryRow) -> EntryRow
     next
 }
 
-/// Gives the readings from an index on, if they stand, the rollovers of their neighbours.
+/// Updates the rollovers of the valid readings from an index on.
 fn roll_on(last: &Last, rows: &mut [EntryRow], from: usize)
     requires { from ≤ length rows.old }
     ensures { rows.new ≡ take from rows.old ++ lists.rolled_on last.now (drop from rows.old) }
@@ -132,7 +133,8 @@ fn roll_on(last: &Last, rows: &mut [EntryRow], from: usize)
     }
 }
 
-/// Voids the entry at a place: its row is struck, and the readings after it take the rollovers of their neighbours.
+/// Voids the entry with a sequence number: marks its row as voided, and updates the rollovers of
+/// the readings after it.
 pub fn strike(opening: &Last, rows: &mut [EntryRow], place: u64)
     requires numbered { lists.AreNumbered (lists.latest_first rows.old) }
     requires after_the_opening { 2 ≤ place }
@@ -148,7 +150,7 @@ pub fn strike(opening: &Last, rows: &mut [EntryRow], place: u64)
     roll_on(&last, rows, index + 1);
 }
 
-/// A row that was looked for, its index in the list, and the next row that stands.
+/// A row, its index in the list, and the next valid row.
 #[derive(Clone, Copy, Debug, PartialEq, Eq)]
 pub struct FoundRow {
     pub index: usize,
@@ -156,7 +158,7 @@ pub struct FoundRow {
     pub next: Option<EntryRow>,
 }
 
-/// The first row from an index on that stands.
+/// Returns the first valid row from an index on.
 fn next_standing(rows: &[EntryRow], from: usize) -> Option<EntryRow>
     requires { from ≤ length rows.now }
     ensures { result ≡ find (λ row. row.stands) (drop from rows.now) }
@@ -169,7 +171,7 @@ fn next_standing(rows: &[EntryRow], from: usize) -> Option<EntryRow>
     None
 }
 
-/// The row at a place. It is found by its number, without a search.
+/// Returns the row with a sequence number. The number gives the index, without a search.
 pub fn find_row(rows: &[EntryRow], place: u64) -> Option<FoundRow>
     requires { lists.AreNumbered (lists.latest_first rows.now) }
     ensures missing { IfNone result (journal.row_at place (lists.latest_first rows.now) ≡ None) }

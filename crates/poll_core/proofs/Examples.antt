@@ -1,4 +1,4 @@
--- The definitions at a few sessions, computed.
+-- The definitions for a few sessions, computed.
 use Rattle.std.proofs.Common.{◌≡◌, ℕ, zero, suc, ◌+◌, ◌*◌, List, [], ◌∷◌, ◌++◌, Some, None, refl}
 use Rattle.mb_wire.specs.Frames.{frames, frames_in, rest, rest_in, is_garbled}
 use Rattle.mb_wire.specs.Spans.{Span}
@@ -15,7 +15,7 @@ use Rattle.poll_core.specs.declared.outcome.LostCause.TheVariants as cause
 abbrev registers : ℕ → ℕ → Span
 registers address count = record { function = HoldingRegisters; address = address; count = count }
 
--- a first poll, started at 100 with a timeout of 5 seconds, asks unit 1 for three registers
+-- A first poll, started at 100 with a timeout of 5 seconds, requests three registers of unit 1.
 abbrev one : List Event
 one = Start 100 1 1 (registers 40094 3) ∷ []
 
@@ -26,12 +26,12 @@ answered : outcomes_at 5 one (Piece 104 good) ≡ (1, Answered (0 ∷ 5200 ∷ 0
 unfolding outcomes_at pending frames_at ending_at stream next_id settled_by frames frames_in rest rest_in is_garbled
 answered = refl
 
--- at the deadline the frame is a stray
+-- At the deadline the poll times out, and the frame is a stray.
 silent : outcomes_at 5 one (Piece 105 good) ≡ (1, Silent) ∷ []
 unfolding outcomes_at pending frames_at ending_at stream next_id settled_by frames frames_in rest rest_in is_garbled
 silent = refl
 
--- a reply that comes twice, in one piece or in two, settles once
+-- A response that arrives twice, in one piece or in two, settles the poll once.
 twice : outcomes_at 5 one (Piece 104 (good ++ good)) ≡ (1, Answered (0 ∷ 5200 ∷ 0 ∷ [])) ∷ []
 unfolding outcomes_at pending frames_at ending_at stream next_id settled_by frames frames_in rest rest_in is_garbled
 twice = refl
@@ -56,7 +56,7 @@ garbled : outcomes_at 5 one (Piece 104 (0 ∷ 0 ∷ 0 ∷ 0 ∷ 0 ∷ 1 ∷ []))
 unfolding outcomes_at pending frames_at ending_at stream next_id settled_by frames frames_in rest rest_in is_garbled
 garbled = refl
 
--- four bytes of a reply, and then the end
+-- Four bytes of a response, and then the end.
 abbrev four_bytes : List Event
 four_bytes = one ++ Piece 103 (0 ∷ 0 ∷ 0 ∷ 0 ∷ []) ∷ []
 
@@ -68,7 +68,7 @@ lost_late : outcomes_at 5 four_bytes (Close 105 Gone) ≡ (1, Silent) ∷ []
 unfolding outcomes_at pending frames_at ending_at stream next_id settled_by frames frames_in rest rest_in is_garbled
 lost_late = refl
 
--- two polls, answered in the other order in one piece
+-- Two polls, answered in the other order in one piece.
 abbrev two : List Event
 two = Start 1000 1 1 (registers 0 1) ∷ Start 1000 2 1 (registers 1 1) ∷ []
 
@@ -82,11 +82,11 @@ both_silent = refl
 
 -- ---- limits, as numbers
 
--- from 1970 on 130 years, of which 32 are leap years
+-- 130 years from 1970, 32 of them leap years.
 the_last_moment : LAST_MOMENT ≡ (130 * 365 + 32) * 86400
 the_last_moment = refl
 
--- the longest timeout is 60 seconds: a poll of 100 waits on at 159, and is silent at 160
+-- The longest timeout is 60 seconds: a poll started at 100 is pending at 159, and times out at 160.
 waits_59_seconds : outcomes_at MAX_TIMEOUT one (Tick 159) ≡ []
 unfolding outcomes_at pending frames_at ending_at stream next_id settled_by frames frames_in rest rest_in is_garbled
 waits_59_seconds = refl
@@ -95,7 +95,7 @@ waits_60_seconds : outcomes_at MAX_TIMEOUT one (Tick 160) ≡ (1, Silent) ∷ []
 unfolding outcomes_at pending frames_at ending_at stream next_id settled_by frames frames_in rest rest_in is_garbled
 waits_60_seconds = refl
 
--- the widest window is 16 polls: one more is started while 15 wait, and none while 16 do
+-- The greatest window is 16 polls: with 15 pending another one starts, with 16 none does.
 abbrev starts : ℕ → List Event
 starts zero = []
 starts (suc count) = Start 100 count 1 (registers 0 1) ∷ starts count

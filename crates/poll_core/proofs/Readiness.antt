@@ -35,7 +35,7 @@ any-push : {X : Type 0} (t : X → Bool) (xs : List X) (x : X) → list_any t (x
 any-push t [] x = or_false (t x)
 any-push t (y ∷ xs) x = ap (λ b. t y || b) (any-push t xs x) ∙ or_assoc (t y) (list_any t xs) (t x)
 
--- what starts in a row do
+-- The effect of starts in a row.
 record Started (t : ℕ) (es starts : List Event) : Type 0 where
   count : length (pending t (es ++ starts)) ≡ length (pending t es) + length starts
   next : next_id (es ++ starts) ≡ (next_id es + length starts) % 65536
@@ -80,7 +80,7 @@ starts_add t es (Piece m b ∷ starts) h = absurd (let f : false ≡ true = h.0 
 starts_add t es (Tick m ∷ starts) h = absurd (let f : false ≡ true = h.0 in cc)
 starts_add t es (Close m c ∷ starts) h = absurd (let f : false ≡ true = h.0 in cc)
 
--- an id that a poll had is had by it still
+-- A pending poll keeps its identifier after more starts.
 still_busy : (t : ℕ) (es starts : List Event) (id : ℕ) → AreStarts starts → list_any (has_id id) (pending t es) ≡ true → list_any (has_id id) (pending t (es ++ starts)) ≡ true
 still_busy t es [] id h busy = ap (λ xs. list_any (has_id id) (pending t xs)) (append-nil es) ∙ busy
 still_busy t es (Start m n u span ∷ starts) id h busy =
@@ -96,7 +96,7 @@ or_both : (a b : Bool) → a ≡ false → b ≡ false → (a || b) ≡ false
 or_both true b h g = absurd (cc)
 or_both false b h g = g
 
--- an id that none of the starts takes stays free
+-- An identifier that none of the starts uses stays free.
 still_free : (t : ℕ) (es starts : List Event) (id : ℕ) → AreStarts starts → ((j : ℕ) → j < length starts → id ≢ (next_id es + j) % 65536) → list_any (has_id id) (pending t es) ≡ false → list_any (has_id id) (pending t (es ++ starts)) ≡ false
 still_free t es [] id h others free = ap (λ xs. list_any (has_id id) (pending t xs)) (append-nil es) ∙ free
 still_free t es (Start m n u span ∷ starts) id h others free =
@@ -116,11 +116,11 @@ still_free t es (Piece m b ∷ starts) id h others free = absurd (let f : false 
 still_free t es (Tick m ∷ starts) id h others free = absurd (let f : false ≡ true = h.0 in cc)
 still_free t es (Close m c ∷ starts) id h others free = absurd (let f : false ≡ true = h.0 in cc)
 
--- ids of fewer than 65536 starts in a row differ
+-- The identifiers of fewer than 65536 starts in a row differ.
 apart_ids : (n j k : ℕ) → j < k → k < 65536 → (n + k) % 65536 ≢ (n + j) % 65536
 apart_ids n j k less few same = omega arith
 
--- a start after so many others, that fits, isn't refused
+-- A start that fits after the others is not refused.
 fits_after : (t w m : ℕ) (es starts : List Event) → AreStarts starts → length starts < 65536 → start_fits w (pending t es) (next_id es) (is_over es) (length starts) ≡ true → last_moment (es ++ starts) ≤ m → start_fault t w (es ++ starts) m ≡ None
 fits_after t w m es starts h few fits late =
     let k = length starts in
@@ -141,7 +141,7 @@ fits_after t w m es starts h few fits late =
     ∙ cond-false _ _ _ (le-ltb m (last_moment (es ++ starts)) late)
     ∙ cond-false _ _ _ going
 
--- a start that doesn't fit is refused
+-- A start that does not fit is refused.
 some_if : {X : Type 0} (b : Bool) (x : X) (o : Option X) → IsSome o → IsSome (cond b (Some x) o)
 some_if true x o h = refl
 some_if false x o h = h
@@ -182,7 +182,7 @@ ready_is t w es id count next few succeed no_more =
           after_full t w m es starts h e;
     }
 
--- by what the session holds
+-- The same by the state of the session.
 fits_is : (s : State) (es : List Event) (k : ℕ) → Stands s es → start_fits s.window s.polls s.next (is_some s.ending) k ≡ start_fits s.window (pending s.timeout es) (next_id es) (is_over es) k
 fits_is s es k h =
     ap (λ ps. start_fits s.window ps s.next (is_some s.ending) k) h.polls

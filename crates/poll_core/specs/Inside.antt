@@ -1,4 +1,4 @@
--- What a session holds, from its fields.
+-- The state of a session, from its fields.
 use Rattle.std.specs.Prelude.{ℕ, ◌≤◌, Bool, if◌then◌else◌, List, length, take, Some, None}
 use Rattle.std.specs.declared.option.Option.{Option}
 use Rattle.std.specs.Option.{option_map}
@@ -14,6 +14,7 @@ use Rattle.poll_core.specs.declared.inner.Step.{Step}
 use Rattle.poll_core.specs.declared.outcome.LostCause.{LostCause}
 use Rattle.poll_core.specs.declared.outcome.LostCause.TheVariants.{Garbled}
 
+-- The model of these fields.
 abbrev pub state_of : Inner → State
 state_of s = record {
   timeout = s.timeout;
@@ -26,29 +27,31 @@ state_of s = record {
   settling = s.settling;
 }
 
+-- The invariant of the fields: the limits, the window, and no transaction identifier twice.
 pub record IsSound (s : Inner) : Type 0 where
   pub window : s.window ≤ MAX_WINDOW
   pub timeout : s.timeout ≤ MAX_TIMEOUT
   pub room : length s.polls.items ≤ s.window
   pub apart : AreApart s.polls.items
 
+-- The reported outcome, from the frame that the reader holds.
 abbrev pub told_of : Option SettledPoll → Option (List ℕ) → Option (ℕ × Settlement)
 told_of taken frame = option_map (λ t. told_by t frame) taken
 
--- what a step takes of a piece and tells, with the frame that the reader holds then
+-- What a step takes of a piece and reports, from the frame that the reader then holds.
 abbrev pub TellsStep : State → State → (moment : ℕ) → (piece : List ℕ) → Step → Type 0
 TellsStep old new moment piece step =
     TellsPiece old new moment (take step.taken piece) (told_of step.settled new.reader.frame)
 
--- what an event tells, with the frame that the reader holds then
+-- What an event reports, from the frame that the reader then holds.
 abbrev pub TellsTaken : State → State → Event → Option SettledPoll → Type 0
 TellsTaken old new event taken = TellsEvent old new event (told_of taken new.reader.frame)
 
--- the call goes on while it tells outcomes
+-- A call continues as long as it reports outcomes.
 abbrev pub call_if : Option SettledPoll → Call → Option Call
 call_if None call = None
 call_if (Some taken) call = Some call
 
--- the end that a piece brings
+-- The cause by which a piece ends the session, if its bytes garble the stream.
 abbrev pub garbled_end : Bool → Option LostCause
 garbled_end garbled = if garbled then Some Garbled else None

@@ -1,4 +1,4 @@
--- What holds of every list of events.
+-- Theorems on every list of events.
 use Rattle.std.specs.Prelude.{◌≡◌, ℕ, ◌≤◌, List, [], ◌∷◌, ◌++◌, filter, is_none, map, true, Some, None}
 use Rattle.std.specs.declared.option.Option.{Option}
 use Rattle.std.specs.Option.{option_map, option_or, option_to_list}
@@ -9,55 +9,60 @@ use Rattle.poll_core.specs.Settling.{Event, Start, Piece, Tick, Close, Settlemen
 use Rattle.poll_core.specs.Standing.{is_over, last_moment}
 use Rattle.poll_core.specs.Starting.{start_fault}
 
--- of each poll that was started its outcome, if it has one
+-- The outcome of a started poll by its number, if the poll has one.
 abbrev pub with_outcome : Poll × Option Settlement → Option (ℕ × Settlement)
 with_outcome result = option_map (λ outcome. (result.0.number, outcome)) result.1
 
+-- The outcomes of all started polls that have one, in the order of the starts.
 abbrev pub outcomes_by_poll : ℕ → List Event → List (ℕ × Settlement)
 outcomes_by_poll timeout events = filter_map with_outcome (results timeout [] events)
 
--- what each event settles, event by event
+-- The outcomes that each event settles, event by event.
 abbrev pub outcomes_after : ℕ → List Event → List Event → List (ℕ × Settlement)
 outcomes_after timeout before [] = []
 outcomes_after timeout before (event ∷ later) =
     outcomes_at timeout before event ++ outcomes_after timeout (before ++ event ∷ []) later
 
+-- The outcomes that a list of events settles, event by event.
 abbrev pub outcomes_by_event : ℕ → List Event → List (ℕ × Settlement)
 outcomes_by_event timeout events = outcomes_after timeout [] events
 
--- the numbers of the polls that were started
+-- The number of the poll that an event starts, if it starts one.
 abbrev pub number_started : Event → Option ℕ
 number_started (Start moment poll unit span) = Some poll
 number_started (Piece moment bytes) = None
 number_started (Tick moment) = None
 number_started (Close moment closing) = None
 
+-- The numbers of all started polls.
 abbrev pub numbers_started : List Event → List ℕ
 numbers_started events = filter_map number_started events
 
+-- The numbers of all settled polls.
 abbrev pub numbers_settled : ℕ → List Event → List ℕ
 numbers_settled timeout events = map (λ told. told.0) (outcomes_by_event timeout events)
 
+-- The numbers of all pending polls.
 abbrev pub numbers_pending : ℕ → List Event → List ℕ
 numbers_pending timeout events = map (λ poll. poll.number) (pending timeout events)
 
--- of these polls each that the event settles, with its outcome
+-- Those of the polls that the event settles, each with its outcome.
 abbrev pub settled_among : List Event → Event → List Poll → List (ℕ × Settlement)
 settled_among before event polls =
     filter_map (λ poll.
     option_map (λ outcome. (poll.number, outcome)) (settled_by before event poll))
     polls
 
--- a poll and what settled it, with one event more
+-- A poll and what settled it, after one more event.
 abbrev pub with_event : List Event → Event → Poll × Option Settlement → Poll × Option Settlement
 with_event before event result = (result.0, option_or result.1 (settled_by before event result.0))
 
--- a poll that was just started
+-- A poll that was just started, without an outcome.
 abbrev pub new_result : Option Poll → List (Poll × Option Settlement)
 new_result None = []
 new_result (Some poll) = (poll, None) ∷ []
 
--- The poll was started by one of the events, and none of those after it settles it.
+-- One of the events started the poll, and no later one settles it.
 pub record Waits (timeout : ℕ) (events : List Event) (poll : Poll) : Type 0 where
   pub before : List Event
   pub start : Event
@@ -66,7 +71,8 @@ pub record Waits (timeout : ℕ) (events : List Event) (poll : Poll) : Type 0 wh
   pub starts : started timeout before start ≡ Some poll
   pub unsettled : outcome (before ++ start ∷ []) later poll ≡ None
 
--- A session accepts the event after these: its moment isn't back, and a start isn't refused.
+-- A session accepts the event after these: its time is not before the latest, and a start is not
+-- refused.
 abbrev pub Accepts : ℕ → ℕ → List Event → Event → Type 0
 Accepts timeout window before (Start moment poll unit span) =
     start_fault timeout window before moment ≡ None
@@ -74,49 +80,51 @@ Accepts timeout window before (Piece moment bytes) = last_moment before ≤ mome
 Accepts timeout window before (Tick moment) = last_moment before ≤ moment
 Accepts timeout window before (Close moment closing) = last_moment before ≤ moment
 
+-- A session accepts each of the events.
 abbrev pub AcceptsAll : ℕ → ℕ → List Event → List Event → Type 0
 AcceptsAll timeout window before [] = Unit {0}
 AcceptsAll timeout window before (event ∷ later) =
     Accepts timeout window before event × AcceptsAll timeout window (before ++ event ∷ []) later
 
--- Each poll that was started is settled once or is pending.
+-- Each started poll is settled once, or is pending.
 abbrev pub SettledOrPending : ℕ → List Event → Type 0
 SettledOrPending timeout events =
     IsPermutation (numbers_started events)
     (numbers_settled timeout events ++ numbers_pending timeout events)
 
--- What one event more does to the outcomes,
+-- The outcomes after one more event are the earlier ones and those of the event.
 abbrev pub AddsOutcomes : ℕ → List Event → Event → Type 0
 AddsOutcomes timeout events event =
     outcomes_by_event timeout (events ++ event ∷ [])
     ≡ outcomes_by_event timeout events ++ outcomes_at timeout events event
 
--- to the polls that were pending,
+-- The outcomes of one more event are those of pending polls, each independently of the others.
 abbrev pub SettlesPending : ℕ → List Event → Event → Type 0
 SettlesPending timeout events event =
     IsPermutation (settled_among events event (pending timeout events))
     (outcomes_at timeout events event)
 
--- to those that are pending then,
+-- After one more event, the pending polls are those that it does not settle, and the poll that it
+-- starts.
 abbrev pub LeavesPending : ℕ → List Event → Event → Type 0
 LeavesPending timeout events event =
     pending timeout (events ++ event ∷ [])
     ≡ filter (λ poll. is_none (settled_by events event poll)) (pending timeout events)
     ++ option_to_list (started timeout events event)
 
--- and to what is known of each poll.
+-- After one more event, the result of each poll is the earlier one, or what the event settles.
 abbrev pub AddsResults : ℕ → List Event → Event → Type 0
 AddsResults timeout events event =
     results timeout [] (events ++ event ∷ [])
     ≡ map (with_event events event) (results timeout [] events)
     ++ new_result (started timeout events event)
 
--- a session that accepted all these events is over
+-- A session that accepted all these events is over.
 abbrev pub IsOverAfter : (timeout window : ℕ) → List Event → Type 0
 IsOverAfter timeout window events =
     AcceptsAll timeout window [] events × (is_over events ≡ true)
 
--- What a piece settles, a longer one that begins with it settles too.
+-- If a longer piece settles nothing, the shorter piece that it begins with settles nothing.
 abbrev pub SettlesNoLess : ℕ → List Event → (moment : ℕ) → (piece more : List ℕ) → Type 0
 SettlesNoLess timeout events moment piece more =
     outcomes_at timeout events (Piece moment (piece ++ more)) ≡ []

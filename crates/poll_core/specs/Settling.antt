@@ -1,4 +1,5 @@
--- When a poll of a session is settled, and by what (Modbus Messaging on TCP/IP Implementation Guide V1.0b, section 4.4.1).
+-- When a poll of a session is settled, and by what (Modbus Messaging on TCP/IP Implementation Guide
+-- V1.0b, section 4.4.1).
 use Rattle.std.specs.Prelude.{ℕ, ◌+◌, ◌%◌, Bool, true, false, not, ◌&&◌, ◌==◌, if◌then◌else◌, List, [], ◌∷◌, ◌++◌, map, length, drop, is_none, Some, None, Ok, Err}
 use Rattle.std.specs.declared.option.Option.{Option}
 use Rattle.std.specs.declared.result.Result.{Result}
@@ -17,46 +18,50 @@ use Rattle.poll_core.specs.declared.outcome.LostCause.{LostCause}
 use Rattle.poll_core.specs.declared.outcome.LostCause.TheVariants.{Garbled}
 use Rattle.poll_core.specs.declared.outcome.Closing.{Closing}
 
--- What happens in a session, each event with its moment.
+-- An event of a session, with its time.
 pub data Event : Type 0 where
   Start : (moment poll unit : ℕ) (span : Span) → Event
   Piece : (moment : ℕ) (bytes : List ℕ) → Event
   Tick : (moment : ℕ) → Event
   Close : (moment : ℕ) (closing : Closing) → Event
 
+-- The time of an event.
 abbrev pub moment_of : Event → ℕ
 moment_of (Start moment poll unit span) = moment
 moment_of (Piece moment bytes) = moment
 moment_of (Tick moment) = moment
 moment_of (Close moment closing) = moment
 
+-- The bytes that an event brings.
 abbrev pub bytes_of : Event → List ℕ
 bytes_of (Start moment poll unit span) = []
 bytes_of (Piece moment bytes) = bytes
 bytes_of (Tick moment) = []
 bytes_of (Close moment closing) = []
 
+-- The cause by which an event closes the session, if it does.
 abbrev pub closing_of : Event → Option LostCause
 closing_of (Start moment poll unit span) = None
 closing_of (Piece moment bytes) = None
 closing_of (Tick moment) = None
 closing_of (Close moment closing) = Some (cause_of closing)
 
+-- The event starts a poll.
 abbrev pub is_start : Event → Bool
 is_start (Start moment poll unit span) = true
 is_start (Piece moment bytes) = false
 is_start (Tick moment) = false
 is_start (Close moment closing) = false
 
--- all pieces joined
+-- The stream: the bytes of all pieces in order.
 unfoldable pub stream : List Event → List ℕ
 stream events = flat_map bytes_of events
 
--- a poll's transaction identifier is the count of starts before it, modulo 65536
+-- The transaction identifier of the next poll: the number of earlier starts, modulo 65536.
 unfoldable pub next_id : List Event → ℕ
 next_id events = length (filter is_start events) % 65536
 
--- How a poll ended, with the registers where it was answered.
+-- How a poll ended, with the registers of an answer.
 pub data Settlement : Type 0 where
   Answered : (words : List ℕ) → Settlement
   Exception : (code : ℕ) → Settlement
@@ -64,40 +69,42 @@ pub data Settlement : Type 0 where
   Malformed : (malformation : Malformation) → Settlement
   Lost : (cause : LostCause) → Settlement
 
--- the registers of an answer
+-- The registers of an answer.
 abbrev pub words_in : Answer → List ℕ
 words_in (replies.Words words) = words
 words_in _ = []
 
+-- The outcome of a decoded response.
 abbrev pub by_reply : Result Answer ReplyFault → Settlement
 by_reply (Ok (replies.Exception code)) = Exception code
 by_reply (Ok answer) = Answered (words_in answer)
 by_reply (Err fault) = Malformed (malformation_by fault)
 
--- what a frame with the poll's id gives it: the unit is looked at first
+-- The outcome by a frame with the poll's transaction identifier. The unit is checked first.
 abbrev pub answer : Poll → List ℕ → Settlement
 answer poll frame =
     if unit_of frame == poll.unit
     then by_reply (reply_of (request_of poll.span) (pdu_of frame))
     else Malformed WrongUnit
 
--- a frame of the protocol with the poll's id
+-- A frame of Modbus with the poll's transaction identifier.
 abbrev pub is_for : Poll → List ℕ → Bool
 is_for poll frame = (tid_of frame == poll.id) && (protocol_of frame == 0)
 
--- the frames whose last byte the event brought, after these events
+-- The frames that the event completes, after these events.
 unfoldable pub frames_at : List Event → Event → List (List ℕ)
 frames_at before event =
     drop (length (frames (stream before))) (frames (stream before ++ bytes_of event))
 
--- why the event ends the session, if it does: it garbles the stream, or closes
+-- The cause by which the event ends the session, if it does: it garbles the stream, or closes.
 unfoldable pub ending_at : List Event → Event → Option LostCause
 ending_at before event =
     if is_garbled (stream before ++ bytes_of event) && not (is_garbled (stream before))
     then Some Garbled
     else closing_of event
 
--- What settles a poll at an event after these: silence, else the first frame with its id, else the end.
+-- What settles a poll at an event after these: its timeout, else the first frame with its
+-- transaction identifier, else the end of the session.
 unfoldable pub settled_by : List Event → Event → Poll → Option Settlement
 settled_by before event poll =
     if is_start event then None
@@ -105,13 +112,13 @@ settled_by before event poll =
     else option_or (option_map (answer poll) (find (is_for poll) (frames_at before event)))
     (option_map Lost (ending_at before event))
 
--- the first later event that settles the poll, and by what
+-- The outcome by the first of the later events that settles the poll.
 abbrev pub outcome : List Event → List Event → Poll → Option Settlement
 outcome before [] poll = None
 outcome before (event ∷ later) poll =
     option_or (settled_by before event poll) (outcome (before ++ event ∷ []) later poll)
 
--- the poll that the event starts, if it is a start
+-- The poll that the event starts, if it is a start.
 abbrev pub started : ℕ → List Event → Event → Option Poll
 started timeout before (Start moment poll unit span) =
     Some (record {
@@ -125,44 +132,49 @@ started timeout before (Piece moment bytes) = None
 started timeout before (Tick moment) = None
 started timeout before (Close moment closing) = None
 
--- each poll that was started, in the order of the starts, with its outcome by the later events
+-- A started poll, with its outcome by the later events.
 abbrev pub result_of : List Event → List Event → Option Poll → List (Poll × Option Settlement)
 result_of before later None = []
 result_of before later (Some poll) = (poll, outcome before later poll) ∷ []
 
+-- All started polls, in the order of the starts, each with its outcome by the later events.
 abbrev pub results : ℕ → List Event → List Event → List (Poll × Option Settlement)
 results timeout before [] = []
 results timeout before (event ∷ later) =
     result_of (before ++ event ∷ []) later (started timeout before event)
     ++ results timeout (before ++ event ∷ []) later
 
--- the polls with no outcome
+-- The pending polls: those without an outcome.
 unfoldable pub pending : ℕ → List Event → List Poll
 pending timeout events =
     map (λ result. result.0) (filter (λ result. is_none result.1) (results timeout [] events))
 
--- The outcomes of one event, in order: silence by start, then frame by frame, then the lost by start.
+-- The timeouts of these polls, in the order of their starts.
 abbrev pub silences : List Poll → List (ℕ × Settlement)
 silences polls = map (λ poll. (poll.number, Silent)) polls
 
+-- The outcomes by these frames, frame by frame.
 abbrev pub by_frame : List (List ℕ) → List Poll → List (ℕ × Settlement)
 by_frame [] polls = []
 by_frame (frame ∷ later) polls =
     map (λ poll. (poll.number, answer poll frame)) (filter (λ poll. is_for poll frame) polls)
     ++ by_frame later (filter (λ poll. not (is_for poll frame)) polls)
 
--- the polls whose id no frame has
+-- The polls whose transaction identifier no frame has.
 abbrev pub unmatched : List (List ℕ) → List Poll → List Poll
 unmatched frames polls = filter (λ poll. is_none (find (is_for poll) frames)) polls
 
+-- The losses of these polls, in the order of their starts, if the session ended.
 abbrev pub losses : Option LostCause → List Poll → List (ℕ × Settlement)
 losses None polls = []
 losses (Some cause) polls = map (λ poll. (poll.number, Lost cause)) polls
 
--- the polls whose deadline has not come
+-- The polls whose deadline has not come.
 abbrev pub alive : ℕ → List Poll → List Poll
 alive moment polls = filter (λ poll. not (due moment poll)) polls
 
+-- The outcomes of one event, in order: timeouts by start, then answers frame by frame, then losses
+-- by start.
 unfoldable pub outcomes_at : ℕ → List Event → Event → List (ℕ × Settlement)
 outcomes_at timeout before event =
     if is_start event then []

@@ -1,4 +1,4 @@
--- Where a session stands after a list of events.
+-- The state of a session after a list of events.
 use Rattle.std.specs.Prelude.{◌≡◌, ℕ, ◌⊎◌, Bool, true, ◌||◌, List, [], ◌∷◌, ◌++◌, is_some, Some, None, OnOk}
 use Rattle.std.specs.declared.option.Option.{Option}
 use Rattle.std.specs.declared.result.Result.{Result}
@@ -11,8 +11,9 @@ use Rattle.poll_core.specs.declared.outcome.LostCause.{LostCause}
 use Rattle.poll_core.specs.declared.outcome.Call.{Call}
 use Rattle.poll_core.specs.declared.outcome.Call.TheVariants as call
 
--- What a session holds: its terms, the latest moment, the next transaction identifier, the half-read frame, the pending
--- polls in the order of their starts, why it is over, and the call that has outcomes left to tell.
+-- The state of a session. It has the terms, the latest time, the next transaction identifier, and
+-- the incomplete frame. It also has the pending polls in the order of their starts. If it is over,
+-- it has the cause, and during a call that call.
 pub record State : Type 0 where
   pub timeout : ℕ
   pub window : ℕ
@@ -23,20 +24,21 @@ pub record State : Type 0 where
   pub ending : Option LostCause
   pub settling : Option Call
 
+-- The time of the latest event, or 0.
 abbrev pub last_moment : List Event → ℕ
 last_moment [] = 0
 last_moment (event ∷ []) = moment_of event
 last_moment (event ∷ next ∷ events) = last_moment (next ∷ events)
 
--- the session was closed
+-- The session was closed.
 unfoldable pub is_closed : List Event → Bool
 is_closed events = list_any (λ event. is_some (closing_of event)) events
 
--- its stream is garbled, or it was closed
+-- The stream is garbled, or the session was closed.
 unfoldable pub is_over : List Event → Bool
 is_over events = is_garbled (stream events) || is_closed events
 
--- The session stands after these events: what it holds is what they give, and it has told all their outcomes.
+-- The session has processed exactly these events, and has reported all their outcomes.
 pub record Stands (session : State) (events : List Event) : Type 0 where
   pub told : session.settling ≡ None
   pub last : session.last ≡ last_moment events
@@ -45,23 +47,26 @@ pub record Stands (session : State) (events : List Event) : Type 0 where
   pub over : is_some session.ending ≡ is_over events
   -- no start is accepted once the session is over
   pub none_after : is_over events ≡ true → pending session.timeout events ≡ []
-  -- while it goes on, it has read the stream up to its rest
+  -- until its end, the session has read the stream up to its rest
   pub buffered : session.ending ≡ None → session.reader.rest ≡ rest (stream events)
 
--- what the session has yet to tell: who is due is silent, and at the end the others are lost
+-- The outcomes that the session has yet to report: the timeouts, and the losses of the other polls
+-- if the session ended.
 abbrev pub owed_by : ℕ → Option LostCause → List Poll → List (ℕ × Settlement)
 owed_by moment ending polls =
     silences (filter (due moment) polls) ++ losses ending (alive moment polls)
 
+-- The outcomes that a session has yet to report.
 abbrev pub owed : State → List (ℕ × Settlement)
 owed session = owed_by session.last session.ending session.polls
 
--- who waits on: nobody once the session is over
+-- The polls that stay pending: none once the session is over.
 abbrev pub if_going : Option LostCause → List Poll → List Poll
 if_going None polls = polls
 if_going (Some cause) polls = []
 
--- The session stands within an event after these: it has told so many of its outcomes, and owes the others.
+-- The session is within an event after these: it has reported these outcomes of the event, and has
+-- yet to report the others.
 pub record Within (session : State) (events : List Event) (event : Event)
     (told : List (ℕ × Settlement)) : Type 0 where
   pub last : session.last ≡ moment_of event
@@ -73,20 +78,20 @@ pub record Within (session : State) (events : List Event) (event : Event)
   pub none_after : is_closed events ≡ true → pending session.timeout events ≡ []
   pub buffered : session.ending ≡ None → session.reader.rest ≡ rest (stream (events ++ event ∷ []))
 
--- the call that brings the event
+-- The call that brings the event.
 abbrev pub call_of : Event → Option Call
 call_of (Start moment poll unit span) = None
 call_of (Piece moment bytes) = Some call.Piece
 call_of (Tick moment) = Some call.Tick
 call_of (Close moment closing) = Some (call.Close closing)
 
--- Before a call: nothing of the event has come, or the call goes on.
+-- Before a call: the session has processed nothing of the event, or the call continues.
 abbrev pub Before : State → List Event → Event → List (ℕ × Settlement) → Type 0
 Before session events event told =
     (Stands session events × (bytes_of event ≡ []) × (told ≡ []))
     ⊎ ((session.settling ≡ call_of event) × Within session events event told)
 
--- After it: one more outcome is told, or there was none left, and all were told.
+-- After a call: it reported one more outcome, or all outcomes of the event had been reported.
 abbrev pub After : State → List Event → Event → List (ℕ × Settlement) → Option (ℕ × Settlement)
     → Type 0
 After session events event told None =
@@ -94,18 +99,18 @@ After session events event told None =
 After session events event told (Some settled) =
     (session.settling ≡ call_of event) × Within session events event (told ++ settled ∷ [])
 
--- Wherever the session stood before a call, it stands after it: a start,
+-- A start keeps the state consistent with its events.
 abbrev pub StartsOn : {X E : Type 0} → Result X E → (old new : State) → Event → Type 0
 StartsOn result old new start =
     (events : List Event) → Stands old events → OnOk result (After new events start [] None)
 
--- an event,
+-- A call for an event keeps the state consistent with its events.
 abbrev pub StepsOn : (old new : State) → Event → Option (ℕ × Settlement) → Type 0
 StepsOn old new event settled =
     (events : List Event) (told : List (ℕ × Settlement)) →
     Before old events event told → After new events event told settled
 
--- and bytes more of a piece.
+-- A call for more bytes of a piece keeps the state consistent with its events.
 abbrev pub TakesOn : (old new : State) → (moment : ℕ) → (taken : List ℕ)
     → Option (ℕ × Settlement) → Type 0
 TakesOn old new moment taken settled =

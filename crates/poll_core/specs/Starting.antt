@@ -11,13 +11,15 @@ use Rattle.poll_core.specs.Standing.{State, is_over, last_moment}
 use Rattle.poll_core.specs.declared.answers.StartFault.{StartFault}
 use Rattle.poll_core.specs.declared.answers.StartFault.TheVariants.{WindowFull, IdBusy, ClockBack, Closed}
 
+-- The number of a fault.
 abbrev pub start_fault_number : StartFault → ℕ
 start_fault_number WindowFull = 1
 start_fault_number IdBusy = 2
 start_fault_number ClockBack = 3
 start_fault_number Closed = 4
 
--- the least fault, by the window, the polls that wait, the next id, the latest moment, and whether the session is over
+-- The first fault that applies, by the window, the pending polls, the next identifier, the latest
+-- time, and whether the session is over.
 abbrev pub least_fault : ℕ → List Poll → ℕ → ℕ → Bool → ℕ → Option StartFault
 least_fault window polls next last over moment =
     if nat_le window (length polls) then Some WindowFull
@@ -26,36 +28,38 @@ least_fault window polls next last over moment =
     else if over then Some Closed
     else None
 
--- why a start at a moment is refused after these events, if it is
+-- Why a start at this time after these events is refused, if it is.
 abbrev pub start_fault : ℕ → ℕ → List Event → ℕ → Option StartFault
 start_fault timeout window events moment =
     least_fault window (pending timeout events) (next_id events) (last_moment events)
     (is_over events)
     moment
 
--- so many bytes at the front of a buffer are the frame that asks a unit for registers
+-- The first `n` bytes of a buffer are the frame that requests registers of a unit.
 abbrev pub AsksFor : (tid unit : ℕ) → Span → (buffer : List ℕ) → ℕ → Type 0
 AsksFor tid unit span buffer n =
     take n buffer ≡ spelling tid unit (request_bytes (request_of span))
 
--- whether a start fits after so many others: the session goes on, there is room, and no poll that waits has its id
+-- A start fits after `before` others: the session is not over, the window has room, and no pending
+-- poll has its identifier.
 abbrev pub start_fits : ℕ → List Poll → ℕ → Bool → ℕ → Bool
 start_fits window polls next over before =
     not over && nat_lt (length polls + before) window
     && not (list_any (has_id ((next + before) % 65536)) polls)
 
--- So many starts in a row fit, and no more.
+-- Exactly this many starts in a row fit.
 pub record HasRoom (session : State) (count : ℕ) : Type 0 where
   pub fit : (k : ℕ) → k < count
       → start_fits session.window session.polls session.next (is_some session.ending) k ≡ true
   pub no_more : start_fits session.window session.polls session.next (is_some session.ending) count
       ≡ false
 
+-- All of these events are starts.
 abbrev pub AreStarts : List Event → Type 0
 AreStarts events = AllByRecursion (λ event. is_start event ≡ true) events
 
--- This is the next id, and so many starts in a row succeed: while fewer were made, another at a moment
--- that isn't back isn't refused, and once so many were made, every other is.
+-- This is the next identifier, and exactly this many starts in a row succeed. Until then, a start
+-- whose time is not before the latest is not refused. After them, every start is refused.
 pub record IsReady (timeout window : ℕ) (events : List Event) (id count : ℕ) : Type 0 where
   pub next : id ≡ next_id events
   pub succeed : (starts : List Event) (moment : ℕ) → AreStarts starts → length starts < count

@@ -12,18 +12,18 @@ use Rattle.poll_core.specs.declared.poll.SettledBy.{SettledBy}
 use Rattle.poll_core.specs.declared.poll.SettledBy.TheVariants as by
 use Rattle.poll_core.specs.declared.poll.SettledPoll.{SettledPoll}
 
--- no two polls have one id
+-- No two polls have the same transaction identifier.
 abbrev pub AreApart : List Poll → Type 0
 AreApart polls = (id : ℕ) → length (filter (has_id id) polls) ≤ 1
 
--- the place of the first poll that passes, if one does
+-- The index of the first poll that passes the test, if any does.
 abbrev pub FindsFirst : (Poll → Bool) → List Poll → Option ℕ → Type 0
 FindsFirst test polls None = filter test polls ≡ []
 FindsFirst test polls (Some i) =
     (i < length polls) × (filter test (take i polls) ≡ [])
     × ((d : Poll) → test (get_or polls i d) ≡ true)
 
--- the first poll that passes is taken out, if one does
+-- The first poll that passes the test is removed, if any does.
 abbrev pub TakesOut : (Poll → Bool) → List Poll → Option Poll → List Poll → Type 0
 TakesOut test old None new = (new ≡ old) × (filter test old ≡ [])
 TakesOut test old (Some poll) new =
@@ -31,26 +31,28 @@ TakesOut test old (Some poll) new =
     × (filter (λ p. not (test p)) new ≡ filter (λ p. not (test p)) old)
     × (length old ≡ suc (length new))
 
--- how a poll that is taken out ended; the frame is the one that the reader holds
+-- The outcome of a removed poll. The frame is that of the reader.
 abbrev pub outcome_by : Poll → SettledBy → Option (List ℕ) → Settlement
 outcome_by poll by.Silence frame = Silent
 outcome_by poll by.Frame frame = answer poll (unwrap_or frame [])
 outcome_by poll (by.End cause) frame = Lost cause
 
--- where a frame settled the poll, the reader holds it
+-- If a frame settled the poll, the reader holds that frame.
 abbrev pub HasFrame : SettledBy → Option (List ℕ) → Type 0
 HasFrame by.Silence frame = Unit {0}
 HasFrame by.Frame frame = IsSome frame
 HasFrame (by.End cause) frame = Unit {0}
 
+-- If a poll was removed because of a frame, the reader holds that frame.
 abbrev pub CanTell : Option SettledPoll → Option (List ℕ) → Type 0
 CanTell None frame = Unit {0}
 CanTell (Some taken) frame = HasFrame taken.by frame
 
+-- The reported outcome of a removed poll.
 abbrev pub told_by : SettledPoll → Option (List ℕ) → ℕ × Settlement
 told_by taken frame = (taken.poll.number, outcome_by taken.poll taken.by frame)
 
--- one outcome that is owed is told, or none was
+-- One outcome was reported, or none was left to report.
 abbrev pub TellsOwed : ℕ → Option LostCause → List Poll → Option SettledPoll → List Poll → Type 0
 TellsOwed moment ending old None new =
     (new ≡ old) × (owed_by moment ending old ≡ []) × (alive moment old ≡ old)
@@ -61,16 +63,18 @@ TellsOwed moment ending old (Some taken) new =
     × (if_going ending (alive moment new) ≡ if_going ending (alive moment old))
     × (length old ≡ suc (length new))
 
--- the reader goes on by these bytes, which end these frames
+-- These bytes continue the reading of a stream, and complete these frames.
 abbrev pub FeedsOn : List ℕ → List ℕ → List (List ℕ) → List ℕ → Type 0
 FeedsOn old piece ended new = (bytes : List ℕ) (before : List (List ℕ)) → Reads bytes before old
     → Reads (bytes ++ piece) (before ++ ended) new
 
+-- The outcome of the poll that the reader's frame settles, if it settles one.
 abbrev pub told_list : Option Poll → Option (List ℕ) → List (ℕ × Settlement)
 told_list None frame = []
 told_list (Some poll) frame = (poll.number, outcome_by poll by.Frame frame) ∷ []
 
--- The bytes ended frames of which at most the last has the id of a poll: that one is taken out, and the reader holds its frame.
+-- The bytes completed frames, and at most the last of them has the identifier of a pending poll.
+-- That poll is removed, and the reader holds its frame.
 pub record Finds (old piece : List ℕ) (polls : List Poll) (found : Option Poll)
     (buffered : Buffered) (others : List Poll) : Type 0 where
   pub ended : List (List ℕ)
@@ -78,11 +82,12 @@ pub record Finds (old piece : List ℕ) (polls : List Poll) (found : Option Poll
   pub told : by_frame ended polls ≡ told_list found buffered.frame
   pub others_are : unmatched ended polls ≡ others
 
--- one frame of the protocol that came whole
+-- One complete frame of Modbus, and the poll that it settles, if any.
 abbrev pub FindsBy : List ℕ → List Poll → Option Poll → List Poll → Type 0
 FindsBy frame old found new =
     (by_frame (frame ∷ []) old ≡ told_list found (Some frame)) × (unmatched (frame ∷ []) old ≡ new)
 
+-- The list has one poll less if one was removed.
 abbrev pub OneLess : List Poll → Option Poll → List Poll → Type 0
 OneLess old None new = new ≡ old
 OneLess old (Some poll) new = length old ≡ suc (length new)

@@ -1,4 +1,4 @@
--- What a call tells, as a caller sees it.
+-- What a call reports, as its caller sees it.
 use Rattle.std.specs.Prelude.{◌≡◌, ℕ, ◌<◌, ◌⊎◌, Bool, true, false, is_some, if◌then◌else◌, List, [], ◌++◌, length, take, Some, None, Result, OnErr, IfOk}
 use Rattle.std.specs.declared.option.Option.{Option}
 use Rattle.std.specs.Option.{option_map}
@@ -14,12 +14,12 @@ use Rattle.poll_core.specs.declared.answers.ClockBack.{ClockBack}
 use Rattle.poll_core.specs.declared.answers.Settled.{Settled}
 use Rattle.poll_core.specs.declared.answers.Turn.{Turn}
 
--- the registers that a reply lends
+-- The registers of a borrowed response.
 abbrev pub lent_words : Option Reply → List ℕ
 lent_words None = []
 lent_words (Some reply) = words_in (answer_of reply)
 
--- an outcome with the registers of its reply
+-- An outcome with the registers of its response.
 abbrev pub outcome_of : plain.Outcome → Option Reply → Settlement
 outcome_of Answered reply = told.Answered (lent_words reply)
 outcome_of (Exception code) reply = told.Exception code
@@ -27,23 +27,26 @@ outcome_of Silent reply = told.Silent
 outcome_of (Malformed malformation) reply = told.Malformed malformation
 outcome_of (Lost cause) reply = told.Lost cause
 
+-- The number and the outcome of a settled poll.
 abbrev pub settled_of : Settled → ℕ × Settlement
 settled_of settled = (settled.poll, outcome_of settled.outcome settled.reply)
 
+-- The poll was answered.
 abbrev pub is_answered : plain.Outcome → Bool
 is_answered Answered = true
 is_answered _ = false
 
--- a reply is lent exactly where the poll was answered
+-- A response is lent exactly if the poll was answered.
 abbrev pub LendsReply : Settled → Type 0
 LendsReply settled = is_some settled.reply ≡ is_answered settled.outcome
 
--- no call is under way, or this one is, at this moment
+-- No call is in progress, or this call is, at the same time.
 abbrev pub IsCall : Call → State → ℕ → Type 0
 IsCall call session moment =
     (session.settling ≡ None) ⊎ ((session.settling ≡ Some call) × (session.last ≡ moment))
 
--- What a call does that brings an event, or more bytes of a piece: an outcome more is told, and a poll less waits.
+-- The effect of a call that brings an event, or more bytes of a piece. If it reports an outcome,
+-- fewer polls are pending.
 pub record TellsOfCall (old new : State) (before after : List ℕ → Event)
     (settled : Option (ℕ × Settlement)) : Type 0 where
   pub timeout : new.timeout ≡ old.timeout
@@ -54,15 +57,16 @@ pub record TellsOfCall (old new : State) (before after : List ℕ → Event)
   pub told : (events : List Event) (bytes : List ℕ) (told : List (ℕ × Settlement))
       → Before old events (before bytes) told → After new events (after bytes) told settled
 
--- by a piece at a moment, of which these bytes were taken
+-- The effect of a call that brings a piece at this time, and takes these bytes of it.
 abbrev pub TellsPiece : State → State → ℕ → List ℕ → Option (ℕ × Settlement) → Type 0
 TellsPiece old new moment taken =
     TellsOfCall old new (λ bytes. Piece moment bytes) (λ bytes. Piece moment (bytes ++ taken))
 
+-- The effect of a call that brings this event.
 abbrev pub TellsEvent : State → State → Event → Option (ℕ × Settlement) → Type 0
 TellsEvent old new event = TellsOfCall old new (λ _. event) (λ _. event)
 
--- a call takes bytes of a piece, or is refused and changes nothing
+-- The call takes bytes of a piece, or is refused and changes nothing.
 abbrev pub TakesPiece : State → (moment : ℕ) → (piece : List ℕ) → Result Turn ClockBack → State
     → Type 0
 TakesPiece old moment piece result new =
@@ -70,7 +74,7 @@ TakesPiece old moment piece result new =
     × IfOk result (λ turn. TellsPiece old new moment (take turn.taken piece)
     (option_map settled_of turn.settled))
 
--- a call brings an event, or is refused and changes nothing
+-- The call brings an event, or is refused and changes nothing.
 abbrev pub TakesEvent : State → Event → Result (Option Settled) ClockBack → State → Type 0
 TakesEvent old event result new =
     OnErr result (new ≡ old)

@@ -1,17 +1,17 @@
-//! What the calls of a session answer.
+//! The results of a session's calls.
 use crate::outcome::Outcome;
 use mb_wire::Reply;
 
-/// A poll that is settled, by its caller's number.
+/// A settled poll, with the number that its caller gave it.
 #[derive(Clone, Copy, Debug)]
 pub struct Settled<'a> {
     pub poll: u64,
     pub outcome: Outcome,
-    /// The reply, lent from the session, exactly where the poll was answered.
+    /// The response, borrowed from the session. It is present exactly if the outcome is `Answered`.
     pub reply: Option<Reply<'a>>,
 }
 
-/// How many bytes of a piece were taken, and the poll that they settled, if they settled one.
+/// The number of bytes taken from a piece, and the poll that they settled, if any.
 #[derive(Drop)]
 pub struct Turn<'a> {
     pub taken: usize,
@@ -25,18 +25,18 @@ pub struct Ready {
     pub count: usize,
 }
 
-/// The moment is before the latest one.
+/// The time of a call is before the latest time of the session.
 #[derive(Clone, Copy, Debug, PartialEq, Eq)]
 pub struct ClockBack;
 
-/// Why a poll isn't started.
+/// Why a poll was not started.
 #[derive(Clone, Copy, Debug, PartialEq, Eq)]
 pub enum StartFault {
-    /// As many polls wait as the window holds.
+    /// The number of pending polls has reached the window.
     WindowFull,
     /// A pending poll has the next transaction identifier.
     IdBusy,
-    /// The moment is before the latest one.
+    /// The time is before the latest time of the session.
     ClockBack,
     /// The session was closed, or its stream is garbled.
     Closed,
@@ -46,7 +46,8 @@ impl StartFault {
     ghost use Rattle.std.specs.Prelude.{◌≡◌};
     ghost use Rattle.poll_core.specs.Starting.{start_fault_number};
 
-    /// 1 to 4. Of several faults that apply the one with the least number is answered.
+    /// Returns the fault's number, 1 to 4. Of several faults that apply, the one with the least
+    /// number is reported.
     pub fn number(self) -> u8
         ensures { result ≡ start_fault_number self }
     {

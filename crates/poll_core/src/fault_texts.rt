@@ -1,4 +1,4 @@
-//! What faults and losses say to a person.
+//! The sentence that describes each fault and each cause of a lost poll.
 use crate::answers::{ClockBack, StartFault};
 use crate::outcome::{LostCause, Malformation};
 use std::error::Error;

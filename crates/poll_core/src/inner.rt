@@ -1,5 +1,7 @@
-//! The fields of a session, and its steps. They stand apart from `Session`, whose clauses see only its model and whose
-//! calls lend the frame that they tell: the clauses of a step speak of the fields, and a step lends nothing.
+//! The fields of a session, and its steps.
+//!
+//! They are separate from `Session`: its contracts see only its model, and its calls lend out the
+//! reader's frame. The contracts of these steps name the fields, and a step lends nothing.
 ghost use Rattle.std.specs.Prelude.{◌≡◌, ◌+◌, ◌≤◌, ◌<◌, List, length, take, is_some, true, false};
 ghost use Rattle.std.specs.Prelude.{if◌then◌else◌, OnOk, OnErr, IfOk};
 ghost use Rattle.std.specs.Result.{result_err};
@@ -31,14 +33,14 @@ pub struct Inner {
     pub settling: Option<Call>,
 }
 
-/// How far a call came.
+/// The result of a step: the bytes taken, and the poll that was settled.
 #[derive(Drop)]
 pub struct Step {
     pub taken: usize,
     pub settled: Option<SettledPoll>,
 }
 
-// Writes the frame that asks for a span of registers.
+// Writes the frame of a request for a span of registers.
 fn write_request(id: u16, unit: u8, span: ReadSpan, out: &mut [u8; MAX_ADU]) -> usize
     ensures size { result ≡ 12 }
     ensures written { take result out.new
@@ -49,7 +51,7 @@ fn write_request(id: u16, unit: u8, span: ReadSpan, out: &mut [u8; MAX_ADU]) -> 
     write_frame(id, unit, &pdu[..count], out)
 }
 
-// The call goes on while it tells outcomes.
+// Returns the call that continues as long as it reports outcomes.
 fn call_while(taken: &Option<SettledPoll>, call: Call) -> Option<Call>
     ensures { result ≡ call_if taken.now call }
 {
@@ -59,7 +61,7 @@ fn call_while(taken: &Option<SettledPoll>, call: Call) -> Option<Call>
     }
 }
 
-// A garbled stream ends the session.
+// Returns the cause by which a garbled stream ends the session.
 fn ending_if(is_garbled: bool) -> Option<LostCause>
     ensures { result ≡ garbled_end is_garbled }
 {
@@ -70,7 +72,7 @@ fn ending_if(is_garbled: bool) -> Option<LostCause>
     }
 }
 
-// All of the piece is taken once nothing is left to tell.
+// Returns how many bytes were taken: all of the piece, unless an outcome was reported.
 fn taken_if(lost: &Option<SettledPoll>, taken: usize, all: usize) -> usize
     ensures { result ≡ (if is_some lost.now then taken else all) }
 {
@@ -122,7 +124,7 @@ impl Inner {
         Ok(size)
     }
 
-    /// How many starts in a row would succeed.
+    /// Returns how many starts in a row would succeed.
     pub fn room(&self) -> usize
         requires { IsSound self.now }
         ensures few { result ≤ self.now.window }

@@ -1,4 +1,4 @@
-//! What holds of every list of events.
+//! Theorems on every list of events.
 ghost use Rattle.std.specs.Prelude.{◌≡◌, ℕ, List, [], length, slice_get};
 ghost use Rattle.std.specs.List.{All};
 ghost use Rattle.std.specs.List.Sorted.{IsPermutation};
@@ -11,15 +11,16 @@ ghost use Rattle.poll_core.specs.Laws.{outcomes_by_event, outcomes_by_poll};
 
 use mb_wire::one_reading;
 
-/// Each poll that was started is settled once or is pending. What the events settle, event by event,
-/// is the outcome of each poll that has one.
+/// Theorem: each started poll is settled once, or is pending. The outcomes that the events settle,
+/// event by event, are the outcomes of the polls.
 pub fn each_once()
     ensures polls { (timeout : ℕ) (events : List Event) → SettledOrPending timeout events }
     ensures outcomes { (timeout : ℕ) (events : List Event) →
         IsPermutation (outcomes_by_poll timeout events) (outcomes_by_event timeout events) }
 {}
 
-/// What one event more does: it settles pending polls, each by itself, and may start one.
+/// Theorem: one more event settles pending polls, each independently of the others, and may start a
+/// poll. If no poll is pending, it settles none.
 pub fn one_event_more()
     ensures outcomes { (timeout : ℕ) (events : List Event) (event : Event) →
         AddsOutcomes timeout events event }
@@ -33,13 +34,14 @@ pub fn one_event_more()
         pending timeout events ≡ [] → outcomes_at timeout events event ≡ [] }
 {}
 
-/// A pending poll was started by one of the events, and none of the later ones settles it.
+/// Theorem: a pending poll was started by one of the events, and no later one of them settles it.
 pub fn pending_waits()
     ensures { (timeout : ℕ) (events : List Event)
         → All (Waits timeout events) (pending timeout events) }
 {}
 
-/// Nothing settles, and nobody waits, on a session after its stream was garbled or it was closed.
+/// Theorem: after its stream is garbled or it is closed, a session has no pending polls, and no
+/// event settles any.
 pub fn over_for_good()
     ensures nobody { (timeout window : ℕ) (events : List Event) →
         IsOverAfter timeout window events → pending timeout events ≡ [] }
@@ -47,14 +49,15 @@ pub fn over_for_good()
         IsOverAfter timeout window events → outcomes_at timeout events event ≡ [] }
 {}
 
-/// An answer has as many registers as the poll asked for, and the reply that is lent tells them.
+/// Theorem: an answer has as many registers as the poll requested. The borrowed response has the
+/// same registers.
 pub fn whole_answers()
     ensures words { (answer : Answer) (i : ℕ) → word_at answer i ≡ slice_get (words_in answer) i }
     ensures count { (poll : Poll) (frame words : List ℕ) → answer poll frame ≡ Answered words
         → length words ≡ poll.span.count }
 {}
 
-/// What a piece settles, a longer one that begins with it settles too.
+/// Theorem: if a piece settles a poll, a longer piece that begins with it settles a poll too.
 pub fn longer_pieces_settle()
     ensures { (timeout : ℕ) (events : List Event) (moment : ℕ) (piece more : List ℕ) →
         SettlesNoLess timeout events moment piece more }

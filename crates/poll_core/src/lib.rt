@@ -1,4 +1,4 @@
-//! Polls of one device over Modbus TCP: each poll that is started has exactly one outcome.
+//! Polls of one device over Modbus TCP. Each started poll has exactly one outcome, or is pending.
 #![tactic(auto)]
 
 mod answers;

@@ -1,8 +1,8 @@
-//! How a poll ends.
+//! The outcomes of a poll.
 
 use mb_wire::ReplyFault;
 
-/// The call that settles polls, while it has outcomes left to tell.
+/// The call that settles polls, while it has outcomes left to report.
 #[derive(Clone, Copy, Debug, PartialEq, Eq)]
 pub enum Call {
     Piece,
@@ -15,44 +15,45 @@ pub enum Call {
 pub enum Outcome {
     /// The device sent the registers.
     Answered,
-    /// The device answered with this exception code (Modbus Application Protocol V1.1b3, section 7).
+    /// The device responded with this exception code (Modbus Application Protocol V1.1b3, section
+    /// 7).
     Exception(u8),
-    /// No reply came before the deadline.
+    /// The poll timed out: no response arrived before the deadline.
     Silent,
-    /// A frame with the poll's transaction identifier is no reply to its request.
+    /// A frame with the poll's transaction identifier is no response to its request.
     Malformed(Malformation),
-    /// The session ended first.
+    /// The session ended before the poll was settled.
     Lost(LostCause),
 }
 
-/// What is wrong with a reply.
+/// What is wrong with a response.
 #[derive(Clone, Copy, Debug, PartialEq, Eq)]
 pub enum Malformation {
     WrongFunction,
     WrongLength,
     WrongByteCount,
     WrongEcho,
-    /// The frame comes from another unit. This is looked at before the rest.
+    /// The frame comes from another unit. The unit is checked before the rest.
     WrongUnit,
 }
 
-/// Why a pending poll is lost.
+/// Why a pending poll was lost.
 #[derive(Clone, Copy, Debug, PartialEq, Eq)]
 pub enum LostCause {
     /// The device closed the connection.
     Gone,
-    /// A length field of the stream is out of its range.
+    /// A length field of the stream is out of range.
     Garbled,
-    /// A read or a write of the connection failed.
+    /// A read from the connection or a write to it failed.
     Failed,
-    /// The program was started again. No session gives this cause.
+    /// The program was restarted. No session returns this cause.
     Restart,
 }
 
-/// How a connection ends.
+/// How a connection ended.
 #[derive(Clone, Copy, Debug, PartialEq, Eq)]
 pub enum Closing {
-    /// The device closed it.
+    /// The device closed the connection.
     Gone,
     /// A read or a write failed.
     Failed,
@@ -62,7 +63,7 @@ impl Outcome {
     ghost use Rattle.std.specs.Prelude.{◌≡◌};
     ghost use Rattle.poll_core.specs.Outcomes.{outcome_number, outcome_code};
 
-    /// The number of the kind, 1 to 5.
+    /// Returns the number of the kind of outcome, 1 to 5.
     pub fn number(self) -> u8
         ensures { result ≡ outcome_number self }
     {
@@ -75,7 +76,8 @@ impl Outcome {
         }
     }
 
-    /// The exception code, or the number of the malformation or of the loss; 0 where the kind has none.
+    /// Returns the exception code, or the number of the malformation or of the cause. Other kinds
+    /// have code 0.
     pub fn code(self) -> u8
         ensures { result ≡ outcome_code self }
     {
@@ -92,7 +94,7 @@ impl Malformation {
     ghost use Rattle.std.specs.Prelude.{◌≡◌};
     ghost use Rattle.poll_core.specs.Outcomes.{malformation_number};
 
-    /// 1 to 5.
+    /// Returns the number of the malformation, 1 to 5.
     pub fn number(self) -> u8
         ensures { result ≡ malformation_number self }
     {
@@ -126,7 +128,7 @@ impl LostCause {
     ghost use Rattle.std.specs.Prelude.{◌≡◌};
     ghost use Rattle.poll_core.specs.Outcomes.{cause_number};
 
-    /// 1 to 4.
+    /// Returns the number of the cause, 1 to 4.
     pub fn number(self) -> u8
         ensures { result ≡ cause_number self }
     {

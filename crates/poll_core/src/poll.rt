@@ -1,9 +1,9 @@
-//! A poll that waits for its reply.
+//! A pending poll.
 use crate::outcome::LostCause;
 use mb_wire::{ReadFunction, ReadSpan, Request};
 use std::marker::Model;
 
-/// A poll that was started and isn't settled.
+/// A poll that was started and is not settled yet.
 #[derive(Drop)]
 pub struct PendingPoll {
     number: u64,
@@ -52,14 +52,14 @@ impl PendingPoll {
         self.unit
     }
 
-    /// What the poll asks.
+    /// Returns the request of the poll.
     pub fn request(&self) -> Request
         ensures { result ≡ request_of self.now.span }
     {
         self.span.request()
     }
 
-    /// Whether the deadline has come.
+    /// Returns whether the deadline has come.
     pub fn is_due(&self, moment: u64) -> bool
         ensures { result ≡ due moment self.now }
     {
@@ -84,7 +84,7 @@ impl Default for PendingPoll {
     }
 }
 
-/// How a poll was settled.
+/// What settled a poll.
 #[derive(Clone, Copy, Debug, PartialEq, Eq)]
 pub enum SettledBy {
     Silence,
@@ -92,7 +92,7 @@ pub enum SettledBy {
     End(LostCause),
 }
 
-/// A poll that is settled.
+/// A settled poll, and what settled it.
 #[derive(Drop)]
 pub struct SettledPoll {
     pub poll: PendingPoll,

@@ -1,4 +1,4 @@
-//! One device's polling session.
+//! The polling session of one device.
 ghost use Rattle.std.specs.Prelude.{◌≡◌, ℕ, ◌≤◌, ◌<◌, ◌↔◌, List, [], length};
 ghost use Rattle.std.specs.Prelude.{Some, None, is_some, false, IsErr, OnOk};
 ghost use Rattle.std.specs.Prelude.{OnErr, IfOk, IfSome};
@@ -26,7 +26,7 @@ use crate::table::Table;
 use mb_wire::{Frame, FrameReader, MAX_ADU, ReadSpan, Reply, decode_reply, one_reading};
 use std::marker::Model;
 
-/// The polls of one device over one connection. All moments are whole seconds since 1970-01-01 UTC.
+/// The polls of one device over one connection. All times are whole seconds since 1970-01-01 UTC.
 #[derive(Drop)]
 pub struct Session {
     inner: Inner,
@@ -44,8 +44,8 @@ impl Model for Session {
 }
 
 impl Session {
-    /// A session of which no event is known, whose polls are silent after `timeout` seconds and of which
-    /// at most `window` wait at a time.
+    /// Creates a session without events. Its polls time out after `timeout` seconds, and at most
+    /// `window` of them are pending at a time.
     pub fn new(timeout: u64, window: usize) -> Self
         requires timeout_low { 1 ≤ timeout }
         requires timeout_high { timeout ≤ MAX_TIMEOUT }
@@ -70,14 +70,15 @@ impl Session {
         }
     }
 
-    /// Whether a call has outcomes left to tell.
+    /// Returns whether a call has outcomes left to report.
     pub fn settling(&self) -> bool
         ensures { result ≡ is_some self.now.settling }
     {
         self.inner.settling.is_some()
     }
 
-    /// The next transaction identifier, and how many starts in a row would now succeed at a moment that isn't back.
+    /// Returns the next transaction identifier, and how many starts in a row would now succeed at
+    /// times that are not before the latest.
     pub fn ready(&self) -> Ready
         ensures id { result.id ≡ self.now.next }
         ensures room { HasRoom self.now result.count }
@@ -91,8 +92,9 @@ impl Session {
         }
     }
 
-    /// Starts a poll of a unit's registers, which is told by the number `poll`. The frame of its request is written
-    /// to the front of `out`, and its size is answered. Its deadline is the moment plus the timeout.
+    /// Starts a poll of a unit's registers. `poll` is the number by which the session reports the
+    /// poll. Writes the frame of the request to the front of `out`, and returns its length. The
+    /// deadline is the time plus the timeout.
     pub fn start(
         &mut self,
         moment: u64,
@@ -118,7 +120,8 @@ impl Session {
         self.inner.start(moment, poll, unit, span, out)
     }
 
-    /// Takes bytes of the piece, up to the first outcome. The caller repeats with the rest until none is settled.
+    /// Processes bytes of the piece, up to the first outcome. Call again with the rest until no
+    /// poll is settled.
     pub fn next(&mut self, moment: u64, piece: &[u8]) -> Result<Turn<'_>, ClockBack>
         requires limit { moment ≤ LAST_MOMENT }
         requires call { IsCall Call.Piece self.old moment }
@@ -152,7 +155,8 @@ impl Session {
         Ok(self.inner.next(moment, piece))
     }
 
-    /// A moment with no bytes. The caller repeats until none is settled.
+    /// Processes a timer event: no input arrived before this time. Call again until no poll is
+    /// settled.
     pub fn tick(&mut self, moment: u64) -> Result<Option<Settled<'_>>, ClockBack>
         requires limit { moment ≤ LAST_MOMENT }
         requires call { IsCall Call.Tick self.old moment }
@@ -177,7 +181,7 @@ impl Session {
         Ok(self.inner.tick(moment))
     }
 
-    /// The end of the session. The caller repeats until none is settled.
+    /// Ends the session. Call again until no poll is settled.
     pub fn close(&mut self, moment: u64, closing: Closing) -> Result<Option<Settled<'_>>, ClockBack>
         requires limit { moment ≤ LAST_MOMENT }
         requires call { IsCall (Call.Close closing) self.old moment }
@@ -207,7 +211,7 @@ impl Session {
     }
 }
 
-// What is told, with the words of the frame that the reader holds.
+// Returns the settled poll, if any, with the registers in the reader's frame.
 fn tell_any(taken: Option<SettledPoll>, reader: &FrameReader) -> Option<Settled<'_>>
     requires { CanTell taken reader.now.frame }
     ensures told { option_map settled_of result ≡ told_of taken reader.now.frame }
@@ -220,7 +224,7 @@ fn tell_any(taken: Option<SettledPoll>, reader: &FrameReader) -> Option<Settled<
     }
 }
 
-// A settled poll, with the words of the frame that the reader holds.
+// Returns the settled poll, with the registers in the reader's frame.
 fn tell(settled: SettledPoll, reader: &FrameReader) -> Settled<'_>
     requires { HasFrame settled.by reader.now.frame }
     ensures told { settled_of result ≡ told_by settled reader.now.frame }
@@ -254,7 +258,7 @@ fn silent<'a>(poll: u64) -> Settled<'a>
     }
 }
 
-// What a frame with the poll's id gives it.
+// Returns the outcome of a poll from the frame with its transaction identifier.
 fn answered<'a>(poll: &PendingPoll, frame: Frame<'a>) -> Settled<'a>
     ensures told { (bytes : List ℕ) → spelled frame.entry ≡ fields_of bytes
         → settled_of result ≡ (poll.now.number, answer poll.now bytes) }

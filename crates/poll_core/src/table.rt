@@ -15,7 +15,7 @@ use mb_wire::{FrameReader, Framing};
 
 pub type Table = ArrayVec<PendingPoll, MAX_WINDOW>;
 
-// The place of the first poll that is due.
+// Returns the index of the first poll whose deadline has come.
 fn first_due(polls: &[PendingPoll], moment: u64) -> Option<usize>
     ensures { FindsFirst (due moment) polls.now result }
 {
@@ -27,7 +27,7 @@ fn first_due(polls: &[PendingPoll], moment: u64) -> Option<usize>
     None
 }
 
-// The place of the poll with this id.
+// Returns the index of the poll with this transaction identifier.
 fn first_with_id(polls: &[PendingPoll], id: u16) -> Option<usize>
     ensures { FindsFirst (has_id id) polls.now result }
 {
@@ -39,7 +39,7 @@ fn first_with_id(polls: &[PendingPoll], id: u16) -> Option<usize>
     None
 }
 
-/// How many ids in a row from `next` no poll has, up to `room`.
+/// Returns how many identifiers in a row, from `next`, no poll has. The result is at most `room`.
 pub fn free_ids(polls: &[PendingPoll], next: u16, room: usize) -> usize
     requires { room ≤ MAX_WINDOW }
     ensures room { result ≤ room }
@@ -54,14 +54,14 @@ pub fn free_ids(polls: &[PendingPoll], next: u16, room: usize) -> usize
     room
 }
 
-/// Whether a poll has this id.
+/// Returns whether a poll has this transaction identifier.
 pub fn has_poll(polls: &[PendingPoll], id: u16) -> bool
     ensures { result ≡ list_any (has_id id) polls.now }
 {
     polls.iter().any(|poll| poll.has_id(id))
 }
 
-// Takes out the first poll that is due.
+// Removes and returns the first poll whose deadline has come.
 pub fn take_due(polls: &mut Table, moment: u64) -> Option<PendingPoll>
     ensures taken { TakesOut (due moment) polls.old.items result polls.new.items }
     ensures apart { AreApart polls.old.items → AreApart polls.new.items }
@@ -72,7 +72,7 @@ pub fn take_due(polls: &mut Table, moment: u64) -> Option<PendingPoll>
     }
 }
 
-// Takes out the poll with this id.
+// Removes and returns the poll with this transaction identifier.
 pub fn take_by_id(polls: &mut Table, id: u16) -> Option<PendingPoll>
     ensures taken { TakesOut (has_id id) polls.old.items result polls.new.items }
     ensures apart { AreApart polls.old.items → AreApart polls.new.items }
@@ -83,7 +83,7 @@ pub fn take_by_id(polls: &mut Table, id: u16) -> Option<PendingPoll>
     }
 }
 
-// Takes out the poll whose outcome is owed first.
+// Removes and returns the next poll that has timed out, or else that the end of the session loses.
 pub fn take_owed(polls: &mut Table, ending: Option<LostCause>, moment: u64) -> Option<SettledPoll>
     ensures told { TellsOwed moment ending polls.old.items result polls.new.items }
     ensures by_itself { (frame : Option (List ℕ)) → CanTell result frame }
@@ -109,7 +109,7 @@ pub fn take_owed(polls: &mut Table, ending: Option<LostCause>, moment: u64) -> O
     }
 }
 
-// Takes out the poll that the reader's frame settles.
+// Removes and returns the poll that the reader's frame settles.
 fn take_framed(reader: &FrameReader, polls: &mut Table) -> Option<PendingPoll>
     requires buffered { IsSome reader.now.frame }
     requires apart { AreApart polls.old.items }
@@ -124,7 +124,7 @@ fn take_framed(reader: &FrameReader, polls: &mut Table) -> Option<PendingPoll>
     take_by_id(polls, frame.tid)
 }
 
-/// How far a piece was taken.
+/// The result of feeding a piece: the bytes taken, and the poll that a frame settles.
 #[derive(Drop)]
 pub struct Found {
     pub taken: usize,
@@ -132,7 +132,7 @@ pub struct Found {
     pub poll: Option<PendingPoll>,
 }
 
-// Feeds the piece up to the first frame that settles a poll, and takes that poll out.
+// Feeds the piece up to the first frame that settles a poll, and removes that poll.
 pub fn feed_until(reader: &mut FrameReader, polls: &mut Table, piece: &[u8]) -> Found
     requires { AreApart polls.old.items }
     ensures apart { AreApart polls.new.items }

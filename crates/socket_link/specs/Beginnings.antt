@@ -1,22 +1,24 @@
--- Links that were just made.
+-- New links.
 use Rattle.std.specs.Prelude.{◌≡◌, ℕ, None}
 use Rattle.socket_link.specs.declared.counts.Counts.{Counts}
 use Rattle.socket_link.specs.declared.deadline_link.DeadlineLink.{DeadlineLink}
 use Rattle.socket_link.specs.declared.socket.SocketLink.{SocketLink}
 
--- the last moment at which a link in haste works
+-- The deadline of a link: the last time at which its calls work.
 abbrev pub until_of : {L C : Type 0} → DeadlineLink L C → ℕ
 until_of link = link.until
 
--- no call was made yet
+-- No call was made yet.
 pub record CountsNothing (counts : Counts) : Type 0 where
   pub failures : counts.failures ≡ 0
   pub takes : counts.takes ≡ 0
   pub ends : counts.ends ≡ 0
   pub last : counts.last ≡ None
 
+-- A socket's link that has made no call yet.
 abbrev pub IsFresh : {S : Type 0} → SocketLink S → Type 0
 IsFresh link = CountsNothing link.counts
 
+-- A link with a deadline that has made no call yet.
 abbrev pub IsFreshHaste : {L C : Type 0} → DeadlineLink L C → Type 0
 IsFreshHaste link = CountsNothing link.counts

@@ -6,15 +6,15 @@ pub trait Clock {
     ghost use Rattle.std.specs.Prelude.{ℕ, List, Option, None};
     ghost use Rattle.socket_link.specs.Clocks.{TellsMoment};
 
-    // The moments that it will tell from here on, where they are known.
+    // The times that the clock will return, if they are known.
     ghost moments: { Self → Option (List ℕ) } = { λ _. None };
 
-    /// The moment. One that can't be read is told as 0.
+    /// Returns the current time, or 0 if the clock cannot be read.
     fn now(&mut self) -> u64
         ensures { TellsMoment (moments self.old) (moments self.new) result };
 }
 
-/// The clock of the system, which may be set back.
+/// The system's clock. It may be set back.
 #[derive(Drop)]
 pub struct SystemClock<R: std::rt::Clock + Drop> {
     rt: R,
@@ -38,8 +38,8 @@ impl<R: std::rt::Clock + Drop> Clock for SystemClock<R> {
     }
 }
 
-/// A clock that tells the moments of a list, one after the other, and then the last of them again and again. Where there
-/// is none it tells 0.
+/// A clock that returns the times of a list in order, and then its last time again and again. If
+/// the list is empty, it returns 0.
 #[derive(Drop)]
 pub struct FixedClock<'a> {
     moments: &'a [u64],

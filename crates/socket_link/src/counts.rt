@@ -1,11 +1,12 @@
-//! What a link counts of its calls.
+//! The counts that a link keeps of its calls.
 ghost use Rattle.std.specs.Prelude.{◌≡◌, is_err, true, Some};
 ghost use Rattle.mb_wire.specs.Links.{is_end, is_failed_give, risen};
 ghost use Rattle.socket_link.specs.Beginnings.{CountsNothing};
 
 use mb_wire::{LastTake, LinkFailed, Took};
 
-/// The calls that failed, the takes, those that came to the end, and the last take. The counts stay at 2^64 - 1.
+/// The numbers of failed calls, of reads and of reads that found the end, and the last read. The
+/// numbers saturate at 2^64 - 1.
 #[derive(Drop)]
 pub struct Counts {
     pub failures: u64,
@@ -26,7 +27,7 @@ impl Counts {
         }
     }
 
-    /// Counts a take that had so much room.
+    /// Counts a read into a buffer of `room` bytes.
     pub fn take(&mut self, room: usize, answer: Result<Took, LinkFailed>)
         ensures failures { self.new.failures ≡ risen (is_err answer) self.old.failures }
         ensures takes { self.new.takes ≡ risen true self.old.takes }
@@ -42,7 +43,7 @@ impl Counts {
         self.last = Some(LastTake { room, answer });
     }
 
-    /// Counts a give of these bytes.
+    /// Counts a write of these bytes.
     pub fn give(&mut self, bytes: &[u8], answer: Result<usize, LinkFailed>)
         ensures failures { self.new.failures ≡
             risen (is_failed_give answer bytes.now) self.old.failures }

@@ -1,9 +1,10 @@
-//! A link that has only so much time.
+//! A link with a deadline.
 use crate::clock::Clock;
 use crate::counts::Counts;
 use mb_wire::{LastTake, Link, LinkFailed, Took};
 
-/// A link whose calls fail once a clock has passed a moment. That they ask the clock is tested, not proved.
+/// A link whose calls fail after a given time. That each call reads the clock is tested, not
+/// proved.
 #[derive(Drop)]
 pub struct DeadlineLink<'l, L: Link, C: Clock> {
     link: &'l mut L,
@@ -17,7 +18,7 @@ impl<'l, L: Link, C: Clock> DeadlineLink<'l, L, C> {
     ghost use Rattle.socket_link.specs.Beginnings.{IsFreshHaste, until_of};
     ghost use Rattle.socket_link.specs.Clocks.{TellsLate};
 
-    /// A link that works while the clock tells no moment past `until`.
+    /// Creates a link that works until the clock passes `until`, in the clock's seconds.
     pub fn new(link: &'l mut L, clock: &'l mut C, until: u64) -> DeadlineLink<'l, L, C>
         ensures until { until_of result ≡ until }
         ensures fresh { IsFreshHaste result }
@@ -30,7 +31,7 @@ impl<'l, L: Link, C: Clock> DeadlineLink<'l, L, C> {
         }
     }
 
-    // Whether the clock has passed the moment.
+    // Returns whether the clock has passed the deadline.
     fn is_late(&mut self) -> bool
         ensures late { IfSome (C.moments self.old.clock.now) (TellsLate self.old.until result) }
         ensures link { self.new.link.now ≡ self.old.link.now }

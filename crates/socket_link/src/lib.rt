@@ -1,4 +1,4 @@
-//! Links over sockets, and clocks.
+//! Links over sockets, links with a deadline, and clocks.
 #![tactic(auto)]
 
 mod clock;

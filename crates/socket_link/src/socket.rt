@@ -7,8 +7,10 @@ use std::io::{self, ErrorKind, Read, Write};
 use std::net::{OpenStream, Shutdown};
 use std::time::Duration;
 
-/// A link over a socket. A take waits so long at most as the link was made with, a second by `new`, and is idle then; so does
-/// a give, and has failed then. A take or a give that was interrupted has failed too.
+/// A link over a socket. `new` sets a timeout of one second, `waiting` sets the caller's.
+///
+/// A read that times out returns `Took::Idle`. A write that times out fails, as does any call
+/// that a signal interrupts.
 #[derive(Drop)]
 pub struct SocketLink<S: Drop> {
     stream: S,
@@ -19,14 +21,16 @@ impl<S: Read + Write + OpenStream + Drop> SocketLink<S> {
     ghost use Rattle.std.specs.Prelude.{IfOk};
     ghost use Rattle.socket_link.specs.Beginnings.{IsFresh};
 
-    /// A link over a socket that is connected, whose timeouts it sets.
+    /// Creates a link over a connected socket, and sets the socket's read and write timeouts to one
+    /// second.
     pub fn new(stream: S) -> io::Result<SocketLink<S>>
         ensures { IfOk result IsFresh }
     {
         SocketLink::waiting(stream, Duration::from_secs(1))
     }
 
-    /// The same, but a take and a give wait so long at most.
+    /// Creates a link over a connected socket, and sets the socket's read and write timeouts to
+    /// `wait`.
     pub fn waiting(stream: S, wait: Duration) -> io::Result<SocketLink<S>>
         ensures { IfOk result IsFresh }
     {
@@ -38,9 +42,11 @@ impl<S: Read + Write + OpenStream + Drop> SocketLink<S> {
         })
     }
 
-    /// Ends a connection of which the peer may still send what nobody wants: says that nothing more is given, and then drops
-    /// what comes, up to the end, a second without anything, or ten pieces. A socket that is closed with bytes unread is
-    /// reset, and the peer may then lose what it was given.
+    /// Closes a connection on which the peer may still send unwanted bytes.
+    ///
+    /// Shuts down the sending side, and then discards input: until its end, until a read times out,
+    /// or ten reads. Closing a socket with unread bytes resets it, and the peer may then lose what
+    /// was sent to it.
     pub fn end(mut self) {
         if self.stream.shutdown(Shutdown::Write).is_err() {
             return;
@@ -58,7 +64,7 @@ impl<S: Read + Write + OpenStream + Drop> SocketLink<S> {
 impl<S: Read + Write + Drop> SocketLink<S> {
     ghost use Rattle.mb_wire.specs.Links.{TakesAtMost};
 
-    // What a read brought. A read of nothing with room for something is the end.
+    // Reads once. A read of 0 bytes means the end of the input.
     fn read(&mut self, piece: &mut [u8]) -> Result<Took, LinkFailed>
         ensures bound { TakesAtMost result piece.new }
         ensures counts { self.new.counts ≡ self.old.counts }

@@ -1,4 +1,4 @@
--- How long a connection is served, as a number.
+-- The most turns of a connection, as a number.
 use Rattle.std.proofs.Common.{◌≡◌, refl}
 use Rattle.mb_device.specs.declared.stand_in.connections.TheConstants.{MOST_TURNS}
 

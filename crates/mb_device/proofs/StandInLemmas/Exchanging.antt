@@ -1,4 +1,4 @@
--- What a device holds after turns of its stand-in.
+-- The register map after turns of a simulated device.
 use Rattle.std.proofs.Common.{◌≡◌, ◌∙◌, ◌++◌, ℕ, List, [], ◌∷◌, Option, refl, ap, sym}
 use Rattle.std.specs.Prelude.{Ok, Err, true, false}
 use Rattle.std.specs.declared.result.Result.{Result}

@@ -1,4 +1,4 @@
--- What a stand-in does on a connection.
+-- What a simulated device does on a connection.
 use Rattle.std.specs.Prelude.{ℕ, List, []}
 use Rattle.std.specs.declared.result.Result.{Result}
 use Rattle.mb_device.specs.Server.{Around, Serves, Standing}
@@ -6,7 +6,7 @@ use Rattle.mb_device.specs.Tricks.{begun}
 use Rattle.mb_device.specs.declared.server.ServeFault.{ServeFault}
 use Rattle.mb_device.specs.declared.trick.Trick.{Trick}
 
--- A server that has taken nothing yet serves the connection, and plays these tricks on its answers.
+-- A new server serves the connection, and plays these tricks on its responses.
 pub record ServesSome (tricks : List (ℕ × Trick)) (result : Result ℕ ServeFault)
     (old new : Around) : Type 0 where
   pub left : Standing

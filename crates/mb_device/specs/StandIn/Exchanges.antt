@@ -1,8 +1,8 @@
--- What a stand-in's device holds after it was sent frames.
+-- The register map of a simulated device after a connection.
 use Rattle.std.specs.Prelude.{◌≡◌, ℕ, List}
 use Rattle.mb_device.specs.Maps.{Maps}
 use Rattle.mb_device.specs.Server.{maps_after_all}
 
--- it has carried out some frames
+-- The device has executed some frames.
 abbrev pub Exchanged : (old new : Maps) → Type 0
 Exchanged old new = (frames : List (List ℕ)) × (new ≡ maps_after_all old frames)

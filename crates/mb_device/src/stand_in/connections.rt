@@ -1,4 +1,4 @@
-//! Connections, one after the other.
+//! Connections to a simulated device, one after another.
 ghost use Rattle.std.specs.Prelude.{◌≤◌, ◌+◌};
 ghost use Rattle.mb_device.specs.Server.{around};
 ghost use Rattle.mb_device.specs.StandIn.Connections.{ServesSome};
@@ -10,11 +10,11 @@ use socket_link::SocketLink;
 use std::io::{self, Read, Write};
 use std::net::{OpenListener, OpenStream};
 
-/// How many turns a connection may have; a turn waits for a second at most.
+/// The most turns of one connection. A turn waits at most one second for input.
 pub const MOST_TURNS: u32 = 100_000;
 
-/// Answers what comes over a link to its end, in at most `MOST_TURNS` turns, and says how many frames were answered, those
-/// included that a trick dropped, buffered or cut off.
+/// Responds on a link until its input ends, in at most `MOST_TURNS` turns. Returns the number of
+/// executed frames, with those whose response a trick dropped, buffered or cut off.
 pub fn answer_one<L: Link>(
     link: &mut L,
     bank: &mut Bank,
@@ -29,7 +29,7 @@ pub fn answer_one<L: Link>(
     server.serve(link, bank, MOST_TURNS)
 }
 
-// Answers on one connection. Whatever goes wrong on it ends it alone.
+// Responds on one connection. Any failure ends only this connection.
 fn answer_stream<S: Read + Write + OpenStream + Drop>(
     stream: S,
     bank: &mut Bank,
@@ -44,9 +44,11 @@ fn answer_stream<S: Read + Write + OpenStream + Drop>(
     let _answered = answer_one(&mut link, bank, tricks);
 }
 
-/// Answers on so many connections, one after the other; on each the tricks begin anew, and the bank stays as the one
-/// before left it. What goes wrong on a connection ends that one alone. A peer that stays silent holds its connection for
-/// `MOST_TURNS` seconds at most. A listener that fails ends it all.
+/// Accepts `connections` connections, one after another, and responds on each.
+///
+/// The tricks begin again on each connection; the register map keeps its values. A failure of a
+/// connection ends only that connection. A client that sends nothing keeps its connection for at
+/// most `MOST_TURNS` seconds. If the listener fails, the call returns its error.
 pub fn answer_all<L: OpenListener>(
     listener: &L,
     connections: u32,

@@ -1,4 +1,4 @@
--- What files tell together of a meter that is carried from each into the next.
+-- What files report together of a meter that continues from each into the next.
 use Rattle.std.proofs.Common.{◌≡◌, ℕ, ◌+◌, ◌≤◌, false, List, [], ◌∷◌, ◌++◌, map, refl, sym, ap, subst, ◌∙◌, arith}
 use Rattle.energy_core.specs.declared.entries.Entry.{Entry}
 use Rattle.energy_core.specs.declared.entries.Last.{Last}
@@ -24,7 +24,7 @@ use Rattle.meter_audit.proofs.CarriedLemmas.Fitting.{carried_journals_fit, ended
 use Rattle.meter_audit.proofs.CarriedLemmas.Over.{well_carried}
 use Rattle.meter_audit.proofs.CarriedLemmas.Quarters.{carries_go_on}
 
--- Tables tell what entries that were made one after the other come to, with no void among them.
+-- Tables report what consecutive entries give, without voids.
 record AreEntered (meter : Installed) (tables : Tables) : Type 0 where
   pub rows : List EntryRow
   pub fit : AreFitting meter (entering rows)
@@ -33,7 +33,7 @@ record AreEntered (meter : Installed) (tables : Tables) : Type 0 where
   pub intervals : tables.intervals ≡ interval_rows meter (entering rows)
   pub ended : tables.ended ≡ has_closing (entering rows)
 
--- So do those of one file that is fine.
+-- The tables of one fine file do.
 fine_entered : (meter : Installed) (tables : Tables) → AreFine meter tables → AreEntered meter tables
 fine_entered meter tables fine =
     let alone = fitting_rows_stand_alone meter fine.rows fine.fit in
@@ -57,7 +57,7 @@ entering_both : (new old : List EntryRow) → entering new ++ entering old ≡ e
 entering_both [] old = refl
 entering_both (row ∷ new) old = ap (λ (lines : Journal). Entered row.kind row.entry ∷ lines) (entering_both new old)
 
--- each entry adds to the energy, so what stays within at the end does so before
+-- Each entry adds to the energy, so what is within the limit at the end is within it before.
 within : (meter : Installed) (lines : Journal) (rows : List EntryRow) → IsWellInstalled (carried meter lines)
     → AreFitting (carried meter lines) (entering rows)
     → total_in meter lines + total_in (carried meter lines) (entering rows) ≤ MAX_TOTAL
@@ -71,7 +71,7 @@ within meter lines (row ∷ rows) well fit le =
           (omega (arith, le, whole_with now row.entry (entries_of now.opening (entering rows)) follow)),
     )
 
--- ---- one file more
+-- ---- one more file
 
 same_meter : (m n : Installed) → m.range ≡ n.range → m.ceiling ≡ n.ceiling → m.opening ≡ n.opening → m ≡ n
 same_meter m n range ceiling opening =
@@ -124,13 +124,13 @@ one_more meter old new well before unended range ceiling opening h le =
     joined_entered meter old new.tables before.rows there.rows well before.fit before.total before.intervals before.ended unended
     there.fit there.last there.total there.intervals there.ended le
 
--- ---- all of them
+-- ---- all files
 
 total_grows : (old : Tables) (later : List InFile) → old.total ≤ (told_by_all old later).total
 total_grows old [] = omega arith
 total_grows old (new ∷ later) = omega (arith, total_grows (told_by_both old new.tables) later)
 
--- They were told so far, and the last of them left the meter as that file says.
+-- The files so far are reported, and the last of them left the meter as that file says.
 all_entered : (meter : Installed) (so_far : Tables) (old : InFile) (later : List InFile) → IsWellInstalled meter
     → AreEntered meter so_far → so_far.last ≡ old.tables.last → so_far.ended ≡ old.tables.ended
     → old.meter.range ≡ meter.range → old.meter.ceiling ≡ meter.ceiling

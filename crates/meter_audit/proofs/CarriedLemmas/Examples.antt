@@ -17,7 +17,7 @@ use Rattle.meter_audit.specs.CarriedFiles.{GoesOnAs, InFile, told_by_all}
 use Rattle.meter_audit.specs.Fitting.{Tables, tables_of}
 use Rattle.meter_audit.proofs.CarriedLemmas.Fitting.{carried_journals_fit}
 
--- of a counter of 32 bits that counts Wh, at no more than 100 kW
+-- A meter with a counter of 32 bits that counts Wh, at most 100 kW.
 abbrev installed : (at raw : ℕ) → Installed
 installed at raw = record { range = 4294967296; ceiling = 100000; opening = record { at = at; raw = raw; sf = pos 0 } }
 
@@ -33,7 +33,7 @@ share start mwh = record { start = start; mwh = mwh }
 abbrev house : Installed
 house = installed 1000 5000
 
--- The last entry of the old file, at 2550, was voided; so the meter is carried at 2500.
+-- The last entry of the old file, at 2550, was voided; so the meter continues from 2500.
 abbrev old : Journal
 old = Voided 4 ∷ read 2550 5305 ∷ read 2500 5300 ∷ read 1900 5200 ∷ []
 
@@ -55,7 +55,8 @@ old_fits = (
 carried_at_2500 : carried house old ≡ installed 2500 5300
 carried_at_2500 = refl
 
--- In the new file two readings, the first in the quarter hour from 1800, in which the meter was carried.
+-- Two readings in the new file, the first in the quarter hour from 1800, in which the files
+-- changed.
 abbrev new : Journal
 new = read 3600 5400 ∷ read 2600 5310 ∷ []
 
@@ -71,7 +72,7 @@ new_intervals : interval_rows (installed 2500 5300) new ≡ share 1800 19000 ∷
 unfolding unit_of
 new_intervals = refl
 
--- the quarter hour from 1800 has the energy of both files
+-- The quarter hour from 1800 has the energy of both files.
 intervals_of_both : interval_rows house (joined_journal old new) ≡ share 900 177777 ∷ share 1800 141223 ∷ share 2700 81000 ∷ []
 unfolding unit_of
 intervals_of_both = refl
@@ -80,12 +81,12 @@ total_of_both : total_in house (joined_journal old new) ≡ 400000
 unfolding unit_of
 total_of_both = refl
 
--- Place 2 of the new file is place 5 of both: three entries were made in the old one.
+-- Number 2 of the new file is number 5 of both: the old one has three entries.
 void_of_both : joined_journal old (Voided 2 ∷ new)
     ≡ Voided 5 ∷ read 3600 5400 ∷ read 2600 5310 ∷ Voided 4 ∷ read 2550 5305 ∷ read 2500 5300 ∷ read 1900 5200 ∷ []
 void_of_both = refl
 
--- it is lawful in the new file, and so in the journal of both
+-- The void is lawful in the new file, and so in the journal of both.
 void_fits : AreFitting (installed 2500 5300) (Voided 2 ∷ new)
 unfolding unit_of
 void_fits = (
@@ -108,7 +109,7 @@ well_installed = record { raw = omega arith; scale = (grind (arith, ints), grind
 void_of_both_fits : AreFitting house (joined_journal old (Voided 2 ∷ new))
 void_of_both_fits = carried_journals_fit house old (Voided 2 ∷ new) well_installed old_fits refl void_fits stays_within
 
--- the step from 2500 to 3600 instead of two
+-- One step from 2500 to 3600 instead of two.
 void_intervals : interval_rows house (joined_journal old (Voided 2 ∷ new)) ≡ share 900 177777 ∷ share 1800 140404 ∷ share 2700 81819 ∷ []
 unfolding unit_of
 void_intervals = refl
@@ -133,7 +134,7 @@ second_goes_on = record { unended = refl; range = refl; ceiling = refl; opening 
 third_goes_on : GoesOnAs second.meter second.tables.last second.tables.ended third.meter
 third_goes_on = record { unended = refl; range = refl; ceiling = refl; opening = refl }
 
--- one file is left out
+-- One file is left out.
 third_not_after_first : GoesOnAs house first.tables.last first.tables.ended third.meter → ⊥
 third_not_after_first h = let at : 3600 ≡ 2500 = ap (λ (l : Last). l.at) h.opening in omega (arith, at)
 
@@ -144,11 +145,11 @@ three_total : told_by_three.total ≡ 500000
 unfolding unit_of
 three_total = refl
 
--- The meter is carried in the quarter hour from 1800, and at the end of another one.
+-- The files change in the quarter hour from 1800, and at the end of another one.
 three_intervals : told_by_three.intervals ≡ share 900 177777 ∷ share 1800 141223 ∷ share 2700 81000 ∷ share 3600 100000 ∷ []
 unfolding unit_of
 three_intervals = refl
 
--- the openings of the later files are no entries
+-- The openings of the later files are no entries.
 three_places : map (λ (told : TableRow). told.place) told_by_three.entries ≡ 6 ∷ 5 ∷ 4 ∷ 3 ∷ 2 ∷ 1 ∷ []
 three_places = refl

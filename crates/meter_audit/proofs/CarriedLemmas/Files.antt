@@ -1,4 +1,4 @@
--- The tables of two files, of a meter that is carried from the one into the other.
+-- The tables of two files, of a meter that continues from the old file into the new one.
 use Rattle.std.proofs.Common.{◌≡◌, ℕ, ◌+◌, ◌-◌, ◌<◌, Bool, true, false, cond, List, [], ◌∷◌, ◌++◌, map, take, length, append_assoc, refl, sym, ap, subst, ◌∙◌, arith}
 use Rattle.std.specs.Prelude.{ℤ}
 use Rattle.std.proofs.lemmas.List.{length-append}
@@ -29,13 +29,13 @@ use Rattle.meter_audit.proofs.CarriedLemmas.Fitting.{HasRoom, fits_over}
 use Rattle.meter_audit.proofs.CarriedLemmas.Over.{left_by, last_over, follow_over, steps_over, total_over, entries_over, place_over}
 use Rattle.meter_audit.proofs.CarriedLemmas.Quarters.{rows_of_both, counted_once}
 
--- the meter is well installed in the new file
+-- The meter is well installed in the new file.
 well_from : (meter : Installed) (old : List EntryRow) → IsWellInstalled meter → AllFit meter old → IsWellInstalled (carried_from meter old)
 well_from meter old well h =
     let sound = accounts_are_sound meter.range meter.opening (entries_in old) _ _ well.raw well.scale (fitting_account meter old well h) in
     record { raw = sound.raw; scale = sound.scale }
 
--- ---- what the tables tell
+-- ---- what the tables report
 
 scale_over : (meter : Installed) (count : ℕ) (rows old : List EntryRow)
     → scale_after meter (map (moved_row count) rows ++ old) ≡ scale_after (carried_from meter old) rows

@@ -41,7 +41,7 @@ use Rattle.meter_audit.proofs.CarriedLemmas.Over.{left_by, last_over, total_over
 abbrev pub terms_of : Installed → (total : ℕ) → Terms
 terms_of meter total = record { ceiling = meter.ceiling; total = total }
 
--- the energy of the joined journal with one more entry
+-- The energy of the journal of both with one more entry.
 abbrev pub HasRoom : Installed → (es old : List Entry) → Entry → Type 0
 HasRoom meter es old e = total_after meter (es ++ old) + energy_of meter.range (last_after (left_by meter old) es) e ≤ 4 * 10 ^ 18
 
@@ -109,7 +109,7 @@ fits_over meter es old kind.Closing (entry.Change at before new sf) under room h
 fits_over meter es old kind.Reset (entry.Step at raw rolls) under room h = absurd h
 fits_over meter es old kind.Rescale (entry.Step at raw rolls) under room h = absurd h
 
--- ---- readings that are held
+-- ---- rejected readings
 
 abbrev pub before_full : List Cause
 before_full = cause.NotAccumulated ∷ cause.ScaleChanged ∷ cause.NotBelowRange ∷ cause.NotLater
@@ -127,7 +127,7 @@ held_still range last reading None false fuller c up h = absurd (cc)
 fuller_too : (limit total more step : ℕ) → total ≤ more → nat_lt limit (total + step) ≡ true → nat_lt limit (more + step) ≡ true
 fuller_too limit total more step le h = grind (arith, nat_tests, le, h)
 
--- where the energy is greater, a reading is held for the same cause
+-- With more energy, a reading is rejected for the same cause.
 held_more : (range ceiling total more : ℕ) (last : Last) (reading : Reading) (c : Cause) → total ≤ more
     → verdict_of range (record { ceiling = ceiling; total = total }) last reading ≡ verdict.Held c
     → verdict_of range (record { ceiling = ceiling; total = more }) last reading ≡ verdict.Held c
@@ -149,7 +149,7 @@ held_over meter es old reading c le h =
     (held_more meter.range meter.ceiling (total_after (left_by meter old) es) (total_after meter (es ++ old)) (last_after (left_by meter old) es)
     reading c le h)
 
--- ---- what a void leaves after the entries before it
+-- ---- the rows after a void, after the entries before them
 
 abbrev LeavesNext : Last → (place : ℕ) → List EntryRow → Around → Option EntryRow → Type 0
 LeavesNext opening place rows a None = entries_in (with_void opening place rows) ≡ entries_in a.before
@@ -204,7 +204,7 @@ leaves_next opening place (row ∷ rows) a there =
           (one_later opening place row rows found.0 found.0.next row.stands refl off (leaves_next opening place rows found.0 found.1))
     ]
 
--- later entries take no energy away
+-- Later entries never lower the energy.
 grows : (meter : Installed) (later es : List Entry) → AllFollow meter.range meter.opening (later ++ es)
     → (total_after meter es ≤ total_after meter (later ++ es)) × AllFollow meter.range meter.opening es
 grows meter [] es h = (omega arith, h)
@@ -262,7 +262,8 @@ rolled_entry l n at raw rolls on reading is =
 reads : (k : EntryKind) (e : Entry) → is_read k e ≡ true → is_reading k ≡ true
 reads k e h = by_read (λ k e. is_reading k ≡ true) (λ at raw rolls. refl) k e h
 
--- the next entry is plausible in the joined journal too, since its energy without the voided one stays within
+-- The next entry is plausible in the journal of both too, since its energy without the voided one
+-- stays within the limit.
 plausible_over : (meter : Installed) (es old : List Entry) (n : EntryRow) (e : Entry) (later : List Entry) (whole : ℕ)
     → n.entry ≡ e → n.stands ≡ true → is_reading n.kind ≡ true
     → AllFollow meter.range (last_after meter old) (later ++ (rolled (last_after (left_by meter old) es) n).entry ∷ es)

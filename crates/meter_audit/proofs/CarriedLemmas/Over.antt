@@ -1,4 +1,4 @@
--- The rows and entries of a journal that goes on in another file.
+-- The rows and entries of a journal that continues in another file.
 use Rattle.std.proofs.Common.{◌≡◌, ℕ, ◌+◌, ◌==◌, true, false, ◌&&◌, List, [], ◌∷◌, ◌++◌, map, length, Some, refl, sym, ap, subst, ◌∙◌, inl, inr, arith, eq-eqb}
 use Rattle.std.proofs.lemmas.Bool.{cases_Bool, cond-true, cond-false, eqb-true}
 use Rattle.std.proofs.lemmas.Bool.Decides.{nat_tests}
@@ -18,7 +18,7 @@ use Rattle.meter_audit.specs.Carried.{carried, moved_line, moved_row}
 
 -- ---- entries after others
 
--- the meter where these entries leave it
+-- The meter after these entries.
 abbrev pub left_by : Installed → List Entry → Installed
 left_by meter old = record { range = meter.range; ceiling = meter.ceiling; opening = last_after meter old }
 

@@ -1,4 +1,4 @@
--- The interval rows of a journal that goes on in another file.
+-- The interval rows of a journal that continues in another file.
 use Rattle.std.proofs.Common.{◌≡◌, ℕ, ◌+◌, ◌==◌, Bool, true, false, cond, ◌||◌, List, [], ◌∷◌, ◌++◌, refl, sym, ap, subst, ◌∙◌, arith, eq-eqb}
 use Rattle.std.specs.Prelude.{ℤ, filter}
 use Rattle.std.specs.List.{list_any}
@@ -28,7 +28,7 @@ use Rattle.meter_journal.proofs.Merging.{rows_are_accounts}
 use Rattle.meter_audit.specs.Carried.{carried, joined_journal, AreCountedOnce, CarriesGoOn, CarriesCountOnce}
 use Rattle.meter_audit.proofs.CarriedLemmas.Over.{last_over, follow_over, steps_over, total_over, rows_over, entries_of_both, well_carried}
 
--- ---- rows after rows, and again after these
+-- ---- rows after rows, and others after these
 
 abbrev one_of : Share → Share → Share
 one_of row share = record { start = row.start; mwh = row.mwh + share.mwh }
@@ -45,7 +45,7 @@ same_rows s m n rows is = ap (λ x. let r : Share = record { start = s; mwh = x 
 through : (x y z : ℕ) (c : Bool) → x == y ≡ true → y == z ≡ c → x == z ≡ c
 through x y z c at is = ap (λ n. n == z) (eqb-true x y at) ∙ is
 
--- three rows
+-- Three rows.
 three : (x y z : Share) (zs : List Share) (b c : Bool) → x.start == y.start ≡ b → y.start == z.start ≡ c
     → with_shares (cond b (one_of x y ∷ []) (x ∷ y ∷ [])) (z ∷ zs) ≡ joined x (cond c (one_of y z ∷ zs) (y ∷ z ∷ zs))
 three x y z zs true true at next =
@@ -55,7 +55,7 @@ three x y z zs true false at next = cond-false _ _ _ (through x.start y.start z.
 three x y z zs false true off next = ap (λ rs. x ∷ rs) (cond-true _ _ _ next) ∙ sym (cond-false _ _ _ off)
 three x y z zs false false off next = ap (λ rs. x ∷ rs) (cond-false _ _ _ next) ∙ sym (cond-false _ _ _ off)
 
--- a row, and two more at least
+-- A row, and at least two more.
 longer : (x y next : Share) (ys zs : List Share) (b : Bool) → x.start == y.start ≡ b
     → with_shares (cond b (one_of x y ∷ next ∷ ys) (x ∷ y ∷ next ∷ ys)) zs ≡ joined x (y ∷ with_shares (next ∷ ys) zs)
 longer x y next ys zs true at = sym (cond-true _ _ _ at)
@@ -91,13 +91,13 @@ rows_of_both (step ∷ steps) old =
 abbrev pub passing : (ℕ → Bool) → List Share → List Share
 passing f rows = filter (λ (row : Share). f row.start) rows
 
--- the same energy, and the same starts, each counted once
+-- The same energy, and the same starts, each counted once.
 pub record CountTheSame (f : ℕ → Bool) (xs ys : List Share) : Type 0 where
   pub energy : energy_of (passing f xs) ≡ energy_of (passing f ys)
   pub any : (p : ℕ → Bool) → list_any p (starts_of (passing f xs)) ≡ list_any p (starts_of (passing f ys))
   pub count : distinct_count (starts_of (passing f xs)) ≡ distinct_count (starts_of (passing f ys))
 
--- of the rows that pass
+-- The same for the rows that pass.
 abbrev Counts : (xs ys : List Share) → Type 0
 Counts xs ys = (energy_of xs ≡ energy_of ys)
     × ((p : ℕ → Bool) → list_any p (starts_of xs) ≡ list_any p (starts_of ys))
@@ -112,7 +112,7 @@ counted f xs ys h = record { energy = h.0; any = h.1; count = h.2 }
 count_same : (f : ℕ → Bool) (xs : List Share) → CountTheSame f xs xs
 count_same f xs = record { energy = refl; any = λ p. refl; count = refl }
 
--- one more row before both
+-- One more row before both.
 one_before : (row : Share) (xs ys : List Share) → Counts xs ys → Counts (row ∷ xs) (row ∷ ys)
 one_before row xs ys h =
     let mwh : Share → ℕ = λ r. r.mwh in (
@@ -146,7 +146,7 @@ one_less : (b : Bool) (n : ℕ) → b ≡ true → n ≡ cond b 0 1 + n
 one_less true n h = omega arith
 one_less false n h = absurd (let f : false ≡ true = h in cc)
 
--- two rows of the same quarter hour, and the one that they make
+-- Two rows of the same quarter hour, and the row that they become.
 two_are_one : (s m n : ℕ) (rows : List Share) → Counts (share_from s (m + n) ∷ rows) (share_from s m ∷ share_from s n ∷ rows)
 two_are_one s m n rows =
     let mwh : Share → ℕ = λ r. r.mwh in
@@ -183,7 +183,7 @@ seam f row share shares true at =
     (seam_from f row.start row.mwh share.mwh shares (f row.start) refl)
 seam f row share shares false off = count_same f (row ∷ share ∷ shares)
 
--- rows after rows count as both lists do
+-- Rows after rows count like both lists.
 pub both_count : (f : ℕ → Bool) (rows shares : List Share) → CountTheSame f (with_shares rows shares) (rows ++ shares)
 both_count f [] shares = count_same f shares
 both_count f (row ∷ []) [] = count_same f (row ∷ [])

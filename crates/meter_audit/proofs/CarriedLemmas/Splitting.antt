@@ -1,4 +1,4 @@
--- What comes later than the entries of a journal fits in a file into which the meter is carried.
+-- Lines after the entries of a journal fit in a file in which the meter continues.
 use Rattle.std.proofs.Common.{◌≡◌, ◌≢◌, ℕ, ◌+◌, ◌-◌, ◌<◌, ◌≤◌, ◌==◌, Bool, true, false, cond, List, [], ◌∷◌, ◌++◌, map, length, Option, Some, None, Ok, refl, sym, ap, subst, ◌∙◌, inl, inr, arith}
 use Rattle.std.specs.List.{find}
 use Rattle.std.specs.Option.{option_map, option_or}
@@ -37,7 +37,7 @@ use Rattle.meter_audit.proofs.CarriedLemmas.Over.{left_by, last_over, total_over
 
 -- ---- with less energy
 
--- the joined journal has no less energy than the new file
+-- The journal of both files has at least the energy of the new file.
 abbrev HasMore : Installed → (es old : List Entry) → Type 0
 HasMore meter es old = total_after (left_by meter old) es ≤ total_after meter (es ++ old)
 
@@ -132,7 +132,7 @@ held_there meter es old reading c other h =
 
 -- ---- voids
 
--- a later place is none of these rows'
+-- No row has a later sequence number.
 none_there : (place : ℕ) (rows : List EntryRow) → AreNumbered rows → length rows + 2 ≤ place → row_at place rows ≡ None
 none_there place [] h le = refl
 none_there place (row ∷ rows) h le =
@@ -182,7 +182,7 @@ next_there meter count before old (Some n) more h =
 
 -- ---- journals
 
--- the lines are those of a new file
+-- The lines are those of a new file.
 record IsMoved (meter : Installed) (count : ℕ) (lines later : Journal) : Type 0 where
   more : Journal
   moved : map (moved_line count) more ≡ later

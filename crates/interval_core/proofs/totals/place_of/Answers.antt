@@ -10,7 +10,7 @@ use Rattle.interval_core.proofs.OrderLemmas.{earlier-take, le_from_cmp, lt_from_
 use Rattle.interval_core.proofs.PlaceLemmas.{NotEarlier, account-at}
 use Rattle.interval_core.proofs.totals.place_of.Goals as goal
 
--- one more is not earlier
+-- One more is not earlier.
 one_more : (day : ℤ) (accounts : List DayAccount) (n : ℕ) (d : DayAccount) → n < length accounts → day ≤ℤ (get_or accounts n d).day
     → All (NotEarlier day) (drop (suc n) accounts) → All (NotEarlier day) (drop n accounts)
 one_more day accounts n d within here others =
