@@ -8,7 +8,7 @@ use Rattle.command_io.specs.declared.lines.InputLine.{InputLine}
 abbrev pub all_lines : List ℕ → List (List ℕ)
 all_lines text = map without_terminator (lines_of text)
 
--- A line to skip: an empty one, or one that begins with `#`.
+-- A line to skip: it is empty, or begins with `#`.
 abbrev pub is_silent : List ℕ → Bool
 is_silent [] = true
 is_silent (first ∷ rest) = first == 35

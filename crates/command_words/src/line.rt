@@ -108,8 +108,8 @@ pub enum CommandLine<'a> {
         dbs: Vec<&'a str>,
         seal: Sealing<'a>,
     },
-    /// Lists the SunSpec models of a live device, as models, as a point list, or as the lines that
-    /// set the device up under a name.
+    /// Scans the SunSpec models of a live device. Prints the models, a point list, or the lines
+    /// that set the device up under a name.
     Scan {
         host: &'a str,
         port: u16,
