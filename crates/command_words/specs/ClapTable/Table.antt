@@ -114,6 +114,7 @@ abbrev pub IsFound : ProgramText → List (Bor Text) → ArgMatches → Type 0
 IsFound program words found =
     subcommand_rows_of found ≡ subcommand_of (program_app program) (texts words)
 
--- The result is an error only if `clap` may report that error for these arguments.
+-- The result fits the errors that `clap` may report for these arguments: without any, it is no
+-- error.
 abbrev pub Fails : {T : Type 0} → ProgramText → List (Bor Text) → Result T Error → Type 0
 Fails program words result = FailsBy (fault_of (program_app program) (texts words)) result
