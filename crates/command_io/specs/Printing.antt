@@ -1,4 +1,4 @@
--- What a command prints.
+-- The output of a command.
 use Rattle.std.specs.Prelude.{◌≡◌, ◌≢◌, ◌⊎◌, ℕ, List, [], Option}
 use Rattle.std.specs.Io.KnownBytes.{Appends}
 use Rattle.command_io.specs.declared.printer.Printer as printers
@@ -6,21 +6,21 @@ use Rattle.command_io.specs.declared.status.ExitStatus.{ExitStatus}
 use Rattle.command_io.specs.declared.status.ExitStatus.TheVariants.{Fine, Refused, Failed}
 use Rattle.sun_points.specs.Writing.{GotPart}
 
--- Where it didn't fail, what was written is what is printed with its status.
+-- Unless the command failed, the output is what it prints with this status.
 abbrev pub PrintsAs : (Prints : List ℕ → ExitStatus → Type 0) → ExitStatus
     → (old new : Option (List ℕ)) → Type 0
 PrintsAs Prints status old new =
     status ≢ Failed → (printed : List ℕ) × Appends old new printed × Prints printed status
 
--- a text was printed
+-- The text was printed.
 abbrev pub Printed : {P : Type 0} → printers.Ghosts P → (text : List ℕ) → (old new : P) → Type 0
 Printed p text old new = Appends (p.contents old) (p.contents new) text
 
--- its printing failed, and a beginning of it was written
+-- Printing failed, after a beginning of the text was written.
 abbrev pub BrokeOff : {P : Type 0} → printers.Ghosts P → (text : List ℕ) → (old new : P) → Type 0
 BrokeOff p text old new = p.has_failed new × GotPart text (p.contents old) (p.contents new)
 
--- A text that means an end was printed; nothing, where the command had failed before.
+-- A text that means a status was printed, or nothing if the command had failed before.
 abbrev pub EndsAs : {P : Type 0} → printers.Ghosts P → (text : List ℕ) → (meant status : ExitStatus)
     → (old new : P) → Type 0
 EndsAs p text Fine Fine old new = Printed p text old new
@@ -33,8 +33,8 @@ EndsAs p text Failed Fine old new = ⊥
 EndsAs p text Failed Refused old new = ⊥
 EndsAs p text Failed Failed old new = new ≡ old
 
--- What was written is what is printed with its status. A command that failed has written nothing, or a beginning of what it
--- prints, since its printing failed.
+-- The output is what the command prints with this status. A failed command has written nothing, or
+-- a beginning of what it prints, since printing failed.
 abbrev pub PrintsOn : {P : Type 0} → printers.Ghosts P → (Prints : List ℕ → ExitStatus → Type 0)
     → ExitStatus → (old new : P) → Type 0
 PrintsOn p Prints Fine old new =
@@ -46,7 +46,7 @@ PrintsOn p Prints Failed old new =
     ⊎ ((printed : List ℕ) × (meant : ExitStatus) × BrokeOff p printed old new
     × Prints printed meant)
 
--- the same where what is printed depends on the input
+-- The same if the output depends on the input.
 abbrev pub PrintsFor : {P : Type 0} → printers.Ghosts P
     → (Prints : (input printed : List ℕ) → ExitStatus → Type 0) → ExitStatus → (old new : P)
     → (input : List ℕ) → Type 0

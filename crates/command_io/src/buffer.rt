@@ -1,15 +1,16 @@
-//! A writer that holds bytes back.
+//! A buffered writer that writes complete lines.
 ghost use Rattle.std.specs.Prelude.{◌≡◌, ◌≢◌, ◌≤◌, ◌<◌, ◌+◌, ◌-◌, ◌⊎◌, ◌++◌, [], length, drop, slice_index};
 
 use std::io::{self, ErrorKind, Write};
 
-/// How many bytes are buffered at most.
+/// The size of the buffer in bytes.
 const ROOM: usize = 8192;
 
-/// A writer that holds bytes back, at most 8,192, and gives them out once there is no room for more: up to
-/// the last line's end among them, where there is one. `flush` gives out all. No byte is lost by a write
-/// that fails: what was not written is still buffered. But for one that was interrupted, no write is made
-/// after it.
+/// A writer with a buffer of 8,192 bytes. When the buffer is full, it writes the complete lines in
+/// it, or all of it if it has no line end. `flush` writes all.
+///
+/// A failed write loses no bytes: what was not written stays in the buffer. After a failed write,
+/// other than an interrupted one, no further write is made.
 #[derive(Drop)]
 pub struct Buffered<W> {
     pub(crate) output: W,
@@ -19,7 +20,7 @@ pub struct Buffered<W> {
     ghost room: { filled ≤ 8192 },
 }
 
-// How many bytes there are up to the last line feed; all, where there is none.
+// Returns the number of bytes up to the last line feed, or all of them if there is none.
 fn lines_len(bytes: &[u8]) -> usize
     ensures within { result ≤ length bytes.now }
     ensures some { 0 < length bytes.now → 0 < result }
@@ -41,7 +42,7 @@ impl<W: Write> Buffered<W> {
     ghost use Rattle.std.specs.Io.KnownBytes.{Keeps};
     ghost use Rattle.command_io.specs.Holding.{contents_of, buffered_in, output_of};
 
-    /// Nothing is buffered yet.
+    /// Creates a writer with an empty buffer.
     pub fn new(output: W) -> Buffered<W>
         ensures output { output_of result ≡ output }
         ensures empty { buffered_in result ≡ [] }
@@ -54,7 +55,7 @@ impl<W: Write> Buffered<W> {
         }
     }
 
-    /// The writer, without what is still buffered.
+    /// Returns the inner writer. Bytes that are still in the buffer are dropped.
     pub fn into_output(self) -> W
         ensures { result ≡ output_of self }
     {
@@ -62,7 +63,7 @@ impl<W: Write> Buffered<W> {
         output
     }
 
-    // Some of the first so many bytes that are buffered are given out, by one write.
+    // Writes some of the first `end` bytes of the buffer, with one write.
     fn give(&mut self, end: usize) -> io::Result<()>
         requires some { 0 < end }
         requires within { end ≤ self.old.filled }
@@ -91,7 +92,7 @@ impl<W: Write> Buffered<W> {
         }
     }
 
-    // Holds back all but the first so many.
+    // Removes the first `count` bytes from the buffer.
     fn drop_front(&mut self, count: usize)
         requires { count ≤ self.old.filled }
         ensures output { output_of self.new ≡ output_of self.old }
@@ -102,7 +103,7 @@ impl<W: Write> Buffered<W> {
         self.filled -= count;
     }
 
-    // Holds bytes back, for which there is room.
+    // Appends bytes that fit to the buffer.
     fn hold(&mut self, bytes: &[u8])
         requires { self.old.filled + length bytes.now ≤ 8192 }
         ensures output { output_of self.new ≡ output_of self.old }
@@ -113,7 +114,7 @@ impl<W: Write> Buffered<W> {
         self.filled = end;
     }
 
-    // Makes room for one byte more, where there is not room for so many.
+    // Makes room for at least one more byte, if the buffer lacks room for `count` bytes.
     fn make_room(&mut self, count: usize) -> io::Result<()>
         ensures room { OnOk result (self.new.filled < 8192 ⊎ (count ≡ 0)) }
         ensures bytes { Keeps (contents_of W.contents self.old) (contents_of W.contents self.new) }

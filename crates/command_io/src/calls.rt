@@ -1,11 +1,11 @@
-//! A reader whose calls are counted.
+//! A reader that counts its calls.
 ghost use Rattle.std.specs.Prelude.{◌≡◌, ◌+◌, ◌<◌, false, is_err};
 ghost use Rattle.std.specs.Io.{ReadsAtMost};
 ghost use Rattle.std.specs.Io.KnownBytes.{ReadConsumes};
 
 use std::io::{self, Read};
 
-/// A reader, how many calls of it were made, and whether one failed.
+/// A reader, the number of its calls, and whether one failed.
 #[derive(Drop)]
 pub(crate) struct Calls<'r, R: Read> {
     pub(crate) input: &'r mut R,
@@ -26,7 +26,7 @@ impl<'r, R: Read> Calls<'r, R> {
         }
     }
 
-    /// One call more. None may be made after one that failed.
+    /// Calls `read` once more. No call may follow a failed one.
     pub(crate) fn read(&mut self, piece: &mut [u8]) -> io::Result<usize>
         requires few { self.old.made < 4194305 }
         requires works { self.old.failed ≡ false }

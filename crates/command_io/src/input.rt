@@ -1,4 +1,4 @@
-//! Reading a whole input.
+//! Reads a complete input.
 ghost use Rattle.std.specs.Prelude.{◌≡◌, ◌≢◌, ◌≤◌, ◌↔◌, ◌⊎◌, Err, false, true, IfOk, IfErr, length};
 ghost use Rattle.command_io.specs.Input.{AreWholeOf, BlamesLengthRightly, LeavesUnread};
 ghost use Rattle.command_io.specs.Input.{TellsTooLong, most_bytes};
@@ -12,16 +12,16 @@ use std::fmt;
 use std::fmt::{Display, Formatter};
 use std::io::Read;
 
-/// The most bytes of an input.
+/// The greatest length of an input, in bytes.
 pub const MOST_BYTES: usize = 4_194_304;
 
-/// How many bytes one call of `read` is given room for.
+/// The size of the buffer for one call of `read`, in bytes.
 const PIECE: usize = 4096;
 
-/// Why an input was not read whole.
+/// Why an input was not read completely.
 #[derive(Clone, Copy, Debug, PartialEq, Eq)]
 pub enum ReadFault {
-    /// It has more than `MOST_BYTES` bytes.
+    /// The input has more than `MOST_BYTES` bytes.
     TooLong,
     /// A call of `read` failed, or was interrupted.
     Failed,
@@ -40,8 +40,8 @@ impl Display for ReadFault {
 
 impl Error for ReadFault {}
 
-/// Reads an input to its end, by at most one call of `read` more than it may have bytes. No call is
-/// made after one that failed.
+/// Reads an input to its end, with at most `MOST_BYTES` + 1 calls of `read`. No call follows a
+/// failed one.
 pub fn read_whole<R: Read>(alloc: Global, input: &mut R) -> Result<Vec<u8>, ReadFault>
     ensures whole { IfOk result (AreWholeOf (R.remaining input.old)) }
     ensures fits { IfOk result (λ bytes. length bytes.items ≤ most_bytes) }
@@ -51,7 +51,7 @@ pub fn read_whole<R: Read>(alloc: Global, input: &mut R) -> Result<Vec<u8>, Read
     read_by(alloc, &mut calls)
 }
 
-// Reads to the end by few calls, the last of which may fail.
+// Reads to the end with a bounded number of calls. Only the last call may fail.
 fn read_by<R: Read>(alloc: Global, calls: &mut Calls<'_, R>) -> Result<Vec<u8>, ReadFault>
     requires none { calls.old.made ≡ 0 }
     requires works { calls.old.failed ≡ false }
@@ -80,8 +80,8 @@ fn read_by<R: Read>(alloc: Global, calls: &mut Calls<'_, R>) -> Result<Vec<u8>, 
     Err(ReadFault::TooLong)
 }
 
-/// Reads the input of a command whole. Of one that is too long `too long` is printed; where it is, or was
-/// not read, the command ends with the status, which is Refused or Failed.
+/// Reads the complete input of a command. If the input is too long, prints `too long`. On error the
+/// command ends with the status, which is `Refused` or `Failed`.
 pub fn read_input<R: Read, P: Printer>(
     alloc: Global,
     input: &mut R,

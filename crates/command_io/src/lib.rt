@@ -1,4 +1,4 @@
-//! What a command reads and writes, and how it ends.
+//! The input, the output and the exit status of a command.
 #![tactic(auto)]
 
 mod buffer;

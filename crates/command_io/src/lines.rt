@@ -1,19 +1,18 @@
-//! The lines of an input that say something.
+//! The lines of an input, without comments and empty lines.
 ghost use Rattle.std.specs.Prelude.{◌≡◌};
 ghost use Rattle.command_io.specs.Lines.{is_silent};
 
 use bstr::ByteSlice;
 use std::marker::Model;
 
-/// A line, without its end, and its number among all lines, the first being 1.
+/// A line, without its end, and its number among all lines, from 1.
 #[derive(Clone, Copy, Debug)]
 pub struct InputLine<'a> {
     pub number: u64,
     pub text: &'a [u8],
 }
 
-/// The lines of a text that say something, one at a time: all but empty ones and those that begin with
-/// `#`.
+/// An iterator over the lines of a text. It skips empty lines and those that begin with `#`.
 #[derive(Drop)]
 pub struct InputLines<'a> {
     lines: bstr::Lines<'a>,
@@ -45,7 +44,7 @@ impl<'a> InputLines<'a> {
         }
     }
 
-    /// The next line that says something.
+    /// Returns the next line that is not skipped.
     pub fn next_line(&mut self) -> Option<InputLine<'a>>
         ensures { MatchOption result ((self.old ≡ []) × (self.new ≡ []))
             (λ line. self.old ≡ seen_line line ∷ self.new) }

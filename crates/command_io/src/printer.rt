@@ -1,4 +1,4 @@
-//! What a command prints on, and whether that failed.
+//! The output of a command, and whether it failed.
 ghost use Rattle.std.specs.Prelude.{◌≡◌, ℕ, List, [], Option, IsOk, OnErr, ⊤};
 ghost use Rattle.sun_points.specs.Writing.{GotText};
 ghost use Rattle.command_io.specs.Noting.{IsFailing, is_unwritten, written_on};
@@ -6,16 +6,16 @@ ghost use Rattle.command_io.specs.Noting.{IsFailing, is_unwritten, written_on};
 use std::io::{self, ErrorKind, Write};
 use sun_points::Sink;
 
-/// What texts are printed on, each by one call. Of a `NotedWriter` it is known whether it failed; of any other writer nothing is
-/// said of that.
+/// An output for texts, each printed by one call. A `NotedWriter` knows whether it failed; any
+/// other writer does not.
 pub trait Printer {
-    // What it got, where that is known.
+    // What the output received, if that is known.
     ghost contents: { Self → Option (List ℕ) };
 
-    // The last text that it was handed failed.
+    // The last text failed.
     ghost has_failed: { Self → Type 0 };
 
-    /// Takes all of the text, or fails; on an error a part of it may have been taken.
+    /// Prints the complete text, or fails. On error a part of the text may have been written.
     fn print(&mut self, text: &[u8]) -> io::Result<()>
         ensures bytes { GotText result text.now (contents self.old) (contents self.new) }
         ensures nothing { text.now ≡ [] → IsOk result }
@@ -32,14 +32,14 @@ impl<W: Write> Printer for W {
     }
 }
 
-/// A writer, and whether its last write failed, or took nothing of something.
+/// A writer, and whether its last write failed, or accepted none of its bytes.
 #[derive(Drop)]
 pub struct NotedWriter<W> {
     pub(crate) output: W,
     pub(crate) failed: bool,
 }
 
-// Whether a write failed, or took nothing.
+// Returns whether a write failed, or accepted no bytes.
 fn is_unwritten(answer: &io::Result<usize>) -> bool
     ensures { result ≡ is_unwritten answer.now }
 {
@@ -53,7 +53,7 @@ impl<W: Write> NotedWriter<W> {
     ghost use Rattle.std.specs.Io.{WritesAtMost};
     ghost use Rattle.std.specs.Io.KnownBytes.{WriteAppends};
 
-    /// None of its writes has failed.
+    /// Creates a writer that has not failed.
     pub fn new(output: W) -> NotedWriter<W>
         ensures output { written_on result ≡ output }
         ensures works { IsFailing result → ⊥ }
@@ -64,7 +64,7 @@ impl<W: Write> NotedWriter<W> {
         }
     }
 
-    /// The writer.
+    /// Returns the inner writer.
     pub fn into_output(self) -> W
         ensures { result ≡ written_on self }
     {
@@ -72,7 +72,7 @@ impl<W: Write> NotedWriter<W> {
         output
     }
 
-    // One write.
+    // Writes once.
     fn write_once(&mut self, bytes: &[u8]) -> io::Result<usize>
         ensures bound { WritesAtMost result bytes.now }
         ensures bytes { WriteAppends (W.contents self.old.output) (W.contents self.new.output)
@@ -84,7 +84,7 @@ impl<W: Write> NotedWriter<W> {
         answer
     }
 
-    // Some of the bytes are written. A write that was interrupted is made again, up to 2^64 - 2 times.
+    // Writes some of the bytes. Retries an interrupted write, up to 2^64 - 2 times.
     fn write_some(&mut self, bytes: &[u8]) -> io::Result<usize>
         ensures bound { WritesAtMost result bytes.now }
         ensures bytes { WriteAppends (W.contents self.old.output) (W.contents self.new.output)
@@ -102,7 +102,7 @@ impl<W: Write> NotedWriter<W> {
     }
 }
 
-// All of the bytes are written, in as many writes as that takes.
+// Writes all bytes, in several writes if needed.
 fn write_rest<W: Write>(noted: &mut NotedWriter<W>, bytes: &[u8]) -> io::Result<()>
     ensures bytes { GotText result bytes.now (W.contents (written_on noted.old))
         (W.contents (written_on noted.new)) }

@@ -5,7 +5,7 @@ ghost use Rattle.command_io.specs.Statuses.{status_number};
 /// How a command ended.
 #[derive(Clone, Copy, Debug, PartialEq, Eq)]
 pub enum ExitStatus {
-    /// All was carried out.
+    /// Everything was executed.
     Fine,
     /// The input is wrong, or was refused.
     Refused,
@@ -14,7 +14,7 @@ pub enum ExitStatus {
 }
 
 impl ExitStatus {
-    /// The exit status of the process.
+    /// Returns the exit status of the process.
     pub fn number(self) -> u8
         ensures { result ≡ status_number self }
     {

@@ -1,4 +1,4 @@
--- What the fault of refused words says.
+-- What the fault of refused arguments says.
 use Rattle.std.specs.Prelude.{◌≡◌, ◌≢◌, ⊤}
 use Rattle.clap.specs.declared.error.kind.ErrorKind.{ErrorKind}
 use Rattle.clap.specs.declared.error.kind.ErrorKind.TheVariants.{DisplayHelp, DisplayVersion, OutOfMemory}
@@ -7,7 +7,7 @@ use Rattle.command_words.specs.declared.faults.ValueFault.TheVariants as value
 use Rattle.command_words.specs.declared.faults.WordsFault.{WordsFault}
 use Rattle.command_words.specs.declared.faults.WordsFault.TheVariants.{Wrong, Help, Version, Memory}
 
--- the fault of an error that `clap` tells
+-- The fault of an error that `clap` reports.
 abbrev pub IsRefusal : ErrorKind → WordsFault → Type 0
 IsRefusal kind (Wrong text) =
     (kind ≢ DisplayHelp) × (kind ≢ DisplayVersion) × (kind ≢ OutOfMemory)
@@ -15,7 +15,7 @@ IsRefusal kind (Help text) = kind ≡ DisplayHelp
 IsRefusal kind Version = kind ≡ DisplayVersion
 IsRefusal kind Memory = ⊤
 
--- the fault of a value that is none that its option takes
+-- The fault of a value that its option does not accept.
 abbrev pub IsMisreading : ValueFault → WordsFault → Type 0
 IsMisreading fault (Wrong text) = fault ≢ value.Memory
 IsMisreading fault (Help text) = ⊥

@@ -1,4 +1,4 @@
--- The command that the words spell.
+-- The command that the arguments mean.
 use Rattle.std.specs.Prelude.{ℕ, Bool, true, false, ◌&&◌, ◌||◌, is_some, is_none, length, nat_lt, List, [], Option, Some, None, codes, map, option_map, if◌then◌else◌}
 use Rattle.std.specs.Str.{bytes_eq}
 use Rattle.clap.specs.Words.{Row, Text}
@@ -17,7 +17,7 @@ use Rattle.command_words.specs.declared.line.FormWords.{FormWords}
 use Rattle.command_words.specs.declared.line.Sealing.{Sealing}
 use Rattle.command_words.specs.declared.line.Sealing.TheVariants as sealing
 
--- in which form a report is asked for, as far as it is
+-- The form of a report, as far as options give it.
 pub record Form : Type 0 where
   pub from : Option Text
   pub till : Option Text
@@ -26,13 +26,14 @@ pub record Form : Type 0 where
   pub format : Option Format
   pub statement : Bool
 
--- what an audit has to do with a seal: nothing, to print one, or to hold what is recorded to that in a file
+-- What an audit does with a seal: nothing, print one, or compare the records with the seal in a
+-- file.
 pub data Seal : Type 0 where
   Nothing : Seal
   Print : Seal
   Against : (file : Text) → Seal
 
--- a command with the values of its options
+-- A command with the values of its options.
 pub data Line : Type 0 where
   Replay : (zone : Text) → Line
   ReplayFile : (db : Text) → Line
@@ -57,6 +58,7 @@ pub data Line : Type 0 where
   Explain : (what number : Text) → Line
   Completions : Line
 
+-- The value of a report's form.
 abbrev pub seen_form : FormWords → Form
 seen_form form = record {
   from = option_map (λ text. text.now) form.from;
@@ -67,11 +69,13 @@ seen_form form = record {
   statement = form.statement;
 }
 
+-- The value of an audit's seal.
 abbrev pub seen_sealing : Sealing → Seal
 seen_sealing sealing.Nothing = Nothing
 seen_sealing sealing.Print = Print
 seen_sealing (sealing.Against file) = Against file.now
 
+-- The value of a command line.
 abbrev pub seen : CommandLine → Line
 seen (line.Replay zone) = Replay zone.now
 seen (line.ReplayFile db) = ReplayFile db.now
@@ -102,41 +106,49 @@ seen line.Completions = Completions
 
 -- ---- the options that several commands have
 
+-- The zone, by default UTC0.
 abbrev pub zone_in : List Row → Text
 zone_in rows = text_or (codes "UTC0") (codes "zone") rows
 
+-- The host, by default 127.0.0.1.
 abbrev pub host_in : List Row → Text
 host_in rows = text_or (codes "127.0.0.1") (codes "host") rows
 
+-- The office's file.
 abbrev pub db_in : List Row → Option Text
 db_in rows = text_at (codes "db") rows
 
+-- The port.
 abbrev pub port_in : List Row → Option ℕ
 port_in rows = number_at 65535 (codes "port") rows
 
+-- The number of connections.
 abbrev pub connections_in : List Row → Option ℕ
 connections_in rows = number_at 1000000 (codes "connections") rows
 
--- by which names HTTP may be asked
+-- The names by which an HTTP request may name the host.
 abbrev pub hosts_in : List Row → Option (List Text)
 hosts_in rows = host_names_of (texts_at (codes "host-name") rows)
 
 -- ---- the commands
 
--- the file of an office has its own zone
+-- `replay` over a file takes no zone, since the file has its own.
 abbrev pub replay_of : (has_zone : Bool) → (zone : Text) → (db : Option Text) → Option Line
 replay_of has_zone zone None = Some (Replay zone)
 replay_of has_zone zone (Some db) = if has_zone then None else Some (ReplayFile db)
 
+-- The command `replay`.
 abbrev pub replay_in : List Row → Option Line
 replay_in rows =
     replay_of (is_some (text_at (codes "zone") rows)) (zone_in rows) (db_in rows)
 
+-- The command `create`.
 abbrev pub create_in : List Row → Option Line
 create_in rows =
     given (db_in rows) (λ db.
     given (text_at (codes "zone") rows) (λ zone. Some (Create db zone)))
 
+-- The command `serve`.
 abbrev pub serve_in : List Row → Option Line
 serve_in rows =
     given (db_in rows) (λ db.
@@ -144,16 +156,18 @@ serve_in rows =
     given (connections_in rows) (λ connections.
     given (hosts_in rows) (λ hosts. Some (Serve db port connections hosts)))))
 
+-- The command `round`.
 abbrev pub round_in : List Row → Option Line
 round_in rows =
     given (db_in rows) (λ db.
     given (text_at (codes "device") rows) (λ device.
     given (port_in rows) (λ port. Some (Round db device (host_in rows) port))))
 
--- a statement has no periods
+-- A statement has no periods.
 abbrev pub unless_by : (statement : Bool) → Option Period → Form → Option Form
 unless_by statement period form = if statement && is_some period then None else Some form
 
+-- The form of a report.
 abbrev pub form_in : List Row → Option Form
 form_in rows =
     let from = text_at (codes "from") rows in
@@ -171,11 +185,12 @@ form_in rows =
       statement = statement;
     }))))
 
--- several files are reported as one
+-- Several files are reported together.
 abbrev pub report_of : (db : Text) → (files : List Text) → (register : Text) → Form → Line
 report_of db files register form =
     if nat_lt 1 (length files) then ReportFiles files register form else Report db register form
 
+-- The command `report`.
 abbrev pub report_in : List Row → Option Line
 report_in rows =
     given (db_in rows) (λ db.
@@ -183,50 +198,56 @@ report_in rows =
     given (form_in rows) (λ form.
     Some (report_of db (texts_at (codes "db") rows) register form))))
 
+-- The command `backup`.
 abbrev pub backup_in : List Row → Option Line
 backup_in rows =
     given (db_in rows) (λ db.
     given (text_at (codes "to") rows) (λ to. Some (Backup db to)))
 
+-- The command `recover`.
 abbrev pub recover_in : List Row → Option Line
 recover_in rows =
     given (db_in rows) (λ db.
     given (text_at (codes "to") rows) (λ to. Some (Recover db to)))
 
+-- The command `carry`.
 abbrev pub carry_in : List Row → Option Line
 carry_in rows =
     given (text_at (codes "from") rows) (λ from.
     given (text_at (codes "to") rows) (λ to.
     given (number_if 4294967295 (codes "until") rows) (λ until. Some (Carry from to until))))
 
--- who has a seal printed names no file of one
+-- An audit prints a seal, or compares with one, and not both.
 abbrev pub sealing_of : (prints : Bool) → (against : Option Text) → Option Seal
 sealing_of prints None = Some (if prints then Print else Nothing)
 sealing_of prints (Some file) = if prints then None else Some (Against file)
 
+-- What an audit does with a seal.
 abbrev pub sealing_in : List Row → Option Seal
 sealing_in rows = sealing_of (is_set (codes "seal") rows) (text_at (codes "against") rows)
 
--- something is asked of a seal
+-- The audit uses a seal.
 abbrev pub asks_seal : Seal → Bool
 asks_seal Nothing = false
 asks_seal Print = true
 asks_seal (Against file) = true
 
--- a seal is of one file
+-- A seal covers only one file.
 abbrev pub one_sealed : (dbs : List Text) → Seal → Option Line
 one_sealed dbs seal =
     if asks_seal seal && nat_lt 1 (length dbs) then None else Some (Audit dbs seal)
 
+-- The command `audit`.
 abbrev pub audit_in : List Row → Option Line
 audit_in rows =
     given (several_at (codes "db") rows) (λ dbs.
     given (sealing_in rows) (λ seal. one_sealed dbs seal))
 
--- of a list and lines to set a device up only one is printed
+-- A scan prints a list, or the lines to set a device up, and not both.
 abbrev pub one_of : (list : Bool) (setup : Option Text) → Line → Option Line
 one_of list setup line = if list && is_some setup then None else Some line
 
+-- The command `scan`.
 abbrev pub scan_in : List Row → Option Line
 scan_in rows =
     let list = is_set (codes "list") rows in
@@ -236,18 +257,21 @@ scan_in rows =
     given (number_or 5 60 (codes "timeout") rows) (λ timeout.
     one_of list setup (Scan (host_in rows) port unit timeout list setup))))
 
+-- The command `stand-in`.
 abbrev pub stand_in_in : List Row → Option Line
 stand_in_in rows =
     given (port_in rows) (λ port.
     given (connections_in rows) (λ connections. Some (StandIn (host_in rows) port connections)))
 
+-- The devices of the required option.
 abbrev pub devices_at : List Row → Option (List Place)
 devices_at rows = given (text_at (codes "devices") rows) devices_in
 
--- none where they aren't given
+-- The devices of the option, or none if it is not given.
 abbrev pub devices_if : List Row → Option (List Place)
 devices_if rows = or_else [] devices_in (text_at (codes "devices") rows)
 
+-- The command `enter`.
 abbrev pub enter_in : List Row → Option Line
 enter_in rows =
     given (db_in rows) (λ db.
@@ -255,19 +279,21 @@ enter_in rows =
     given (devices_if rows) (λ devices.
     Some (Enter db caller devices (is_set (codes "only-read") rows)))))
 
--- by which periods a run begins a new file
+-- The period after which a run begins a new file.
 abbrev pub carried_by : Text → Option Period
 carried_by word =
     if bytes_eq word (codes "month") then Some Month
     else (if bytes_eq word (codes "year") then Some Year else None)
 
--- Over how many earlier files of periods energy is told, too: of a run that begins new ones, where no files are named before.
+-- The number of earlier files by periods whose energy is reported too. Only a run that begins new
+-- files takes this number, and only if a single file is named.
 abbrev pub earlier_in : (are_several : Bool) → (carry : Option Period) → List Row
     → Option (Option ℕ)
 earlier_in are_several carry rows =
     given (number_if 1200 (codes "earlier") rows) (λ earlier.
     if is_some earlier && (are_several || is_none carry) then None else Some earlier)
 
+-- The command `run`.
 abbrev pub run_in : List Row → Option Line
 run_in rows =
     given (several_at (codes "db") rows) (λ dbs.
@@ -282,18 +308,19 @@ run_in rows =
     Some (Run dbs listen every devices lasts carry earlier hosts most_kept
     (is_set (codes "verbose") rows)))))))))))
 
+-- The command `explain`.
 abbrev pub explain_in : List Row → Option Line
 explain_in rows =
     given (text_at (codes "what") rows) (λ what.
     given (text_at (codes "number") rows) (λ number. Some (Explain what number)))
 
--- bash alone has completions
+-- The command `completions`; only bash has completions.
 abbrev pub completions_in : List Row → Option Line
 completions_in rows =
     given (text_at (codes "shell") rows)
     (λ shell. if bytes_eq shell (codes "bash") then Some Completions else None)
 
--- the command of a name, with what was found of its options
+-- The command with this name and these options.
 unfoldable pub command_in : Text → List Row → Option Line
 command_in name rows =
     if bytes_eq name (codes "replay") then replay_in rows
@@ -316,7 +343,7 @@ command_in name rows =
     else (if bytes_eq name (codes "completions") then completions_in rows
     else None)))))))))))))))))
 
--- no command is `replay` without options
+-- Without a command, the program executes `replay` without options.
 abbrev pub line_in : Option (Text × List Row) → Option Line
 line_in None = Some (Replay (codes "UTC0"))
 line_in (Some p) = command_in p.0 p.1

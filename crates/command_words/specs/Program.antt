@@ -3,10 +3,11 @@ use Rattle.std.specs.Prelude.{ℕ, List, [], ◌∷◌, codes}
 use Rattle.clap.specs.Words.{App}
 use Rattle.command_words.specs.ClapTable.Table.{command_with, flag, lettered_flag, optional_option, program_with, repeated_option, required_option, several_option, word}
 
--- the code of `n`
+-- The code of `n`.
 abbrev pub letter_n : ℕ
 letter_n = 110
 
+-- The commands, in the order of the help.
 abbrev pub commands : List App
 commands =
     command_with (codes "replay")
@@ -35,7 +36,7 @@ commands =
     ∷ flag (codes "statement") ∷ [])
     ∷ []
 
--- those after them
+-- The commands after those.
 abbrev pub later_commands : List App
 later_commands =
     command_with (codes "backup")
@@ -61,5 +62,6 @@ later_commands =
     ∷ command_with (codes "completions") (word (codes "shell") ∷ [])
     ∷ []
 
+-- The program with all its commands.
 abbrev pub program : App
 program = program_with (codes "sunreg") commands later_commands

@@ -1,4 +1,4 @@
--- What is due where the program is given words.
+-- The result for the arguments of the program.
 use Rattle.std.specs.Prelude.{◌≡◌, ◌≢◌, ◌⊎◌, ⊤, List, [], ◌∷◌, Option, None, Some}
 use Rattle.std.specs.Borrow.{Bor}
 use Rattle.clap.specs.Words.{IsAmong, Kinds, Text, fault_of, subcommand_of, subcommand_rows_of}
@@ -12,32 +12,33 @@ use Rattle.command_words.specs.declared.line.CommandLine.{CommandLine}
 use Rattle.command_words.specs.declared.faults.WordsFault.{WordsFault}
 use Rattle.command_words.specs.declared.faults.WordsFault.TheVariants.{Wrong, Help, Version, Memory}
 
--- `clap` finds the command that stands in the words
+-- `clap` parses the arguments as this command, with these options.
 abbrev pub IsFound : List (Bor Text) → ArgMatches → Type 0
 IsFound words found = subcommand_rows_of found ≡ subcommand_of program (texts words)
 
--- the command that the words spell, by what `clap` finds in them
+-- The command that the arguments mean, by what `clap` parses.
 abbrev pub line_of : List Text → Option Line
 line_of words = line_in (subcommand_of program words)
 
--- the kinds of error that `clap` may tell of the words; none, where it takes them
+-- The kinds of error that `clap` may report for the arguments. If it accepts them, there are none.
 abbrev pub errors_of : List Text → Kinds
 errors_of words = fault_of program words
 
--- one of them is no request for help or for the version
+-- The error is no request for help or for the version.
 abbrev pub IsFault : ErrorKind → Type 0
 IsFault kind = (kind ≢ DisplayHelp) × (kind ≢ DisplayVersion)
 
+-- One of the kinds is such an error.
 abbrev pub HasFault : Kinds → Type 0
 HasFault [] = ⊥
 HasFault (kind ∷ kinds) = IsFault kind ⊎ HasFault kinds
 
--- `clap` takes the words, and they spell the command
+-- `clap` accepts the arguments, and they mean this command.
 abbrev pub Spells : List (Bor Text) → CommandLine → Type 0
 Spells words line = (errors_of (texts words) ≡ []) × (Some (seen line) ≡ line_of (texts words))
 
--- Wrong is due where `clap` has an error that is no such request, or finds no values in their ranges;
--- Help where help was asked for, and Version where that was
+-- `Wrong` needs an error of `clap` that is no request, or a value that is missing or out of range.
+-- `Help` needs a request for help, and `Version` a request for the version.
 abbrev pub IsFaultOf : List (Bor Text) → WordsFault → Type 0
 IsFaultOf words (Wrong text) =
     HasFault (errors_of (texts words))

@@ -1,4 +1,4 @@
-//! A program's commands and options, given as tables, and what `clap` finds in the words by them.
+//! A program's commands and options as tables, and what `clap` parses by them.
 
 mod clap_command;
 mod clap_matches;

@@ -1,77 +1,77 @@
-//! Why words are no command line.
+//! Why arguments are no command line.
 use crate::table::NumberOption;
 use crate::values::DeviceFault;
 use std::error::Error;
 use std::fmt;
 use std::fmt::{Display, Formatter};
 
-/// Why the value of an option is none that it takes.
+/// Why an option does not accept a value.
 #[derive(Clone, Copy, Drop)]
 pub enum ValueFault<'a> {
-    /// There is no value.
+    /// The value is missing.
     Missing {
         option: &'a str,
     },
-    /// The word is no number from 1 to the most.
+    /// The word is no number from 1 to the option's maximum.
     Number {
         option: NumberOption<'a>,
         word: &'a str,
     },
-    /// Two options stand, of which one may.
+    /// Two options exclude each other.
     Both {
         one: &'a str,
         other: &'a str,
     },
-    /// The word is none of those that the option takes.
+    /// The word is not one of the option's choices.
     Choice {
         option: &'a str,
         value: &'a str,
         choices: &'a [&'a str],
         word: &'a str,
     },
-    /// No command has the name.
+    /// No command has this name.
     Command {
         name: &'a str,
     },
-    /// There are no completions for the shell.
+    /// No completions exist for this shell.
     Shell {
         word: &'a str,
     },
-    /// An option stands beside several of another, and may beside one alone.
+    /// The option excludes several values of another option.
     Alone {
         option: &'a str,
         other: &'a str,
     },
-    /// An option stands without another that it needs.
+    /// The option requires another one.
     Without {
         option: &'a str,
         other: &'a str,
     },
-    /// A part of the list is no device of it.
+    /// A part of the list is no device.
     Device {
         part: &'a str,
         fault: DeviceFault,
     },
-    /// The word is no name of a host.
+    /// The word is no host name.
     HostName {
         word: &'a str,
     },
     Memory,
 }
 
-/// Why words are no command line.
+/// Why arguments are no command line.
 #[derive(Debug, PartialEq, Eq, Drop)]
 pub enum WordsFault {
-    /// The words are wrong; the text for standard error says how.
+    /// The arguments are wrong. The text for standard error says why.
     Wrong(String),
-    /// Help was asked for; the text is for standard output.
+    /// Help was requested. The text is for standard output.
     Help(String),
-    /// The version was asked for.
+    /// The version was requested.
     Version,
     Memory,
 }
 
-// Words with commas between them, after what was written.
+// Writes words with commas between them.
 fn write_words<W: fmt::Write>(f: &mut Formatter<W>, words: &[&str]) -> fmt::Result {
     let mut before = "";
     for word in words {
@@ -81,7 +81,7 @@ fn write_words<W: fmt::Write>(f: &mut Formatter<W>, words: &[&str]) -> fmt::Resu
     Ok(())
 }
 
-// The text in the form of those that `clap` writes.
+// Has the form of the texts that `clap` writes.
 impl<'a> Display for ValueFault<'a> {
     fn fmt<W: fmt::Write>(&self, f: &mut Formatter<W>) -> fmt::Result {
         match self {
@@ -139,7 +139,7 @@ impl<'a> Display for ValueFault<'a> {
     }
 }
 
-// The text that `clap` or a `ValueFault` wrote, whole.
+// Writes the complete text that `clap` or a `ValueFault` wrote.
 impl Display for WordsFault {
     fn fmt<W: fmt::Write>(&self, f: &mut Formatter<W>) -> fmt::Result {
         match self {

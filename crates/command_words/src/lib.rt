@@ -1,4 +1,4 @@
-//! The command line of the program: its commands and options, and what the words spell.
+//! The command line of the program: its commands and options, and what its arguments mean.
 #![tactic(auto)]
 
 mod choices;

@@ -1,4 +1,4 @@
-//! The command of what was found.
+//! The command of the parsed arguments.
 ghost use Rattle.std.specs.Prelude.{◌≡◌, is_some};
 ghost use Rattle.clap.specs.Words.{subcommand_rows_of};
 ghost use Rattle.command_words.specs.ClapTable.Table.{texts};
@@ -148,7 +148,7 @@ fn carry_line<'a>(found: &ArgMatches<'a>) -> Result<CommandLine<'a>, ValueFault<
     })
 }
 
-// The seal that is printed, or held to, if any.
+// Returns what an audit does with a seal.
 fn sealing<'a>(found: &ArgMatches<'a>) -> Result<Sealing<'a>, ValueFault<'a>>
     ensures { Reads seen_sealing (sealing_in (rows_in found.now)) result }
 {
@@ -169,7 +169,7 @@ fn sealing<'a>(found: &ArgMatches<'a>) -> Result<Sealing<'a>, ValueFault<'a>>
     Ok(Sealing::Against(seal))
 }
 
-// The option that asks something of a seal, if one does.
+// Returns the option about a seal, if one is given.
 fn seal_option(seal: Sealing<'_>) -> Option<&'static str>
     ensures { is_some result ≡ asks_seal (seen_sealing seal.entry) }
 {
@@ -180,7 +180,7 @@ fn seal_option(seal: Sealing<'_>) -> Option<&'static str>
     }
 }
 
-// An audit of these files. A seal is of one.
+// Returns the audit of these files. A seal covers only one.
 fn audit_of<'a>(dbs: Vec<&'a str>, seal: Sealing<'a>) -> Result<CommandLine<'a>, ValueFault<'a>>
     ensures { Reads seen (one_sealed (texts dbs.entry.items) (seen_sealing seal.entry)) result }
 {
@@ -240,7 +240,7 @@ fn stand_in_line<'a>(found: &ArgMatches<'a>) -> Result<CommandLine<'a>, ValueFau
     })
 }
 
-// The devices that a list names.
+// Parses a list of devices.
 fn listed<'a>(alloc: Global, list: &'a str) -> Result<Vec<Device<'a>>, ValueFault<'a>>
     ensures { Reads (λ devices. places_of devices.items) (devices_in list.now) result }
 {
@@ -251,7 +251,7 @@ fn listed<'a>(alloc: Global, list: &'a str) -> Result<Vec<Device<'a>>, ValueFaul
     }
 }
 
-// The devices that the option names.
+// Returns the devices of the required option.
 fn devices<'a>(alloc: Global, found: &ArgMatches<'a>) -> Result<Vec<Device<'a>>, ValueFault<'a>>
     ensures { Reads (λ devices. places_of devices.items) (devices_at (rows_in found.now)) result }
 {
@@ -259,7 +259,7 @@ fn devices<'a>(alloc: Global, found: &ArgMatches<'a>) -> Result<Vec<Device<'a>>,
     listed(alloc, list)
 }
 
-// Those that it names; none where it isn't given.
+// Returns the devices of the option, or none if it is not given.
 fn devices_if<'a>(alloc: Global, found: &ArgMatches<'a>) -> Result<Vec<Device<'a>>, ValueFault<'a>>
     ensures { Reads (λ devices. places_of devices.items) (devices_if (rows_in found.now)) result }
 {
@@ -283,8 +283,9 @@ fn enter_line<'a>(alloc: Global, found: &ArgMatches<'a>) -> Result<CommandLine<'
     })
 }
 
-// Over how many earlier files of periods energy is told, too. Only who begins new ones has them, and where files are named before
-// those, all are told of.
+// Returns the number of earlier files by periods whose energy is reported too. Only a run that
+// begins new files has such files. If several files are named, all are reported, so the number may
+// not be given.
 fn earlier_if<'a>(
     found: &ArgMatches<'a>,
     are_several: bool,
@@ -355,7 +356,7 @@ fn completions_line<'a>(found: &ArgMatches<'a>) -> Result<CommandLine<'a>, Value
     Ok(CommandLine::Completions)
 }
 
-// The command of a name, with what was found of its options.
+// Returns the command with this name and these options.
 #[tactic(auto, unfolding(crate::specs::Lines::command_in))]
 fn command_line<'a>(
     alloc: Global,
@@ -389,7 +390,7 @@ fn command_line<'a>(
     }
 }
 
-/// The command that was found; without one, `replay`.
+/// Returns the parsed command. Without one, it is `replay`.
 pub fn line_in<'a>(alloc: Global, found: &ArgMatches<'a>) -> Result<CommandLine<'a>, ValueFault<'a>>
     ensures { Reads seen (line_in (subcommand_rows_of found.now)) result }
 {

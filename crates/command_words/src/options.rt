@@ -13,14 +13,14 @@ use crate::values::number_up_to;
 use clap::ArgMatches;
 use std::alloc::Global;
 
-// The value of an option, where it has one.
+// Returns the value of an option, if it is given.
 fn value<'a>(found: &ArgMatches<'a>, option: &str) -> Option<&'a str>
     ensures { option_map (λ text. text.now) result ≡ text_at option.now (rows_in found.now) }
 {
     found.get_str(option)
 }
 
-// The text of an option that must stand.
+// Returns the text of a required option.
 pub fn text<'a>(found: &ArgMatches<'a>, option: &'static str) -> Result<&'a str, ValueFault<'a>>
     ensures { Reads (λ text. text.now) (text_at option.now (rows_in found.now)) result }
 {
@@ -30,7 +30,7 @@ pub fn text<'a>(found: &ArgMatches<'a>, option: &'static str) -> Result<&'a str,
     }
 }
 
-// The number of an option that must stand.
+// Returns the number of a required option.
 pub fn number<'a>(
     found: &ArgMatches<'a>,
     option: NumberOption<'static>,
@@ -43,7 +43,7 @@ pub fn number<'a>(
     number_in(option, word)
 }
 
-// The number of an option that may lack.
+// Returns the number of an optional option.
 pub fn number_if<'a>(
     found: &ArgMatches<'a>,
     option: NumberOption<'static>,
@@ -57,7 +57,7 @@ pub fn number_if<'a>(
     }
 }
 
-// The number of an option that has one where it isn't given.
+// Returns the number of an option, or its default.
 pub fn number_or<'a>(
     found: &ArgMatches<'a>,
     option: NumberOption<'static>,
@@ -74,7 +74,7 @@ pub fn number_or<'a>(
     }
 }
 
-// The number that a word spells, in the range of its option.
+// Parses a number in the range of its option.
 fn number_in<'a>(option: NumberOption<'static>, word: &'a str) -> Result<u32, ValueFault<'a>>
     ensures value { Reads (λ number. number) (number_up_to option.entry.most word.now) result }
     ensures within { IfOk result (λ number. number ≤ option.entry.most) }
@@ -85,14 +85,14 @@ fn number_in<'a>(option: NumberOption<'static>, word: &'a str) -> Result<u32, Va
     }
 }
 
-// The text of an option that may lack.
+// Returns the text of an optional option.
 pub fn text_if<'a>(found: &ArgMatches<'a>, option: &str) -> Option<&'a str>
     ensures { option_map (λ text. text.now) result ≡ text_at option.now (rows_in found.now) }
 {
     value(found, option)
 }
 
-// The text of an option that is another one where it isn't given.
+// Returns the text of an option, or its default.
 pub fn text_or<'a>(found: &ArgMatches<'a>, option: &'static str, otherwise: &'a str) -> &'a str
     ensures { result.now ≡ text_or otherwise.entry.now option.now (rows_in found.now) }
 {
@@ -102,7 +102,7 @@ pub fn text_or<'a>(found: &ArgMatches<'a>, option: &'static str, otherwise: &'a 
     }
 }
 
-// The values of an option, where it has some.
+// Returns the values of an option, if it is given.
 fn values<'a, 'f>(found: &'f ArgMatches<'a>, option: &str) -> Option<&'f [&'a str]>
     ensures { option_map (λ values. texts values.now) result
         ≡ all_of option.now (rows_in found.now) }
@@ -110,7 +110,7 @@ fn values<'a, 'f>(found: &'f ArgMatches<'a>, option: &str) -> Option<&'f [&'a st
     found.get_strs(option)
 }
 
-// The texts of an option that may stand several times.
+// Returns the texts of an option that may be given several times.
 pub fn texts<'a>(
     alloc: Global,
     found: &ArgMatches<'a>,
@@ -126,14 +126,14 @@ pub fn texts<'a>(
     }
 }
 
-// Whether a byte is one of these.
+// Returns whether a byte is one of these.
 fn is_among(bytes: &[u8], byte: u8) -> bool
     ensures { result ≡ list_any (λ other. other == byte) bytes.now }
 {
     bytes.iter().any(|other| *other == byte)
 }
 
-// Whether a byte may be one of the name of a host.
+// Returns whether a byte may be in a host name.
 fn is_host_byte(byte: u8) -> bool
     ensures { result ≡ is_host_byte byte }
 {
@@ -146,7 +146,7 @@ fn are_host_bytes(bytes: &[u8]) -> bool
     bytes.iter().all(|byte| is_host_byte(*byte))
 }
 
-// Whether a text is the name of a host, or an address.
+// Returns whether a text is a host name, or an address.
 fn is_host_name(name: &str) -> bool
     ensures { result ≡ is_host_name name.now }
 {
@@ -156,7 +156,7 @@ fn is_host_name(name: &str) -> bool
     }
 }
 
-// The first text that is not the name of a host.
+// Returns the first text that is no host name.
 fn other_than_hosts<'a>(names: &[&'a str]) -> Option<&'a str>
     ensures { is_none result ≡ list_all is_host_name (texts names.now) }
 {
@@ -168,7 +168,7 @@ fn other_than_hosts<'a>(names: &[&'a str]) -> Option<&'a str>
     None
 }
 
-// By which names HTTP may be asked.
+// Returns the names by which an HTTP request may name the host.
 pub fn host_names<'a>(alloc: Global, found: &ArgMatches<'a>) -> Result<Vec<&'a str>, ValueFault<'a>>
     ensures { Reads (λ names. texts names.items)
         (host_names_of (texts_at (codes "host-name") (rows_in found.now))) result }
@@ -180,7 +180,7 @@ pub fn host_names<'a>(alloc: Global, found: &ArgMatches<'a>) -> Result<Vec<&'a s
     }
 }
 
-// The texts of an option that must stand, and may several times.
+// Returns the texts of a required option that may be given several times.
 pub fn several<'a>(
     alloc: Global,
     found: &ArgMatches<'a>,
@@ -196,7 +196,7 @@ pub fn several<'a>(
     Ok(values)
 }
 
-// Whether a flag stands.
+// Returns whether a flag is given.
 pub fn is_set(found: &ArgMatches, option: &'static str) -> bool
     ensures { result ≡ is_set option.now (rows_in found.now) }
 {

@@ -6,7 +6,7 @@ ghost use Rattle.command_words.specs.Program.{commands, later_commands, program}
 
 use crate::clap_table::{CommandText, OptionText, ProgramText, Value};
 
-/// An option whose value is a number from 1 to the most; the help shows `value` for it.
+/// An option whose value is a number from 1 to `most`. The help shows `value` for it.
 #[derive(Clone, Copy, Drop)]
 pub struct NumberOption<'a> {
     pub name: &'a str,
@@ -14,13 +14,13 @@ pub struct NumberOption<'a> {
     pub most: u32,
 }
 
-/// The rule for days where no zone is given.
+/// The default time zone.
 pub const ZONE: &str = "UTC0";
 
-/// The host where none is given.
+/// The default host.
 pub const HOST: &str = "127.0.0.1";
 
-/// The option whose values are names by which HTTP may be asked.
+/// The option whose values are the names by which an HTTP request may name the host.
 pub const HOST_NAME: &str = "host-name";
 
 pub const PORT: NumberOption<'static> = NumberOption {
@@ -83,20 +83,20 @@ pub const TIMEOUT: NumberOption<'static> = NumberOption {
     most: 60,
 };
 
-/// What a report adds days up to, in which unit it tells energies, and how it is written.
+/// The periods by which a report adds up days, its units, and its formats.
 pub const PERIODS: &[&str] = &["day", "month", "year"];
 
 pub const UNITS: &[&str] = &["mwh", "kwh"];
 
-/// By which periods a run begins a new file.
+/// The periods after which a run may begin a new file.
 pub const CARRIES: &[&str] = &["month", "year"];
 
 pub const FORMATS: &[&str] = &["text", "csv", "json"];
 
-/// The unit where none is given.
+/// The default unit identifier.
 pub const FIRST_UNIT: u32 = 1;
 
-/// How many seconds a device has for a reply where it isn't given.
+/// The default timeout of a device, in seconds.
 pub const PATIENCE: u32 = 5;
 
 const DB: OptionText<'static> = OptionText {
@@ -533,7 +533,7 @@ const COMMANDS: &[CommandText<'static>] = &[
     REPLAY, PLAN, CHAIN, SCAN, CREATE, ENTER, SERVE, ROUND, REPORT,
 ];
 
-// Those after them.
+// The commands after those.
 const LATER_COMMANDS: &[CommandText<'static>] = &[
     BACKUP,
     RECOVER,
@@ -558,7 +558,7 @@ fn later_commands() -> &'static [CommandText<'static>]
     LATER_COMMANDS
 }
 
-/// The program's commands and options, as its words are read by them.
+/// Returns the program's commands and options, by which its arguments are parsed.
 pub fn program() -> ProgramText<'static>
     ensures { program_app result ≡ program }
 {

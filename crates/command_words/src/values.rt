@@ -1,4 +1,4 @@
-//! Values in words: numbers, and lists of devices.
+//! Option values: numbers, and lists of devices.
 
 mod devices;
 mod list_fault;

@@ -1,4 +1,4 @@
-//! The command that the words spell.
+//! Parses the arguments of the program.
 ghost use Rattle.std.specs.Prelude.{IfErr, IfOk};
 ghost use Rattle.clap.specs.Words.{FailsBy, kind_of};
 ghost use Rattle.command_words.specs.ClapTable.Table.{texts};
@@ -14,7 +14,7 @@ use clap::error::ErrorKind;
 use clap::{ArgMatches, Error};
 use std::alloc::Global;
 
-// What `clap` finds in the words.
+// Parses the arguments with `clap`.
 fn found_in<'a>(alloc: Global, words: &'a [&'a str]) -> Result<ArgMatches<'a>, Error>
     ensures found { IfOk result (IsFound words.entry.now) }
     ensures fails { FailsBy (errors_of (texts words.entry.now)) result }
@@ -22,7 +22,7 @@ fn found_in<'a>(alloc: Global, words: &'a [&'a str]) -> Result<ArgMatches<'a>, E
     matches_of(alloc, program(), words)
 }
 
-// The fault of words that `clap` refuses, with its text.
+// Returns the fault of arguments that `clap` refuses, with its text.
 fn refusal(alloc: Global, error: &Error) -> WordsFault
     ensures { IsRefusal (kind_of error.now) result }
 {
@@ -42,7 +42,7 @@ fn refusal(alloc: Global, error: &Error) -> WordsFault
     }
 }
 
-// The fault of a value that is none.
+// Returns the fault of a wrong value.
 fn wrong_value(alloc: Global, fault: &ValueFault) -> WordsFault
     ensures { IsMisreading fault.now result }
 {
@@ -55,8 +55,8 @@ fn wrong_value(alloc: Global, fault: &ValueFault) -> WordsFault
     }
 }
 
-/// The command that the words after the program's name spell. Texts are kept as they stand; no word at all is
-/// `replay`.
+/// Parses the arguments after the program's name. Texts are kept as they are. Without arguments,
+/// the command is `replay`.
 pub fn command_of<'a>(alloc: Global, words: &'a [&'a str]) -> Result<CommandLine<'a>, WordsFault>
     ensures line { IfOk result (Spells words.entry.now) }
     ensures fault { IfErr result (IsFaultOf words.entry.now) }

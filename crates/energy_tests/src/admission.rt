@@ -1,4 +1,4 @@
-//! Which entries are booked, and as what.
+//! Which entries are recorded, and how.
 use crate::terms::{PREVIOUS, TOTAL_LIMIT, booked, last};
 use crate::verdicts::ranged;
 use energy_core::{Acc32, Counter, Entry, Last, Step, TermFault, Terms, enter};
@@ -116,7 +116,8 @@ static CASES: [Case; 21] = [
         entry: step!(2000, 5202, 0),
         answer: Err(TermFault::TotalFull),
     },
-    // the step goes up to what was shown before, and the counter goes on from what it was set to
+    // the step ends at what the counter showed before, and the counter continues from what it was
+    // set to
     Case {
         total: 200_000,
         last: PREVIOUS,
@@ -154,7 +155,7 @@ static CASES: [Case; 21] = [
         entry: change!(2000, 5200, 1, 4),
         answer: Err(TermFault::BadScale),
     },
-    // the least fault
+    // the first fault that applies
     Case {
         total: NEARLY_FULL,
         last: PREVIOUS,
@@ -214,7 +215,8 @@ static BELOW_A_MILLION: [Case; 7] = [
     },
 ];
 
-/// On a counter of the least range: 255 full turns of 65,536 counts, and the greatest number that it shows.
+/// A counter of the least range: 255 full turns of 65,536 counts, and the greatest number that it
+/// shows.
 static BELOW_65536: [Case; 5] = [
     Case {
         total: 0,
@@ -271,11 +273,13 @@ fn enters<C: Counter>(rt: &impl Abort, counter: &C, cases: &[Case]) {
     }
 }
 
+/// An entry is recorded, or refused for the first fault that applies.
 #[test]
 fn entries_are_booked_or_refused(rt: HostRuntime) {
     enters(&rt, &Acc32, &CASES);
 }
 
+/// An entry with a number that the counter cannot show is refused.
 #[test]
 fn entries_tell_what_the_counter_can_show(rt: HostRuntime) {
     enters(&rt, &ranged(&rt, 1_000_000), &BELOW_A_MILLION);

@@ -1,4 +1,4 @@
-//! Tests of the check of a meter's rows.
+//! The check of a meter's rows.
 ghost use Rattle.std.specs.Prelude.{◌<◌, ◌^◌};
 
 use crate::samples::HOUSE;
@@ -45,7 +45,7 @@ const SHARES: [Share; 2] = [
     },
 ];
 
-/// How a row after the opening is refused.
+/// Returns why a row after the opening is refused.
 fn refused(row: TableRow) -> Option<RowFault>
     requires { row.place < 2 ^ 63 }
 {
@@ -55,6 +55,7 @@ fn refused(row: TableRow) -> Option<RowFault>
     }
 }
 
+/// A checked row gives its interval rows.
 #[test]
 fn rows_give_intervals(rt: HostRuntime) {
     let mut progress = start(rt.alloc(), &HOUSE);
@@ -66,6 +67,7 @@ fn rows_give_intervals(rt: HostRuntime) {
     assert!(rt; progress.wanted.as_slice() == &SHARES[1..]);
 }
 
+/// The next row adds to the last interval row.
 #[test]
 fn a_row_adds_to_the_last_interval(rt: HostRuntime) -> Result<(), Fail> {
     let mut progress = start(rt.alloc(), &HOUSE);
@@ -80,6 +82,7 @@ fn a_row_adds_to_the_last_interval(rt: HostRuntime) -> Result<(), Fail> {
     Ok(())
 }
 
+/// A voided row gives no interval rows.
 #[test]
 fn a_voided_row_gives_none(rt: HostRuntime) {
     let mut progress = start(rt.alloc(), &HOUSE);
@@ -93,6 +96,7 @@ fn a_voided_row_gives_none(rt: HostRuntime) {
     assert!(rt; progress.wanted.is_empty());
 }
 
+/// A voided row directly after a valid one is checked like a valid one.
 #[test]
 fn a_voided_row_is_looked_at_after_one_that_stands(rt: HostRuntime) {
     let fast = TableRow {
@@ -109,6 +113,7 @@ fn a_voided_row_is_looked_at_after_one_that_stands(rt: HostRuntime) {
     assert!(rt; check_rows(&HOUSE, &[before, following]).is_ok());
 }
 
+/// After a refused row the check continues from its sequence number.
 #[test]
 fn a_refused_row_is_passed_over(rt: HostRuntime) {
     let mut progress = start(rt.alloc(), &HOUSE);
@@ -117,6 +122,7 @@ fn a_refused_row_is_passed_over(rt: HostRuntime) {
     assert!(rt; progress.check.place == 3 && progress.check.total == 0);
 }
 
+/// Unused columns must be 0, and only a rescale may change the scale factor.
 #[test]
 fn columns_are_looked_at(rt: HostRuntime) {
     assert!(rt; refused(FIRST).is_none());
@@ -138,6 +144,7 @@ fn columns_are_looked_at(rt: HostRuntime) {
     assert!(rt; refused(voided) == Some(RowFault::CannotBeVoided));
 }
 
+/// A reading above the ceiling is refused. An entry by hand may be above it, and may not go back.
 #[test]
 fn numbers_are_looked_at(rt: HostRuntime) {
     let fast = TableRow {
@@ -157,6 +164,7 @@ fn numbers_are_looked_at(rt: HostRuntime) {
     assert!(rt; refused(back) == Some(RowFault::Refused(TermFault::NegativeStep)));
 }
 
+/// Rows pass in order of time. The first that is not later is reported by its index.
 #[test]
 fn rows_in_their_order(rt: HostRuntime) {
     assert!(rt; check_rows(&HOUSE, &[FIRST, SECOND]).is_ok());
@@ -171,6 +179,7 @@ fn rows_in_their_order(rt: HostRuntime) {
     assert!(rt; check_rows(&HOUSE, &[FIRST, late]) == Err(wanted));
 }
 
+/// No row may follow a closing.
 #[test]
 fn nothing_comes_after_a_closing(rt: HostRuntime) {
     let closing = TableRow {
@@ -184,6 +193,7 @@ fn nothing_comes_after_a_closing(rt: HostRuntime) {
     assert!(rt; check_rows(&HOUSE, &[closing, SECOND]) == Err(wanted));
 }
 
+/// The first interval row with another energy is reported.
 #[test]
 fn intervals_differ(rt: HostRuntime) {
     assert!(rt; first_difference(&SHARES, &SHARES).is_none());
@@ -204,6 +214,7 @@ fn intervals_differ(rt: HostRuntime) {
     assert!(rt; first_difference(&SHARES, &[SHARES[0], other]) == Some(wanted));
 }
 
+/// An interval row that only one side has is reported.
 #[test]
 fn an_interval_alone(rt: HostRuntime) {
     let wanted = IntervalDifference {

@@ -1,4 +1,4 @@
-//! The civil days of interval rows, by the clocks of a zone.
+//! The civil days of interval rows in a zone.
 use crate::shares::{share, shares_of, step};
 use energy_core::Step;
 use interval_core::{DayFault, DayFold, DayTotal, Share, Zone, by_day};
@@ -9,7 +9,7 @@ pub const CENTRAL_EUROPE: &str = "CET-1CEST,M3.5.0,M10.5.0/3";
 
 const EASTERN: &str = "EST5EDT,M3.2.0,M11.1.0";
 
-/// A day, how many intervals of it have a row, and their energy in mWh.
+/// A day, the number of its intervals with a row, and their energy in mWh.
 struct Told {
     year: i16,
     month: i8,
@@ -79,7 +79,7 @@ static CASES: [Case; 7] = [
     },
 ];
 
-/// A fold that was given rows one by one.
+/// A fold after rows, taken one by one.
 fn folded(
     rt: &impl Abort,
     alloc: Global,
@@ -105,7 +105,7 @@ fn is_told(total: &DayTotal, told: &Told) -> bool {
         && total.mwh == told.mwh
 }
 
-/// Whether these are the days.
+/// Returns whether the totals are these days.
 fn are_told(totals: &[DayTotal], days: &[Told]) -> bool {
     totals.len() == days.len()
         && totals
@@ -114,7 +114,7 @@ fn are_told(totals: &[DayTotal], days: &[Told]) -> bool {
             .all(|(total, told)| is_told(total, told))
 }
 
-/// Whether rows fold to these days, lent, of a copy, and as their own list.
+/// Returns whether rows fold to these days: borrowed, of a copy, and as a list of their own.
 fn folds_to(
     rt: &impl Abort,
     alloc: Global,
@@ -134,6 +134,7 @@ fn is_spread_so(rt: &impl Abort, alloc: Global, case: &Case) -> bool {
     folds_to(rt, alloc, &rows, &zone, case.days).expect(rt, "no days")
 }
 
+/// Days follow the clocks of the zone, also when they are changed.
 #[test]
 fn days_follow_the_clocks_of_a_zone(rt: HostRuntime) {
     for (i, case) in CASES.iter().enumerate() {
@@ -152,6 +153,7 @@ static ROWS: [Share; 5] = [
 
 static FOUR_INTERVALS: [Told; 1] = [told!(1970, 1, 1, 4, 345_000)];
 
+/// An interval with two rows counts once.
 #[test]
 fn an_interval_with_two_rows_counts_once(rt: HostRuntime) {
     let zone = Zone::read("UTC0").expect(&rt, "no zone");
@@ -162,6 +164,7 @@ static ONE_ROW: [Share; 1] = [share!(1_711_839_600, 7)];
 
 static ONE_INTERVAL: [Told; 1] = [told!(2024, 3, 31, 1, 7)];
 
+/// `by_day` adds up rows, and none give no days.
 #[test]
 fn by_day_adds_up_rows(rt: HostRuntime) {
     let zone = Zone::read(CENTRAL_EUROPE).expect(&rt, "no zone");

@@ -1,4 +1,4 @@
-//! Faults of readings, entries and days.
+//! The sentences of causes and faults.
 use crate::texts::tells;
 use energy_core::{Cause, TermFault};
 use interval_core::{DayFault, ZoneFault};
@@ -78,6 +78,7 @@ const ZONES: [(ZoneFault, &str); 2] = [
     (ZoneFault::Memory, "memory ran out"),
 ];
 
+/// Each cause and each fault has its sentence.
 #[test]
 fn energy(rt: HostRuntime) {
     tells(&rt, rt.alloc(), &HELD);

@@ -1,4 +1,4 @@
-//! Tests of shares that are joined.
+//! Shares that are merged.
 use energy_core::Step;
 use interval_core::Share;
 use meter_journal::{append_shares, join};
@@ -19,6 +19,7 @@ const ROWS: [Share; 3] = [
     },
 ];
 
+/// Two steps in one interval share its row.
 #[test]
 fn steps_share_an_interval(rt: HostRuntime) {
     let mut rows = Vec::new(rt.alloc());
@@ -50,6 +51,7 @@ const NEXT: Share = Share {
     mwh: 0,
 };
 
+/// One row stays pending until a share of another interval arrives.
 #[test]
 fn one_row_stays_open(rt: HostRuntime) {
     let mut pending = None;

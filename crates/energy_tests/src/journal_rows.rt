@@ -1,17 +1,18 @@
-//! Tests of rows in a list.
+//! The rows of a meter in a list.
 use crate::samples::{HOUSE, of_kind, reading, struck};
 use energy_core::{Entry, Last};
 use meter_journal::{
     EntryKind, EntryRow, are_numbered, find_row, is_voidable, last_of_rows, row_after, strike,
 };
 
-/// The counter of 32 bits all but at its end.
+/// A counter of 32 bits that is about to roll over.
 const TURNING: Last = Last {
     at: 1000,
     raw: 4_294_967_200,
     sf: 0,
 };
 
+/// Sequence numbers count on from the opening.
 #[test]
 fn places_count_on(rt: HostRuntime) {
     let entry = Entry::Step {
@@ -25,6 +26,7 @@ fn places_count_on(rt: HostRuntime) {
     assert!(rt; after_a_void == reading(3, 1900, 5200, 0));
 }
 
+/// Rows must have consecutive sequence numbers.
 #[test]
 fn rows_have_their_places(rt: HostRuntime) {
     let rows = [reading(2, 1900, 5200, 0), struck(reading(3, 2800, 5300, 0))];
@@ -33,6 +35,7 @@ fn rows_have_their_places(rt: HostRuntime) {
     assert!(rt; !are_numbered(&[rows[0], rows[0]]));
 }
 
+/// Only a closing closes a meter.
 #[test]
 fn a_closing_alone_closes(rt: HostRuntime) {
     assert!(rt; EntryKind::Closing.is_closing());
@@ -40,6 +43,7 @@ fn a_closing_alone_closes(rt: HostRuntime) {
     assert!(rt; !EntryKind::Reset.is_closing() && !EntryKind::Rescale.is_closing());
 }
 
+/// A void keeps the rollover of the reading after it.
 #[test]
 fn a_void_over_a_rollover(rt: HostRuntime) {
     let mut rows = [reading(2, 1900, 4_294_967_290, 0), reading(3, 2800, 104, 1)];
@@ -48,6 +52,7 @@ fn a_void_over_a_rollover(rt: HostRuntime) {
     assert!(rt; rows[1] == reading(3, 2800, 104, 1));
 }
 
+/// A void moves a rollover to the reading after it.
 #[test]
 fn a_void_moves_a_rollover(rt: HostRuntime) {
     let mut rows = [reading(2, 1900, 4, 1), reading(3, 2800, 104, 0)];
@@ -56,6 +61,7 @@ fn a_void_moves_a_rollover(rt: HostRuntime) {
     assert!(rt; rows[1] == reading(3, 2800, 104, 1));
 }
 
+/// Only a reading before another reading or none may be voided.
 #[test]
 fn only_readings_are_voided(rt: HostRuntime) {
     let row = reading(2, 1900, 5200, 0);
@@ -68,6 +74,7 @@ fn only_readings_are_voided(rt: HostRuntime) {
     assert!(rt; !is_voidable(&row, &Some(of_kind(EntryKind::Closing, next))));
 }
 
+/// A row is found by its sequence number, with the next valid row.
 #[test]
 fn rows_by_place(rt: HostRuntime) {
     let rows = [
@@ -83,6 +90,7 @@ fn rows_by_place(rt: HostRuntime) {
     assert!(rt; find_row(&rows, 5).is_none());
 }
 
+/// The counter's state follows the valid rows.
 #[test]
 fn the_counter_after_rows(rt: HostRuntime) {
     let first = reading(2, 1900, 5200, 0);

@@ -1,4 +1,4 @@
-//! Tests of which readings count, in which intervals and days, and of the journal of one meter.
+//! Tests of verdicts on readings, of their intervals and days, and of the journal of one meter.
 #![tactic(auto)]
 
 #[cfg(test)]

@@ -9,7 +9,7 @@ struct Case {
     shares: &'static [Share],
 }
 
-/// From one moment to another, so many mWh.
+/// A step from one time to another, with this energy in mWh.
 macro_rules! step {
     ($from:expr, $till:expr, $mwh:expr) => {
         Step {
@@ -86,6 +86,7 @@ fn sum(shares: &[Share]) -> u64 {
     sum
 }
 
+/// A step is spread over the intervals that it touches.
 #[test]
 fn a_step_is_spread_over_its_intervals(rt: HostRuntime) {
     for (i, case) in CASES.iter().enumerate() {
@@ -94,6 +95,7 @@ fn a_step_is_spread_over_its_intervals(rt: HostRuntime) {
     }
 }
 
+/// The shares of 3,000 intervals add up to the energy of the step.
 #[test]
 fn three_thousand_intervals_lose_nothing(rt: HostRuntime) {
     for mwh in LONG {

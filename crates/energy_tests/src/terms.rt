@@ -1,7 +1,7 @@
-//! What the tests of energy share.
+//! Constants and macros that the tests of energy share.
 use energy_core::Last;
 
-/// The most energy that an installation may have, in mWh.
+/// The greatest total energy of an installation, in mWh.
 pub const TOTAL_LIMIT: u64 = 4_000_000_000_000_000_000;
 
 pub const PREVIOUS: Last = Last {
@@ -10,7 +10,7 @@ pub const PREVIOUS: Last = Last {
     sf: 0,
 };
 
-/// Where a counter stands.
+/// The state of a counter.
 macro_rules! last {
     ($at:expr, $raw:expr, $sf:expr) => {
         Last {
@@ -21,7 +21,8 @@ macro_rules! last {
     };
 }
 
-/// The answer to an entry that is booked: where the counter stands then, when it stood before, and the energy between.
+/// The result of a recorded entry: the counter's state after it, the time of the entry before, and
+/// the energy between.
 macro_rules! booked {
     ($last:expr, $from:expr, $mwh:expr) => {
         Ok((

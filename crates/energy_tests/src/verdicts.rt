@@ -98,7 +98,7 @@ static CASES: [Case; 22] = [
         reading: reading!(2800, 5199, 0),
         verdict: held!(TooFast),
     },
-    // the longest gap in which no full turn is possible
+    // the longest gap without a possible full turn
     Case {
         ceiling: 1_000_000,
         total: 0,
@@ -172,7 +172,7 @@ static CASES: [Case; 22] = [
         reading: reading!(2_700_001, 2, 0),
         verdict: held!(SpanTooLong),
     },
-    // the least cause in the order of the table
+    // the first cause in the order of the rules
     Case {
         ceiling: 1000,
         total: 0,
@@ -258,7 +258,8 @@ static BELOW_A_MILLION: [Case; 7] = [
     },
 ];
 
-/// No energy so far: the ceiling, the scale factor, when the counter showed what, when it shows what, and the verdict.
+/// No energy so far: the ceiling, the scale factor, when the counter showed what, when it shows
+/// what, and the verdict.
 macro_rules! case {
     ($ceiling:expr, $sf:expr, $from:expr, $before:expr, $at:expr, $raw:expr, $verdict:expr) => {
         Case {
@@ -284,7 +285,8 @@ static GREATEST_RANGE: [Case; 22] = [
     case!(1, 0, 0, 4_294_967_295, 4, 4_294_967_295, accepted!(0, 0)),
     case!(1, 0, 0, 4_294_967_294, 4, 4_294_967_295, accepted!(0, 1000)),
     case!(1000, 0, 0, 4_294_967_295, 900, 1, accepted!(1, 2000)),
-    // the greatest load makes a full turn, 4,294,967,296 Wh, in 15,461.88 seconds, and 4,294,722,222.2 Wh in 15,461
+    // the greatest ceiling allows a full turn, 4,294,967,296 Wh, in 15,461.88 seconds, and
+    // 4,294,722,222.2 Wh in 15,461
     case!(1_000_000_000, 0, 0, 5, 15_461, 6, accepted!(0, 1000)),
     case!(1_000_000_000, 0, 0, 5, 15_462, 6, held!(GapTooLong)),
     case!(1_000_000_000, 0, 0, 1, 15_461, 4_294_722_224, FARTHEST),
@@ -297,7 +299,8 @@ static GREATEST_RANGE: [Case; 22] = [
         4_294_722_225,
         held!(TooFast)
     ),
-    // in 18 seconds 1 W makes 5 mWh, and the greatest load 5,000 kWh; the counter may be one count further
+    // in 18 seconds 1 W gives 5 mWh, and the greatest ceiling 5,000 kWh; the counter may be one
+    // count further
     case!(1, -3, 0, 1, 18, 7, accepted!(0, 6)),
     case!(1, -3, 0, 1, 18, 8, held!(TooFast)),
     case!(
@@ -347,21 +350,24 @@ fn judges<C: Counter>(rt: &impl Abort, counter: &C, cases: &[Case]) {
     }
 }
 
-/// A counter that turns over there.
+/// A counter with this range.
 pub(crate) fn ranged(rt: &impl Abort, range: u64) -> Ranged {
     Ranged::new(range).expect(rt, "no lawful range")
 }
 
+/// Readings of a counter of 32 bits get their verdicts.
 #[test]
 fn readings_are_judged_on_a_counter_of_32_bits(rt: HostRuntime) {
     judges(&rt, &Acc32, &CASES);
 }
 
+/// Readings of a counter that rolls over at a million get their verdicts.
 #[test]
 fn readings_are_judged_below_a_million(rt: HostRuntime) {
     judges(&rt, &ranged(&rt, 1_000_000), &BELOW_A_MILLION);
 }
 
+/// Readings of counters with the least and the greatest range get their verdicts.
 #[test]
 fn readings_are_judged_at_both_ends_of_ranges(rt: HostRuntime) {
     judges(&rt, &ranged(&rt, 65_536), &LEAST_RANGE);

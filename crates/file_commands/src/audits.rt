@@ -1,4 +1,4 @@
-//! The audit of an office's files, and seals of what is recorded in one.
+//! Audits an office's files, and prints or checks seals of one.
 use crate::files::{OfficeFiles, Opening};
 use crate::opening::open_in;
 use command_words::Sealing;
@@ -13,10 +13,11 @@ use stored_files::{
     write_joins, write_seal,
 };
 
-/// The most bytes of a seal. A seal of 4,096 meters, each with a thousand voids, has fewer.
+/// The greatest length of a seal, in bytes. A seal of 4,096 meters, each with a thousand voids, has
+/// fewer.
 const MOST_SEAL: u64 = 300_000_000;
 
-/// What each seal begins with.
+/// The first bytes of each seal.
 const SEAL_BEGIN: &[u8; 5] = b"seal ";
 
 // Prints the seal of the tables.
@@ -30,7 +31,7 @@ fn print_seal<S: Alter>(
     Ok(true)
 }
 
-// Tells whether the tables still have what the seal of a text pins.
+// Returns whether the tables still have what the seal in the text covers.
 fn hold_to<S: Alter>(
     rt: &HostRuntime,
     connection: &mut Connection<S>,
@@ -41,7 +42,8 @@ fn hold_to<S: Alter>(
     write_checked(rt.alloc(), &checked, &mut output)
 }
 
-// Audits the tables, and tells whether they are fine. Only where they are, a seal is printed, or held to: that of this text.
+// Audits the tables, and returns whether they are fine. Only if they are, a seal is printed, or
+// compared with the tables.
 fn audit_over<S: Alter>(
     rt: &HostRuntime,
     connection: &mut Connection<S>,
@@ -59,7 +61,7 @@ fn audit_over<S: Alter>(
     write_audit(rt.alloc(), &findings, &mut output)
 }
 
-// Does so with the database at a path.
+// Audits the tables of the database at a path.
 fn audit_in<'a, D: Databases>(
     rt: &HostRuntime,
     databases: &D,
@@ -74,7 +76,8 @@ fn audit_in<'a, D: Databases>(
     }
 }
 
-// The length of a seal's file, which must be regular; `None` where the file is longer than any seal.
+// Returns the length of a seal's file, which must be regular, or `None` if the file is longer than
+// any seal.
 fn seal_length(rt: &HostRuntime, file: &str) -> io::Result<Option<u64>> {
     let found = fs::metadata(rt, file)?;
     if !found.is_file() {
@@ -88,7 +91,8 @@ fn seal_length(rt: &HostRuntime, file: &str) -> io::Result<Option<u64>> {
     })
 }
 
-// The bytes of a seal's file; `None` where its first bytes or its length show that it is no seal.
+// Returns the bytes of a seal's file, or `None` if its first bytes or its length show that it is no
+// seal.
 fn seal_in(rt: &HostRuntime, file: &str) -> io::Result<Option<Vec<u8>>> {
     let Some(length) = seal_length(rt, file)? else {
         return Ok(None);
@@ -114,7 +118,7 @@ fn ended(told: Result<bool, Failure<'_>>) -> Ending<'_> {
     }
 }
 
-// Audits the tables, and holds them to the seal in a file.
+// Audits the tables, and compares them with the seal in a file.
 fn audit_against<'a, D: Databases>(
     rt: &HostRuntime,
     databases: &D,
@@ -145,8 +149,8 @@ fn audit_against<'a, D: Databases>(
     }
 }
 
-/// Tells whether the rows of an office's file are those of lawful journals and polls, and prints a seal of them, or holds them to one.
-/// Nothing is written to the file.
+/// Audits an office's file: whether its rows are those of lawful journals and polls. Prints a seal
+/// of the rows, or compares them with one. Writes nothing to the file.
 pub fn audit<'a, D: OfficeFiles>(
     rt: &HostRuntime,
     files: &D,
@@ -162,7 +166,7 @@ pub fn audit<'a, D: OfficeFiles>(
 
 // ---- several files
 
-// Why a file's zone wasn't told.
+// Returns the fault of a file whose zone could not be read.
 fn zone_fault(fault: OpenFault) -> AuditFault {
     match fault {
         OpenFault::NotOurs => AuditFault::NotOurs,
@@ -172,7 +176,7 @@ fn zone_fault(fault: OpenFault) -> AuditFault {
     }
 }
 
-// Holds a file to those before it.
+// Compares a file with those before it.
 fn join_next<'a, S: Alter>(
     rt: &HostRuntime,
     connection: &mut Connection<S>,
@@ -186,8 +190,8 @@ fn join_next<'a, S: Alter>(
     }
 }
 
-// Audits the tables of one of several files, and tells whether they are fine. Only where they are, and those before were, it is held
-// to these.
+// Audits the tables of one of several files, and returns whether they are fine. If they are, and so
+// were the files before, compares the file with those.
 fn audit_next<'a, S: Alter>(
     rt: &HostRuntime,
     connection: &mut Connection<S>,
@@ -202,7 +206,7 @@ fn audit_next<'a, S: Alter>(
     Ok(fine && so_far)
 }
 
-// Does so with the database at a path, under a line that names it.
+// Audits the database at a path, under a line with its name.
 fn audit_file<'a, D: Databases>(
     rt: &HostRuntime,
     databases: &D,
@@ -221,7 +225,8 @@ fn audit_file<'a, D: Databases>(
     }
 }
 
-// Audits the files at these paths, one after the other, and tells whether all are fine, and go on from each other.
+// Audits the files at these paths, one after another. Returns whether all are fine, and continue
+// each other.
 fn audit_files<'a, D: Databases>(
     rt: &HostRuntime,
     databases: &D,
@@ -243,7 +248,7 @@ fn audit_files<'a, D: Databases>(
     }
 }
 
-// The first of these paths that stands twice.
+// Returns the first of these paths that occurs twice.
 fn twice<'a>(paths: &[&'a str]) -> Option<&'a str> {
     for (index, path) in paths.iter().enumerate() {
         if paths[..index].iter().any(|other| *other == *path) {
@@ -253,8 +258,8 @@ fn twice<'a>(paths: &[&'a str]) -> Option<&'a str> {
     None
 }
 
-/// Tells whether the rows of each of an office's files are those of lawful journals and polls, and whether the files, the oldest first,
-/// go on from each other. Nothing is written to them, and one is open at a time.
+/// Audits each of an office's files, the oldest first, and whether each continues the one before.
+/// Writes nothing to the files, and opens one at a time.
 pub fn audit_several<'a, D: OfficeFiles>(
     rt: &HostRuntime,
     files: &D,

@@ -1,9 +1,9 @@
-//! One whole file of the office in a file, also beside a running one.
+//! Copies an office into one complete file, even while a process runs it.
 use crate::copies::{Pair, copy_sound, make_whole, remove, sound_pair_at};
 use crate::parts::{finish_part, part_of};
 use stored_files::{CopyFault, Ending, Failure};
 
-/// The failure of a copy, with the path of the file that the fault is about.
+/// Returns the failure of a copy, with the path of the file that the fault is about.
 pub(crate) fn told_of<'a>(db: &'a str, to: &'a str, fault: CopyFault) -> Failure<'a> {
     match fault {
         CopyFault::Changing | CopyFault::Torn | CopyFault::NotOurs => {
@@ -55,7 +55,7 @@ fn back_up<'a>(rt: &HostRuntime, db: &'a str, to: &'a str) -> Result<(), Failure
     made
 }
 
-/// Copies the office in a file, also a running one's, into one whole file that is made for it.
+/// Copies the office in a file into a new, complete file. A process may be running the office.
 pub fn backup<'a>(rt: &HostRuntime, db: &'a str, to: &'a str) -> Ending<'a> {
     match back_up(rt, db, to) {
         Ok(()) => Ending::Fine,

@@ -1,4 +1,4 @@
-//! A new file in which the meters of an office's file stand as they stood there.
+//! Begins a new file in which each open meter of an office's file continues.
 use crate::copies::{Pair, make_whole, remove};
 use crate::escaped::Escaped;
 use crate::files::{OfficeFiles, Opening};
@@ -12,17 +12,17 @@ use std::io::{self, Write};
 use std::str::from_utf8;
 use stored_files::{CarryEnd, CopyFault, Databases, Ending, Failure, Named, carry_stored};
 
-/// Why meters were not carried into a new file.
+/// Why meters do not continue in a new file.
 #[derive(Drop)]
 pub enum NotCarried<'a> {
     Failed(Failure<'a>),
     /// The office in the file at this path refused something, or failed.
     Refused { path: &'a str, why: Refusal },
-    /// A meter of the file at this path had no entry yet.
+    /// A meter of the file at this path has no entry yet.
     NotYet { path: &'a str, meter: Name },
 }
 
-// Why an office was not carried into a new one.
+// Returns why the meters of an office do not continue in a new one.
 fn not_carried<'a>(from: &'a str, to: &'a str, fault: CarryFault) -> NotCarried<'a> {
     match fault {
         CarryFault::Old(why) => NotCarried::Refused { path: from, why },
@@ -31,7 +31,7 @@ fn not_carried<'a>(from: &'a str, to: &'a str, fault: CarryFault) -> NotCarried<
     }
 }
 
-// The same, or why one of them was not opened.
+// Returns why an office was not opened, or why its meters do not continue in a new one.
 fn not_ended<'a>(from: &'a str, to: &'a str, end: CarryEnd) -> NotCarried<'a> {
     match end {
         CarryEnd::Unopened(fault) => NotCarried::Failed(Failure::Unopened { path: from, fault }),
@@ -40,7 +40,7 @@ fn not_ended<'a>(from: &'a str, to: &'a str, end: CarryEnd) -> NotCarried<'a> {
     }
 }
 
-// Carries the meters of a database into the part of a new file.
+// Lets the meters of a database continue in the part of a new file.
 fn carry_into_part<'a, D: Databases>(
     rt: &HostRuntime,
     databases: &D,
@@ -62,7 +62,7 @@ fn carry_into_part<'a, D: Databases>(
     }
 }
 
-// Merges the log of the new file into it, and gives the file its name.
+// Merges the log of the new file into the file, and gives the file its name.
 fn finish<'a>(rt: &HostRuntime, to: &'a str, part: &Pair) -> Result<(), Failure<'a>> {
     match make_whole(rt, part.file.as_str()) {
         Ok(()) => {}
@@ -74,7 +74,8 @@ fn finish<'a>(rt: &HostRuntime, to: &'a str, part: &Pair) -> Result<(), Failure<
     Ok(())
 }
 
-// Carries the meters of a database into the part of a new file, and makes that the new file. It answers how many they are.
+// Lets the meters of a database continue in the part of a new file, and gives the part its name.
+// Returns the number of meters.
 fn carry_whole<'a, D: Databases>(
     rt: &HostRuntime,
     databases: &D,
@@ -94,9 +95,12 @@ fn carry_whole<'a, D: Databases>(
     }
 }
 
-/// Carries the meters of a database, that of the file at a path, into a new file, as they stand at its end, and answers how many they are.
-/// A carry that fails leaves no part; the new file has its name where only the sync of the folder failed. What an interrupted carry
-/// left is removed before: no other process has the old file open.
+/// Begins a new file in which the meters of an open database continue from their last entries.
+/// Returns the number of meters.
+///
+/// On failure the part is removed. If only the sync of the folder failed, the new file has its
+/// name. A part that an interrupted call left is removed first: no other process has the old file
+/// open.
 pub fn carry_open<'a, D: Databases>(
     rt: &HostRuntime,
     databases: &D,
@@ -115,7 +119,7 @@ pub fn carry_open<'a, D: Databases>(
     carried
 }
 
-// Prints how many meters were carried.
+// Prints how many meters continue.
 fn say_carried(rt: &HostRuntime, count: u64) -> Ending<'static> {
     match write!(io::writer(rt), "carried {count} meters\n") {
         Ok(()) => Ending::Fine,
@@ -123,7 +127,7 @@ fn say_carried(rt: &HostRuntime, count: u64) -> Ending<'static> {
     }
 }
 
-/// Writes what a refusal means, and of which file it is.
+/// Writes what a refusal means, and in which file it occurred.
 pub(crate) fn write_refusal<W: Write>(errors: &mut W, path: &str, why: Refusal) -> io::Result<()> {
     match meaning_of(Kind::Refused, u32::from(why.number())) {
         Some(meaning) => write!(
@@ -137,7 +141,7 @@ pub(crate) fn write_refusal<W: Write>(errors: &mut W, path: &str, why: Refusal) 
     }
 }
 
-// Which meter of a file has no entry yet.
+// Writes which meter of a file has no entry yet.
 fn write_not_yet<W: Write>(errors: &mut W, path: &str, meter: &Name) -> io::Result<()> {
     let name = from_utf8(meter.as_bytes()).unwrap_or("a meter");
     let path = Named(path);
@@ -147,7 +151,7 @@ fn write_not_yet<W: Write>(errors: &mut W, path: &str, meter: &Name) -> io::Resu
     )
 }
 
-/// Writes why meters were not carried from one file into another: a sentence in a line.
+/// Writes a line that says why meters do not continue in another file.
 pub fn write_why<W: Write>(errors: &mut W, why: &NotCarried<'_>) -> io::Result<()> {
     match why {
         NotCarried::Failed(failure) => write!(errors, "sunreg: {failure}\n"),
@@ -161,7 +165,7 @@ fn print_refusal(rt: &HostRuntime, why: Refusal) -> io::Result<()> {
     write!(io::writer(rt), "refused {number}\n")
 }
 
-/// Prints a refusal, and says what it means and of which file.
+/// Prints a refusal, and reports what it means and in which file it occurred.
 pub(crate) fn say_refused(rt: &HostRuntime, path: &str, why: Refusal) -> Ending<'static> {
     if print_refusal(rt, why).is_err() {
         return Ending::Failed(Failure::Streams);
@@ -171,14 +175,14 @@ pub(crate) fn say_refused(rt: &HostRuntime, path: &str, why: Refusal) -> Ending<
     Ending::Refused
 }
 
-// Says which meter has no entry yet.
+// Reports which meter has no entry yet.
 fn say_not_yet(rt: &HostRuntime, path: &str, meter: &Name) -> Ending<'static> {
     let mut errors = Escaped::new(rt.stderr());
     let _said = write_not_yet(&mut errors, path, meter);
     Ending::Refused
 }
 
-// Carries the meters of the file at a path.
+// Lets the meters of the file at a path continue.
 fn carry_in<'a, D: Databases>(
     rt: &HostRuntime,
     databases: &D,
@@ -193,7 +197,8 @@ fn carry_in<'a, D: Databases>(
     }
 }
 
-// Carries the meters of a file into the part of a new one, and makes that the new file. Of a carry that fails nothing is left.
+// Lets the meters of a file continue in the part of a new one, and gives the part its name. On
+// failure the part is removed.
 fn carry_into<'a, D: Databases>(
     rt: &HostRuntime,
     databases: &D,
@@ -214,8 +219,9 @@ fn carry_into<'a, D: Databases>(
     ending
 }
 
-/// Makes a new file in which each open meter of an office's file stands as it stood there, at the end or at a moment. The old file is
-/// only read, and by a copy, so it may be a running office's.
+/// Begins a new file in which each open meter of an office's file continues: from its last entry,
+/// at the end of the file or at a time. The old file is only copied, so a process may be running
+/// its office.
 pub fn carry<'a, D: OfficeFiles>(
     rt: &HostRuntime,
     files: &D,

@@ -1,4 +1,4 @@
-//! Copies of a file and its log.
+//! Copies a file and its log.
 use sqlite::Unknown;
 use std::env;
 use std::fs::{self, File, OpenOptions};
@@ -10,10 +10,11 @@ use stored_files::{
     real_path, whole_file,
 };
 
-/// How often a file is copied whose log is moved into it meanwhile.
+/// How often a copy is tried again if the log is merged into its file meanwhile.
 const TRIES: u32 = 8;
 
-/// How many bytes the header of a log has. A log that was moved into its file has another salt there.
+/// The length of a log's header in bytes. After a log was merged into its file, the header has
+/// another salt.
 const HEADER: u64 = 32;
 
 /// A file and its log.
@@ -23,14 +24,15 @@ pub(crate) struct Pair {
     pub(crate) log: String,
 }
 
-/// Removes both, where they are there.
+/// Removes both, if they exist.
 pub(crate) fn remove(rt: &HostRuntime, pair: &Pair) {
     let _gone = fs::remove_file(rt, pair.file.as_str());
     let _gone = fs::remove_file(rt, pair.log.as_str());
 }
 
-/// The real path of a file, and that of its log. Fails where another program left a journal beside the file, which is then incomplete.
-/// The log may have lost commits: [`sound_pair_at`] rejects that.
+/// Returns the real path of a file, and of its log. Fails if another program left a journal beside
+/// the file, which is then incomplete. The log may have lost commits: [`sound_pair_at`] rejects
+/// that.
 pub(crate) fn pair_at(rt: &HostRuntime, path: &str) -> Result<Pair, FileFault> {
     match fs::exists(rt, path) {
         Ok(true) => {}
@@ -50,13 +52,13 @@ pub(crate) fn pair_at(rt: &HostRuntime, path: &str) -> Result<Pair, FileFault> {
     }
 }
 
-/// Like [`pair_at`], but fails where the log has lost commits.
+/// Like [`pair_at`], but fails if the log has lost commits.
 pub(crate) fn sound_pair_at(rt: &HostRuntime, path: &str) -> Result<Pair, FileFault> {
     check_beside(rt, path)?;
     pair_at(rt, path)
 }
 
-// The first bytes of a log, up to the length of its header; none where there is no log.
+// Returns the first bytes of a log, up to the length of its header, or none if there is no log.
 fn header_of(rt: &HostRuntime, log: &str) -> io::Result<Vec<u8>> {
     let mut header = Vec::new(rt.alloc());
     match File::open(rt, log) {
@@ -69,7 +71,7 @@ fn header_of(rt: &HostRuntime, log: &str) -> io::Result<Vec<u8>> {
     }
 }
 
-// Copies a file into one that is made, is its owner's alone, and is on the disk at the end.
+// Copies a file into a new file, which only its owner can read and write. Syncs the new file.
 fn copy_file(rt: &HostRuntime, from: &str, to: &str) -> io::Result<()> {
     let mut original = File::open(rt, from)?;
     let mut copy = OpenOptions::new()
@@ -82,8 +84,9 @@ fn copy_file(rt: &HostRuntime, from: &str, to: &str) -> io::Result<()> {
     copy.sync_all()
 }
 
-// Copies a file and then its log. Returns whether the log's header is the same after as before: then no checkpoint ran meanwhile, and
-// the two copies belong together. The copied log has what an office wrote meanwhile, up to the end of some commit.
+// Copies a file and then its log. Returns whether the log's header is unchanged: then no checkpoint
+// ran meanwhile, and the two copies belong together. The copied log has what an office wrote
+// meanwhile, up to the end of some commit.
 fn copy_pair(rt: &HostRuntime, source: &Pair, part: &Pair) -> io::Result<bool> {
     let before = header_of(rt, source.log.as_str())?;
     copy_file(rt, source.file.as_str(), part.file.as_str())?;
@@ -96,7 +99,8 @@ fn copy_pair(rt: &HostRuntime, source: &Pair, part: &Pair) -> io::Result<bool> {
     Ok(before.as_slice() == after.as_slice())
 }
 
-/// Copies a file and its log, and copies both again where a checkpoint ran meanwhile. Returns whether the copies belong together.
+/// Copies a file and its log, and copies both again if a checkpoint ran meanwhile. Returns whether
+/// the copies belong together.
 pub(crate) fn copy_settled(rt: &HostRuntime, source: &Pair, copy: &Pair) -> io::Result<bool> {
     for _ in 0..TRIES {
         if copy_pair(rt, source, copy)? {
@@ -107,7 +111,7 @@ pub(crate) fn copy_settled(rt: &HostRuntime, source: &Pair, copy: &Pair) -> io::
     Ok(false)
 }
 
-// Whether the log of a copy has all its commits. Fails where that can't be told.
+// Returns whether the log of a copy has all its commits. Fails if that is unknown.
 fn is_sound(rt: &HostRuntime, copy: &Pair) -> io::Result<bool> {
     match check_beside(rt, copy.file.as_str()) {
         Ok(()) => Ok(true),
@@ -117,8 +121,8 @@ fn is_sound(rt: &HostRuntime, copy: &Pair) -> io::Result<bool> {
     }
 }
 
-/// Like [`copy_settled`], but copies again where the copied log has lost commits: an office may have written while its frames were
-/// read, and the copy may have later frames without earlier ones.
+/// Like [`copy_settled`], but copies again if the copied log has lost commits. An office may have
+/// written while its frames were read, so that the copy has later frames without earlier ones.
 pub(crate) fn copy_sound(rt: &HostRuntime, source: &Pair, copy: &Pair) -> io::Result<bool> {
     for _ in 0..TRIES {
         if copy_settled(rt, source, copy)? && is_sound(rt, copy)? {
@@ -129,7 +133,8 @@ pub(crate) fn copy_sound(rt: &HostRuntime, source: &Pair, copy: &Pair) -> io::Re
     Ok(false)
 }
 
-/// Merges the log of an office's file into the file, which then holds the office without it. No other process may have them open.
+/// Merges the log of an office's file into the file, which is then complete without it. No other
+/// process may have them open.
 pub(crate) fn make_whole(rt: &HostRuntime, file: &str) -> Result<(), CopyFault> {
     match whole_file(rt, file, Unknown) {
         Ok(_files) => Ok(()),
@@ -137,7 +142,8 @@ pub(crate) fn make_whole(rt: &HostRuntime, file: &str) -> Result<(), CopyFault> 
     }
 }
 
-// The names of a copy that is only read: among the files that come and go, by the moment.
+// Returns the names of a copy that is only read: in the folder of temporary files, by the current
+// time.
 fn passing_names(rt: &HostRuntime) -> Result<Pair, FileFault> {
     let alloc = rt.alloc();
     let (Ok(folder), Ok(now)) = (env::temp_dir(rt), SystemTime::now(rt)) else {
@@ -156,8 +162,8 @@ fn passing_names(rt: &HostRuntime) -> Result<Pair, FileFault> {
     Ok(Pair { file, log })
 }
 
-/// A connection to a copy of the database at a path, of which nothing is left when that ends. The file, its folder and who has it
-/// open are left alone.
+/// Opens a copy of the database at a path. The copy disappears when the connection is closed. The
+/// file, its folder and other processes are undisturbed.
 pub(crate) fn open_copy(
     rt: &HostRuntime,
     path: &str,
@@ -169,7 +175,7 @@ pub(crate) fn open_copy(
         Ok(false) => Err(FileFault::Busy),
         Err(_) => Err(FileFault::Unreadable),
     };
-    // (what is open stays until it is closed)
+    // (an open file exists until it is closed)
     remove(rt, &copy);
     opened
 }

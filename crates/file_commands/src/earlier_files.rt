@@ -1,4 +1,4 @@
-//! Earlier files of an office that goes on, over which a run tells energy, too.
+//! Earlier files of a continued office, whose energy a run reports too.
 use crate::carries::write_refusal;
 use crate::files::{OfficeFiles, Opening};
 use crate::joined_reports::{NotJoined, join_in, last_of};
@@ -8,10 +8,10 @@ use office_events::Name;
 use std::io::Write;
 use stored_files::{Databases, Ending, Failure, JoinedOffice};
 
-// Whichever register is named, all are asked for.
+// The name of any register: all registers are read.
 const ANY: &[u8] = b"any";
 
-// Adds what a file tells of all its registers, or says why it doesn't join.
+// Adds what a file reports of all its registers, or reports why it does not continue the others.
 fn join<'a, D: Databases, K: Keeping, E: Write>(
     rt: &HostRuntime,
     databases: &D,
@@ -38,7 +38,7 @@ fn join<'a, D: Databases, K: Keeping, E: Write>(
     }
 }
 
-// What the files tell of their registers, one after the other: one of them is open at a time.
+// Returns what the files report of their registers, one after another. One file is open at a time.
 fn keep_all<'a, D: Databases, E: Write>(
     rt: &HostRuntime,
     databases: &D,
@@ -58,7 +58,7 @@ fn keep_all<'a, D: Databases, E: Write>(
     Ok(joined)
 }
 
-// What was kept of the registers.
+// Returns the registers that were kept.
 fn registers_of<'a>(held: JoinedOffice<HeldRegisters>) -> Result<Vec<EarlierRegister>, Ending<'a>> {
     let JoinedOffice { kept, .. } = held;
     let HeldRegisters { kept } = kept;
@@ -68,7 +68,7 @@ fn registers_of<'a>(held: JoinedOffice<HeldRegisters>) -> Result<Vec<EarlierRegi
     }
 }
 
-// Holds the file in which books go on to those before it.
+// Compares the current file with those before it.
 fn hold<'a, D: Databases, E: Write>(
     rt: &HostRuntime,
     databases: &D,
@@ -88,13 +88,13 @@ fn hold<'a, D: Databases, E: Write>(
     }
 }
 
-/// The files before the last.
+/// Returns the files before the last.
 pub fn but_last<'a, 'f>(paths: &'f [&'a str]) -> &'f [&'a str] {
     let count = paths.len().saturating_sub(1);
     &paths[..count]
 }
 
-// Says over how many earlier files energy is told, too, and which is the first of them.
+// Reports the number of earlier files whose energy is reported too, and the first of them.
 fn say_earlier<E: Write>(errors: &mut E, current: &str, paths: &[&str]) {
     if let Some(first) = paths.first() {
         let count = paths.len();
@@ -106,8 +106,9 @@ fn say_earlier<E: Write>(errors: &mut E, current: &str, paths: &[&str]) {
     }
 }
 
-/// What earlier files, the oldest first, tell of their registers, where the file in which books go on, which may just have been made,
-/// joins them. All are only read, one after the other. How many they are, or what doesn't join, is said to a writer.
+/// Returns what earlier files, the oldest first, report of their registers, if the current file
+/// continues them. The current file may be new. All files are only read, one after another. Writes
+/// their number, or why a file does not continue the others, to `errors`.
 pub fn earlier_registers<'a, D: OfficeFiles, E: Write>(
     rt: &HostRuntime,
     files: &D,

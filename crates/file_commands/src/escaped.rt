@@ -1,19 +1,19 @@
-//! What is said on standard error, safe for a terminal.
+//! Output on standard error that is safe for a terminal.
 use std::io::{self, Write};
 
-/// A writer that spells the control bytes of what it is given, as `\x1b`, but for ends of lines: a name that was given can't
-/// make a terminal do something.
+/// A writer that escapes control bytes, such as `\x1b`, other than line feeds. A name from a user
+/// or a file therefore cannot control a terminal.
 #[derive(Drop)]
 pub struct Escaped<W: Write + Drop> {
     output: W,
 }
 
-// Whether a byte is written as it is.
+// Returns whether a byte is written unchanged.
 fn is_plain(byte: u8) -> bool {
     byte == b'\n' || !byte.is_ascii_control()
 }
 
-// The bytes up to the first that is not.
+// Returns the bytes before the first that is escaped.
 fn plain_front(bytes: &[u8]) -> &[u8] {
     match bytes.iter().position(|byte| !is_plain(*byte)) {
         Some(count) => bytes.get(..count).unwrap_or(bytes),

@@ -1,4 +1,4 @@
-//! The files of the system as databases.
+//! The system's files as databases.
 use crate::copies::open_copy;
 use sqlite::{Connection, FileFrom, FileStore, Unknown};
 use stored_files::{Databases, FileConnection, FileFault, make_file, open_file};
@@ -8,20 +8,22 @@ use stored_files::{Databases, FileConnection, FileFault, make_file, open_file};
 pub enum Opening {
     /// In its file, which is written to.
     InPlace,
-    /// In its file, or in a copy where the system lets nobody write there.
+    /// In its file, or in a copy if the system does not let this process write the file.
     ToRead,
-    /// In a copy, so that file and folder are left alone.
+    /// In a copy. The file and its folder are undisturbed.
     Copied,
 }
 
-/// The files of an office, as databases that are opened as each command asks. What is done with them is proved over any of these, and a
-/// program says once which they are, since a call over those of the system takes the prover half a minute.
+/// The files of an office as databases, which each command opens as it needs.
+///
+/// What the commands do is proved over any such files. Only the program names the system's files,
+/// since each call over them costs the prover half a minute.
 pub trait OfficeFiles: Databases + Copy {
-    /// The same files, opened so.
+    /// Returns the same files, opened in this way.
     fn opened(&self, opening: Opening) -> Self;
 }
 
-/// The files of the system, opened so.
+/// The system's files, opened in this way.
 #[derive(Clone, Copy)]
 pub struct Files<'r> {
     rt: &'r HostRuntime,
@@ -29,7 +31,7 @@ pub struct Files<'r> {
 }
 
 impl<'r> Files<'r> {
-    /// Each opened in its place.
+    /// Returns the system's files, each opened in its place.
     pub fn of(rt: &'r HostRuntime) -> Files<'r> {
         let opening = Opening::InPlace;
         Files { rt, opening }
@@ -58,7 +60,7 @@ impl Databases for Files<'_> {
     }
 }
 
-// A connection to the database in a file, or to a copy of it where there is none since the system refuses it.
+// Opens the database in a file, or a copy of it if the system refuses to open the file.
 fn open_to_read(rt: &HostRuntime, path: &str) -> Result<FileConnection<Unknown>, FileFault> {
     match open_file(rt, path, Unknown) {
         Err(FileFault::Unreadable) => open_copy(rt, path),

@@ -1,4 +1,4 @@
-//! The forms of reports and statements that words ask for.
+//! The forms of reports and statements that options request.
 use command_words::FormWords;
 use energy_report::{
     EnergyUnit, Format, Period, RangeFault, ReportForm, StatementForm, read_range,
@@ -6,7 +6,7 @@ use energy_report::{
 use interval_core::DayRange;
 use stored_files::Ending;
 
-/// The range that is asked for.
+/// Returns the requested range of days.
 pub fn range_of<'a>(words: &FormWords<'a>) -> Result<DayRange, Ending<'a>> {
     match read_range(words.from, words.till) {
         Ok(range) => Ok(range),
@@ -22,7 +22,7 @@ pub fn range_of<'a>(words: &FormWords<'a>) -> Result<DayRange, Ending<'a>> {
     }
 }
 
-/// The form that is asked for, on a range of days.
+/// Returns the requested form of a report, on a range of days.
 pub fn form_of(words: &FormWords<'_>, range: DayRange) -> ReportForm {
     ReportForm {
         range,
@@ -32,7 +32,7 @@ pub fn form_of(words: &FormWords<'_>, range: DayRange) -> ReportForm {
     }
 }
 
-/// The form of a statement that is asked for, on a range of days.
+/// Returns the requested form of a statement, on a range of days.
 pub fn statement_of(words: &FormWords<'_>, range: DayRange) -> StatementForm {
     StatementForm {
         range,

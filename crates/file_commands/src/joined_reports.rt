@@ -18,16 +18,17 @@ use stored_files::{
     Databases, Ending, Failure, JoinFault, JoinedOffice, Named, ending_of, join_stored,
 };
 
-// What to do where files don't join.
+// What to do if files do not continue each other.
 const REMEDY: &str =
     "name the files oldest first, each carried from the one before, and void what the older one booked after the carry";
 
-// The name of a meter.
+// Returns the name of a meter.
 fn name_of(row: &Installation) -> &str {
     from_utf8(row.opening.meter.as_bytes()).unwrap_or("?")
 }
 
-// Says where a meter begins that joins none, and where one stands by the files before.
+// Reports a meter that continues no earlier one: where it begins, and the last entry of the meter
+// that it should continue.
 fn say_apart<E: Write>(errors: &mut E, before: &str, path: &str, apart: &Apart) {
     let (before, path) = (Named(before), Named(path));
     let begins = &apart.begins.opening;
@@ -56,7 +57,7 @@ fn say_apart<E: Write>(errors: &mut E, before: &str, path: &str, apart: &Apart) 
     );
 }
 
-// Says why a file doesn't join those before it.
+// Reports why a file does not continue those before it.
 fn say_unjoined<E: Write>(errors: &mut E, before: &str, path: &str, why: &Unjoined) {
     if let Unjoined::Apart(apart) = why {
         return say_apart(errors, before, path, apart);
@@ -81,7 +82,7 @@ fn say_unjoined<E: Write>(errors: &mut E, before: &str, path: &str, why: &Unjoin
     }
 }
 
-// Says that a file is of another zone.
+// Reports that a file has another zone.
 fn say_other_zone<E: Write>(errors: &mut E, before: &str, path: &str) {
     let (before, path) = (Named(before), Named(path));
     let _said = write!(
@@ -91,17 +92,17 @@ fn say_other_zone<E: Write>(errors: &mut E, before: &str, path: &str) {
     );
 }
 
-/// Why a file was not joined to those before it.
+/// Why a file does not continue those before it.
 #[derive(Drop)]
 pub(crate) enum NotJoined<'a> {
     Failed(Failure<'a>),
-    /// Its books failed, or memory was wanting.
+    /// Its store failed, or memory ran out.
     Refused(Refusal),
-    /// It doesn't go on from them, of which it was said why.
+    /// It does not continue them, and the reason was reported.
     Apart,
 }
 
-// What comes of why an office in a database was not joined.
+// Returns why an office in a database does not continue the earlier ones. Reports the reason.
 fn not_joined<'a, E: Write>(
     errors: &mut E,
     before: &str,
@@ -122,7 +123,7 @@ fn not_joined<'a, E: Write>(
     }
 }
 
-/// Adds what one file tells. Why it doesn't go on from those before it is said to a writer.
+/// Adds what one file reports. Writes why it does not continue those before it to `errors`.
 pub(crate) fn join_in<'a, D: Databases, K: Keeping, E: Write>(
     rt: &HostRuntime,
     databases: &D,
@@ -143,7 +144,7 @@ pub(crate) fn join_in<'a, D: Databases, K: Keeping, E: Write>(
     }
 }
 
-// What the files tell of a register, one after the other: one of them is open at a time.
+// Returns what the files report of a register, one after another. One file is open at a time.
 fn join_all<'a, D: Databases, K: Keeping>(
     rt: &HostRuntime,
     databases: &D,
@@ -178,7 +179,7 @@ fn join_all<'a, D: Databases, K: Keeping>(
     Ok(joined)
 }
 
-// How a command ends that printed all it had to.
+// Returns how a command ended, after its output is flushed.
 fn ended<W: Write + Drop>(output: &mut Buffered<W>, status: ExitStatus) -> Ending<'static> {
     match output.flush() {
         Ok(()) => ending_of(status),
@@ -186,14 +187,14 @@ fn ended<W: Write + Drop>(output: &mut Buffered<W>, status: ExitStatus) -> Endin
     }
 }
 
-// Prints the report of what files tell.
+// Prints the report of what files report.
 fn print_report(rt: &HostRuntime, joined: JoinedFiles, form: &ReportForm) -> Ending<'static> {
     let mut output = Buffered::new(io::writer(rt));
     let status = report_joined(joined, form, &mut output);
     ended(&mut output, status)
 }
 
-// The same where the register is recorded in one of them.
+// Prints the report if the register is recorded in one of the files.
 fn report_recorded(
     rt: &HostRuntime,
     path: &str,
@@ -212,7 +213,7 @@ fn report_recorded(
     }
 }
 
-// Prints the statement of what files tell.
+// Prints the statement of what files report.
 fn print_statement(
     rt: &HostRuntime,
     joined: &JoinedStatement,
@@ -225,7 +226,7 @@ fn print_statement(
     }
 }
 
-// The same where the register is recorded in one of them.
+// Prints the statement if the register is recorded in one of the files.
 fn state_recorded(
     rt: &HostRuntime,
     path: &str,
@@ -244,7 +245,7 @@ fn state_recorded(
     }
 }
 
-/// The last of the files.
+/// Returns the last of the files.
 pub fn last_of<'a>(paths: &[&'a str]) -> &'a str {
     match paths.last() {
         Some(path) => *path,
@@ -266,7 +267,7 @@ fn report_register<'a, D: Databases>(
     }
 }
 
-// Prints the statement of its meters.
+// Prints the statement of a register's meters.
 fn state_register<'a, D: Databases>(
     rt: &HostRuntime,
     databases: &D,
@@ -280,7 +281,8 @@ fn state_register<'a, D: Databases>(
     }
 }
 
-/// Prints the energy of a register over several files of one office, the oldest first, as one, or the statement of its meters.
+/// Prints the energy of a register over several files of one office, the oldest first, or the
+/// statement of its meters.
 pub fn report_files<'a, D: OfficeFiles>(
     rt: &HostRuntime,
     files: &D,

@@ -1,4 +1,5 @@
-//! The commands over files of an office that neither poll nor serve, by the system's files, and what a run does with its files.
+//! The commands over an office's files that do not poll devices or serve HTTP. Also what a run does
+//! with its files.
 #![tactic(auto)]
 
 mod audits;

@@ -11,7 +11,7 @@ use stored_files::{
     length_of, log_of, real_path,
 };
 
-// Why no office can be created in a file that isn't empty.
+// Returns why no office can be created in a file that is not empty.
 fn why_occupied<'a, D: Databases>(databases: &D, path: &'a str) -> Failure<'a> {
     match databases.make(path) {
         Ok(connection) if is_bare(&connection) => Failure::Occupied { path },
@@ -70,8 +70,8 @@ fn name_new<'a>(
     }
 }
 
-// Creates an office as a part, and then gives it its name. Where that fails, the part is removed; the office has its name where only
-// the sync of the folder failed.
+// Creates an office as a part, and then gives the part its name. On failure the part is removed. If
+// only the sync of the folder failed, the office has its name.
 fn make_office<'a, D: Databases>(
     rt: &HostRuntime,
     databases: &D,
@@ -96,7 +96,8 @@ fn make_office<'a, D: Databases>(
     }
 }
 
-// Creates an office where there is no file, or an empty one, and no log with bytes.
+// Creates an office at a path without a file, or with an empty one, and without a log that has
+// bytes.
 fn create_in<'a, D: Databases>(
     rt: &HostRuntime,
     databases: &D,

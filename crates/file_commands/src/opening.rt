@@ -1,4 +1,4 @@
-//! The opening of an office's file, and what is told of it.
+//! Opens an office's file, and reports what is unusual about it.
 use crate::escaped::Escaped;
 use sqlite::Connection;
 use std::io::{IsTerminal, Write};
@@ -6,10 +6,10 @@ use stored_files::{
     Databases, Failure, Named, check_regular, is_bare, is_blank, is_office, length_of, log_of,
 };
 
-/// From how many bytes on a file takes a second or more to open.
+/// The length in bytes from which a file takes a second or more to open.
 const LARGE: u64 = 16_000_000;
 
-// Says that a file had no log beside it.
+// Reports that a file has no log beside it.
 fn say_no_log<E: Write>(errors: &mut E, path: &str) {
     let path = Named(path);
     let _said = write!(
@@ -18,7 +18,8 @@ fn say_no_log<E: Write>(errors: &mut E, path: &str) {
     );
 }
 
-// Says on a terminal that a large file and its log are opened, which reads them whole.
+// Reports, on a terminal, that a large file is being opened, since opening reads the complete file
+// and its log.
 fn say_opening<E: Write>(rt: &HostRuntime, errors: &mut E, path: &str, bytes: u64) {
     let path = Named(path);
     if bytes >= LARGE && rt.stderr().is_terminal() {
@@ -30,7 +31,8 @@ fn say_opening<E: Write>(rt: &HostRuntime, errors: &mut E, path: &str, bytes: u6
     }
 }
 
-/// A connection to the office in the database at a path. That a log is missing, or stands alone, is told.
+/// Opens the office in the database at a path. Reports a log that is missing, and fails if the log
+/// has no file.
 pub fn open_in<'a, D: Databases>(
     rt: &HostRuntime,
     databases: &D,
@@ -40,7 +42,7 @@ pub fn open_in<'a, D: Databases>(
     open_telling(rt, databases, path, false, &mut errors)
 }
 
-/// The same, where what is told goes to a writer. A file that was just made has no log yet, which isn't told.
+/// Like [`open_in`], but reports to `errors`. A new file has no log yet, which is not reported.
 pub(crate) fn open_telling<'a, D: Databases, E: Write>(
     rt: &HostRuntime,
     databases: &D,

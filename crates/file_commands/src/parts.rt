@@ -6,10 +6,11 @@ use std::io::{self, ErrorKind};
 use std::os::unix::fs::OpenOptionsExt;
 use stored_files::{CopyFault, Databases, Failure, FileFault, real_path};
 
-/// Suffixes of names that belong to other files: the log, what other programs put beside a database, and an incomplete file.
+/// The suffixes of names that belong to other files: the log, the files that other programs create
+/// beside a database, and an incomplete file.
 const RESERVED: [&'static str; 4] = ["-wal", "-journal", "-shm", ".part"];
 
-/// Whether anything has this name. A name that the system can't look up counts as taken.
+/// Returns whether anything has this name. A name that the system cannot look up counts as taken.
 pub fn is_there(rt: &HostRuntime, path: &str) -> bool {
     match fs::symlink_metadata(rt, path) {
         Ok(_) => true,
@@ -17,12 +18,12 @@ pub fn is_there(rt: &HostRuntime, path: &str) -> bool {
     }
 }
 
-/// The name of a file until it is complete.
+/// Returns the name of a file until it is complete.
 pub fn part_name(rt: &HostRuntime, to: &str) -> Result<String, AllocError> {
     format!(in rt.alloc(); "{to}.part")
 }
 
-// Whether a name has a reserved suffix.
+// Returns whether a name has a reserved suffix.
 fn is_reserved(path: &str) -> bool {
     RESERVED.iter().any(|end| path.ends_with(*end))
 }
@@ -38,7 +39,7 @@ pub(crate) fn check_name(to: &str) -> Result<(), Failure<'_>> {
     Ok(())
 }
 
-// The names of an incomplete file and its log.
+// Returns the names of an incomplete file and its log.
 fn pair_for<'a>(rt: &HostRuntime, to: &str) -> Result<Pair, Failure<'a>> {
     match (part_name(rt, to), format!(in rt.alloc(); "{to}.part-wal")) {
         (Ok(file), Ok(log)) => Ok(Pair { file, log }),
@@ -61,7 +62,8 @@ fn check_free<'a>(rt: &HostRuntime, to: &'a str) -> Result<(), Failure<'a>> {
     Ok(())
 }
 
-/// The names of an incomplete file and its log. Fails where any of these names, or of the final ones, is taken.
+/// Returns the names of an incomplete file and its log. Fails if any of these names, or of the
+/// final ones, is taken.
 pub(crate) fn part_of<'a>(rt: &HostRuntime, to: &'a str) -> Result<Pair, Failure<'a>> {
     check_free(rt, to)?;
     let part = pair_for(rt, to)?;
@@ -86,7 +88,7 @@ fn make_empty(rt: &HostRuntime, path: &str) -> io::Result<()> {
     Ok(())
 }
 
-/// The failure of a new file that can't be written.
+/// Returns the failure of a new file that cannot be written.
 pub(crate) fn unwritable(to: &str) -> Failure<'_> {
     Failure::Uncopied {
         path: to,
@@ -102,13 +104,13 @@ fn begin<'a>(rt: &HostRuntime, to: &'a str, part: Pair) -> Result<Pair, Failure<
     }
 }
 
-/// Begins a new file. Fails where its name, or a name that it needs, is taken.
+/// Begins a new file. Fails if its name, or a name that it needs, is taken.
 pub(crate) fn begin_part<'a>(rt: &HostRuntime, to: &'a str) -> Result<Pair, Failure<'a>> {
     let part = part_of(rt, to)?;
     begin(rt, to, part)
 }
 
-// Whether a part may be removed: it is a regular file, or only its log exists.
+// Returns whether a part may be removed: it is a regular file, or only its log exists.
 fn is_left_over(rt: &HostRuntime, part: &Pair) -> bool {
     match fs::symlink_metadata(rt, part.file.as_str()) {
         Ok(found) => found.is_file(),
@@ -116,7 +118,8 @@ fn is_left_over(rt: &HostRuntime, part: &Pair) -> bool {
     }
 }
 
-// Removes the part that an interrupted command left. Returns false where the part isn't a regular file, or another process has it open.
+// Removes the part that an interrupted command left. Returns false if the part is not a regular
+// file, or if another process has it open.
 fn clear_left_over<D: Databases>(rt: &HostRuntime, databases: &D, part: &Pair) -> bool {
     if !is_left_over(rt, part) {
         return false;
@@ -128,7 +131,7 @@ fn clear_left_over<D: Databases>(rt: &HostRuntime, databases: &D, part: &Pair) -
     true
 }
 
-// Creates the part's file, and removes before what an interrupted command left.
+// Removes what an interrupted command left, and then creates the part's file.
 fn begin_again<'a, D: Databases>(
     rt: &HostRuntime,
     databases: &D,
@@ -145,7 +148,7 @@ fn begin_again<'a, D: Databases>(
     begin(rt, to, part)
 }
 
-/// Begins a new file, and removes before what an interrupted command left.
+/// Removes what an interrupted command left, and then begins a new file.
 pub(crate) fn begin_part_again<'a, D: Databases>(
     rt: &HostRuntime,
     databases: &D,
@@ -180,7 +183,7 @@ pub(crate) fn rename_over(rt: &HostRuntime, part: &str, to: &str) -> io::Result<
     sync_folder(rt, to)
 }
 
-// Gives a file a free name, without links. Where that fails, nothing has the name.
+// Gives a file a free name, without links. On failure nothing has the name.
 fn claim_name(rt: &HostRuntime, part: &str, to: &str) -> io::Result<()> {
     drop(File::create_new(rt, to)?);
     match rename_over(rt, part, to) {
@@ -192,8 +195,9 @@ fn claim_name(rt: &HostRuntime, part: &str, to: &str) -> io::Result<()> {
     }
 }
 
-// Gives a file a free name, in one step where the file system has links, and syncs the folder. Where only the old name can't be
-// removed, or the folder can't be synced, the file has the name and this fails.
+// Gives a file a free name, in one step if the file system has links, and syncs the folder. If the
+// old name cannot be removed, or the folder cannot be synced, the file has the name although this
+// fails.
 fn link_name(rt: &HostRuntime, part: &str, to: &str) -> io::Result<()> {
     match fs::hard_link(rt, part, to) {
         Ok(()) => {}
@@ -204,7 +208,8 @@ fn link_name(rt: &HostRuntime, part: &str, to: &str) -> io::Result<()> {
     sync_folder(rt, to)
 }
 
-/// Creates an empty log beside a new file, so that a log that is missing later is noticed. Where that fails, nothing is lost.
+/// Creates an empty log beside a new file, so that a log that is missing later is noticed. A
+/// failure loses nothing.
 pub(crate) fn make_empty_log(rt: &HostRuntime, to: &str) {
     if let Ok(log) = format!(in rt.alloc(); "{to}-wal") {
         let _made = make_empty(rt, log.as_str());
@@ -217,8 +222,8 @@ fn name_part(rt: &HostRuntime, to: &str, pair: &Pair) -> io::Result<()> {
     link_name(rt, pair.file.as_str(), to)
 }
 
-/// Gives a complete part, whose log was merged into its file, its name. Fails where the name is taken; `link_name` may fail although
-/// the file has its name.
+/// Gives a complete part, whose log was merged into its file, its name. Fails if the name is taken.
+/// `link_name` may fail although the file has its name.
 pub(crate) fn finish_part<'a>(
     rt: &HostRuntime,
     to: &'a str,

@@ -12,7 +12,7 @@ use stored_files::{
     write_recovered,
 };
 
-// A file and its log, which has lost commits. Rejects a log that has lost nothing.
+// Returns a file and its log, which has lost commits. Rejects a log that has lost nothing.
 fn damaged_pair<'a>(rt: &HostRuntime, db: &'a str) -> Result<Pair, Failure<'a>> {
     let pair = match pair_at(rt, db) {
         Ok(pair) => pair,
@@ -35,7 +35,7 @@ fn say_lost(rt: &HostRuntime, db: &str) {
     );
 }
 
-// Mends the header of a copied log, and merges the commits that recovery takes into the copy.
+// Repairs the header of a copied log, and merges the commits that recovery accepts into the copy.
 fn recover_copy<'a>(
     rt: &HostRuntime,
     db: &'a str,
@@ -70,7 +70,8 @@ fn fill_part<'a>(
     }
 }
 
-// Audits the recovered office. Prints what it has and returns true, or prints how it differs from a lawful office and returns false.
+// Audits the recovered office. Prints what it has and returns true, or prints how it differs from a
+// lawful office and returns false.
 fn report_over<D: Databases>(
     rt: &HostRuntime,
     mut connection: Connection<D::Store>,
@@ -88,7 +89,7 @@ fn report_over<D: Databases>(
     Ok(true)
 }
 
-// Reports what was recovered, and gives the part its name where the audit found no difference.
+// Reports what was recovered, and gives the part its name if the audit found no difference.
 fn finish<'a, D: OfficeFiles>(
     rt: &HostRuntime,
     files: &D,
@@ -111,8 +112,8 @@ fn finish<'a, D: OfficeFiles>(
     Ok(true)
 }
 
-/// Writes the commits that recovery takes from a file with a damaged log into a new file, and prints what the new file has. The damaged
-/// file and its log are only read.
+/// Writes the commits that recovery accepts from a file with a damaged log into a new file, and
+/// prints what the new file has. The damaged file and its log are only read.
 pub fn recover<'a, D: OfficeFiles>(
     rt: &HostRuntime,
     files: &D,

@@ -1,4 +1,4 @@
-//! What a device answers.
+//! The responses of a simulated device.
 use crate::devices::{GAPS, answers_all};
 use crate::examples::{EXAMPLES, Exchange};
 use mb_device::{Area, Bank, Kind};
@@ -33,6 +33,7 @@ static IN_GAPS: [Exchange; 6] = [
     },
 ];
 
+/// A device has no addresses between its areas.
 #[test]
 fn gaps_are_no_addresses(rt: HostRuntime) {
     let mut bank = Bank::new(rt.alloc(), &GAPS).ok().expect(&rt, "no bank");
@@ -63,7 +64,7 @@ static AREAS: [Area; 4] = [
     },
 ];
 
-// The coils and discrete inputs that are on.
+// The coils that are on, and then the discrete inputs that are on.
 static COILS: [u16; 12] = [19, 21, 22, 25, 26, 27, 28, 30, 32, 33, 35, 37];
 
 static DISCRETES: [u16; 14] = [
@@ -97,6 +98,7 @@ static READ_BACK: [Exchange; 2] = [
     },
 ];
 
+/// A device responds to the standard's examples as the standard says.
 #[test]
 fn examples_of_the_standard_are_answered(rt: HostRuntime) {
     let mut bank = bank_of_examples(&rt, rt.alloc());

@@ -1,8 +1,8 @@
-//! A device's values.
+//! The register map of a simulated device.
 use crate::devices::GAPS;
 use mb_device::{Area, Bank, BankFault, Kind};
 
-// A value that is set where there is an address or none, and the value that is then got.
+// A value that is set at an address, if the device has it, and the value that is then read.
 struct Write {
     kind: Kind,
     address: u16,
@@ -49,6 +49,7 @@ static WRITES: [Write; 6] = [
     },
 ];
 
+/// A device stores values at its own addresses, and at no others.
 #[test]
 fn values_are_kept_where_there_are_addresses(rt: HostRuntime) {
     let mut bank = Bank::new(rt.alloc(), &GAPS).ok().expect(&rt, "no bank");
@@ -61,7 +62,7 @@ fn values_are_kept_where_there_are_addresses(rt: HostRuntime) {
     }
 }
 
-// Areas that make no bank beside ten coils from 0, the fault and its number.
+// An area that is refused beside ten coils from 0, the fault and its number.
 struct Refused {
     area: Area,
     fault: BankFault,
@@ -107,6 +108,7 @@ static REFUSED: [Refused; 4] = [
     },
 ];
 
+/// An area that overlaps, is empty or extends past the last address is refused.
 #[test]
 fn areas_have_their_faults(rt: HostRuntime) {
     let coils = Area {

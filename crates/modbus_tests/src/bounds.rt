@@ -1,10 +1,10 @@
-//! The least and the greatest windows and timeouts: 1 and 16 polls that wait, 1 and 60 seconds.
+//! The least and the greatest windows and timeouts: 1 and 16 pending polls, 1 and 60 seconds.
 use crate::first_poll::first_poll;
 use crate::session_script::{Asked, Event, GOOD, Line, play, refuse, start};
 use poll_core::{Outcome, Session, StartFault};
 use std::process::Abort;
 
-// Starts so many polls, and looks at whether one more is refused.
+// Starts as many polls as the window holds, and checks that one more is refused.
 fn fill(rt: &impl Abort, session: &mut Session, window: u8) {
     for number in 0..window {
         let asked = Asked {
@@ -19,13 +19,14 @@ fn fill(rt: &impl Abort, session: &mut Session, window: u8) {
     refuse(rt, session, 1000, StartFault::WindowFull)
 }
 
+/// A window of 1 or of 16 polls holds exactly this many.
 #[test]
 fn windows_hold_1_to_16_polls(rt: HostRuntime) {
     fill(&rt, &mut Session::new(5, 1), 1);
     fill(&rt, &mut Session::new(5, 16), 16)
 }
 
-/// The first poll was started at 100: what comes in its last second, and at its deadline.
+/// A first poll that was started at 100: the events in its last second, and at its deadline.
 static TIMEOUTS: [(u64, &[Line]); 4] = [
     (
         1,
@@ -87,6 +88,7 @@ static TIMEOUTS: [(u64, &[Line]); 4] = [
     ),
 ];
 
+/// A poll with a timeout of 1 or of 60 seconds times out exactly then.
 #[test]
 fn polls_wait_for_1_to_60_seconds(rt: HostRuntime) {
     for (timeout, lines) in &TIMEOUTS {

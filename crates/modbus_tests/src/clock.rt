@@ -3,7 +3,7 @@ use crate::first_poll::first_poll;
 use crate::session_script::{Event, GOOD, Line, play};
 use poll_core::{ClockBack, Closing, Outcome, StartFault};
 
-/// A start is refused, and the reply still answers the poll.
+/// A start is refused, and the response still answers the poll.
 static AFTERWARDS: [Line; 2] = [
     Line {
         event: Event::Refused {
@@ -21,6 +21,7 @@ static AFTERWARDS: [Line; 2] = [
     },
 ];
 
+/// A piece with an earlier time is refused, and changes nothing.
 #[test]
 fn a_piece_of_an_earlier_moment_is_refused(rt: HostRuntime) {
     let mut session = first_poll(&rt, 5, 2);
@@ -29,6 +30,7 @@ fn a_piece_of_an_earlier_moment_is_refused(rt: HostRuntime) {
     play(&rt, rt.alloc(), &mut session, &AFTERWARDS)
 }
 
+/// A timer event with an earlier time is refused, and changes nothing.
 #[test]
 fn a_tick_of_an_earlier_moment_is_refused(rt: HostRuntime) {
     let mut session = first_poll(&rt, 5, 2);
@@ -37,6 +39,7 @@ fn a_tick_of_an_earlier_moment_is_refused(rt: HostRuntime) {
     play(&rt, rt.alloc(), &mut session, &AFTERWARDS)
 }
 
+/// A closing with an earlier time is refused, and changes nothing.
 #[test]
 fn a_closing_of_an_earlier_moment_is_refused(rt: HostRuntime) {
     let mut session = first_poll(&rt, 5, 2);

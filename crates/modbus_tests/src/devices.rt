@@ -1,4 +1,4 @@
-//! Devices that the tests share, and what they answer.
+//! Simulated devices that the tests share, and their responses.
 use crate::examples::Exchange;
 use mb_device::{Area, Bank, Kind};
 use std::alloc::Global;
@@ -34,14 +34,14 @@ static REGISTERS: [Area; 1] = [Area {
     count: 125,
 }];
 
-/// A device whose holding register 0 is 9.
+/// Creates a device whose holding register 0 is 9.
 pub(crate) fn bank_with_nine(rt: &impl Abort, alloc: Global) -> Bank {
     let mut bank = Bank::new(alloc, &REGISTERS).ok().expect(rt, "no bank");
     bank.set(Kind::Holding, 0, 9);
     bank
 }
 
-/// Whether the bank answers a PDU with these bytes.
+/// Returns whether the device responds to a PDU with these bytes.
 pub(crate) fn answers(bank: &mut Bank, pdu: &[u8], answer: &[u8]) -> bool {
     if pdu.is_empty() || pdu.len() > 253 {
         return false;
@@ -51,7 +51,7 @@ pub(crate) fn answers(bank: &mut Bank, pdu: &[u8], answer: &[u8]) -> bool {
     out.get(..count) == Some(answer)
 }
 
-/// The bank answers each request so.
+/// Asserts that the device responds to each request in this way.
 pub(crate) fn answers_all(rt: &impl Abort, bank: &mut Bank, exchanges: &[Exchange]) {
     for (i, exchange) in exchanges.iter().enumerate() {
         assert!(rt;

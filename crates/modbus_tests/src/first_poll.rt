@@ -1,10 +1,10 @@
-//! What comes to a session whose poll 1 was started at 100.
+//! Events of a session whose poll 1 was started at 100.
 use crate::session_script::{Asked, Event, GOOD, Line, feed, play, start};
 use poll_core::{LostCause, Malformation, Outcome, Session};
 use std::alloc::Global;
 use std::process::Abort;
 
-/// The poll asks for 3 registers from 40094.
+/// The poll requests 3 registers from 40094.
 static FIRST: Asked = Asked {
     moment: 100,
     poll: 1,
@@ -13,7 +13,7 @@ static FIRST: Asked = Asked {
     frame: [0, 0, 0, 0, 0, 6, 1, 3, 0x9c, 0x9e, 0, 3],
 };
 
-/// A session of that timeout and window with the first poll.
+/// Creates a session with this timeout and window, and starts the first poll.
 pub fn first_poll(rt: &impl Abort, timeout: u64, window: usize) -> Session {
     assert!(rt; 1 <= timeout && timeout <= 60);
     assert!(rt; 1 <= window && window <= 16);
@@ -32,7 +32,7 @@ static REPLIES: [[Line; 2]; 4] = [
             },
             told: &[(1, Outcome::Answered)],
         },
-        // a second reply is a stray
+        // a second response is a stray
         Line {
             event: Event::Piece {
                 moment: 104,
@@ -75,7 +75,7 @@ static REPLIES: [[Line; 2]; 4] = [
             told: &[],
         },
     ],
-    // with transaction identifier 9, so that the poll waits on
+    // with transaction identifier 9, so the poll stays pending
     [
         Line {
             event: Event::Piece {
@@ -139,7 +139,8 @@ static OTHER_FRAMES: [[Line; 1]; 6] = [
     }],
 ];
 
-/// Plays the lines on sessions of a timeout of 5 seconds and of each window, after their first poll.
+/// Plays the lines on sessions with a timeout of 5 seconds and with each window, after their first
+/// poll.
 pub fn play_at_windows(rt: &impl Abort, alloc: Global, lines: &[Line]) {
     for window in [1, 2, 16] {
         let mut session = first_poll(rt, 5, window);
@@ -147,7 +148,7 @@ pub fn play_at_windows(rt: &impl Abort, alloc: Global, lines: &[Line]) {
     }
 }
 
-/// Brings the reply byte by byte: the last one settles the poll.
+/// Feeds the response byte by byte: the last byte settles the poll.
 fn feed_bytes(rt: &impl Abort, alloc: Global, session: &mut Session) {
     for (i, byte) in GOOD.iter().enumerate() {
         let told = feed(rt, alloc, session, 104, &[*byte]);
@@ -155,6 +156,7 @@ fn feed_bytes(rt: &impl Abort, alloc: Global, session: &mut Session) {
     }
 }
 
+/// A response before the deadline answers the poll, once.
 #[test]
 fn a_reply_in_time_answers(rt: HostRuntime) {
     for lines in &REPLIES {
@@ -162,6 +164,7 @@ fn a_reply_in_time_answers(rt: HostRuntime) {
     }
 }
 
+/// Frames that are no response to the poll do not answer it.
 #[test]
 fn other_frames_are_no_answers(rt: HostRuntime) {
     for lines in &OTHER_FRAMES {
@@ -169,6 +172,7 @@ fn other_frames_are_no_answers(rt: HostRuntime) {
     }
 }
 
+/// A response may arrive byte by byte.
 #[test]
 fn a_reply_may_come_byte_by_byte(rt: HostRuntime) {
     for window in [1, 2, 16] {

@@ -1,7 +1,7 @@
 //! Frames in streams of bytes.
 use mb_wire::{Fed, FrameReader, Framing, Request, decode_reply, encode_request, write_frame};
 
-// A request of unit 17 for three registers from 107, and the reply to it.
+// A request of unit 17 for three registers from 107, and the response to it.
 static REQUEST: [u8; 12] = [0, 1, 0, 0, 0, 6, 17, 3, 0, 107, 0, 3];
 
 static REPLY: [u8; 15] = [0, 1, 0, 0, 0, 9, 17, 3, 6, 2, 43, 0, 0, 0, 100];
@@ -11,7 +11,7 @@ static ASKED: Request<'static> = Request::ReadHolding {
     quantity: 3,
 };
 
-// What a reader tells of bytes: a new one, or the one of the row before.
+// The result of feeding bytes to a reader: a new reader, or that of the row before.
 struct Feed {
     anew: bool,
     bytes: &'static [u8],
@@ -21,7 +21,7 @@ struct Feed {
 }
 
 static FEEDS: [Feed; 6] = [
-    // Two replies are joined, and the second comes in two pieces.
+    // Two responses in one piece, and the second ends in another.
     Feed {
         anew: true,
         bytes: &[0, 1, 0, 0, 0, 9, 17, 3, 6, 2, 43, 0, 0, 0, 100, 0, 1, 0, 0],
@@ -51,7 +51,7 @@ static FEEDS: [Feed; 6] = [
         what: Framing::Foreign,
         buffered: false,
     },
-    // A length of 1 garbles for good.
+    // A length of 1 garbles the stream for good.
     Feed {
         anew: true,
         bytes: &[0, 1, 0, 0, 0, 1, 9],
@@ -68,6 +68,7 @@ static FEEDS: [Feed; 6] = [
     },
 ];
 
+/// A feed ends at the end of a frame.
 #[test]
 fn a_feed_ends_with_a_frame(rt: HostRuntime) {
     let mut reader = FrameReader::new();
@@ -87,6 +88,7 @@ fn a_feed_ends_with_a_frame(rt: HostRuntime) {
     }
 }
 
+/// A request is written as a frame.
 #[test]
 fn a_request_is_written(rt: HostRuntime) {
     let mut pdu = [0; 253];
@@ -96,7 +98,7 @@ fn a_request_is_written(rt: HostRuntime) {
     assert!(rt; out.get(..size) == Some(REQUEST.as_slice()));
 }
 
-// Whether the reader holds the frame of these.
+// Returns whether the reader holds a frame with these fields.
 fn holds(reader: &FrameReader, tid: u16, unit: u8, pdu: &[u8]) -> bool {
     match reader.frame() {
         Some(frame) => frame.tid == tid && frame.unit == unit && frame.pdu == pdu,
@@ -104,6 +106,7 @@ fn holds(reader: &FrameReader, tid: u16, unit: u8, pdu: &[u8]) -> bool {
     }
 }
 
+/// A frame may arrive byte by byte.
 #[test]
 fn single_bytes_make_a_frame(rt: HostRuntime) {
     let mut reader = FrameReader::new();
@@ -120,6 +123,7 @@ fn single_bytes_make_a_frame(rt: HostRuntime) {
     assert!(rt; holds(&reader, 1, 17, &REPLY[7..]));
 }
 
+/// The longest frame is read.
 #[test]
 fn the_longest_frame_is_read(rt: HostRuntime) {
     let mut longest = [0; 260];
@@ -136,7 +140,7 @@ fn the_longest_frame_is_read(rt: HostRuntime) {
     assert!(rt; holds(&reader, 5, 0, &longest[7..]));
 }
 
-// Whether these bytes are taken for a reply to the request.
+// Returns whether these bytes are accepted as a response to the request.
 fn is_taken(bytes: &[u8; 15]) -> bool {
     let mut reader = FrameReader::new();
     let fed = reader.feed(bytes);
@@ -151,6 +155,7 @@ fn is_taken(bytes: &[u8; 15]) -> bool {
     }
 }
 
+/// A response with any other value in a byte of its header is no response.
 #[test]
 fn a_corrupt_header_is_no_reply(rt: HostRuntime) {
     assert!(rt; is_taken(&REPLY));

@@ -1,4 +1,4 @@
-//! An id that a pending poll has, when it comes again after 65,535 more starts.
+//! A transaction identifier that a pending poll has, when it is due again after 65,535 more starts.
 use crate::session_script::{Asked, Event, Line, feed, play, start};
 use poll_core::{Outcome, Session, StartFault};
 use std::alloc::Global;
@@ -34,7 +34,7 @@ static BUSY: [Line; 4] = [
     },
 ];
 
-/// Starts the poll with that number and id, and answers it.
+/// Starts the poll with this number and identifier, and answers it.
 fn ask(rt: &impl Abort, alloc: Global, session: &mut Session, poll: u16) {
     let [high, low] = poll.to_be_bytes();
     let asked = Asked {
@@ -51,6 +51,7 @@ fn ask(rt: &impl Abort, alloc: Global, session: &mut Session, poll: u16) {
     assert!(rt; told.as_slice() == answered.as_slice());
 }
 
+/// The identifier of a pending poll is not used again.
 #[test]
 fn an_id_that_waits_is_not_used_again(rt: HostRuntime) {
     let mut session = Session::new(60, 2);

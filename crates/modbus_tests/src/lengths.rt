@@ -1,12 +1,12 @@
-//! The lengths that a header may say: those of a unit and a PDU of 1 to 253 bytes (Messaging on TCP/IP Implementation
-//! Guide V1.0b, section 3.1.3).
+//! The lengths that a header may have: those of a unit and a PDU of 1 to 253 bytes (Messaging on
+//! TCP/IP Implementation Guide V1.0b, section 3.1.3).
 use crate::devices::bank_with_nine;
 use mb_device::{ServeFault, Server};
 use mb_wire::{Fed, FrameReader, Framing, MemoryLink, write_frame};
 use std::alloc::Global;
 use std::process::Abort;
 
-// A length, how many bytes are taken of a frame, and what that is.
+// A length, the number of bytes that the reader takes of a frame, and what the frame is.
 static LENGTHS: [(u16, usize, Framing); 7] = [
     (0, 6, Framing::Garbled),
     (1, 6, Framing::Garbled),
@@ -25,6 +25,7 @@ fn frame_of(length: u16) -> [u8; 261] {
     frame
 }
 
+/// A reader accepts the lengths 2 to 254.
 #[test]
 fn frames_have_lawful_lengths(rt: HostRuntime) {
     for (length, taken, what) in LENGTHS {
@@ -33,7 +34,7 @@ fn frames_have_lawful_lengths(rt: HostRuntime) {
     }
 }
 
-// What a server answers to a frame alone, and gives.
+// The result of a server for a single frame, and what the server writes.
 static SERVED: [(u16, Result<u64, ServeFault>, &[u8]); 4] = [
     (1, Err(ServeFault::Garbled), &[]),
     (2, Ok(1), &[0, 9, 0, 0, 0, 3, 7, 0xAB, 1]),
@@ -57,6 +58,7 @@ fn is_served(
     served == answer && link.given() == given
 }
 
+/// A server responds to frames with the lengths 2 to 254.
 #[test]
 fn frames_of_lawful_lengths_are_served(rt: HostRuntime) {
     for (length, answer, given) in SERVED {
@@ -65,9 +67,10 @@ fn frames_of_lawful_lengths_are_served(rt: HostRuntime) {
     }
 }
 
-// How many bytes a PDU has, how many its frame has, and the length that stands in it.
+// The length of a PDU, the length of its frame, and the length field of that frame.
 static WRITTEN: [(usize, usize, [u8; 2]); 2] = [(1, 8, [0, 2]), (253, 260, [0, 254])];
 
+/// A frame is written with its length.
 #[test]
 fn frames_are_written_with_their_lengths(rt: HostRuntime) {
     let pdu = [3; 253];

@@ -1,4 +1,5 @@
-//! Tests of Modbus: frames, requests, replies and links, the stand-in for a device, and the sessions of polls.
+//! Tests of Modbus: frames, requests, responses and links, the simulated device, and polling
+//! sessions.
 #![tactic(auto)]
 
 #[cfg(test)]

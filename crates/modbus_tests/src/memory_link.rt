@@ -1,13 +1,14 @@
 //! A link over memory.
 use mb_wire::{LastTake, Link, LinkFailed, MemoryLink, Took};
 
-// What a take answers, and the piece after it.
+// The result of a read, and the buffer after it.
 static TAKES: [(Took, [u8; 4]); 3] = [
     (Took::Bytes(2), [1, 2, 9, 9]),
     (Took::Bytes(1), [3, 2, 9, 9]),
     (Took::End, [3, 2, 9, 9]),
 ];
 
+/// Reads return the input in pieces.
 #[test]
 fn an_input_is_handed_out_in_pieces(rt: HostRuntime) {
     let mut output = [0; 5];
@@ -22,7 +23,7 @@ fn an_input_is_handed_out_in_pieces(rt: HostRuntime) {
     assert!(rt; (link.takes(), link.failures()) == (3, 0));
 }
 
-// Bytes that are given to an output of five, two at most at a time.
+// Bytes that are written to an output of five bytes, at most two in a call.
 static GIVES: [(&[u8], Result<usize, LinkFailed>); 5] = [
     (&[7, 8, 9], Ok(2)),
     (&[9], Ok(1)),
@@ -31,6 +32,7 @@ static GIVES: [(&[u8], Result<usize, LinkFailed>); 5] = [
     (&[4], Err(LinkFailed)),
 ];
 
+/// Writes fill the output in pieces.
 #[test]
 fn an_output_is_given_in_pieces(rt: HostRuntime) {
     let mut output = [0; 5];
@@ -42,7 +44,7 @@ fn an_output_is_given_in_pieces(rt: HostRuntime) {
     assert!(rt; link.given() == [7, 8, 9, 5, 6].as_slice());
 }
 
-// Whether each of two takes and two gives in turn goes well but for the one that fails.
+// Returns whether two reads and two writes, in turn, all succeed but for the one with this number.
 fn is_told(fails: u64) -> bool {
     let mut output = [0; 4];
     let mut link = MemoryLink::new(&[1, 2], &mut output, 1, Some(fails));
@@ -54,6 +56,7 @@ fn is_told(fails: u64) -> bool {
         && (link.failures(), link.takes()) == (1, 2)
 }
 
+/// Each call can be made to fail.
 #[test]
 fn each_call_fails_in_turn(rt: HostRuntime) {
     for fails in 1..5u64 {

@@ -1,4 +1,4 @@
-//! The numbers of outcomes and of refusals.
+//! The numbers of outcomes and of refused starts.
 use mb_wire::ReplyFault;
 use poll_core::{Closing, LostCause, Malformation, Outcome, StartFault};
 
@@ -40,6 +40,7 @@ static FAULTS: [(StartFault, u8); 4] = [
     (StartFault::Closed, 4),
 ];
 
+/// Each outcome has its number and code.
 #[test]
 fn outcomes_have_numbers(rt: HostRuntime) {
     for (i, it) in OUTCOMES.iter().enumerate() {
@@ -48,6 +49,7 @@ fn outcomes_have_numbers(rt: HostRuntime) {
     }
 }
 
+/// Each refusal of a start has its number.
 #[test]
 fn refusals_have_numbers(rt: HostRuntime) {
     for (fault, number) in &FAULTS {
@@ -55,6 +57,7 @@ fn refusals_have_numbers(rt: HostRuntime) {
     }
 }
 
+/// A malformation has the number of its fault, and a loss the number of its closing.
 #[test]
 fn malformations_and_losses_follow_their_causes(rt: HostRuntime) {
     assert!(rt; Malformation::from(ReplyFault::WrongEcho).number() == 4);

@@ -1,4 +1,4 @@
-//! Replies in PDUs.
+//! Responses in PDUs.
 use crate::examples::EXAMPLES;
 use mb_wire::{Reply, ReplyFault, Request, decode_reply, decode_request, encode_reply};
 
@@ -17,7 +17,8 @@ static COIL: Request<'static> = Request::WriteCoil {
     on: true,
 };
 
-/// Whether a PDU is read as a reply to the request in another, and is written so again.
+/// Returns whether a PDU decodes as a response to the request in another, and encodes to the same
+/// bytes.
 pub(crate) fn comes_back(asked: &[u8], answered: &[u8]) -> Option<bool> {
     let mut out = [0; 253];
     let request = decode_request(asked).ok()?;
@@ -26,6 +27,7 @@ pub(crate) fn comes_back(asked: &[u8], answered: &[u8]) -> Option<bool> {
     Some(out.get(..count) == Some(answered))
 }
 
+/// The responses in the standard's examples decode, and encode to the same bytes.
 #[test]
 fn examples_of_the_standard_come_back(rt: HostRuntime) {
     for (i, example) in EXAMPLES.iter().enumerate() {
@@ -36,7 +38,7 @@ fn examples_of_the_standard_come_back(rt: HostRuntime) {
     }
 }
 
-// PDUs that are no reply: to the read of holding registers, and to the write of a coil.
+// PDUs that are no response to the read of holding registers, and then to the write of a coil.
 static READ_FAULTS: [(&[u8], ReplyFault, u8); 6] = [
     (&[0x84, 2], ReplyFault::WrongFunction, 1),
     (&[4, 6, 0, 1, 0, 2, 0, 3], ReplyFault::WrongFunction, 1),
@@ -51,12 +53,13 @@ static ECHO_FAULTS: [(&[u8], ReplyFault, u8); 2] = [
     (&[5, 0, 172, 0xFF], ReplyFault::WrongLength, 2),
 ];
 
-// The fault of a PDU, and its number.
+// Returns the fault of a PDU, and its number.
 fn fault_in(request: &Request<'_>, pdu: &[u8]) -> Option<(ReplyFault, u8)> {
     let fault = decode_reply(request, pdu).err()?;
     Some((fault, fault.number()))
 }
 
+/// Each fault of a response has its number.
 #[test]
 fn faults_have_their_numbers(rt: HostRuntime) {
     for (pdu, fault, number) in READ_FAULTS {
@@ -67,18 +70,19 @@ fn faults_have_their_numbers(rt: HostRuntime) {
     }
 }
 
-/// A register of a reply.
+/// Returns a register of a response.
 pub(crate) fn word_in(request: &Request<'_>, pdu: &[u8], i: usize) -> Option<u16> {
     decode_reply(request, pdu).ok()?.word(i)
 }
 
-/// A coil or a discrete input of a reply.
+/// Returns a coil or a discrete input of a response.
 pub(crate) fn bit_in(request: &Request<'_>, pdu: &[u8], i: usize) -> Option<bool> {
     decode_reply(request, pdu).ok()?.bit(i)
 }
 
 static WORDS: [(usize, Option<u16>); 4] = [(0, Some(555)), (1, Some(0)), (2, Some(100)), (3, None)];
 
+/// Registers are read from a response.
 #[test]
 fn registers_are_read(rt: HostRuntime) {
     for (i, word) in WORDS {
@@ -89,6 +93,7 @@ fn registers_are_read(rt: HostRuntime) {
     assert!(rt; word_in(&INPUT, &[4, 2, 0, 10], 1).is_none());
 }
 
+/// Exceptions and responses to writes are read.
 #[test]
 fn exceptions_and_echoes_are_read(rt: HostRuntime) {
     let refused = decode_reply(&HOLDING, &[0x83, 2]);
@@ -117,6 +122,7 @@ static BITS: [(usize, Option<bool>); 10] = [
     (19, None),
 ];
 
+/// Coils are read from the lowest bit of each byte.
 #[test]
 fn coils_are_read_from_the_lowest_bit(rt: HostRuntime) {
     for (i, on) in BITS {

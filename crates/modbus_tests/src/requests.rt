@@ -18,7 +18,7 @@ static FAULTS: [(&[u8], u8); 12] = [
     (&[5, 0, 1, 0, 1], 5),
 ];
 
-/// Whether a PDU is read as a request that is written as these bytes.
+/// Returns whether a PDU decodes as a request that encodes to these bytes.
 pub(crate) fn is_written_as(pdu: &[u8], bytes: &[u8]) -> bool {
     let mut out = [0; 253];
     match decode_request(pdu) {
@@ -30,6 +30,7 @@ pub(crate) fn is_written_as(pdu: &[u8], bytes: &[u8]) -> bool {
     }
 }
 
+/// The requests in the standard's examples decode, and encode to the same bytes.
 #[test]
 fn examples_of_the_standard_come_back(rt: HostRuntime) {
     for (i, example) in EXAMPLES.iter().enumerate() {
@@ -40,6 +41,7 @@ fn examples_of_the_standard_come_back(rt: HostRuntime) {
     }
 }
 
+/// Spare bits are written as 0.
 #[test]
 fn spare_bits_are_written_as_zero(rt: HostRuntime) {
     let asked = [15, 0, 19, 0, 10, 2, 0xCD, 0xFD];
@@ -47,23 +49,25 @@ fn spare_bits_are_written_as_zero(rt: HostRuntime) {
     assert!(rt; is_written_as(&asked, &written));
 }
 
-// The function and the address that are asked for.
+// Returns the function and the address of the request in a PDU.
 fn head_of(pdu: &[u8]) -> Option<(u8, u16)> {
     let request = decode_request(pdu).ok()?;
     Some((request.function(), request.address()))
 }
 
+/// A request has its function and address.
 #[test]
 fn a_request_has_its_function_and_address(rt: HostRuntime) {
     assert!(rt; head_of(&[1, 0, 19, 0, 19]) == Some((1, 19)));
 }
 
-/// The number of a PDU's fault.
+/// Returns the number of a PDU's fault.
 pub(crate) fn fault_in(pdu: &[u8]) -> Option<u8> {
     let fault = decode_request(pdu).err()?;
     Some(fault.number())
 }
 
+/// Each fault of a request has its number.
 #[test]
 fn faults_have_their_numbers(rt: HostRuntime) {
     for (i, (pdu, number)) in FAULTS.iter().enumerate() {

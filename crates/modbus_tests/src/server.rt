@@ -5,7 +5,7 @@ use mb_wire::{Link, MemoryLink};
 use std::alloc::Global;
 use std::process::Abort;
 
-// A read of holding register 0 by unit 1, and its answer where the register is 9.
+// A read of holding register 0 by unit 1, and its response if the register is 9.
 const READ: &[u8] = &[0, 7, 0, 0, 0, 6, 1, 3, 0, 0, 0, 1];
 
 const NINE: &[u8] = &[0, 7, 0, 0, 0, 5, 1, 3, 2, 0, 9];
@@ -18,8 +18,8 @@ const TWO_NINES: &[u8] = &[
     0, 7, 0, 0, 0, 5, 1, 3, 2, 0, 9, 0, 7, 0, 0, 0, 5, 1, 3, 2, 0, 9,
 ];
 
-// A frame of another protocol, a write of 5 to holding register 0, and a read of it, each with a
-// transaction identifier and a unit of its own.
+// A frame of another protocol, a write of 5 to holding register 0, and a read of it. The three have
+// different transaction identifiers and units.
 const MIXED: &[u8] = &[
     0, 1, 0, 9, 0, 3, 1, 3, 0, 0, 2, 0, 0, 0, 6, 2, 6, 0, 0, 0, 5, 1, 3, 0, 0, 0, 6, 3, 3, 0, 0, 0,
     1,
@@ -34,8 +34,8 @@ const GARBLED: &[u8] = &[
     0, 7, 0, 0, 0, 6, 1, 3, 0, 0, 0, 1, 0, 8, 0, 0, 0, 1, 1, 3, 0, 0, 0, 1,
 ];
 
-// A stream that is served in so many turns, over a link that hands out so many bytes at a time and
-// fails at one call or none; and what that comes to.
+// A stream, the bytes that a call of the link returns, the call that fails, if any, and the number
+// of turns. Then the expected result.
 struct Case {
     input: &'static [u8],
     piece: usize,
@@ -48,7 +48,7 @@ struct Case {
 }
 
 static CASES: [Case; 11] = [
-    // Turns are enough, or not.
+    // Enough turns, or too few.
     Case {
         input: READ,
         piece: 12,
@@ -80,7 +80,7 @@ static CASES: [Case; 11] = [
         takes: 34,
         failures: 0,
     },
-    // Each call of the link fails in turn, and none.
+    // No call of the link fails, and each one in turn.
     Case {
         input: TWO_READS,
         piece: 12,
@@ -141,7 +141,7 @@ static CASES: [Case; 11] = [
         takes: 3,
         failures: 0,
     },
-    // A garbled stream is told after its answers.
+    // The responses before a bad length are sent, and then the fault is returned.
     Case {
         input: GARBLED,
         piece: 1,
@@ -164,14 +164,14 @@ static CASES: [Case; 11] = [
     },
 ];
 
-// Whether a server answers Garbled, and takes and gives nothing more.
+// Returns whether a server returns `Garbled` without reading or writing anything.
 fn is_over(server: &mut Server, link: &mut MemoryLink<'_>, bank: &mut Bank) -> bool {
     let before = (link.given().len(), link.takes());
     let served = server.serve(link, bank, 9);
     served == Err(ServeFault::Garbled) && (link.given().len(), link.takes()) == before
 }
 
-// Whether serving comes to what is said, and a fault is for good.
+// Returns whether serving has the expected result, and a fault is final.
 fn is_served(rt: &impl Abort, alloc: Global, case: &Case) -> bool {
     let mut bank = bank_with_nine(rt, alloc);
     let mut output = [0; 40];
@@ -184,6 +184,7 @@ fn is_served(rt: &impl Abort, alloc: Global, case: &Case) -> bool {
     is_told && counts == (case.takes, case.failures) && is_over == served.is_err()
 }
 
+/// A server serves a stream in pieces, up to its end or a fault.
 #[test]
 fn streams_are_served(rt: HostRuntime) {
     for (i, case) in CASES.iter().enumerate() {
@@ -191,6 +192,7 @@ fn streams_are_served(rt: HostRuntime) {
     }
 }
 
+/// One turn responds to each frame that ends in its piece.
 #[test]
 fn one_turn_answers_each_frame_of_its_piece(rt: HostRuntime) {
     let mut bank = bank_with_nine(&rt, rt.alloc());
@@ -204,6 +206,7 @@ fn one_turn_answers_each_frame_of_its_piece(rt: HostRuntime) {
     assert!(rt; link.given() == MIXED_ANSWERS);
 }
 
+/// A full output breaks off a response.
 #[test]
 fn a_full_output_breaks_an_answer_off(rt: HostRuntime) {
     let mut bank = bank_with_nine(&rt, rt.alloc());
@@ -224,6 +227,7 @@ static NUMBERS: [(ServeFault, u8); 4] = [
     (ServeFault::TurnsUsed, 4),
 ];
 
+/// Each fault of a server has its number.
 #[test]
 fn serve_faults_have_their_numbers(rt: HostRuntime) {
     for (fault, number) in NUMBERS {

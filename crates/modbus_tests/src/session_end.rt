@@ -1,4 +1,4 @@
-//! Four bytes of a reply to the first poll come, and then the session ends.
+//! A session that ends after four bytes of the response to its first poll.
 use crate::first_poll::play_at_windows;
 use crate::session_script::{Event, Line};
 use poll_core::{Closing, LostCause, Outcome, StartFault};
@@ -63,6 +63,7 @@ static ENDS: [[Line; 4]; 3] = [
     ],
 ];
 
+/// The end of a session loses its pending polls.
 #[test]
 fn the_end_of_a_session_loses_polls(rt: HostRuntime) {
     for lines in &ENDS {

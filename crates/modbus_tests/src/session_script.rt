@@ -1,19 +1,19 @@
-//! Events of a session as tables, each with what it tells.
+//! Plays tables of a session's events, each with the outcomes that it reports.
 use mb_wire::ReadSpan;
 use poll_core::{Closing, Outcome, Session, StartFault};
 use std::alloc::Global;
 use std::process::Abort;
 
-/// The latest moment that a session knows.
+/// The latest time that a session accepts.
 const LATEST: u64 = 4_102_444_800;
 
-/// A reply of unit 1 to the poll with transaction identifier 0: the registers 0, 5200, 0.
+/// A response of unit 1 to the poll with transaction identifier 0: the registers 0, 5200, 0.
 pub const GOOD: [u8; 15] = [0, 0, 0, 0, 0, 9, 1, 3, 6, 0, 0, 20, 80, 0, 0];
 
-/// A poll by its number, and how it ended.
+/// The number of a poll, and how it ended.
 pub type Told = (u64, Outcome);
 
-/// An event, and what it tells.
+/// An event, and the outcomes that it reports.
 pub struct Line {
     pub event: Event,
     pub told: &'static [Told],
@@ -28,7 +28,7 @@ pub enum Event {
     Close { moment: u64, closing: Closing },
 }
 
-/// A poll of holding registers of unit 1, and the frame that asks for them.
+/// A poll of holding registers of unit 1, and the frame of its request.
 #[derive(Clone, Copy)]
 pub struct Asked {
     pub moment: u64,
@@ -38,7 +38,7 @@ pub struct Asked {
     pub frame: [u8; 12],
 }
 
-/// Brings the events in order, and looks at what each tells.
+/// Plays the events in order, and checks what each reports.
 pub fn play(rt: &impl Abort, alloc: Global, session: &mut Session, lines: &[Line]) {
     for (i, line) in lines.iter().enumerate() {
         let told = bring(rt, alloc, session, &line.event);
@@ -58,7 +58,7 @@ fn bring(rt: &impl Abort, alloc: Global, session: &mut Session, event: &Event) -
     Vec::new(alloc)
 }
 
-// Tries to start the poll, and says how many bytes its frame has.
+// Tries to start the poll, and returns the length of its frame.
 fn try_start(
     rt: &impl Abort,
     session: &mut Session,
@@ -71,14 +71,14 @@ fn try_start(
     session.start(asked.moment, asked.poll, 1, span, out)
 }
 
-/// Starts the poll, and looks at its frame.
+/// Starts the poll, and checks its frame.
 pub fn start(rt: &impl Abort, session: &mut Session, asked: &Asked) {
     let mut out = [0; 260];
     let started = try_start(rt, session, asked, &mut out);
     assert!(rt; started == Ok(12) && out[..12] == asked.frame[..]);
 }
 
-/// Tries to start a poll, and looks at why that is refused.
+/// Tries to start a poll, and checks why it is refused.
 pub fn refuse(rt: &impl Abort, session: &mut Session, moment: u64, fault: StartFault) {
     let asked = Asked {
         moment,
@@ -92,13 +92,13 @@ pub fn refuse(rt: &impl Abort, session: &mut Session, moment: u64, fault: StartF
     assert!(rt; started == Err(fault));
 }
 
-/// Looks at the next transaction identifier, and at how many polls may start.
+/// Checks the next transaction identifier, and how many polls may start.
 pub fn assert_ready(rt: &impl Abort, session: &Session, id: u16, count: usize) {
     let ready = session.ready();
     assert!(rt; ready.id == id && ready.count == count);
 }
 
-/// Brings a piece, and lists what it settles.
+/// Feeds a piece, and lists the polls that it settles.
 pub fn feed(
     rt: &impl Abort,
     alloc: Global,
@@ -122,7 +122,7 @@ pub fn feed(
     }
 }
 
-/// Brings a moment with no bytes, and lists what it settles.
+/// Feeds a timer event, and lists the polls that it settles.
 fn tick(rt: &impl Abort, alloc: Global, session: &mut Session, moment: u64) -> Vec<Told> {
     assert!(rt; !session.settling());
     assert!(rt; moment <= LATEST);
@@ -137,7 +137,7 @@ fn tick(rt: &impl Abort, alloc: Global, session: &mut Session, moment: u64) -> V
     }
 }
 
-/// Ends the session, and lists what that settles.
+/// Ends the session, and lists the polls that the end settles.
 fn close(
     rt: &impl Abort,
     alloc: Global,

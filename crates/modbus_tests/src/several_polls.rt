@@ -1,4 +1,4 @@
-//! Several polls, one after another and side by side.
+//! Several polls, one after another and at the same time.
 use crate::session_script::{Asked, Event, GOOD, Line, play};
 use poll_core::{Closing, LostCause, Outcome, Session, StartFault};
 
@@ -147,7 +147,7 @@ static THREE_ENDS: [Line; 7] = [
         }),
         told: &[],
     },
-    // the second poll's reply, and a bad length
+    // the second poll's response, and a bad length
     Line {
         event: Event::Piece {
             moment: 1005,
@@ -183,12 +183,14 @@ static THREE_ENDS: [Line; 7] = [
     },
 ];
 
+/// Each poll in turn is settled.
 #[test]
 fn one_poll_after_another(rt: HostRuntime) {
     let mut session = Session::new(5, 1);
     play(&rt, rt.alloc(), &mut session, &ONE_AFTER_ANOTHER)
 }
 
+/// Two polls are settled in the order of their frames.
 #[test]
 fn two_polls_settle_in_the_order_of_their_frames(rt: HostRuntime) {
     let mut session = Session::new(5, 2);
@@ -196,6 +198,7 @@ fn two_polls_settle_in_the_order_of_their_frames(rt: HostRuntime) {
     play(&rt, rt.alloc(), &mut session, &SECOND_FIRST)
 }
 
+/// Two polls time out in the order of their starts.
 #[test]
 fn two_polls_are_silent_in_the_order_of_their_starts(rt: HostRuntime) {
     let mut session = Session::new(5, 2);
@@ -203,6 +206,7 @@ fn two_polls_are_silent_in_the_order_of_their_starts(rt: HostRuntime) {
     play(&rt, rt.alloc(), &mut session, &BOTH_SILENT)
 }
 
+/// An event settles timeouts first, then answers, then losses.
 #[test]
 fn silence_comes_before_frames_and_these_before_loss(rt: HostRuntime) {
     let mut session = Session::new(5, 3);

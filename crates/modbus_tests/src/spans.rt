@@ -1,4 +1,4 @@
-//! Registers to be read together.
+//! Consecutive registers that one request reads.
 use mb_wire::{ReadFunction, ReadSpan, Request};
 
 const THREE: ReadSpan = ReadSpan {
@@ -13,7 +13,7 @@ const LAST: ReadSpan = ReadSpan {
     count: 1,
 };
 
-// A function code, an address and a count that are a span, and others that are none.
+// Function codes, addresses and counts that are a span, and then others that are not.
 static LAWFUL: [(u8, u16, u16); 4] = [(3, 0, 125), (4, 0, 125), (3, 65411, 125), (4, 65535, 1)];
 
 static UNLAWFUL: [(u8, u16, u16); 8] = [
@@ -27,6 +27,7 @@ static UNLAWFUL: [(u8, u16, u16); 8] = [
     (4, 0, 65535),
 ];
 
+/// A span has 1 to 125 registers within the addresses of a device.
 #[test]
 fn spans_are_lawful(rt: HostRuntime) {
     assert!(rt; ReadSpan::new(3, 107, 3) == Some(THREE));
@@ -39,6 +40,7 @@ fn spans_are_lawful(rt: HostRuntime) {
     }
 }
 
+/// A span gives the request that reads it.
 #[test]
 fn a_span_is_asked_for(rt: HostRuntime) {
     assert!(rt; (THREE.function.code(), LAST.function.code()) == (3, 4));

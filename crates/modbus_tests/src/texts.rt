@@ -1,9 +1,9 @@
-//! What a fault says.
+//! Checks the sentences of faults.
 use std::alloc::Global;
 use std::fmt::Display;
 use std::process::Abort;
 
-/// Each fault says its text, which has no full stop.
+/// Asserts that each fault has this text, without a full stop.
 pub(crate) fn tells<F: Display>(rt: &impl Abort, alloc: Global, texts: &[(F, &str)]) {
     for (fault, text) in texts {
         let said = format!(in alloc; "{fault}").expect(rt, "no memory");

@@ -10,7 +10,7 @@ const WRITE_READ: &[u8] = &[
     0, 2, 0, 0, 0, 6, 2, 6, 0, 0, 0, 5, 0, 7, 0, 0, 0, 6, 1, 3, 0, 0, 0, 1,
 ];
 
-// The same the other way round.
+// The same in the other order.
 const READ_WRITE: &[u8] = &[
     0, 7, 0, 0, 0, 6, 1, 3, 0, 0, 0, 1, 0, 2, 0, 0, 0, 6, 2, 6, 0, 0, 0, 5,
 ];
@@ -23,8 +23,8 @@ const HIGHEST: &[u8] = &[
 // A read of 125 registers.
 const LONGEST: &[u8] = &[0, 7, 0, 0, 0, 6, 1, 3, 0, 0, 0, 125];
 
-// Tricks, and a stream that comes in pieces of so many bytes; and what a server answers, gives and
-// takes, and what holding register 0 is then.
+// Tricks, and a stream in pieces of this length. Then the server's expected result, what it writes
+// and reads, and the value of holding register 0.
 #[derive(Drop)]
 struct Case {
     tricks: &'static [(u64, Trick)],
@@ -36,7 +36,7 @@ struct Case {
     register: u16,
 }
 
-// Whether serving comes to what is said.
+// Returns whether serving has the expected result.
 fn is_served(rt: &impl Abort, alloc: Global, case: &Case) -> bool {
     let mut bank = bank_with_nine(rt, alloc);
     let mut output = [0; 48];
@@ -48,7 +48,7 @@ fn is_served(rt: &impl Abort, alloc: Global, case: &Case) -> bool {
     is_told && link.takes() == case.takes && register == Some(case.register)
 }
 
-// Tricks, and what is given for the write and the read in one piece.
+// Tricks, and what the server writes for the write and the read in one piece.
 static ON_BOTH: [(&[(u64, Trick)], &[u8]); 16] = [
     (
         &[],
@@ -56,7 +56,7 @@ static ON_BOTH: [(&[(u64, Trick)], &[u8]); 16] = [
             0, 2, 0, 0, 0, 6, 2, 6, 0, 0, 0, 5, 0, 7, 0, 0, 0, 5, 1, 3, 2, 0, 5,
         ],
     ),
-    // The write is carried out, though its answer is dropped.
+    // The server executes the write, though its response is dropped.
     (&[(1, Trick::Drop)], &[0, 7, 0, 0, 0, 5, 1, 3, 2, 0, 5]),
     (&[(2, Trick::Drop)], &[0, 2, 0, 0, 0, 6, 2, 6, 0, 0, 0, 5]),
     (
@@ -65,7 +65,7 @@ static ON_BOTH: [(&[(u64, Trick)], &[u8]); 16] = [
             0, 7, 0, 0, 0, 5, 1, 3, 2, 0, 5, 0, 7, 0, 0, 0, 5, 1, 3, 2, 0, 5,
         ],
     ),
-    // An answer that is buffered comes after the next frame, however that is dealt with.
+    // A buffered response follows the next frame, for any trick on that frame.
     (
         &[(1, Trick::Later)],
         &[
@@ -83,7 +83,7 @@ static ON_BOTH: [(&[(u64, Trick)], &[u8]); 16] = [
             6, 0, 0, 0, 5,
         ],
     ),
-    // A second one sends the first, and is buffered itself.
+    // A second buffered response sends the first.
     (
         &[(1, Trick::Later), (2, Trick::Later)],
         &[0, 2, 0, 0, 0, 6, 2, 6, 0, 0, 0, 5],
@@ -107,7 +107,7 @@ static ON_BOTH: [(&[(u64, Trick)], &[u8]); 16] = [
             0, 2, 0, 0, 0, 0, 2, 6, 0, 0, 0, 5, 0, 7, 0, 0, 0, 5, 1, 3, 2, 0, 5,
         ],
     ),
-    // The first trick with a number counts.
+    // The first trick with a number applies.
     (
         &[(1, Trick::Drop), (1, Trick::Twice)],
         &[0, 7, 0, 0, 0, 5, 1, 3, 2, 0, 5],
@@ -123,7 +123,7 @@ static ON_BOTH: [(&[(u64, Trick)], &[u8]); 16] = [
             0, 2, 0, 0, 0, 6, 2, 6, 0, 0, 0, 5, 0, 7, 0, 0, 0, 5, 1, 3, 2, 0, 5,
         ],
     ),
-    // The last frame is cut off: an answer that is buffered is not sent.
+    // The last response is cut off: a buffered response is not sent.
     (
         &[(2, Trick::Cut(4))],
         &[0, 2, 0, 0, 0, 6, 2, 6, 0, 0, 0, 5, 0, 7, 0, 0],
@@ -131,6 +131,7 @@ static ON_BOTH: [(&[(u64, Trick)], &[u8]); 16] = [
     (&[(1, Trick::Later), (2, Trick::Cut(4))], &[0, 7, 0, 0]),
 ];
 
+/// Each trick changes what the server sends.
 #[test]
 fn each_trick_shows(rt: HostRuntime) {
     for (i, (tricks, given)) in ON_BOTH.iter().enumerate() {
@@ -147,7 +148,8 @@ fn each_trick_shows(rt: HostRuntime) {
     }
 }
 
-// The first frame is cut off: the next is neither carried out nor, in pieces of its own, taken.
+// The first response is cut off: the next frame is not executed, and is not read if it is in
+// another piece.
 static CUTS: [Case; 7] = [
     Case {
         tricks: &[(1, Trick::Cut(0))],
@@ -176,7 +178,7 @@ static CUTS: [Case; 7] = [
         takes: 12,
         register: 5,
     },
-    // An answer that is shorter is sent whole.
+    // A response that is shorter than the cut is sent completely.
     Case {
         tricks: &[(1, Trick::Cut(13))],
         input: WRITE_READ,
@@ -195,7 +197,7 @@ static CUTS: [Case; 7] = [
         takes: 1,
         register: 9,
     },
-    // The frame of another protocol has no number; id and unit wrap.
+    // The frame of another protocol has no number; the transaction identifier and the unit wrap.
     Case {
         tricks: &[(1, Trick::Id)],
         input: HIGHEST,
@@ -216,6 +218,7 @@ static CUTS: [Case; 7] = [
     },
 ];
 
+/// The trick on a frame applies to that frame alone.
 #[test]
 fn one_frame_is_answered_by_its_trick(rt: HostRuntime) {
     for (i, case) in CUTS.iter().enumerate() {
@@ -223,7 +226,8 @@ fn one_frame_is_answered_by_its_trick(rt: HostRuntime) {
     }
 }
 
-// How many bytes are given for the longest read, whose answer has 259 and is cut off.
+// Returns how many bytes the server writes for the longest read, whose response has 259 and is cut
+// off.
 fn longest_given(rt: &impl Abort, alloc: Global, count: u16) -> usize {
     let mut bank = bank_with_nine(rt, alloc);
     let mut output = [0; 300];
@@ -234,6 +238,7 @@ fn longest_given(rt: &impl Abort, alloc: Global, count: u16) -> usize {
     link.given().len()
 }
 
+/// The longest response is cut off where the trick says.
 #[test]
 fn the_longest_answer_is_cut_off(rt: HostRuntime) {
     for (count, given) in [(258, 258), (259, 259), (260, 259)] {
@@ -241,7 +246,7 @@ fn the_longest_answer_is_cut_off(rt: HostRuntime) {
     }
 }
 
-// Whether a server answers that the input ended, and takes and gives nothing more.
+// Returns whether a server reports the end of the input without reading or writing anything.
 fn is_over(server: &mut Server<'_>, link: &mut MemoryLink<'_>, bank: &mut Bank) -> bool {
     let before = (link.given().len(), link.takes());
     let nothing = Turned {
@@ -252,6 +257,7 @@ fn is_over(server: &mut Server<'_>, link: &mut MemoryLink<'_>, bank: &mut Bank) 
     is_told && (link.given().len(), link.takes()) == before
 }
 
+/// After a cut the server reads nothing.
 #[test]
 fn after_a_cut_nothing_is_taken(rt: HostRuntime) {
     let mut bank = bank_with_nine(&rt, rt.alloc());

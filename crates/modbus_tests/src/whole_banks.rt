@@ -1,5 +1,5 @@
-//! The greatest requests, up to the last addresses of a device that has all of them (Modbus Application Protocol V1.1b3,
-//! sections 4.3 and 6.1 to 6.12).
+//! The greatest requests, up to the last addresses of a device that has all of them. The standard
+//! is Modbus Application Protocol V1.1b3, sections 4.3 and 6.1 to 6.12.
 use crate::devices::{answers, answers_all};
 use crate::examples::Exchange;
 use crate::quantities::request_of;
@@ -34,8 +34,9 @@ fn whole_bank(rt: &impl Abort, alloc: Global) -> Bank {
     Bank::new(alloc, &ALL_ADDRESSES).ok().expect(rt, "no bank")
 }
 
-// A request: its function code, its address, the number after that, its byte count, and how many bytes it has; how
-// many bytes answer it, and the first two of them. It has 0xFF in each byte after its byte count.
+// A request: its function code, its address, the number after that, its byte count, and its length
+// in bytes. Then the length of the response, and its first two bytes. Each byte after the byte
+// count is 0xFF.
 struct Case {
     function: u8,
     address: u16,
@@ -61,7 +62,7 @@ macro_rules! case {
 }
 
 static CASES: [Case; 21] = [
-    // up to the last address, past it, and one too many
+    // up to the last address, past it, and one address too many
     case!(1, 63536, 2000, 0, 5, 252, [1, 250]),
     case!(1, 63537, 2000, 0, 5, 2, [0x81, 2]),
     case!(1, 0, 2001, 0, 5, 2, [0x81, 3]),
@@ -93,7 +94,7 @@ fn is_answered(bank: &mut Bank, case: &Case) -> bool {
     count == case.answered && out[..2] == case.front[..]
 }
 
-// The values on both sides of the first that was written, and the last.
+// The values on both sides of the first written address, and the last.
 static WRITTEN: [(Kind, u16, u16); 6] = [
     (Kind::Coil, 63567, 0),
     (Kind::Coil, 63568, 1),
@@ -103,6 +104,7 @@ static WRITTEN: [(Kind, u16, u16); 6] = [
     (Kind::Holding, 65535, 0xFFFF),
 ];
 
+/// A device with all addresses responds up to the last of them.
 #[test]
 fn whole_banks_answer_to_their_last_address(rt: HostRuntime) {
     let mut bank = whole_bank(&rt, rt.alloc());
@@ -114,7 +116,7 @@ fn whole_banks_answer_to_their_last_address(rt: HostRuntime) {
     }
 }
 
-// Reads and other PDUs where all registers are 0.
+// Reads and other PDUs on registers that are all 0.
 static AMONG_ZEROS: [Exchange; 5] = [
     Exchange {
         request: &[3, 0xFF, 0xFF, 0, 1],
@@ -138,6 +140,7 @@ static AMONG_ZEROS: [Exchange; 5] = [
     },
 ];
 
+/// A device with all addresses responds to the longest reads and writes of registers.
 #[test]
 fn a_whole_bank_of_registers_answers(rt: HostRuntime) {
     let mut bank = whole_bank(&rt, rt.alloc());

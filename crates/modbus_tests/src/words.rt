@@ -1,9 +1,10 @@
-//! The reply that an answered poll lends, and a call that has told it.
+//! The response that an answered poll lends, and a call that has reported the poll.
 use crate::first_poll::first_poll;
 use crate::session_script::{GOOD, assert_ready};
 
 static REGISTERS: [Option<u16>; 4] = [Some(0), Some(5200), Some(0), None];
 
+/// An answered poll lends the registers of its response.
 #[test]
 fn words_are_lent(rt: HostRuntime) {
     let mut session = first_poll(&rt, 5, 1);
@@ -15,6 +16,7 @@ fn words_are_lent(rt: HostRuntime) {
     }
 }
 
+/// A call that reported a poll is still in progress.
 #[test]
 fn a_call_that_told_is_under_way(rt: HostRuntime) {
     let mut session = first_poll(&rt, 5, 2);

@@ -1,4 +1,5 @@
--- Worked examples, computed from the definitions: the first and the last number of each kind, and those beside them.
+-- Worked examples, computed from the definitions: the first and the last number of each kind, and
+-- their neighbors.
 use Rattle.std.proofs.Common.{◌≡◌, Some, None, true, false, refl, codes}
 use Rattle.printed_numbers.specs.Kinds.{kind_named}
 use Rattle.printed_numbers.specs.Numbers.{has_number}
@@ -46,7 +47,7 @@ malformation_5 = refl
 no_malformation_6 : has_number Malformed 6 ≡ false
 no_malformation_6 = refl
 
--- The standard has no exceptions 7 and 9, and none past 11.
+-- The standard has no exceptions 7 and 9, and none after 11.
 
 no_exception_0 : has_number Exception 0 ≡ false
 no_exception_0 = refl
@@ -90,7 +91,8 @@ http_fault_400 = refl
 http_fault_405 : has_number HttpFault 405 ≡ true
 http_fault_405 = refl
 
--- a reply of status 422 says what was refused, or the faults of a list, and no fault of its own
+-- A response with status 422 says what was refused, or the faults of a list, and has no fault of
+-- its own.
 no_http_fault_422 : has_number HttpFault 422 ≡ false
 no_http_fault_422 = refl
 

@@ -1,10 +1,11 @@
--- The words that stand before numbers.
+-- The words that precede numbers.
 use Rattle.std.specs.Prelude.{ℕ, List, [], ◌∷◌, Option, codes}
 use Rattle.std.specs.List.{find}
 use Rattle.std.specs.Str.{bytes_eq}
 use Rattle.printed_numbers.specs.declared.kind.Kind.{Kind}
 use Rattle.printed_numbers.specs.declared.kind.Kind.TheVariants.{Refused, Held, Lost, Malformed, Exception, RowFault, ChainFault, HttpFault, Status}
 
+-- The word that precedes a number of this kind.
 abbrev pub word_of : Kind → List ℕ
 word_of Refused = codes "refused"
 word_of Held = codes "held"
@@ -16,10 +17,11 @@ word_of ChainFault = codes "fault"
 word_of HttpFault = codes "fault"
 word_of Status = codes "status"
 
+-- All kinds, in the order in which a word is matched.
 abbrev pub kinds : List Kind
 kinds =
     Refused ∷ Held ∷ Lost ∷ Malformed ∷ Exception ∷ RowFault ∷ ChainFault ∷ HttpFault ∷ Status ∷ []
 
--- the first kind that has the word
+-- The first kind with this word.
 abbrev pub kind_named : List ℕ → Option Kind
 kind_named word = find (λ kind. bytes_eq word (word_of kind)) kinds

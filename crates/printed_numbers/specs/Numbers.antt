@@ -5,19 +5,21 @@ use Rattle.printed_numbers.specs.declared.kind.Kind.{Kind}
 use Rattle.printed_numbers.specs.declared.kind.Kind.TheVariants.{Refused, Held, Lost, Malformed, Exception, RowFault, ChainFault, HttpFault, Status}
 use Rattle.printed_numbers.specs.declared.meaning.Meaning.{Meaning}
 
+-- The number is in this range, with both ends.
 abbrev pub is_from : (first last number : ℕ) → Bool
 is_from first last number = nat_le first number && nat_le number last
 
--- the exception codes of the Modbus standard
+-- The exception codes of the Modbus standard.
 abbrev pub is_exception_code : ℕ → Bool
 is_exception_code number = is_from 1 6 number || number == 8 || is_from 10 11 number
 
--- the statuses that a reply has with a fault in its body
+-- The HTTP statuses of responses with a fault in their body.
 abbrev pub is_fault_status : ℕ → Bool
 is_fault_status number =
     number == 400 || is_from 403 405 number || number == 411 || number == 413 || number == 421
     || number == 431 || number == 503
 
+-- The kind has this number.
 abbrev pub has_number : Kind → ℕ → Bool
 has_number Refused number = is_from 1 17 number
 has_number Held number = is_from 1 8 number
@@ -29,11 +31,11 @@ has_number ChainFault number = is_from 1 4 number
 has_number HttpFault number = is_fault_status number
 has_number Status number = nat_le number 3
 
--- a meaning says itself what it is of
+-- A meaning names its own kind and number.
 abbrev pub IsMeaningOf : Kind → ℕ → Bor Meaning → Type 0
 IsMeaningOf kind number meaning = (meaning.now.kind ≡ kind) × (meaning.now.number ≡ number)
 
--- a meaning of the number where the kind has it, and none else
+-- The meaning of the number, exactly if the kind has the number.
 abbrev pub Answers : Kind → ℕ → Option (Bor Meaning) → Type 0
 Answers kind number result =
     (is_some result ≡ has_number kind number) × IfSome result (IsMeaningOf kind number)

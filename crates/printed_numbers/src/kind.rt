@@ -1,25 +1,25 @@
-//! The kinds of numbers, and the words that stand before them.
+//! The kinds of numbers, and the words that precede them.
 ghost use Rattle.std.specs.Prelude.{◌≡◌};
 ghost use Rattle.printed_numbers.specs.Kinds.{kind_named, kinds};
 
-/// What a number is of.
+/// The kind of a printed number.
 #[derive(Clone, Copy, Debug, PartialEq, Eq)]
 pub enum Kind {
-    /// `refused 12`: a line, a request or an event of a device was refused.
+    /// `refused 12`: the office refused a line, a request or an event of a device.
     Refused,
-    /// `held METER RAW cause 6`: a reading was kept, and books nothing.
+    /// `held METER RAW cause 6`: a reading was rejected. It is stored, and adds no energy.
     Held,
-    /// `poll 7 lost 1`: a poll has no outcome of its own.
+    /// `poll 7 lost 1`: the session ended before the poll was settled.
     Lost,
-    /// `poll 7 malformed 5`: a reply was wrong.
+    /// `poll 7 malformed 5`: the response was wrong.
     Malformed,
-    /// `poll 7 exception 2`: a device answered so in place of registers.
+    /// `poll 7 exception 2`: the device responded with an exception instead of registers.
     Exception,
     /// `row 3 fault 7`: a row of a point list is no point.
     RowFault,
     /// `fault 2 40070`: a device has no chain of models.
     ChainFault,
-    /// `{"fault":404}`: a request by HTTP was wrong.
+    /// `{"fault":404}`: an HTTP request was wrong.
     HttpFault,
     /// The exit status of the program.
     Status,
@@ -37,7 +37,7 @@ static KINDS: [Kind; 9] = [
     Kind::Status,
 ];
 
-/// The kinds, in the order in which a word is looked for.
+/// Returns all kinds, in the order in which a word is matched.
 pub fn kinds() -> &'static [Kind]
     ensures { result.now ≡ kinds }
 {
@@ -47,7 +47,7 @@ pub fn kinds() -> &'static [Kind]
 impl Kind {
     ghost use Rattle.printed_numbers.specs.Kinds.{word_of};
 
-    /// The word that stands before the number.
+    /// Returns the word that precedes the number.
     pub fn word(self) -> &'static str
         ensures { result.now ≡ word_of self }
     {
@@ -63,7 +63,8 @@ impl Kind {
     }
 }
 
-/// The first kind that has a word. Three have `fault`, of which the one of rows is the first.
+/// Returns the first kind with this word. Three kinds have `fault`; the first of them is
+/// `RowFault`.
 pub fn kind_named(word: &str) -> Option<Kind>
     ensures { result ≡ kind_named word.now }
 {

@@ -1,4 +1,4 @@
-//! What the numbers mean that the program prints, what usually causes them, and what to do.
+//! The meaning, the usual cause and the remedy of each number that the program prints.
 #![tactic(auto)]
 
 mod kind;

@@ -7,8 +7,8 @@ use crate::tables::{
     chain_fault, exception, exit_status, hold, http_fault, loss, malformation, refusal, row_fault,
 };
 
-/// What a number of a kind means, what usually causes it, and what to do: each a sentence without its full stop, that begins
-/// with a small letter.
+/// What a number of a kind means, its usual cause, and what to do. Each text is a sentence that
+/// begins with a small letter and has no full stop.
 #[derive(Clone, Copy, Debug, PartialEq, Eq)]
 pub struct Meaning {
     pub kind: Kind,
@@ -18,7 +18,7 @@ pub struct Meaning {
     pub remedy: &'static str,
 }
 
-/// The meaning of a number, where the kind has the number.
+/// Returns the meaning of a number, if the kind has the number.
 pub fn meaning_of(kind: Kind, number: u32) -> Option<&'static Meaning>
     ensures has { is_some result ≡ has_number kind number }
     ensures own { IfSome result (IsMeaningOf kind number) }

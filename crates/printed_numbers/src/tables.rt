@@ -1,4 +1,4 @@
-//! The meanings, by kind. What a number means stands here in the words of docs/SCRIPT.md.
+//! The meanings by kind, in the words of docs/SCRIPT.md.
 
 mod chain_faults;
 mod exceptions;

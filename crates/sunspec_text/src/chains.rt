@@ -1,4 +1,4 @@
-//! The chain of models in a device's words, read from lines and printed.
+//! Prints the chain of models in a device's words, which are read from lines.
 
 mod chain_printout;
 mod image_lines;

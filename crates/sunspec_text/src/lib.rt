@@ -1,4 +1,5 @@
-//! The chain of models in a device's words, read from lines or from a live device, and the plan of a point list, printed.
+//! Prints the chain of models in a device's words, from lines or from a live device, and the plan
+//! of a point list.
 #![tactic(auto)]
 
 mod chains;

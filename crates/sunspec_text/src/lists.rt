@@ -1,4 +1,4 @@
-//! The plan of a point list, printed.
+//! Prints the plan of a point list.
 
 mod list_printout;
 mod plan_printout;

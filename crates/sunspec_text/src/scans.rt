@@ -1,4 +1,4 @@
-//! The chain of models of a live device, printed.
+//! Prints the chain of models of a live device.
 
 mod scan_printout;
 mod setup_lines;

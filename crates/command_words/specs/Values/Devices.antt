@@ -1,4 +1,4 @@
--- The devices that a list names: NAME=HOST:PORT, joined by commas.
+-- The devices in a list of `NAME=HOST:PORT`, joined by commas.
 use Rattle.std.specs.Prelude.{◌≡◌, ⊤, MatchOption, MatchResult, Result, Vec, ℕ, ◌==◌, ◌&&◌, ◌||◌, Bool, true, not, List, [], ◌∷◌, Option, Some, None, map, length, nat_le, if◌then◌else◌}
 use Rattle.std.specs.List.{after_first, after_last, before_first, before_last, list_any, slice_split}
 use Rattle.std.specs.Str.{bytes_eq}
@@ -9,48 +9,57 @@ use Rattle.command_words.specs.declared.values.devices.Device.{Device}
 use Rattle.command_words.specs.declared.values.list_fault.ListFault.{ListFault}
 use Rattle.command_words.specs.declared.values.list_fault.ListFault.TheVariants as fault
 
+-- The bytes of a text.
 abbrev pub Text : Type 0
 Text = List ℕ
 
--- a device by its name, and where it listens
+-- A device by its name, and its address.
 pub record Place : Type 0 where
   pub name : Text
   pub host : Text
   pub port : ℕ
 
+-- The value of a device.
 abbrev pub place_of : Device → Place
 place_of d = record { name = d.name.now; host = d.host.now; port = d.port }
 
+-- The values of devices.
 abbrev pub places_of : List Device → List Place
 places_of devices = map place_of devices
 
+-- The byte is a comma.
 abbrev pub is_comma : ℕ → Bool
 is_comma byte = byte == 44
 
+-- The byte is `=`.
 abbrev pub is_equals : ℕ → Bool
 is_equals byte = byte == 61
 
+-- The byte is `:`.
 abbrev pub is_colon : ℕ → Bool
 is_colon byte = byte == 58
 
--- the name stands before the first `=`, the address after it
+-- The name: the text before the first `=`.
 abbrev pub name_in : Text → Text
 name_in part = before_first is_equals part
 
+-- The address: the text after the first `=`.
 abbrev pub address_in : Text → Text
 address_in part = after_first is_equals part
 
--- the host stands before the address's last `:`, the port after it
+-- The host: the text before the address's last `:`.
 abbrev pub host_in : Text → Text
 host_in address = before_last is_colon address
 
+-- The port: the number after the address's last `:`.
 abbrev pub port_in : Text → Option ℕ
 port_in address = number_up_to 65535 (after_last is_colon address)
 
+-- The text is empty.
 abbrev pub is_empty : Text → Bool
 is_empty text = length text == 0
 
--- the device that NAME=HOST:PORT names, where neither NAME nor HOST is empty
+-- The device in `NAME=HOST:PORT`, if NAME and HOST are not empty.
 abbrev pub device_in : Text → Option Place
 device_in part =
     let address = address_in part in
@@ -58,48 +67,55 @@ device_in part =
     else given (port_in address)
     (λ port. Some (record { name = name_in part; host = host_in address; port = port }))
 
--- what stands round the first `=`, and round the last `:`
+-- The texts around the first `=`.
 abbrev pub CutsAtEquals : Text → Option (Bor Text × Bor Text) → Type 0
 CutsAtEquals part result =
     MatchOption result ((name_in part ≡ part) × (address_in part ≡ []))
     (λ around. (around.0.now ≡ name_in part) × (around.1.now ≡ address_in part))
 
+-- The texts around the last `:`.
 abbrev pub CutsAtLastColon : Text → Option (Bor Text × Bor Text) → Type 0
 CutsAtLastColon address result =
     MatchOption result (host_in address ≡ [])
     (λ around. (around.0.now ≡ host_in address) × (around.1.now ≡ after_last is_colon address))
 
--- no text stands twice
+-- No text occurs twice.
 abbrev pub are_distinct : List Text → Bool
 are_distinct [] = true
 are_distinct (text ∷ texts) = not (list_any (bytes_eq text) texts) && are_distinct texts
 
+-- The names in these parts.
 abbrev pub names_in : List Text → List Text
 names_in parts = map name_in parts
 
+-- The bytes of these texts.
 abbrev pub texts : List (Bor Text) → List Text
 texts parts = map (λ part. part.now) parts
 
+-- One of the parts has the name.
 abbrev pub has_name : List (Bor Text) → Text → Bool
 has_name parts name = list_any (λ part. bytes_eq name (name_in part.now)) parts
 
+-- No name occurs twice.
 abbrev pub have_distinct_names : List (Bor Text) → Bool
 have_distinct_names parts = are_distinct (names_in (texts parts))
 
--- 1 to 64 devices, each with a name of its own
+-- The devices in these parts: 1 to 64, with different names.
 abbrev pub devices_of : List Text → Option (List Place)
 devices_of parts =
     if nat_le (length parts) 64 && are_distinct (names_in parts) then each_of device_in parts
     else None
 
+-- The devices in a text.
 abbrev pub devices_in : Text → Option (List Place)
 devices_in text = devices_of (slice_split is_comma text)
 
--- an answer with the devices that are due, or with a fault where none are; want of memory may come at any time
+-- A fault is reported only if the text is no list of devices, except for out of memory.
 abbrev pub IsFault : ListFault → Option (List Place) → Type 0
 IsFault fault.Memory due = ⊤
 IsFault (fault.Part part why) due = None ≡ due
 
+-- The result of parsing: the devices in the text, or a fault.
 abbrev pub Reads : {Z : Type 0} → Option (List Place) → Result (Vec Device Z) ListFault → Type 0
 Reads due result =
     MatchResult result (λ devices. Some (places_of devices.items) ≡ due)

@@ -1,12 +1,12 @@
--- Values that may lack.
+-- Optional values.
 use Rattle.std.specs.Prelude.{List, [], ◌∷◌, Option, Some, None}
 
--- the value, and with it the rest, where there is one
+-- The rest applied to the value, if there is one.
 abbrev pub given : {A B : Type 0} → Option A → (A → Option B) → Option B
 given None rest = None
 given (Some value) rest = rest value
 
--- what each item gives, where each gives something
+-- What each item gives, if each gives something.
 abbrev pub each_of : {A B : Type 0} → (A → Option B) → List A → Option (List B)
 each_of gives [] = Some []
 each_of gives (item ∷ items) =

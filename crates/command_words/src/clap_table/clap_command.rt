@@ -1,4 +1,4 @@
-//! The command of `clap` that tables describe.
+//! Builds the command of `clap` from tables.
 ghost use Rattle.std.specs.Prelude.{◌≡◌, IfOk, false};
 ghost use Rattle.clap.specs.Words.{app_of, rule_of};
 ghost use Rattle.clap.specs.declared.builder.command.Command.TheViews.{out-Command as fields_of};
@@ -9,7 +9,7 @@ use crate::clap_table::tables::{CommandText, OptionText, ProgramText, Value};
 use clap::{Arg, ArgAction, Command};
 use std::alloc::{AllocError, Global};
 
-// The argument of `clap` for an option.
+// Returns the argument of `clap` for an option.
 fn argument<'a>(alloc: Global, option: OptionText<'a>) -> Arg<'a>
     ensures rule { rule_of result ≡ option_rule option.entry }
     ensures local { result.global ≡ false }
@@ -37,7 +37,7 @@ fn argument<'a>(alloc: Global, option: OptionText<'a>) -> Arg<'a>
     }
 }
 
-// The command with one more option.
+// Returns the command with one more option.
 fn with_option<'a>(
     alloc: Global,
     command: Command<'a>,
@@ -51,7 +51,7 @@ fn with_option<'a>(
     command.arg(argument)
 }
 
-// The command with these options after its own.
+// Returns the command with these options after its own.
 fn with_options<'a>(
     alloc: Global,
     command: Command<'a>,
@@ -69,7 +69,7 @@ fn with_options<'a>(
     Ok(command)
 }
 
-// The command that a table describes.
+// Returns the command that a table describes.
 fn leaf_command<'a>(alloc: Global, text: CommandText<'a>) -> Result<Command<'a>, AllocError>
     ensures app { IfOk result (λ c. app_of c ≡ command_app text.entry) }
     ensures local { IfOk result (λ c. (fields_of c).has_globals ≡ false) }
@@ -80,7 +80,7 @@ fn leaf_command<'a>(alloc: Global, text: CommandText<'a>) -> Result<Command<'a>,
     with_options(alloc, command, text.options)
 }
 
-// The program with one more command.
+// Returns the program with one more command.
 fn with_command<'a>(
     alloc: Global,
     program: Command<'a>,
@@ -92,7 +92,7 @@ fn with_command<'a>(
     program.subcommand(command)
 }
 
-// The program with these commands after its own.
+// Returns the program with these commands after its own.
 fn with_commands<'a>(
     alloc: Global,
     program: Command<'a>,
@@ -108,7 +108,7 @@ fn with_commands<'a>(
     Ok(program)
 }
 
-/// The program that tables describe, whose words do not begin with its name.
+/// Returns the program that tables describe. Its arguments do not begin with its name.
 pub(crate) fn command<'a>(alloc: Global, text: ProgramText<'a>) -> Result<Command<'a>, AllocError>
     ensures { IfOk result (λ c. app_of c ≡ program_app text.entry) }
 {

@@ -1,4 +1,4 @@
-//! What `clap` finds in the words.
+//! What `clap` parses from the arguments.
 ghost use Rattle.std.specs.Prelude.{◌≡◌, IfOk, true};
 ghost use Rattle.clap.specs.Words.{is_simple_and_free};
 ghost use Rattle.command_words.specs.ClapTable.Table.{Fails, IsFound, program_app};
@@ -8,7 +8,7 @@ use crate::clap_table::tables::ProgramText;
 use clap::{ArgMatches, Error};
 use std::alloc::Global;
 
-/// What `clap` finds in the words after the program's name.
+/// Parses the arguments after the program's name with `clap`.
 pub fn matches_of<'a>(
     alloc: Global,
     program: ProgramText<'a>,

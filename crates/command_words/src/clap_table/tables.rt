@@ -1,33 +1,34 @@
-//! The tables that describe a program's words.
+//! The tables that describe a program's arguments.
 
-/// Whether an option has a value, and under which name the help shows it.
+/// Whether an option has a value, and the name that the help shows for it.
 #[derive(Clone, Copy)]
 pub enum Value<'a> {
-    /// The option and its value must stand.
+    /// The option and its value are required.
     Required(&'a str),
-    /// The option may lack; where it stands it has a value.
+    /// The option is optional. If it is given, it has a value.
     Optional(&'a str),
-    /// So it is, and the value is one of some words.
+    /// The option is optional. If it is given, its value is one of these words.
     Chosen {
         shown: &'a str,
         choices: &'a [&'a str],
     },
-    /// The option may lack, or stand several times; each time it has a value.
+    /// The option is optional, and may be given several times, each time with a value.
     Repeated(&'a str),
-    /// The option must stand, and may stand several times; each time it has a value.
+    /// The option is required, and may be given several times, each time with a value.
     Several(&'a str),
-    /// The option is a flag, which has no value and may lack.
+    /// The option is a flag: it has no value, and is optional.
     Absent,
-    /// So it is, and has a letter too: `-n`.
+    /// The option is a flag, and has a letter too: `-n`.
     Letter(char),
-    /// It is no option, but a word that must stand, in the order of the table; where it is one of some, these are they.
+    /// No option, but a required positional argument, in the order of the table. If it is one of a
+    /// few words, `choices` has them.
     Word {
         shown: &'a str,
         choices: &'a [&'a str],
     },
 }
 
-/// An option `--name`, or a word, and a sentence of help.
+/// An option `--name` or a positional argument, with a sentence of help.
 #[derive(Clone, Copy)]
 pub struct OptionText<'a> {
     pub name: &'a str,
@@ -35,7 +36,7 @@ pub struct OptionText<'a> {
     pub help: &'a str,
 }
 
-/// A command with its options; `about` is a sentence of help, `after` the text below its options.
+/// A command with its options. `about` is a sentence of help, `after` the text below the options.
 #[derive(Clone, Copy)]
 pub struct CommandText<'a> {
     pub name: &'a str,
@@ -44,8 +45,8 @@ pub struct CommandText<'a> {
     pub options: &'a [OptionText<'a>],
 }
 
-/// A program with its commands, in two parts, since what is proved of one long table takes too many steps. It tells its version
-/// where that is asked for.
+/// A program with its commands, and with a version that it prints on request. The commands are in
+/// two parts, since the proofs about one long table take too many steps.
 #[derive(Clone, Copy)]
 pub struct ProgramText<'a> {
     pub name: &'a str,
@@ -53,6 +54,6 @@ pub struct ProgramText<'a> {
     pub about: &'a str,
     pub after: &'a str,
     pub commands: &'a [CommandText<'a>],
-    /// The commands after those.
+    /// The commands after those of `commands`.
     pub later: &'a [CommandText<'a>],
 }

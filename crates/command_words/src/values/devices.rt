@@ -16,7 +16,7 @@ pub const MOST_DEVICES: usize = 64;
 /// The highest port.
 pub const MOST_PORT: u32 = 65_535;
 
-/// A device of the list `NAME=HOST:PORT`, its texts as they stand there.
+/// A device of the list, `NAME=HOST:PORT`. The texts are as they were given.
 #[derive(Clone, Copy, Debug, PartialEq, Eq, Drop)]
 pub struct Device<'a> {
     pub name: &'a str,
@@ -24,21 +24,21 @@ pub struct Device<'a> {
     pub port: u16,
 }
 
-// What stands round the first `=`.
+// Splits at the first `=`.
 fn around_equals<'a>(part: &'a str) -> Option<(&'a str, &'a str)>
     ensures { CutsAtEquals part.now result }
 {
     part.split_once('=')
 }
 
-// What stands round the last `:`.
+// Splits at the last `:`.
 fn around_colon<'a>(address: &'a str) -> Option<(&'a str, &'a str)>
     ensures { CutsAtLastColon address.now result }
 {
     address.rsplit_once(':')
 }
 
-// The device that a part names.
+// Parses a part as a device.
 fn device_in<'a>(part: &'a str) -> Option<Device<'a>>
     ensures { option_map place_of result ≡ device_in part.now }
 {
@@ -55,14 +55,14 @@ fn device_in<'a>(part: &'a str) -> Option<Device<'a>>
     })
 }
 
-// The parts between the commas.
+// Splits the text at its commas.
 fn parts_of<'a>(alloc: Global, text: &'a str) -> Result<Vec<&'a str>, AllocError>
     ensures { IfOk result (λ parts. texts parts.items ≡ slice_split is_comma text.now) }
 {
     text.split(',').collect(alloc)
 }
 
-// The name of the device that a part names, also where it names none.
+// Returns the name in a part, also if the part is no device.
 fn name_of<'a>(part: &'a str) -> &'a str
     ensures { result.now ≡ name_in part.now }
 {
@@ -72,14 +72,14 @@ fn name_of<'a>(part: &'a str) -> &'a str
     }
 }
 
-// Whether one of the parts has the name.
+// Returns whether one of the parts has the name.
 fn has_name(parts: &[&str], name: &str) -> bool
     ensures { result ≡ has_name parts.now name.now }
 {
     parts.iter().any(|part| name == name_of(part))
 }
 
-// Each name stands once, or one of the parts whose name stands twice.
+// Checks that each name is unique. On error, returns a part whose name occurs again.
 fn distinct<'a>(parts: &[&'a str]) -> Result<(), ListFault<'a>>
     ensures { is_ok result ≡ have_distinct_names parts.now }
 {
@@ -92,7 +92,7 @@ fn distinct<'a>(parts: &[&'a str]) -> Result<(), ListFault<'a>>
     Ok(())
 }
 
-// The devices that the parts name, each its own.
+// Parses each part as a device.
 fn each_device<'a>(alloc: Global, parts: &[&'a str]) -> Result<Vec<Device<'a>>, ListFault<'a>>
     ensures { Reads (each_of device_in (texts parts.now)) result }
 {
@@ -107,7 +107,7 @@ fn each_device<'a>(alloc: Global, parts: &[&'a str]) -> Result<Vec<Device<'a>>, 
     Ok(devices)
 }
 
-// There are no more parts than a list has, or the first part that is one too many.
+// Checks the number of parts. On error, returns the first part that is one too many.
 fn few<'a>(parts: &[&'a str]) -> Result<(), ListFault<'a>>
     ensures { MatchResult result (λ _. length parts.now ≤ 64) (λ _. 64 < length parts.now) }
 {
@@ -120,9 +120,11 @@ fn few<'a>(parts: &[&'a str]) -> Result<(), ListFault<'a>>
     }
 }
 
-/// The devices of a list `NAME=HOST:PORT` joined by commas: 1 to 64, each name once. NAME ends at the first `=`, HOST at
-/// the last `:`; neither is empty. Of several faults a part too many is told first, then a name that stands twice, then a
-/// part that is no device.
+/// Parses a list of `NAME=HOST:PORT`, joined by commas: 1 to 64 devices, each name once. NAME ends
+/// at the first `=`, and HOST at the last `:`. Both must not be empty.
+///
+/// Of several faults, a part too many is reported first, then a name that occurs twice, then a part
+/// that is no device.
 pub fn devices_in<'a>(alloc: Global, text: &'a str) -> Result<Vec<Device<'a>>, ListFault<'a>>
     ensures { Reads (devices_in text.now) result }
 {

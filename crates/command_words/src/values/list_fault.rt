@@ -5,21 +5,21 @@ use std::error::Error;
 use std::fmt;
 use std::fmt::{Display, Formatter};
 
-/// Why a part of a list is none of its devices.
+/// Why a part of a list is no device.
 #[derive(Clone, Copy, Debug, PartialEq, Eq, Drop)]
 pub enum DeviceFault {
-    /// It is not `NAME=HOST:PORT`, or its port is out of range.
+    /// The part is not `NAME=HOST:PORT`, or its port is out of range.
     Malformed,
-    /// A later part has its name.
+    /// A later part has the same name.
     Repeated,
-    /// It is one more than a list has.
+    /// The part is one more than a list has.
     TooMany,
 }
 
 /// Why a text is no list of devices.
 #[derive(Clone, Copy, Debug, PartialEq, Eq, Drop)]
 pub enum ListFault<'a> {
-    /// A part of the list is none of its devices.
+    /// A part of the list is no device.
     Part { part: &'a str, fault: DeviceFault },
     Memory,
 }

@@ -1,13 +1,13 @@
-//! Numbers in words.
+//! Numbers in option values.
 ghost use Rattle.std.specs.Prelude.{◌≡◌, ◌≤◌, IfSome};
 ghost use Rattle.command_words.specs.Values.Numbers.{number_up_to};
 
 use sun_points::number_of_digits;
 
-/// The most digits that a number has.
+/// The most digits of a number.
 pub const MOST_DIGITS: usize = 10;
 
-/// The number from 1 to the most that one to ten digits spell.
+/// Parses a number from 1 to `most`, of one to ten digits.
 pub fn number_up_to(most: u32, word: &str) -> Option<u32>
     ensures value { result ≡ number_up_to most word.now }
     ensures within { IfSome result (λ number. number ≤ most) }

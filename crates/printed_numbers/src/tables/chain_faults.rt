@@ -1,4 +1,4 @@
-//! Chains of models.
+//! Faults of chains of models.
 ghost use Rattle.printed_numbers.specs.Numbers.{Answers};
 ghost use Rattle.printed_numbers.specs.declared.kind.Kind.TheVariants.{ChainFault};
 
@@ -37,7 +37,7 @@ static TOO_MANY_MODELS: Meaning = Meaning {
     remedy: "compare the words at the last models with the device",
 };
 
-/// Why a device has no chain of models.
+/// Returns why a device has no chain of models.
 pub fn chain_fault(number: u32) -> Option<&'static Meaning>
     ensures { Answers ChainFault number result }
 {

@@ -77,7 +77,7 @@ static TARGET_SILENT: Meaning = Meaning {
     remedy: "check that the device is on, and compare its unit identifier with the gateway's settings",
 };
 
-/// What a device answers in place of registers, by the Modbus standard.
+/// Returns the meaning of an exception code of the Modbus standard.
 pub fn exception(number: u32) -> Option<&'static Meaning>
     ensures { Answers Exception number result }
 {

@@ -1,4 +1,4 @@
-//! Requests by HTTP.
+//! Faults of HTTP requests.
 ghost use Rattle.printed_numbers.specs.Numbers.{Answers};
 ghost use Rattle.printed_numbers.specs.declared.kind.Kind.TheVariants.{HttpFault};
 
@@ -77,7 +77,7 @@ static TAKES_NO_COMMAND: Meaning = Meaning {
     remedy: "read what the run printed on standard error, then restart it with a larger --most-kept, or with its files in place",
 };
 
-/// What is wrong with a request by HTTP; its number is the reply's status.
+/// Returns what is wrong with an HTTP request. The number is the status of the response.
 pub fn http_fault(number: u32) -> Option<&'static Meaning>
     ensures { Answers HttpFault number result }
 {

@@ -1,4 +1,4 @@
-//! Lost polls.
+//! Causes of lost polls.
 ghost use Rattle.printed_numbers.specs.Numbers.{Answers};
 ghost use Rattle.printed_numbers.specs.declared.kind.Kind.TheVariants.{Lost};
 
@@ -37,7 +37,7 @@ static RESTART: Meaning = Meaning {
     remedy: "nothing: the next round polls again",
 };
 
-/// Why a poll has no outcome of its own.
+/// Returns why a poll was lost.
 pub fn loss(number: u32) -> Option<&'static Meaning>
     ensures { Answers Lost number result }
 {

@@ -1,4 +1,4 @@
-//! Refusals.
+//! Refusals of the office.
 ghost use Rattle.printed_numbers.specs.Numbers.{Answers};
 ghost use Rattle.printed_numbers.specs.declared.kind.Kind.TheVariants.{Refused};
 
@@ -141,7 +141,7 @@ static NOT_PLAUSIBLE: Meaning = Meaning {
     remedy: "void the later wrong reading first",
 };
 
-/// Why the office refuses a line, a request or an event.
+/// Returns why the office refuses a line, a request or an event.
 pub fn refusal(number: u32) -> Option<&'static Meaning>
     ensures { Answers Refused number result }
 {

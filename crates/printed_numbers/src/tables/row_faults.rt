@@ -1,4 +1,4 @@
-//! Rows of point lists.
+//! Faults of rows of point lists.
 ghost use Rattle.printed_numbers.specs.Numbers.{Answers};
 ghost use Rattle.printed_numbers.specs.declared.kind.Kind.TheVariants.{RowFault};
 
@@ -101,7 +101,7 @@ static TOO_MANY_ROWS: Meaning = Meaning {
     remedy: "remove the points that aren't needed",
 };
 
-/// What a row of a point list lacks.
+/// Returns what is wrong with a row of a point list.
 pub fn row_fault(number: u32) -> Option<&'static Meaning>
     ensures { Answers RowFault number result }
 {

@@ -37,7 +37,7 @@ static FAILED: Meaning = Meaning {
     remedy: "read the second line on standard error",
 };
 
-/// How the program ended.
+/// Returns how the program ended.
 pub fn exit_status(number: u32) -> Option<&'static Meaning>
     ensures { Answers Status number result }
 {

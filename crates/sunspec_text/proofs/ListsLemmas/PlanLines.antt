@@ -40,7 +40,7 @@ pub start_at : (points : List ListedPoint) (starts : List ℕ) (i : ℕ) (p : Li
 start_at points starts i p inside are is =
     ap (λ xs. get_or xs i 0) are ∙ get_or-map (λ (point : ListedPoint). point.address) points i p 0 inside ∙ ap (λ (point : ListedPoint). point.address) (sym is)
 
--- the line of one more point
+-- The line of one more point.
 pub points_next : (list points : List ListedPoint) (reads : List PlannedRead) (printed : List ℕ) (i : ℕ) (p : PlacedPoint) → i < length points
     → p.point ≡ get_or points i p.point → PointsPrint list (take i points) reads printed → IsPlaced list reads p
     → PointsPrint list (take (i + 1) points) reads (printed ++ point_line p)

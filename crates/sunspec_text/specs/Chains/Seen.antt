@@ -1,4 +1,4 @@
--- What the types of the lines stand for.
+-- The values of the types of lines.
 use Rattle.std.specs.Prelude.{◌≡◌, ℕ, List, None, Ok, Err}
 use Rattle.std.specs.declared.result.Result.{Result}
 use Rattle.sun_chain.specs.Image.{Words, word_in}
@@ -9,28 +9,29 @@ use Rattle.sunspec_text.specs.declared.chains.image_lines.Put.{Put as LoadedPut}
 use Rattle.sunspec_text.specs.declared.chains.image_lines.LoadFault.{LoadFault}
 use Rattle.sunspec_text.specs.declared.chains.image_lines.LoadFault.TheVariants.{BadLine, Memory}
 
+-- The value of a line's words.
 abbrev pub seen_put : LoadedPut → Put
 seen_put put = record { address = put.address; words = put.words.items }
 
--- the image holds the words that the lines of a text tell
+-- The image has the words in the lines of a text.
 abbrev pub TellsImage : (text : List ℕ) → Image → Type 0
 TellsImage text image = words_told nothing_read (speaking_lines text) ≡ Ok (word_in image)
 
--- the line is wrong, and this is its number
+-- The line is wrong, and this is its number.
 pub record IsBad (word : Words) (line : Line) (number : ℕ) : Type 0 where
   pub number_of : number ≡ line.number
   pub wrong : words_after word line.text ≡ None
 
--- why a line was not carried out
+-- Why a line was not added.
 abbrev pub ExplainsLine : LoadFault → Words → Line → Type 0
 ExplainsLine (BadLine number) word line = IsBad word line number
 ExplainsLine Memory word line = Unit {0}
 
--- the lines end with a wrong line of this number
+-- The lines end with a wrong line of this number.
 abbrev pub Explains : LoadFault → Result Words ℕ → Type 0
 Explains (BadLine number) told = told ≡ Err number
 Explains Memory told = Unit {0}
 
--- why the lines of a text tell no image
+-- Why the lines of a text are not an image.
 abbrev pub ExplainsText : (text : List ℕ) → LoadFault → Type 0
 ExplainsText text fault = Explains fault (words_told nothing_read (speaking_lines text))

@@ -1,4 +1,4 @@
--- What is printed of a point list's plan: its reads, and where its points stand in them.
+-- The output for a point list's plan: its reads, and the places of its points in them.
 use Rattle.std.specs.Prelude.{◌≡◌, ℕ, ◌+◌, List, [], ◌∷◌, ◌++◌, flat_map, map, Option, codes, slice_index_or}
 use Rattle.std.specs.Io.KnownBytes.{Appends}
 use Rattle.std.specs.Fmt.{decimal}
@@ -12,54 +12,57 @@ use Rattle.read_plan.specs.PlannedReads.{IsFirstHolding, read_runs}
 use Rattle.read_plan.specs.Plans.{FollowsRule, IsLawful}
 use Rattle.read_plan.specs.declared.planned_reads.PlannedRead.{PlannedRead}
 
--- the number of a read and the code of its function
+-- The number of a read and the code of its function.
 abbrev pub read_head : (number function : ℕ) → List ℕ
 read_head number function =
     codes "read " ++ decimal number ++ codes " " ++ decimal function ++ codes " "
 
--- its area number, its first address and how many registers it reads
+-- The area of a read, its first address and the number of its registers.
 abbrev pub registers_text : PlannedRead → List ℕ
 registers_text read =
     decimal read.area ++ codes " " ++ decimal read.span.address ++ codes " "
     ++ decimal read.span.count
     ++ codes "\n"
 
+-- The line of a read, by its number and function code.
 abbrev pub span_line : (number function : ℕ) → PlannedRead → List ℕ
 span_line number function read = read_head number function ++ registers_text read
 
+-- The line of a read, by its number.
 abbrev pub read_line : (number : ℕ) → PlannedRead → List ℕ
 read_line number read = span_line number (code_of read.span.function) read
 
--- reads, the first of which has the number given
+-- The lines of reads; the first has the given number.
 abbrev pub read_lines : ℕ → List PlannedRead → List ℕ
 read_lines number [] = []
 read_lines number (read ∷ reads) = read_line number read ++ read_lines (number + 1) reads
 
--- A point, the place of a read in the plan, the first being 0, and how many registers of the read stand
+-- A point, the index of its read in the plan, from 0, and the number of registers of the read
 -- before the point's.
 pub record PlacedPoint : Type 0 where
   pub point : ListedPoint
   pub read : ℕ
   pub offset : ℕ
 
--- the read is the first of the item's area that holds it
+-- The read is the first of the point's area that has the point.
 pub record IsPlaced (list : List ListedPoint) (reads : List PlannedRead) (placed : PlacedPoint) :
     Type 0 where
   pub first : IsFirstHolding (read_runs reads) (item_of list placed.point) placed.read
   pub offset : (d : PlannedRead)
       → (slice_index_or reads placed.read d).span.address + placed.offset ≡ placed.point.address
 
+-- The line of a point.
 abbrev pub point_line : PlacedPoint → List ℕ
 point_line placed =
     codes "point " ++ placed.point.name ++ codes " " ++ decimal (placed.read + 1) ++ codes " "
     ++ decimal placed.offset ++ codes "\n"
 
--- what was written prints this
+-- The bytes written are such an output.
 abbrev pub Writes : (Prints : List ℕ → Type 0) → (output output' : Option (List ℕ)) → Type 0
 Writes Prints output output' =
     (printed : List ℕ) × Appends output output' printed × Prints printed
 
--- the lines of points, each of the list with its place
+-- The lines of points, each with its place in the plan.
 pub record PointsPrint (list points : List ListedPoint) (reads : List PlannedRead)
     (printed : List ℕ)
     : Type 0 where
@@ -68,21 +71,21 @@ pub record PointsPrint (list points : List ListedPoint) (reads : List PlannedRea
   pub each : All (IsPlaced list reads) placed
   pub lines : printed ≡ flat_map point_line placed
 
--- the lines of reads, and then those of the list's points
+-- The lines of reads, and then those of the list's points.
 pub record LinesPrint (list : List ListedPoint) (reads : List PlannedRead) (printed : List ℕ) : Type
     0 where
   pub points : List ℕ
   pub placed : PointsPrint list list reads points
   pub lines : printed ≡ read_lines 1 reads ++ points
 
--- a list prints the lines of the rule's plan, which is lawful
+-- A list prints the lines of its plan, which is lawful.
 pub record PlanPrints (list : List ListedPoint) (printed : List ℕ) : Type 0 where
   pub reads : List PlannedRead
   pub rule : FollowsRule (items_of list) (read_runs reads)
   pub lawful : IsLawful (runs_of list) (items_of list) (read_runs reads)
   pub lines : LinesPrint list reads printed
 
--- nothing is refused where a list is there
+-- A list is never refused.
 pub record PrintsPlan (list : List ListedPoint) (printed : List ℕ) (status : ExitStatus) :
     Type 0 where
   pub fine : status ≡ Fine

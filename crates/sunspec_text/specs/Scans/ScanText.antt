@@ -1,4 +1,4 @@
--- What is printed of a scan of a device, and the exit status.
+-- The output for a scan of a device, and the exit status.
 use Rattle.std.specs.Prelude.{◌≡◌, ◌≢◌, ◌⊎◌, ℕ, List, [], flat_map}
 use Rattle.std.specs.declared.option.Option.{Option}
 use Rattle.command_io.specs.Printing.{PrintsOn}
@@ -17,54 +17,54 @@ use Rattle.sunspec_text.specs.Chains.ChainText.{WordsPrint}
 use Rattle.sunspec_text.specs.declared.scans.scan_printout.ScanForm.{ScanForm}
 use Rattle.sunspec_text.specs.declared.scans.scan_printout.ScanForm.TheVariants as form
 
--- words in which a chain stands
+-- Words with a chain.
 abbrev pub WithChain : Words → (List Model → Type 0) → Type 0
 WithChain word P =
     (base : ℕ) × (models : List Model) × (end : ℕ) × IsChain word base models end × P models
 
--- the models of a chain have more points than a list may have
+-- The models of the chain have more points than a list may have.
 abbrev pub PrintsTooMany : Words → (printed : List ℕ) → List Model → Type 0
 PrintsTooMany word printed models =
     (chain_faults (points_from word 1 models) ≢ [])
     × (printed ≡ flat_map fault_line (chain_faults (points_from word 1 models)))
 
--- no list: the words have no chain, or one with too many points
+-- There is no list: the words have no chain, or a chain with too many points.
 abbrev pub PrintsNoList : Words → (printed : List ℕ) → Type 0
 PrintsNoList word printed =
     WordsPrint word printed Refused ⊎ WithChain word (PrintsTooMany word printed)
 
--- the list of a chain's points
+-- The list of a chain's points.
 abbrev pub ListPrints : Words → (printed : List ℕ) → ExitStatus → Type 0
 ListPrints word printed Fine =
     WithChain word (λ models. printed ≡ list_text (points_from word 1 models))
 ListPrints word printed Refused = PrintsNoList word printed
 ListPrints word printed Failed = ⊥
 
--- The lines that set a device up: there are some exactly where there is a list. Their text is tried.
+-- The lines that set a device up exist exactly if the list does. Their text is only tested.
 abbrev pub SetupPrints : Words → (printed : List ℕ) → ExitStatus → Type 0
 SetupPrints word printed Fine = WithChain word (λ models. Unit {0})
 SetupPrints word printed Refused = PrintsNoList word printed
 SetupPrints word printed Failed = ⊥
 
--- the faulty rows of a list print their lines
+-- The faulty rows of a list print their lines.
 abbrev pub RowsPrint : List FaultyRow → (printed : List ℕ) → ExitStatus → Type 0
 RowsPrint rows printed Fine = ⊥
 RowsPrint rows printed Refused = printed ≡ flat_map fault_line rows
 RowsPrint rows printed Failed = ⊥
 
--- lines are printed
+-- Any lines are printed.
 abbrev pub LinesPrint : (printed : List ℕ) → ExitStatus → Type 0
 LinesPrint printed Fine = Unit {0}
 LinesPrint printed Refused = ⊥
 LinesPrint printed Failed = ⊥
 
--- a device's words print so in a form
+-- The output for a device's words in a form.
 abbrev pub FormPrints : ScanForm → Words → (printed : List ℕ) → ExitStatus → Type 0
 FormPrints form.Chain word printed status = WordsPrint word printed status
 FormPrints form.List word printed status = ListPrints word printed status
 FormPrints (form.Setup site) word printed status = SetupPrints word printed status
 
--- a device was scanned over a link, and what its words print was written
+-- A device was scanned over a link, and the output for its words was written.
 pub record ScanPrints {P : Type 0} (p : printers.Ghosts P) (unit : ℕ) (form : ScanForm)
     (old_bytes old_given new_bytes new_given : Option (List ℕ)) (old new : P) (status : ExitStatus)
     : Type 0 where

@@ -1,4 +1,4 @@
-//! The chain of models in a device's words.
+//! Prints the chain of models in a device's words.
 ghost use Rattle.std.specs.Prelude.{IfSome, OnOk, flat_map, map};
 ghost use Rattle.std.specs.Io.KnownBytes.{Appends};
 ghost use Rattle.sun_chain.specs.Chain.{words_of};
@@ -17,10 +17,12 @@ use std::alloc::Global;
 use std::io::{self, Read, Write};
 use sun_chain::{Chain, ChainFault, Image, Model, NamedPoint, walk};
 
-/// Reads lines `ADDRESS HEX`, the words of a device from an address on, and prints the chain of models in
-/// them: `base B`, for each model `model ADDRESS ID L` and its points `point NAME VALUE`, then `end ADDRESS`;
-/// or only `fault N`. A line that is none, or whose words end past address 65535, prints `bad line N` alone,
-/// an input of more than `MOST_BYTES` bytes `too long`.
+/// Reads lines `ADDRESS HEX`, the words of a device from an address on, and prints the chain of
+/// models in them.
+///
+/// The output is `base B`, for each model `model ADDRESS ID L` and its points `point NAME VALUE`,
+/// then `end ADDRESS`; or only `fault N`. A line that is wrong, or whose words extend past address
+/// 65535, prints only `bad line N`. An input of more than `MOST_BYTES` bytes prints `too long`.
 pub fn chain_text<R: Read, P: Printer>(alloc: Global, input: &mut R, output: &mut P) -> ExitStatus
     ensures { IfSome (R.remaining input.old)
         (PrintsFor P.Printer ChainPrints result output.old output.new) }
@@ -31,7 +33,7 @@ pub fn chain_text<R: Read, P: Printer>(alloc: Global, input: &mut R, output: &mu
     }
 }
 
-// Makes ready what lines say, and prints it.
+// Formats what the lines mean, and prints it.
 fn print_said<P: Printer>(alloc: Global, text: &[u8], output: &mut P) -> ExitStatus
     ensures { PrintsOn P.Printer (LinesPrint (words_told nothing_read (speaking_lines text.now)))
         result output.old output.new }
@@ -41,7 +43,7 @@ fn print_said<P: Printer>(alloc: Global, text: &[u8], output: &mut P) -> ExitSta
     print_end(&lines, meant, output)
 }
 
-// Prints what lines say.
+// Writes what the lines mean.
 fn print_lines<W: Write>(alloc: Global, text: &[u8], output: &mut W) -> ExitStatus
     ensures { PrintsAs (LinesPrint (words_told nothing_read (speaking_lines text.now))) result
         (W.contents output.old) (W.contents output.new) }
@@ -56,7 +58,7 @@ fn print_lines<W: Write>(alloc: Global, text: &[u8], output: &mut W) -> ExitStat
     }
 }
 
-/// Prints the chain in an image, or its fault.
+/// Writes the chain in an image, or its fault.
 pub(crate) fn print_image<W: Write>(alloc: Global, image: &Image, output: &mut W) -> ExitStatus
     ensures { PrintsAs (WordsPrint (word_in image.now)) result
         (W.contents output.old) (W.contents output.new) }
@@ -70,7 +72,7 @@ pub(crate) fn print_image<W: Write>(alloc: Global, image: &Image, output: &mut W
     }
 }
 
-/// Prints why there is no chain.
+/// Writes why there is no chain.
 pub(crate) fn print_lack<W: Write>(fault: ChainFault, output: &mut W) -> ExitStatus
     ensures { PrintsAs (FaultPrints fault) result
         (W.contents output.old) (W.contents output.new) }
@@ -116,7 +118,7 @@ fn print_models<W: Write>(chain: &Chain<'_>, models: &[Model], output: &mut W) -
     Ok(())
 }
 
-// A model, and its points after it.
+// Writes a model, and then its points.
 fn print_model<W: Write>(chain: &Chain<'_>, model: &Model, output: &mut W) -> io::Result<()>
     ensures { OnOk result (Appends (W.contents output.old) (W.contents output.new)
         (model_lines (words_of chain.now) model.now)) }

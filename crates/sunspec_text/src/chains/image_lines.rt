@@ -1,4 +1,4 @@
-//! The lines that tell a device's words: an address, and the words from there on in hex.
+//! Reads a device's words from lines: an address, and the words from there on in hex.
 ghost use Rattle.std.specs.Prelude.{◌≡◌, IfOk, IfErr, OnOk, Some, option_map};
 ghost use Rattle.sun_chain.specs.Image.{word_in};
 ghost use Rattle.sunspec_text.specs.Chains.ImageLines.{SpellsWords, address_of, put_of, words_after};
@@ -11,22 +11,22 @@ use script_lines::{Words, hex_bytes, number};
 use std::alloc::{AllocError, Global};
 use sun_chain::{Image, ImageFault};
 
-/// Why lines do not tell an image.
+/// Why lines are not a memory image.
 #[derive(Clone, Copy, Debug, PartialEq, Eq)]
 pub(crate) enum LoadFault {
-    /// The line of this number is wrong.
+    /// The line with this number is wrong.
     BadLine(u64),
     Memory,
 }
 
-/// Words that are put at an address.
+/// Words of a device from an address on.
 #[derive(Drop)]
 pub(crate) struct Put {
     address: u16,
     words: Vec<u16>,
 }
 
-/// The image that the lines of a text tell.
+/// Reads the memory image in the lines of a text.
 pub(crate) fn load(alloc: Global, text: &[u8]) -> Result<Image, LoadFault>
     ensures image { IfOk result (TellsImage text.now) }
     ensures fault { IfErr result (ExplainsText text.now) }
@@ -39,7 +39,7 @@ pub(crate) fn load(alloc: Global, text: &[u8]) -> Result<Image, LoadFault>
     Ok(image)
 }
 
-// Carries out a line.
+// Adds the words of a line to the image.
 fn put_line(alloc: Global, image: &mut Image, line: InputLine<'_>) -> Result<(), LoadFault>
     ensures put { OnOk result
         (words_after (word_in image.old) line.entry.text.now ≡ Some (word_in image.new)) }
@@ -59,7 +59,7 @@ fn put_line(alloc: Global, image: &mut Image, line: InputLine<'_>) -> Result<(),
     }
 }
 
-// What a line says.
+// Parses a line. Returns `None` if it is wrong.
 fn read_put(alloc: Global, line: &[u8]) -> Result<Option<Put>, AllocError>
     ensures { IfOk result (λ said. option_map seen_put said ≡ put_of line.now) }
 {
@@ -81,7 +81,7 @@ fn read_put(alloc: Global, line: &[u8]) -> Result<Option<Put>, AllocError>
     Ok(words.map(|words| Put { address, words }))
 }
 
-// The address of a register.
+// Parses the address of a register.
 fn address(word: &[u8]) -> Option<u16>
     ensures { result ≡ address_of word.now }
 {

@@ -1,4 +1,4 @@
-//! The plan of a point list's text.
+//! Prints the plan of a point list's text.
 ghost use Rattle.std.specs.Prelude.{IfSome};
 ghost use Rattle.command_io.specs.Printing.{PrintsAs, PrintsFor, PrintsOn};
 ghost use Rattle.sunspec_text.specs.Lists.ListText.{ListPrints, TextPrints};
@@ -10,9 +10,11 @@ use script_text::write_faults;
 use std::alloc::Global;
 use std::io::{Read, Write};
 
-/// Reads a point list, as comma-separated values, and prints its plan: `read K FUNCTION AREA ADDRESS COUNT`,
-/// K from 1, for each read, then `point NAME K OFFSET` for each point; or only `row R fault N` for each
-/// faulty row, the header being row 1. An input of more than `MOST_BYTES` bytes prints `too long` alone.
+/// Reads a point list, as comma-separated values, and prints its plan.
+///
+/// The output is `read K FUNCTION AREA ADDRESS COUNT`, K from 1, for each read, then `point NAME K
+/// OFFSET` for each point; or only `row R fault N` for each faulty row. The header is row 1. An
+/// input of more than `MOST_BYTES` bytes prints only `too long`.
 pub fn plan_text<R: Read, P: Printer>(alloc: Global, input: &mut R, output: &mut P) -> ExitStatus
     ensures { IfSome (R.remaining input.old)
         (PrintsFor P.Printer ListPrints result output.old output.new) }
@@ -23,7 +25,7 @@ pub fn plan_text<R: Read, P: Printer>(alloc: Global, input: &mut R, output: &mut
     }
 }
 
-// Makes ready what a text prints, and prints it.
+// Formats the output for a text, and prints it.
 fn print_said<P: Printer>(alloc: Global, text: &[u8], output: &mut P) -> ExitStatus
     ensures { PrintsOn P.Printer (TextPrints text.now) result output.old output.new }
 {
@@ -32,7 +34,7 @@ fn print_said<P: Printer>(alloc: Global, text: &[u8], output: &mut P) -> ExitSta
     print_end(&lines, meant, output)
 }
 
-// Prints the plan of the list that a text spells, or its faulty rows.
+// Writes the plan of the list in a text, or its faulty rows.
 fn print_text<W: Write>(alloc: Global, text: &[u8], output: &mut W) -> ExitStatus
     ensures { PrintsAs (TextPrints text.now) result
         (W.contents output.old) (W.contents output.new) }

@@ -1,4 +1,4 @@
-//! The plan of a point list.
+//! Prints the plan of a point list.
 ghost use Rattle.std.specs.Prelude.{◌≡◌, ◌+◌, ◌<◌, ◌^◌, OnOk, length, map};
 ghost use Rattle.std.specs.Io.KnownBytes.{Appends};
 ghost use Rattle.command_io.specs.Printing.{PrintsAs, PrintsOn};
@@ -12,8 +12,8 @@ use read_plan::{Place, Plan, PlannedRead, plan};
 use std::alloc::Global;
 use std::io::{self, Write};
 
-/// Prints the plan of a point list: `read K FUNCTION AREA ADDRESS COUNT`, K from 1, for each read, then
-/// `point NAME K OFFSET` for each point in the list's order.
+/// Prints the plan of a point list: `read K FUNCTION AREA ADDRESS COUNT`, K from 1, for each read.
+/// Then `point NAME K OFFSET` for each point, in the list's order.
 pub fn print_plan<P: Printer>(alloc: Global, list: &PointList, output: &mut P) -> ExitStatus
     ensures { PrintsOn P.Printer (PrintsPlan list.now) result output.old output.new }
 {
@@ -36,7 +36,7 @@ pub(crate) fn plan_lines<W: Write>(alloc: Global, list: &PointList, output: &mut
     }
 }
 
-// The reads of a plan of the list, and then the list's points.
+// Writes the reads of a list's plan, and then the list's points.
 fn print_lines<W: Write>(list: &PointList, plan: &Plan, output: &mut W) -> io::Result<()>
     requires items { plan.now.items ≡ items_of list.now }
     requires starts { plan.now.starts ≡ map (λ point. point.address) list.now }

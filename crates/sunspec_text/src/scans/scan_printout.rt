@@ -1,4 +1,4 @@
-//! What is printed of a live device.
+//! Prints what a scan of a live device found.
 ghost use Rattle.std.specs.Prelude.{◌≡◌, ◌≤◌, ◌+◌, ◌*◌, [], Err, IfOk, OnErr};
 ghost use Rattle.command_io.specs.Printing.{PrintsAs, PrintsOn};
 ghost use Rattle.device_scan.specs.Lines.{Garbles, OnlyInquires, has_failed, is_gone};
@@ -19,20 +19,22 @@ use std::alloc::Global;
 use std::io::Write;
 use sun_chain::{Chain, Image, walk};
 
-/// What is printed of a scan.
+/// The output of a scan.
 #[derive(Clone, Copy, Debug, PartialEq, Eq)]
 pub enum ScanForm<'a> {
     /// The chain, as `chain_text` prints it.
     Chain,
     /// The point list of the chain, as comma-separated values.
     List,
-    /// The lines that set the device up.
+    /// The lines that set the device up in an office.
     Setup(Site<'a>),
 }
 
-/// Scans a unit over a link to it that was just made, and prints the chain of models in the words that it answered, or another form
-/// of it; or only `fault N`, or `row R fault N` where a list would have too many points. A link that fails, ends or
-/// brings what is no Modbus is told as the fault, and nothing is printed then.
+/// Scans a unit over a new link, and prints the chain of models in the device's words, or another
+/// form of it.
+///
+/// Without a chain, prints only `fault N`. If a list would have too many points, prints only `row R
+/// fault N`. If the link fails, ends or carries no Modbus, returns the fault and prints nothing.
 pub fn scan_text<L: Link, V: ScanObserver, P: Printer>(
     alloc: Global,
     link: &mut L,
@@ -58,7 +60,7 @@ pub fn scan_text<L: Link, V: ScanObserver, P: Printer>(
     }
 }
 
-// Makes ready a form of the words in an image, and prints it.
+// Formats the words in an image, and prints them.
 fn print_scanned<P: Printer>(
     alloc: Global,
     image: &Image,
@@ -73,7 +75,7 @@ fn print_scanned<P: Printer>(
     print_end(&lines, meant, output)
 }
 
-// Prints a form of the words in an image.
+// Writes the words in an image in the requested form.
 fn print_form<W: Write>(
     alloc: Global,
     image: &Image,
@@ -90,7 +92,7 @@ fn print_form<W: Write>(
     }
 }
 
-// Prints the point list of the chain in an image.
+// Writes the point list of the chain in an image.
 fn print_listed<W: Write>(alloc: Global, image: &Image, output: &mut W) -> ExitStatus
     ensures { PrintsAs (ListPrints (word_in image.now)) result
         (W.contents output.old) (W.contents output.new) }
@@ -108,7 +110,7 @@ fn print_listed<W: Write>(alloc: Global, image: &Image, output: &mut W) -> ExitS
     }
 }
 
-// Prints the lines that set up the device with the chain in an image.
+// Writes the lines that set up the device with the chain in an image.
 fn print_setup<W: Write>(alloc: Global, image: &Image, site: Site<'_>, output: &mut W) -> ExitStatus
     ensures { PrintsAs (SetupPrints (word_in image.now)) result
         (W.contents output.old) (W.contents output.new) }
@@ -123,7 +125,7 @@ fn print_setup<W: Write>(alloc: Global, image: &Image, site: Site<'_>, output: &
     }
 }
 
-// Prints the faulty rows of a list.
+// Writes the faulty rows of a list.
 fn print_faults<W: Write>(faults: &FaultyRows, output: &mut W) -> ExitStatus
     ensures { PrintsAs (RowsPrint faults.now) result
         (W.contents output.old) (W.contents output.new) }
@@ -134,7 +136,7 @@ fn print_faults<W: Write>(faults: &FaultyRows, output: &mut W) -> ExitStatus
     }
 }
 
-// Prints the lines that set a device up.
+// Writes the lines that set a device up.
 fn print_lines<W: Write>(
     alloc: Global,
     chain: &Chain<'_>,

@@ -1,11 +1,12 @@
-//! The lines that set up a device: itself, its point list, and a register for each energy counter.
+//! The lines that set up a device: the device, its point list, and a register for each energy
+//! counter.
 
 use std::alloc::Global;
 use std::io::{self, Write};
 use sun_chain::{Chain, Model, NamedPoint, PointScale, scale_name};
 use sun_points::Point;
 
-/// How an office is to have a device: its name, its unit, and how many seconds a poll of it waits.
+/// How an office is to poll a device: its name, its unit, and its timeout in seconds.
 #[derive(Clone, Copy, Debug, PartialEq, Eq)]
 pub struct Site<'a> {
     pub device: &'a str,
@@ -13,7 +14,7 @@ pub struct Site<'a> {
     pub timeout: u32,
 }
 
-/// An energy counter in Wh: its point, and what stands after the device's name in the name of its register.
+/// An energy counter in Wh: its point, and the part of its register's name after the device's name.
 #[derive(Clone, Copy)]
 struct Counter {
     point: &'static str,
@@ -22,7 +23,7 @@ struct Counter {
     front: &'static str,
 }
 
-// Rows of a point, what stands in the register's name, and what stands in front of the register's line.
+// Rows of a point, the code in the register's name, and the text before the register's line.
 macro_rules! counters {
     ($(($point:expr, $code:expr, $front:expr),)*) => {
         [$(Counter { point: $point, code: $code, front: $front }),*]
@@ -44,8 +45,11 @@ static COUNTERS: [Counter; 9] = counters![
 const HINT: &str =
     "# Install lines: remove the # and replace CEILING by the maximum power in watts.\n";
 
-/// The lines `N device ..`, `N list ..`, and for each present energy counter `N register ..` and, as a comment, `N install ..`
-/// with what it shows. N is counted from 1. A counter of one phase stands in comments alone. The list's text is in hex.
+/// Returns the lines `N device ..`, `N list ..`, and for each energy counter of the device `N
+/// register ..` and `N install ..`.
+///
+/// The install line is a comment, with the number that the counter shows. N is counted from 1. A
+/// counter of one phase is in comments only. The list's text is in hex.
 pub(crate) fn setup_text(
     alloc: Global,
     chain: &Chain<'_>,
@@ -62,7 +66,7 @@ pub(crate) fn setup_text(
     Ok(text)
 }
 
-// The lines of the device and of its list.
+// Writes the lines of the device and of its list.
 fn add_device(text: &mut Vec<u8>, list: &[u8], site: Site<'_>) -> io::Result<()> {
     let Site {
         device,
@@ -80,7 +84,8 @@ fn add_device(text: &mut Vec<u8>, list: &[u8], site: Site<'_>) -> io::Result<()>
     text.write_all(b"\n")
 }
 
-// The lines of the counters of the model at a place, from a number on; the number after them.
+// Writes the lines of the counters of a model, from this line number on. Returns the number after
+// them.
 fn add_model(
     text: &mut Vec<u8>,
     chain: &Chain<'_>,
@@ -117,12 +122,12 @@ fn add_model(
     Ok(next)
 }
 
-// The counter that a point is.
+// Returns the counter of a point, if the point is one.
 fn counter_of(point: &NamedPoint<'_>) -> Option<Counter> {
     COUNTERS.iter().copied().find(|counter| counter.point.as_bytes() == point.name().as_bytes())
 }
 
-// The address of the point that scales a point, if it is there.
+// Returns the address of the point that scales a point, if the device has it.
 fn scale_address(points: &[NamedPoint<'_>], model: &Model, point: &NamedPoint<'_>) -> Option<u16> {
     let name = scale_name(model.id, point.name())?;
     let found = points
