@@ -9,6 +9,7 @@
 #   mock offices run meanwhile, and then 20 of the program, if it is built, of fifty meters each
 # - `measures`: times copies of CENTRAL_SITES mock offices, 300 by default, into one shard and into
 #   two. Each office has 30 meters with a month each
+#
 # As root the script installs missing tools by apt (not with PEERS_INSTALL=no). It names tools that
 # it can't install, and skips their parts. It takes some 15 minutes (12 were seen beside proofs,
 # before the program's offices had fifty meters) and 1 GB, and ends with 'N passed, M failed'.

@@ -6,6 +6,7 @@
 #   tests/deploy/office.py, which records its requests, and then the program, if it is built
 # - the files of Prometheus, with promtool and a Prometheus that sends its requests through nginx
 # - the dashboard's queries
+#
 # As root the script installs missing tools by apt (not with PEERS_INSTALL=no). It names tools that
 # it can't install, and skips their checks. It uses only this machine's loopback, takes a minute and
 # a half, and ends with 'N passed, M failed'.
