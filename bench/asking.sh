@@ -1,6 +1,8 @@
 #!/bin/sh
-# Measures how long one who asks `sunreg run` waits while it polls 64 devices of 32 meters each second, beside what a commit takes in the same folder:
-# `bench/asking.sh [PROGRAM]`, out/sunreg by default, which `./sunreg-build` makes. It needs python3, cc and sqlite3. TMPDIR is where its files stand.
+# asking.sh [PROGRAM]: measures how long a client of `sunreg run` waits for a response. The run
+# polls 64 devices of 32 meters each second. The comparison is a commit in the same folder. PROGRAM
+# is out/sunreg by default, which `./sunreg-build` makes. The script needs python3, cc and sqlite3.
+# TMPDIR is the folder of its files.
 set -eu
 here=$(dirname "$(readlink -f "$0")")
 program=${1:-$here/../out/sunreg}

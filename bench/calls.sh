@@ -1,9 +1,12 @@
 #!/bin/sh
-# Counts what `sunreg round` calls for each settled poll, beside offices in C (bench/peers/office.c) and Python (tests/peers/plain_office.py) that book the
-# same: statements that read tables and that write rows, fdatasyncs, bytes written to the log, writes to standard output and more; 512 and 32 polls, one or
-# 16 at once, 32 of them of a meter: `bench/calls.sh [PROGRAM [AFTER]]`, out/sunreg by default, which `./sunreg-build` makes; with a second program both
-# stand in the table. The opening doesn't count. It needs strace, gdb, a C compiler, libsqlite3 with its header, python3 and sqlite3. The files stand in
-# /dev/shm: counts are the same on a disk.
+# calls.sh [PROGRAM [AFTER]]: counts what `sunreg round` calls for each settled poll, beside offices
+# in C (bench/peers/office.c) and Python (tests/peers/plain_office.py) that record the same.
+# It counts statements that read tables and that write rows, fdatasyncs, bytes written to the log,
+# writes to standard output and more. The rounds have 512 and 32 polls, one or 16 at once, 32 of
+# them of a meter. The opening does not count.
+# PROGRAM is out/sunreg by default, which `./sunreg-build` makes. With a second program the table
+# has both. The script needs strace, gdb, a C compiler, libsqlite3 with its header, python3 and
+# sqlite3. The files are in /dev/shm: counts are the same on a disk.
 set -eu
 here=$(dirname "$(readlink -f "$0")")
 [ "$#" -gt 0 ] || set -- "$here/../out/sunreg"

@@ -1,11 +1,16 @@
 #!/usr/bin/env python3
-"""ci.py [--program FILE | --minutes PROCESSORS [GB]]: runs `rt ci` as .ci/run does. Its plan goes by what bench/GATE.md tells of each crate's proof and tests: by the memory that they
-took, where the kit's own guess is up to twice as much and leaves processors idle, and by their seconds, where the kit goes by lines. All else is the kit's;
-RT_JOBS=N still has it run N parts at once with no plan of memory. With --program it copies the program sunreg, as LLVM built it, to FILE: what the kit links or what it
-runs, which may be kept from an earlier run.
+"""ci.py [--program FILE | --minutes PROCESSORS [GB]]: runs `rt ci` as .ci/run does.
 
-With --minutes it proves nothing, and plays the kit's own schedule, six hundred times as fast, over what that page tells that each part takes on a processor: how many
-minutes so many processors would take with so many GB of memory free (23 by default), if they were as fast as those of the page, and had no other work."""
+Its plan uses the costs of each crate's proof and tests in bench/GATE.md. It goes by their memory,
+where the kit's own guess is up to twice as much and leaves processors idle. It goes by their
+seconds, where the kit goes by lines. Everything else is the kit's. RT_JOBS=N still makes the kit run
+N parts at once, with no plan of memory.
+
+--program copies the program sunreg, as LLVM built it, to FILE. The program is the one that the kit
+links or runs, which may be kept from an earlier run.
+--minutes proves nothing. It plays the kit's own schedule over the page, six hundred times as fast.
+It prints the minutes that so many processors would take with so many GB of free memory (23 by
+default). They count as fast as those of the page, and without other work."""
 import os
 import shutil
 import sys
@@ -15,18 +20,22 @@ sys.dont_write_bytecode = True
 import kit
 
 SECOND = 1 / 600
-# Seconds for each line of a crate that the page lacks, and of the proof of a crate that has tests alone, which is of its front end.
+# Seconds for each line of a crate that the page lacks, and for the proof of a crate of tests, which
+# is the cost of its front end.
 OF_LINE, OF_FRONT_END = 0.2, 10
-# A part takes its most at its end, so those that run at once seldom take all theirs together: of the sum of it, three or more low ones at once took 0.70 in the
-# middle and 0.89 at most, and high ones 0.59 and 0.92 (on 2026-11-28, under other plans than this; a whole run by this one had no part killed). What is planned fills
-# 0.85 of the free memory, so with this share 0.98 of it at the most that was seen. A part that the system kills for memory the kit tries once more.
+# A part needs the most memory at its end, so parts that run at once seldom need their sum. Of the
+# sum, three or more low ones at once took 0.70 in the middle and 0.89 at most. High ones took 0.59
+# and 0.92 (on 2026-11-28, under other plans than this; a whole run by this plan had no part
+# killed). The plan fills 0.85 of the free memory. With this share that is 0.98 of it in the worst
+# case seen. If the system kills a part for its memory, the kit tries it once more.
 AT_ONCE = 0.8
 rt, costs = kit.load_rt(), kit.costs()
 in_lanes = rt.in_lanes
 
 
 def measured(key, lines, memory):
-    """Returns how long a part takes, in seconds, and how much memory, in bytes, as far as the page tells; a part of no lines has no work."""
+    """Returns a part's seconds and its memory in bytes, as far as the page has them; a part of no
+    lines has no work."""
     cost = costs.get(key[0])
     if not cost or not lines:
         return lines * OF_LINE, memory
@@ -37,17 +46,20 @@ def measured(key, lines, memory):
 
 
 def by_page(tasks):
-    """Runs tasks as the kit does, by what the page tells of them. The kit ranks them by their work, and takes it in lines."""
+    """Runs tasks as the kit does, by the costs of the page. The kit ranks tasks by their work,
+    which it takes in lines."""
     return in_lanes({key: (waits, *measured(key, lines, memory), call) for key, (waits, lines, memory, call) in tasks.items()})
 
 
 def part(seconds):
-    """Returns what stands for a part that takes so many seconds on a processor. (A check with more jobs shares out the most of it, and has some work twice.)"""
+    """Returns a stand-in for a part of so many processor seconds.
+
+    (A check with more jobs shares out most of its work, and does some of it twice.)"""
     return lambda given, jobs: time.sleep((seconds or 0) * SECOND * (1 if jobs == 1 else 0.25 + 0.86 / jobs)) or True
 
 
 def minutes(processors, gigabytes):
-    """Returns how long the schedule takes."""
+    """Returns the minutes of the schedule."""
     rt.rtlib.Crate = rt.Crate
     rt.processors, rt.free = lambda: processors, lambda: gigabytes * 1e9
     tasks = {}
@@ -63,7 +75,8 @@ def minutes(processors, gigabytes):
 
 
 def copy_program(crate, to):
-    """Copies the program of a crate as LLVM built it, where that is sunreg and stands in the crate's out/."""
+    """Copies the program of a crate as LLVM built it, if the crate is sunreg and the program is in
+    its out/."""
     built = f"{crate.folder}/out/{crate.name}"
     if crate.name == "sunreg" and os.path.isfile(built):
         shutil.copyfile(built, f"{to}.new")
@@ -72,7 +85,10 @@ def copy_program(crate, to):
 
 
 def keep_program(to):
-    """Has the kit leave a copy of sunreg at a path, before it runs the program, or where it links it. Another kit may not have both calls."""
+    """Makes the kit leave a copy of sunreg at a path, before it runs the program, or where it links
+    it.
+
+    Another kit may lack one of the two calls."""
     run, link = getattr(rt, "run", None), getattr(rt.Crate, "link", None)
 
     def run_and_copy(crate, tests, *more):

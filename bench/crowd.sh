@@ -1,6 +1,7 @@
 #!/bin/sh
-# Measures how late the rounds of `sunreg run` are, and how long a quiet client waits, while 500 clients request months and read nothing:
-# `bench/crowd.sh [PROGRAM [SECONDS]]`, out/sunreg by default, which `./sunreg-build` makes. It needs python3 and sqlite3.
+# crowd.sh [PROGRAM [SECONDS]]: measures how late the rounds of `sunreg run` are, and how long a
+# quiet client waits, while 500 clients request months and read nothing. PROGRAM is out/sunreg by
+# default, which `./sunreg-build` makes. The script needs python3 and sqlite3.
 set -eu
 here=$(dirname "$(readlink -f "$0")")
 program=${1:-$here/../out/sunreg}

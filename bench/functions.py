@@ -1,15 +1,18 @@
 #!/usr/bin/env python3
-"""functions.sh [NAME]: seconds of each function in a crate's check from nothing, with its tests where it has some, the dearest first.
+"""functions.sh [NAME]: prints the seconds of each function in a crate's check, the dearest first.
 
-The check reads the libraries below as they were built and keeps nothing. A function's time is that from the function told before
-it to its own, so the first that needs a library's modules pays for loading them, and the time before the first function stands on
-a line of its own: reading sources, and the libraries that a program is made of.
+The check starts from nothing, includes the crate's tests, reads the built libraries below, and keeps
+nothing. A function's time runs from the report of the function before it to its own. So the first
+function that needs a library's modules pays for loading them. The time before the first function has
+a line of its own: reading sources, and the libraries that a program links.
 
-Then it tells the same by steps, by the names of the kit's files: Lts is the borrow check, and Tie was seen to be dear where a function that is generic over
-books or files is called for a type of these (bench/GATE.md). A step's time is that from the step before it in the same process.
+Then the script prints the same times by steps, by the names of the kit's files. Lts is the borrow
+check. Tie is expensive where a function that is generic over a store is called for one type of store
+(bench/GATE.md). A step's time runs from the step before it in the same process.
 
-Without a name it runs nothing, and tells the steps of all checks that run on this machine meanwhile, as those of `rt ci`, also what these did before, when it is
-interrupted (Ctrl-C) or told to end.
+Without a name it runs nothing, and watches all checks that run on this machine, such as those of
+`rt ci`. When it is interrupted (Ctrl-C) or terminated, it prints their steps, including steps from
+before its own start.
 """
 import collections
 import glob
@@ -26,7 +29,8 @@ sys.dont_write_bytecode = True
 import kit
 
 SHOWN = 20
-# What a check writes for a step of a function: Rattle-CRATE-proofs.MODULE.FUNCTION.STEP.oantt
+# The file that a check writes for a step of a function:
+# Rattle-CRATE-proofs.MODULE.FUNCTION.STEP.oantt
 STEP = re.compile(r"Rattle-(\w+)-proofs\.(.+)\.(\w+)\.oantt")
 TOLD = re.compile(r"checked (\S+), \d+ of \d+")
 
@@ -39,7 +43,10 @@ def crate_of(rt, name):
 
 
 class Steps:
-    """When each step of a check was done, by the files that it leaves in a folder until it ends; of all checks where none is named."""
+    """The time of each step of a check, by the files that the check leaves in a folder until it
+    ends.
+
+    Without a name it watches all checks."""
 
     def __init__(self, pid="*"):
         self.folders, self.times, self.ended = f"{tempfile.gettempdir()}/rattle-logic-built-locked-{pid}-0", {}, threading.Event()
@@ -54,7 +61,7 @@ class Steps:
                     with os.scandir(folder) as found:
                         times.update((it.name, it.stat().st_mtime) for it in found if it.name not in times)
                 except OSError:
-                    # (it is no more)
+                    # (the file was removed)
                     continue
 
     def took(self):
@@ -69,7 +76,8 @@ class Steps:
 
 
 def timed(words, folder):
-    """Runs a check, and returns the seconds at which each function was told, the seconds of its steps, its last line, and its status."""
+    """Runs a check, and returns the seconds at which it reported each function, the seconds of its
+    steps, its last line, and its status."""
     began, times, last = time.monotonic(), [], ""
     how = {"cwd": folder, "stdin": subprocess.DEVNULL, "stdout": subprocess.PIPE, "stderr": subprocess.STDOUT}
     with subprocess.Popen(words, text=True, errors="replace", **how) as ran:
@@ -93,7 +101,7 @@ def tell(steps):
 
 def watch():
     steps = Steps()
-    # (a shell that starts it in the background has it ignore the first)
+    # (a shell that starts the script in the background makes it ignore the first)
     for number in (signal.SIGINT, signal.SIGTERM):
         signal.signal(number, signal.default_int_handler)
     try:

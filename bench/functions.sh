@@ -1,5 +1,5 @@
 #!/usr/bin/env bash
-# Times the functions of a crate's check, over libraries that were built, and prints the dearest first: `bench/functions.sh NAME`; without a name, the steps of
-# all checks that run meanwhile.
+# functions.sh [NAME]: times the functions of a crate's check over built libraries, and prints the
+# most expensive first. Without a name it times the steps of all checks that run meanwhile.
 # bench/functions.py says more.
 exec python3 "$(dirname "$(readlink -f "$0")")/functions.py" "$@"

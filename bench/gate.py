@@ -1,13 +1,19 @@
 #!/usr/bin/env python3
-"""gate.sh [--page] [--log FILE [--in FOLDER] | NAME..]: what the parts of the gate take, crate by crate: a Markdown table of processor seconds and memory.
+"""gate.sh [--page] [--log FILE [--in FOLDER] | NAME..]: prints what the parts of the gate cost.
 
-It runs `rt ci` over a clone of the committed tree, in a temporary folder and with a kit that has nothing kept, and watches its processes. With names it tries
-the edits and the tests of those crates alone, over the proofs of what they stand on. RT_JOBS=1 has it work on one part at a time, as on a machine with other
-work. What the gate says goes to standard error; the status is the gate's.
---log FILE: runs nothing, and reads what bench/watch.py noted while `rt ci` ran (with a kit that has it, also `rt ci NAME..`), here or in another copy. The
-last run of each part counts; with --in, the last in the copy that is FOLDER, where other work went on meanwhile.
+It prints processor seconds and memory as a Markdown table, crate by crate. It runs `rt ci` over a
+clone of the committed tree, in a temporary folder and with a kit that has nothing kept, and watches
+its processes. With names it tries only the mutants and the tests of those crates, over the proofs of
+the crates below them. RT_JOBS=1 makes it work on one part at a time, as on a machine with other
+work. The gate's output goes to standard error; the status is the gate's.
+
+--log FILE: runs nothing, and reads what bench/watch.py recorded while `rt ci` ran, here or in
+another copy (or `rt ci NAME..`, with a kit that has it). The last run of each part counts. --in
+takes the last run in the copy FOLDER, for a log that also has other work.
 --page: prints the whole of bench/GATE.md: `bench/gate.sh --page --log FILE > bench/GATE.md`.
-A proof counts a program's builds, and the tests' time their proof, build and run. A process's last second is not seen.
+
+The time of a proof includes a program's builds, and the time of tests includes their proof, build
+and run. A process's last second is not seen.
 """
 import argparse
 import collections
@@ -26,7 +32,7 @@ import kit
 from watch import Watch
 
 PARTS = ("proof", "tests", "edits")
-# Seconds between two commands of one crate's part, at most; a later one is of another run.
+# The most seconds between two commands of one crate's part; a later command is of another run.
 APART = 60
 PAGE = """# What the gate costs
 
@@ -45,10 +51,10 @@ first find its room. `bench/gate.sh --page --log FILE` writes this page from the
 - **Comparisons of tuples are expensive, long literals are cheap**: a static of 59 tuples of four
   texts costs 2.5 s. `assert_eq!` of two options costs 2 s, `assert!` of the same with `==` 1 s. A
   match on a tuple of an answer and an option costs 4 to 5 s, nested matches cost 1.7 s.
-- **A call of a function that is generic over a store, for one type of store**, costs its caller 3 s
-  (a store in memory), 5 to 15 s (a database in memory) or 15 to 30 s (files). It costs under 1 s
-  where the caller is generic too. So one generic function does the work, and one place calls it
-  for a type.
+- **A call of a function that is generic over a store, for one type of store**, is expensive for its
+  caller: 3 s (a store in memory), 5 to 15 s (a database in memory) or 15 to 30 s (files). It costs
+  under 1 s where the caller is generic too. So one generic function does the work, and one place
+  calls it for a type.
 - **By steps**, over a whole gate on 2026-11-28: 70 % of a check's time passes between its first
   step and its last. The borrow check takes half of these, `Tie` a sixth and proofs a seventh. A
   tenth passes before the first step, and two tenths after the last, and in linking and building.
@@ -75,7 +81,8 @@ the crate's proof.
 
 
 def keep_only(rt, names, tree):
-    """Leaves in the tree's list the crates named and what they stand on, and has rt try the edits and tests of the named alone."""
+    """Leaves only the named crates and the crates below them in the tree's list. Makes rt try only
+    the mutants and tests of the named crates."""
     rt.rtlib.Crate.has_tests = only_of(names, rt.rtlib.Crate.has_tests, False)
     rt.edits_of = only_of(names, rt.edits_of, ([], []))
     crates = {it.name: it for it in rt.rtlib.crates_below(tree)}
@@ -96,13 +103,13 @@ def only_of(names, call, otherwise):
 
 
 def gate(root, named):
-    """Runs the gate over a clone, and returns its status and what its processes took."""
+    """Runs the gate over a clone, and returns its status and the costs of its processes."""
     with tempfile.TemporaryDirectory(prefix="gate-") as room:
         tree = f"{room}/tree"
         subprocess.run(["git", "clone", "-q", root, tree], check=True)
-        # (tests are run as nobody)
+        # (tests run as nobody)
         os.chmod(room, 0o755)
-        # (rt's own folders too, so that another gate on the machine is told from this one)
+        # (rt's own folders are here too, to distinguish this gate from another one on the machine)
         tempfile.tempdir = room
         rt = kit.load_rt(kit.of_links(room))
         if named:
@@ -135,20 +142,23 @@ def read(log):
 
 
 def is_proof(words):
-    """Returns whether these are a proof from nothing as the gate has it, or a build of what it proved."""
+    """Returns whether these words are a proof from nothing, as the gate has it, or a build of a
+    proof's result."""
     return "--empty-contracts" in words or "--crate-checked" in words
 
 
 def tree_of(told):
-    """Returns the copy of the repository in which a process worked; nothing where it names none."""
+    """Returns the copy of the repository in which a process worked, or nothing if it names none."""
     found = re.match(r"(.*)/crates/\w+$", told["cwd"]) or re.search(r"(/\S+)/crates/\w+", told["cmd"])
     return found[1] if found else ""
 
 
 def place_of(told):
-    """Returns the crate and the part that a process worked for, how, and a name of the run; nothing where it was no part of the gate."""
+    """Returns the crate and the part of a process, how it worked, and a name of its run.
+
+    Returns nothing if the process was no part of the gate."""
     words, folder = told["cmd"], told["cwd"]
-    # (some kits give these folders the number of rt's process)
+    # (some kits put the number of rt's process into the names of these folders)
     ran = re.search(r"/rt-run-(?:(\d+)-)?[^/]*/bin/(\w+)", words)
     if ran:
         return ran[2].removesuffix("_tests"), "tests" if ran[2].endswith("_tests") else "proof", "ran", ran[1]
@@ -162,7 +172,7 @@ def place_of(told):
 
 
 def last_of(told, how):
-    """Returns the last that followed on one another, of those that were made with a proof among them."""
+    """Returns the last consecutive records, of those that include a proof."""
     runs, until = [[]], 0
     for it in sorted(told, key=lambda it: it["t0"]):
         if runs[-1] and it["t0"] > until + APART:
@@ -173,7 +183,8 @@ def last_of(told, how):
 
 
 def parts_of(log, names):
-    """Returns what the last run of each crate's part took, in seconds, and the most memory of one of its processes, in bytes."""
+    """Returns the seconds of the last run of each crate's part, and the most bytes of one of its
+    processes."""
     found, seconds, memory = {}, collections.Counter(), collections.Counter()
     for told in log:
         name, part, how, run = place_of(told) or ("", "", "", "")
@@ -211,7 +222,7 @@ def table(tree, names, seconds, memory):
 
 
 def machine(log):
-    """Returns the day and the machine of a run that was made here."""
+    """Returns the day and the machine of a run on this machine."""
     with open("/proc/cpuinfo", encoding="utf-8") as it:
         model = re.search(r"model name\s*: (.*)", it.read())
     with open("/proc/meminfo", encoding="utf-8") as it:

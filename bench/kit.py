@@ -1,4 +1,5 @@
-"""What the scripts in Python share: the kit's command `rt` as a module, and what bench/GATE.md tells of a crate."""
+"""Functions that the Python scripts share: the kit's command `rt` as a module, and a crate's costs
+in bench/GATE.md."""
 import collections
 import importlib.machinery
 import importlib.util
@@ -8,9 +9,11 @@ import shutil
 import subprocess
 
 PAGE = os.path.join(os.path.dirname(os.path.realpath(__file__)), "GATE.md")
-# A crate's row: its name, lines, seconds of the proof, the tests and the edits with their number, their sum, and the most memory of proof and tests.
+# A crate's row: its name, its lines, the seconds of the proof, of the tests, and of the mutants
+# with their number, their sum, and the most memory of proof and tests.
 ROW = re.compile(r"\| (\w+) \| (\d+) \| (\d*) \| (\d*) \| (?:(\d+) \((\d+)\))? \| \d+ \| ([\d.]*) \| ([\d.]*) \|")
-# What the proof of a crate takes in processor seconds, its tests and its edits, and the most that proof and tests take in bytes; None where it was not measured.
+# The cost of a crate: processor seconds of its proof, its tests and its mutants, and the most bytes
+# of proof and tests. A value that was not measured is None.
 Cost = collections.namedtuple("Cost", "seconds tests edits memory memory_of_tests", defaults=[None] * 5)
 
 
@@ -21,11 +24,12 @@ def folder_of_kit():
 
 
 def of_links(room):
-    """Makes a folder in the room that stands for the kit, beside which nothing is kept, and returns it."""
+    """Makes a folder in the room that replaces the kit and has nothing kept beside it, and returns
+    it."""
     real, made = folder_of_kit(), f"{room}/kit"
     os.makedirs(f"{made}/bin")
     for name in [*os.listdir(real), *(f"bin/{it}" for it in os.listdir(f"{real}/bin"))]:
-        # (rt finds the kit by the place of its own files, so these are copies)
+        # (rt finds the kit by the path of its own files, so these are copies)
         if name in ("bin/rt", "bin/rtlib.py"):
             shutil.copy2(f"{real}/{name}", f"{made}/{name}")
         elif name != "bin":
@@ -42,7 +46,9 @@ def load_rt(kit=None):
 
 
 def remember(crate):
-    """Keeps each crate's sum and the libraries below it, which rt makes anew along every path; for where no library changes."""
+    """Caches each crate's sum and the libraries below it, which rt computes again along every path.
+
+    Use it only while no library changes."""
     for name in ("stamp", "below"):
         setattr(crate, name, once_a_folder(getattr(crate, name)))
 
@@ -59,7 +65,7 @@ def once_a_folder(make):
 
 
 def costs(page=PAGE):
-    """Returns the costs of each crate that the page has, by the crate's name."""
+    """Returns the costs of each crate on the page, by the crate's name."""
     with open(page, encoding="utf-8") as it:
         rows = [it for it in map(ROW.match, it) if it]
     number = lambda text: float(text) if text else None

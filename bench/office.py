@@ -1,9 +1,9 @@
 #!/usr/bin/env python3
-"""office.py: carries out the script on standard input as a plain Python program does, with no proof.
+"""office.py: executes the script on standard input as a plain Python program does, without proof.
 
-bench/replay.sh times the program against it. It knows the lines that the timed scripts have (device, list, register,
-install, connect, start, round, bytes, tick, meter and intervals) and their answers, counters of a fixed scale, and lists of
-counters that lie too far apart for one read of two.
+bench/replay.sh times the program against it. It knows the lines of the timed scripts (device, list,
+register, install, connect, start, round, bytes, tick, meter and intervals) and their outputs. It
+handles counters of a fixed scale, and lists of counters that are too far apart for one read of two.
 """
 import re
 import struct
@@ -18,7 +18,7 @@ TURN = 2**32
 
 
 class Refused(Exception):
-    """A line that changes nothing; its argument is the number that is printed."""
+    """A refused line, which changes nothing; its argument is the number to print."""
 
 
 @dataclass
@@ -91,7 +91,7 @@ class Office:
         self.latest, self.polls, self.pending, self.started = 0, {}, {}, 0
 
     def reach(self, at):
-        """The polls whose time is over by this moment are silent."""
+        """Times out the polls whose deadline has passed at this time."""
         check(at >= self.latest, 3)
         over = [poll for poll in self.pending.values() if poll.due <= at]
         return [self.settle(poll, "silent") for poll in over]
@@ -148,7 +148,7 @@ class Office:
         return f"started {begin} {len(reads)} {len(device.reads)} {frames.hex()}"
 
     def ask(self, at, device, function, address, count):
-        """The frame of one more poll."""
+        """Returns the frame of one more poll."""
         of, device.next_id = device.next_id, (device.next_id + 1) % 65536
         self.started += 1
         poll = Poll(self.started, of, device, function, address, count, at + device.timeout)
@@ -188,7 +188,7 @@ class Office:
         return notes
 
     def read(self, at, name, raw, sf):
-        """Books what the counter says, or holds it."""
+        """Records a reading of the counter, or rejects it."""
         meter = self.meters[name]
         rolls = 1 if raw < meter.raw else 0
         step = (raw + rolls * meter.turn - meter.raw) * 10 ** (sf + 3)
@@ -212,7 +212,10 @@ class Office:
         return f"reading {name} {raw} rolls {rolls} step {step}"
 
     def spread(self, meter, at, step):
-        """Each quarter hour gets its part: what is rounded down is what came since the step's begin."""
+        """Adds the step's energy to its quarter hours.
+
+        Each quarter hour gets the energy since the step's begin, rounded down, less what was
+        already added."""
         begin, given = meter.last_at, 0
         for start in range(begin - begin % QUARTER, at, QUARTER):
             so_far = step * (min(start + QUARTER, at) - begin) // (at - begin)

@@ -1,6 +1,7 @@
 #!/usr/bin/env bash
-# Times the plan of point lists of 256 and of 512 points: `bench/plan.sh [RUNS]`, 1000 runs by default. Twice the points should take at
-# most 2.5 times as long. A small program over the proved libraries is proved and built in a copy of the repository, and times itself.
+# plan.sh [RUNS]: times the plan of point lists of 256 and of 512 points, in 1000 runs by default.
+# Twice the points should take at most 2.5 times as long. The script proves and builds a small
+# program over the proved libraries in a copy of the repository, and the program times itself.
 set -euo pipefail
 runs="${1:-1000}"
 # shellcheck source=tests/scratch.sh

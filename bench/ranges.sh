@@ -1,6 +1,7 @@
 #!/bin/sh
-# Times what a running office answers of one day of a meter out of one year and out of ten: `bench/ranges.sh [PROGRAM]`, out/sunreg by default, which
-# `./sunreg-build` makes. It needs python3 and sqlite3.
+# ranges.sh [PROGRAM]: times the responses of a running office about one day of a meter, out of one
+# year and out of ten. PROGRAM is out/sunreg by default, which `./sunreg-build` makes. The script
+# needs python3 and sqlite3.
 set -eu
 here=$(dirname "$(readlink -f "$0")")
 program=${1:-$here/../out/sunreg}

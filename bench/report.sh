@@ -1,6 +1,7 @@
 #!/bin/sh
-# Times `sunreg report` over a register's year of quarter hours, and their rows by HTTP, beside the program sqlite3 doing the same over the same file:
-# `bench/report.sh [PROGRAM [YEARS]]`, out/sunreg by default, which `./sunreg-build` makes. It needs python3 and sqlite3.
+# report.sh [PROGRAM [YEARS]]: times `sunreg report` over a register's year of quarter hours, and
+# their rows by HTTP, beside the program sqlite3 over the same file. PROGRAM is out/sunreg by
+# default, which `./sunreg-build` makes. The script needs python3 and sqlite3.
 set -eu
 here=$(dirname "$(readlink -f "$0")")
 program=${1:-$here/../out/sunreg}

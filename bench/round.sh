@@ -1,10 +1,14 @@
 #!/bin/sh
-# Measures how many booked polls a second `sunreg round` has over a file, beside an office in C over libsqlite3 (bench/peers/office.c) and two in Python
-# over the same tables, with Python's sqlite3 (tests/peers/plain_office.py by sockets, pymodbus_office.py by pymodbus), all with a write-ahead log and
-# synchronous FULL, each polling a plain device in C; the median of five rounds, start and opening counted. Then `sunreg run` and the office in C poll 64
-# devices of 32 meters each second: `bench/round.sh [PROGRAM [ROUNDS]]`, out/sunreg by default, which `./sunreg-build` makes. All must have printed and
-# booked the same. Ratios are the peer's by ours, so above 1 sunreg is faster. It needs a C compiler, libsqlite3 with its header, python3 and sqlite3, and
-# pymodbus for the fourth. The files stand in /dev/shm, and then in TMPDIR: give a folder of a real disk.
+# round.sh [PROGRAM [ROUNDS]]: measures how many accepted polls a second `sunreg round` has over a
+# file. PROGRAM is out/sunreg by default, which `./sunreg-build` makes. The comparisons are an
+# office in C over libsqlite3 (bench/peers/office.c), and two in Python with Python's sqlite3 over
+# the same tables: tests/peers/plain_office.py by sockets, and pymodbus_office.py by pymodbus. All
+# have a write-ahead log and synchronous FULL, and poll a plain device in C. Times are the median of
+# five rounds, and include start and opening. Then `sunreg run` and the office in C poll 64 devices
+# of 32 meters each second. All must print the same and record the same. Ratios are the other
+# program's time by that of sunreg: above 1 sunreg is faster. The script needs a C compiler,
+# libsqlite3 with its header, python3 and sqlite3, and pymodbus for the fourth office. The files are
+# in /dev/shm, and then in TMPDIR: name a folder on a real disk.
 set -eu
 here=$(dirname "$(readlink -f "$0")")
 program=${1:-$here/../out/sunreg}

@@ -1,7 +1,8 @@
 #!/bin/sh
-# Measures what `GET /site` of a running office costs over 2,048 meters at 64 devices, which `run` polls all, or one of, and then what `GET /registers/NAME/meters` of
-# each of these registers does: `bench/site.sh [PROGRAM]`, out/sunreg by default, which `./sunreg-build` makes. It needs python3 and sqlite3. The file stands in
-# /dev/shm.
+# site.sh [PROGRAM]: measures what `GET /site` of a running office costs over 2,048 meters at 64
+# devices, of which `run` polls all or one. Then it measures `GET /registers/NAME/meters` of each
+# register. PROGRAM is out/sunreg by default, which `./sunreg-build` makes. The script needs python3
+# and sqlite3. The file is in /dev/shm.
 set -eu
 here=$(dirname "$(readlink -f "$0")")
 program=${1:-$here/../out/sunreg}

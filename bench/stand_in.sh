@@ -1,7 +1,8 @@
 #!/bin/sh
-# Measures how many reads a second of one client the stand-in answers, beside libmodbus's own server, asked by libmodbus, or, where
-# that is not installed, beside a plain server in C, asked by plain sockets: `bench/stand_in.sh [PROGRAM [READS]]`, out/sunreg by default,
-# which `./sunreg-build` makes. It needs a C compiler and python3; apt's libmodbus-dev and pkg-config have libmodbus.
+# stand_in.sh [PROGRAM [READS]]: measures how many reads a second of one client the simulator
+# answers, beside libmodbus's own server, with libmodbus as the client. Without libmodbus both are
+# plain programs in C over sockets. PROGRAM is out/sunreg by default, which `./sunreg-build` makes.
+# The script needs a C compiler and python3; apt's libmodbus-dev and pkg-config have libmodbus.
 set -eu
 here=$(dirname "$(readlink -f "$0")")
 peers=$here/../tests/peers

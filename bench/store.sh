@@ -1,10 +1,15 @@
 #!/bin/sh
-# Measures how many readings a second `sunreg round` books over files of 1, 10,000 and 350,000 quarter hours (ten meter-years), beside plain offices in C
-# (bench/peers/office.c) and in Python (tests/peers/plain_office.py), all with a write-ahead log and synchronous FULL, each from a plain device in C; a
-# device of 512 meters, 16 at once or one after the other (two commits a reading), one of 32, and one of 64 such. The rate should not fall as the file
-# grows. The opening of the file is told apart, and the size of the files: `bench/store.sh [PROGRAM [ROUNDS]]`, out/sunreg by default, which
-# `./sunreg-build` makes. All must have printed and booked the same. Ratios are the peer's by ours, so above 1 sunreg is faster. It needs a C compiler,
-# libsqlite3 with its header, python3 and sqlite3. The files stand in /dev/shm, and in TMPDIR: give a folder of a real disk, on which the last size alone is measured.
+# store.sh [PROGRAM [ROUNDS]]: measures how many readings a second `sunreg round` records over files
+# of 1, 10,000 and 350,000 quarter hours (ten meter-years). The rate should not fall as the file
+# grows. PROGRAM is out/sunreg by default, which `./sunreg-build` makes. The comparisons are plain
+# offices in C (bench/peers/office.c) and in Python (tests/peers/plain_office.py). All have a
+# write-ahead log and synchronous FULL, and poll a plain device in C: one of 512 meters, 16 at once
+# or one after the other (two commits a reading), one of 32 meters, and one of 64 such devices. The
+# table has the opening of the file separately, and the size of the files. All must print the same
+# and record the same. Ratios are the other program's time by that of sunreg: above 1 sunreg is
+# faster. The script needs a C compiler, libsqlite3 with its header, python3 and sqlite3. The files
+# are in /dev/shm, and in TMPDIR: name a folder on a real disk, on which only the last size is
+# measured.
 set -eu
 here=$(dirname "$(readlink -f "$0")")
 program=${1:-$here/../out/sunreg}

@@ -1,6 +1,7 @@
 #!/bin/sh
-# Measures what a void costs a running office, of a meter that was read each quarter hour for a month, a year and ten years: `bench/voids.sh [PROGRAM]`, out/sunreg by
-# default, which `./sunreg-build` makes. It needs python3 and sqlite3. The file stands in /dev/shm.
+# voids.sh [PROGRAM]: measures what a void costs a running office, of a meter that was read each
+# quarter hour for a month, a year and ten years. PROGRAM is out/sunreg by default, which
+# `./sunreg-build` makes. The script needs python3 and sqlite3. The file is in /dev/shm.
 set -eu
 here=$(dirname "$(readlink -f "$0")")
 program=${1:-$here/../out/sunreg}

@@ -1,9 +1,12 @@
 #!/usr/bin/env python3
-"""watch.py FILE: notes what the kit's processes on this machine take, until it is stopped: a line of JSON for each that has ended.
+"""watch.py FILE: records the costs of the kit's processes on this machine, until it is stopped.
 
-A line has the words (cmd), the folder that it began in (cwd), its processor seconds (cpu), the most memory that it held in bytes (rss), and when it was first
-and last seen (t0, t1). It looks once a second, so it lacks what ended sooner, and the last second of what it has.
-`bench/gate.sh --log FILE` makes a table of what the gate costs of it, so that the figures come from runs that are made anyway.
+FILE gets a line of JSON for each process that has ended. The line has the process's words (cmd) and
+the folder in which it began (cwd). Its costs are processor seconds (cpu) and the most bytes of
+memory (rss). It was first and last seen at t0 and t1. The script looks once a second, so it misses
+shorter processes, and the last second of each process.
+`bench/gate.sh --log FILE` makes a table of the gate's costs from it, so the figures come from runs
+that are made anyway.
 """
 import json
 import os
@@ -29,7 +32,7 @@ class Watch:
         self.folder, self.running = os.path.realpath(folder) + "/", {}
 
     def look(self):
-        """Looks once, and returns what was told of those that have ended since."""
+        """Looks once, and returns the records of processes that have ended since."""
         now, seen = time.time(), set()
         for number in filter(str.isdigit, os.listdir("/proc")):
             try:
@@ -42,12 +45,12 @@ class Watch:
                 told["cpu"], told["t1"] = (int(state[11]) + int(state[12])) / TICKS, now
                 told["rss"] = max(told["rss"], int(state[21]) * PAGE, self.most(number))
             except (OSError, ValueError):
-                # (it has ended meanwhile, or is none of ours)
+                # (the process has ended meanwhile, or belongs to another user)
                 continue
         return [self.running.pop(it) for it in [*self.running] if it not in seen]
 
     def begin(self, one, now):
-        """Notes a process that runs what is to be watched, and returns whether it does."""
+        """Begins the record of a process if it is to be watched, and returns whether it is."""
         file = os.readlink(f"/proc/{one[0]}/exe")
         if file.startswith(self.folder) or "/rt-run-" in file:
             words = text_of(f"/proc/{one[0]}/cmdline").replace("\0", " ").strip()

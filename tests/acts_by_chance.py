@@ -1,10 +1,11 @@
 #!/usr/bin/env python3
 """acts_by_chance.py: writes the golden tests of crates/script_cases/data/chance again.
 
-Each is a script of 100 acts by chance at the meters of two registers: readings of the device, readings by hand, resets, rescales,
-exchanges, closings, installations and voids. After each act the script asks for every meter and its quarter hours. The answers are
-computed here, from the rules in docs/SCRIPT.md alone: an act is accepted or refused, and the rows of a meter are those of its entries
-that no void names.
+Each test is a script of 100 random acts at the meters of two registers: readings of the device,
+readings by hand, resets, rescales, replacements, closings, installations and voids. After each act
+the script queries every meter and its quarter hours. This script computes the responses from the
+rules in docs/SCRIPT.md alone: which acts are accepted, and the rows of a meter from its valid
+entries.
 """
 import pathlib
 
@@ -19,7 +20,7 @@ ACTS = ["read"] * 6 + ["manual"] * 2 + ["reset", "rescale", "exchange", "close"]
 
 
 class Chances:
-    """Numbers by chance, the same in each run."""
+    """Random numbers, the same in each run."""
 
     def __init__(self, seed):
         self.state = seed
@@ -30,7 +31,7 @@ class Chances:
 
 
 def unit_of(sf):
-    """The energy of a count, in mWh."""
+    """Returns the milliwatt-hours of a count."""
     return 10000 if sf else 1000
 
 
@@ -42,7 +43,8 @@ class Meter:
         self.entries.append({"kind": kind, "at": at, "raw": raw, "rolls": rolls, "after": after, "sf": sf, "stands": True})
 
     def fold(self, count=None):
-        """The time, counter and scale of the last valid entry, the energy, and the energy by quarter hour."""
+        """Returns the time, counter and scale of the last valid entry, the energy, and the energy
+        by quarter hour."""
         at = raw = sf = total = 0
         rows = {}
         for entry in self.entries[:count]:
@@ -68,12 +70,14 @@ def is_long(since, at):
 
 
 def can_count(unit, seconds, counts):
-    """5 mWh are 18 Ws; the first count may have been due already."""
+    """Returns whether so many counts are possible in so many seconds.
+
+    5 mWh are 18 Ws; the first count may have been due already."""
     return max(counts - 1, 0) * unit * 18 <= CEILING * seconds * 5
 
 
 def cause_of(last, at, raw, sf):
-    """The cause for which a reading is held, or 0."""
+    """Returns the cause for which a reading is rejected, or 0."""
     since, before, scale = last[:3]
     unit = unit_of(scale)
     causes = [
@@ -99,7 +103,7 @@ class Office:
         self.latest[register] = meter
 
     def refusal(self, register, at, raw, rolls):
-        """Why an entry by hand is refused, or 0."""
+        """Returns the number with which an entry by hand is refused, or 0."""
         meter = self.latest[register]
         if meter is None:
             return 1
@@ -123,7 +127,7 @@ class Office:
         return 0
 
     def read(self, register, at, raw, sf):
-        """The lines of a poll and its reply, and their answers."""
+        """Returns the lines of a poll and its response, and their output."""
         self.polls += 1
         transaction = f"{self.polls - 1:04x}"
         lines = [f"{at} start inv 3 {register}0 3", f"{at} bytes inv {transaction}00000009010306{raw:08x}{sf:04x}"]
@@ -141,7 +145,7 @@ class Office:
         return lines, answers + ["ok"]
 
     def act(self, act, register, at, place, raw, rolls, after, sf):
-        """The lines of an act, and their answers."""
+        """Returns the lines of an act, and their output."""
         if act == "read":
             return self.read(register, at, raw, sf)
         meter, new = self.latest[register], f"m{len(self.meters)}"
@@ -183,7 +187,7 @@ class Office:
 
 
 def play(seed):
-    """The lines of a script, and its answers."""
+    """Returns the lines of a script, and its output."""
     chances, office, at = Chances(seed), Office(), 0
     lines, answers = list(SETUP), ["ok"] * len(SETUP)
     for _ in range(100):

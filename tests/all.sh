@@ -1,7 +1,8 @@
 #!/bin/sh
-# Runs the long checks of the built program, one after the other, and prints a table of them at its end: `tests/all.sh [PROGRAM]`,
-# out/sunreg by default, which `./sunreg-build` makes. It takes some hours: the checks are those of `tests/program.py --long`. It installs
-# the tools that are missing first, where this is run as root. It ends on 'N passed, M failed'.
+# all.sh [PROGRAM]: runs the long checks of the built program, one after the other, and prints a
+# table of them. PROGRAM is out/sunreg by default, which `./sunreg-build` makes. The checks are
+# those of `tests/program.py --long`, and take some hours. As root the script first installs missing
+# tools. It ends with 'N passed, M failed'.
 here=$(dirname "$(readlink -f "$0")")
 "$here/install-tools.sh" --long
 exec "$here/program.py" --long "$@"

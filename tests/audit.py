@@ -1,8 +1,12 @@
-"""Audits of files: audit.py PROGRAM; tests/audit.sh calls it.
+"""audit.py PROGRAM: compares `sunreg audit` with audit_rows.py over sound and changed files.
 
-Files that are fine: one that the program wrote, and one whose quarter hours Python computes. Then what is printed of changes to the second,
-files that are none, seals, whose text Python makes too, and files of one office that was carried twice. Then one change at a time, in a random row and column of a copy: each is told (status 1) or refused as the file is
-opened (status 3), but for those that docs/AUDIT.md lists. Each time audit_rows.py says which of these it is, and in which lines.
+tests/audit.sh runs it. The checks are:
+- sound files: one that the program wrote, and one whose quarter hours Python computes
+- the output for known changes of the second file, and for files of another kind
+- seals, whose text Python computes as well, and files of one office that was carried twice
+- one change at a time, in a random row and column of a copy. The program must report it (status 1)
+  or refuse to open the file (status 3), except for the changes that docs/AUDIT.md lists. Each time
+  audit_rows.py computes the status and the lines.
 """
 import collections
 import hashlib
@@ -22,9 +26,10 @@ import audit_rows
 HERE = pathlib.Path(__file__).resolve().parent
 BEGIN, DAY, DAYS = 1703808000, 86400, 6  # 2023-12-29 00:00 UTC
 TABLES = ("entries", "intervals", "installations", "ranges", "voids", "polls", "outcomes")
-# what a change may leave fine, as docs/AUDIT.md lists it: of any file, and where a meter's entries lie in one quarter hour
+# changes that may leave a file sound, as docs/AUDIT.md lists them: of any file, and if a meter's
+# entries are in one quarter hour
 LISTED = {("installations", "ceiling"), ("installations", "register"), ("ranges", "range"), ("voids", "moment"), ("entries", "kind"), ("entries", "moment")}
-# (of polls the last one may be gone, where it is pending)
+# (the last poll may be gone, if it is pending)
 LISTED |= {("polls", it) for it in ("unit", "started", "tid", "function", "address", "count", "added", "gone")} | {("outcomes", it) for it in ("moment", "outcome", "code", "gone")}
 IN_ONE_QUARTER = {("entries", "raw"), ("voids", "place"), ("voids", "gone"), ("voids", "added")}
 VOIDED = {("entries", "raw"), ("entries", "rolls")}
@@ -37,14 +42,14 @@ took = []
 
 
 def same(what, got, wanted):
-    """Holds what came to what is wanted."""
+    """Compares a result with the expected one, and counts it."""
     counts["passed" if got == wanted else "failed"] += 1
     if got != wanted:
         print(f"{what}: {got!r}\nand not {wanted!r}", flush=True)
 
 
 def audit(db, *words):
-    """The status of an audit, the lines that it prints, and what it says."""
+    """Returns the status of an audit, its lines, and its standard error."""
     begun = time.monotonic()
     done = subprocess.run([PROGRAM, "audit", "--db", db, *words], capture_output=True, stdin=subprocess.DEVNULL, timeout=60)
     took.append(time.monotonic() - begun)
@@ -53,19 +58,19 @@ def audit(db, *words):
 
 
 def audit_all(dbs, *words):
-    """The same of several files."""
+    """Audits several files, and returns the same."""
     return audit(dbs[0], *(word for it in dbs[1:] for word in ("--db", it)), *words)
 
 
 def enter(db, lines):
-    """Enters lines, all of which are fine, a second behind what was before."""
+    """Enters lines, which are all valid, one second after the last entry."""
     time.sleep(1.1)
     done = subprocess.run([PROGRAM, "enter", "--db", db, "--caller", "desk"], input=lines, text=True, capture_output=True)
     same(f"entered {lines!r}", (done.returncode, set(done.stdout.splitlines())), (0, {"ok"}))
 
 
 def read(db, raw):
-    """Has the device read, whose counter shows so much, a second behind what was before."""
+    """Polls the device, whose counter shows `raw`, one second after the last entry."""
     time.sleep(1.1)
     with socket.socket() as found:
         found.bind(("127.0.0.1", 0))
@@ -86,8 +91,10 @@ def read(db, raw):
 
 
 def by_program(db):
-    """A file that the program wrote: a meter with readings, one of which turned over and one was voided, entries by hand, a reset, another scale
-    factor and a closing, and one behind it."""
+    """Makes a file with the program.
+
+    It has a meter with readings, one with a rollover and one voided, entries by hand, a reset,
+    another scale factor and a closing, and a second meter after it."""
     pathlib.Path("inv.csv").write_text(LIST)
     subprocess.run([PROGRAM, "create", "--db", db, "--zone", "UTC0"], check=True)
     enter(db, SITE)
@@ -99,7 +106,10 @@ def by_program(db):
 
 
 def by_python(db):
-    """A file of one meter that was read once a day, in mWh, the same energy in each quarter hour of a day, and one more reading that was voided."""
+    """Makes a file of one meter that was read once a day, in mWh, and of one more reading that was
+    voided.
+
+    Each quarter hour of a day has the same energy."""
     entries, intervals, raw = [("m1", 1, 1, BEGIN, 0, 0, 0, -3)], [], 0
     for day in range(DAYS):
         quarter = 8_543 * day + 7
@@ -117,7 +127,7 @@ def by_python(db):
         books.executemany("INSERT INTO entries VALUES (?, ?, ?, ?, ?, ?, ?, ?)", entries)
         books.executemany("INSERT INTO intervals VALUES (?, ?, ?)", intervals)
         books.execute("INSERT INTO voids VALUES ('m1', 5, ?)", (BEGIN + DAY * 4,))
-        # (a poll for each reading, and one more, which isn't answered yet)
+        # (a poll for each reading, and one more without an answer)
         books.executemany("INSERT INTO polls VALUES (?, 'inv', 1, ?, ?, 3, 40094, 2)", [(at, entry[3] - 1, at) for at, entry in enumerate(entries, 1)])
         books.executemany("INSERT INTO outcomes VALUES (?, ?, 1, 0)", [(at, entry[3]) for at, entry in enumerate(entries[:-1], 1)])
     books.close()
@@ -125,7 +135,7 @@ def by_python(db):
 
 
 def whole(db):
-    """Brings what stands in a file's log into the file, and tells how many entries and intervals it has."""
+    """Moves the rows of a file's log into the file, and returns the numbers of its rows."""
     books = sqlite3.connect(db)
     found = [books.execute(f"SELECT count(*) FROM {table}").fetchone()[0] for table in ("installations", "entries", "intervals", "polls")]
     books.execute("PRAGMA journal_mode = DELETE")
@@ -135,7 +145,7 @@ def whole(db):
 
 
 def copied(source):
-    """Copies a whole file, in the place of the last copy and what stood beside it, and opens the copy."""
+    """Copies a complete file over the last copy and the files beside it, and opens the copy."""
     for end in ("-wal", "-shm", "-journal"):
         pathlib.Path("changed.db" + end).unlink(missing_ok=True)
     shutil.copyfile(source, "changed.db")
@@ -146,7 +156,7 @@ def copied(source):
 
 
 def changed(*commands):
-    """The audit of a copy of Python's file that was changed so."""
+    """Returns the audit of a copy of Python's file with these changes."""
     books = copied("python.db")
     with books:
         for command in commands:
@@ -156,7 +166,7 @@ def changed(*commands):
 
 
 def printed(entries, intervals):
-    """What is printed of changes to Python's file."""
+    """Checks the output for known changes of Python's file."""
     last, end, raw = len(entries), BEGIN + DAY * DAYS, entries[-1][4]
     here, astray, cant = f"WHERE place = {last}", "with a value that none may have", f"entry {last} can't come there:"
     for what, command, lines in (
@@ -206,7 +216,7 @@ def printed(entries, intervals):
         ("a poll far off", "INSERT INTO polls VALUES (4500000000000000000, 'inv', 1, 0, 7, 4, 0, 125)", None),
     ):
         if lines is None:
-            # (each run without a poll is told, until 100 differences are kept)
+            # (the audit reports each range without a poll, up to 100 differences)
             runs = [f"polls {it * 4096 + 1} to {it * 4096 + 4096} are missing" for it in range(100)]
             lines = [runs[0].replace("polls 1 ", "polls 9 "), *runs[1:]]
         same(what, changed(*command.split("; ")), (1, [*lines, f"{len(lines)} differences"], []))
@@ -217,7 +227,8 @@ def printed(entries, intervals):
 
 
 def no_books():
-    """Files that can't be audited: there is none, tables of an earlier program, no tables of ours, and a row that refers to none."""
+    """Audits files that it must refuse: a missing file, tables of an earlier program, tables of
+    another program, and a row that refers to no row."""
     same("no file", audit("none.db")[:2], (3, []))
     same("no file is made", pathlib.Path("none.db").exists(), False)
     for what, commands, wanted in (
@@ -230,15 +241,18 @@ def no_books():
 
 
 def other(value):
-    """Another value in place of one."""
+    """Returns another value than this one."""
     if isinstance(value, str):
         return random.choice([value + "x", "spare", "m9", ""])
     return random.choice([value + 1, value - 1, value + 900, value + 2**32, -1 - value, random.randrange(2**31)])
 
 
 def change(source):
-    """A copy of a file with one change in a random row and column: (table, what, whether the row is a voided entry's, text, what the audit is to tell),
-    or None where the table is empty, or SQL itself refuses it."""
+    """Changes a random row and column of a copy of a file.
+
+    Returns the table, the kind of change or the column, whether the row is a voided entry's, a
+    text, and the expected audit. Returns None if the table is empty, or if SQL refuses the
+    change."""
     books = copied(source)
     table = random.choice(TABLES)
     columns = [it[1] for it in books.execute(f"PRAGMA table_info({table})")]
@@ -276,7 +290,7 @@ def change(source):
 
 
 def changes(seed):
-    """Changes at random, each of which is told, refused, or listed."""
+    """Makes random changes, each of which must be reported, refused, or listed."""
     told = refused = tried = 0
     listed = collections.Counter()
     while tried < int(os.environ.get("CHANGES", "1000")):
@@ -300,12 +314,12 @@ def changes(seed):
 
 
 def seal_of(db):
-    """The seal of a file's tables, by Python."""
+    """Computes the seal of a file's tables in Python."""
     books, body = sqlite3.connect(db), "seal 2\n"
     for meter, register, ceiling in books.execute("SELECT meter, register, ceiling FROM installations ORDER BY place").fetchall():
         (span,) = books.execute('SELECT "range" FROM ranges WHERE meter = ?', [meter]).fetchone()
         rows = books.execute('SELECT place, kind, moment, raw, "after", sf, rolls FROM entries WHERE meter = ? ORDER BY place', [meter]).fetchall()
-        # (the rollovers of a reading are its neighbours')
+        # (a reading has no rollovers of its own: its neighbours give them)
         lines = [f"{place} {KINDS[kind]} {moment} {raw} {after} {sf}" + f" {rolls}" * (kind != 2) + "\n" for place, kind, moment, raw, after, sf, rolls in rows]
         body += f"meter {meter} at {register} range {span} ceiling {ceiling} entries {len(rows)} sha256 {hashlib.sha256(''.join(lines).encode()).hexdigest()}\n"
         body += "".join(f"void {meter} {place}\n" for place, in books.execute("SELECT place FROM voids WHERE meter = ? ORDER BY place", [meter]))
@@ -319,13 +333,14 @@ def seal_of(db):
 
 
 def held_to(db, text):
-    """The audit of a file that is held to a seal."""
+    """Returns the audit of a file that is compared with a seal."""
     pathlib.Path("seal.txt").write_bytes(text)
     return audit(db, "--against", "seal.txt")
 
 
 def seals(entries):
-    """Seals of both files, and what is held to them: the same, what came since, what was changed and is fine nevertheless, and texts that are no seals."""
+    """Makes seals of both files, and compares files with them: the same file, a file with later
+    rows, sound files with changes, and texts that are no seals."""
     for db in ("python.db", "program.db"):
         text = seal_of(db)
         same(f"the seal of {db}", audit(db, "--seal"), (0, text.splitlines(), []))
@@ -381,13 +396,15 @@ def seals(entries):
 
 
 def carry(source, to, *words):
-    """Carries an office into a new file, and brings what stands in its log into it."""
+    """Carries an office into a new file, and moves the rows of the new file's log into it."""
     done = subprocess.run([PROGRAM, "carry", "--from", source, "--to", to, *words], capture_output=True, text=True, stdin=subprocess.DEVNULL)
     same(f"carried into {to}", (done.returncode, done.stdout.split()[:1]), (0, ["carried"]))
 
 
 def by_carries():
-    """The files of an office that was carried twice: a meter that turned over in the second and was exchanged there, and one that was read by hand."""
+    """Makes the files of an office that was carried twice.
+
+    In the second file one meter rolled over and was replaced, and another was read by hand."""
     subprocess.run([PROGRAM, "create", "--db", "first.db", "--zone", "UTC0"], check=True)
     enter("first.db", SITE + "5 register side inv 3 40194 0\n6 install side far 100 0 100000\n")
     for raw in (65533, 65535):
@@ -404,7 +421,7 @@ def by_carries():
 
 
 def wanted_of(dbs):
-    """What Python tells of files, the oldest first."""
+    """Returns what Python reports of files, the oldest first."""
     opened = [(db, sqlite3.connect(db)) for db in dbs]
     found = audit_rows.audit_of_all(opened)
     for _, books in opened:
@@ -413,20 +430,22 @@ def wanted_of(dbs):
 
 
 def holds(what, dbs, last):
-    """Holds the audit of files to what Python tells of them, and the end of its last line to what is wanted."""
+    """Compares the audit of files with Python's, and the end of its last line with the expected
+    one."""
     status, lines, _ = audit_all(dbs)
     same(what, (status, lines), wanted_of(dbs))
     same(f"{what}: the last line", lines[-1], last)
 
 
 def copy_of(source, to):
-    """A copy of a whole file."""
+    """Copies a complete file."""
     shutil.copyfile(source, to)
     return to
 
 
 def several(seed):
-    """Audits of the files of one office: as they are, in other orders, with one left out, with what was changed in one, and changes at random."""
+    """Audits the files of one office: unchanged, in other orders, without one of them, with known
+    changes of one, and with random changes."""
     by_carries()
     before = [pathlib.Path(it).read_bytes() for it in FILES]
     holds("files that go on", FILES, "joined: fine")
@@ -440,7 +459,7 @@ def several(seed):
     for words in (("--seal",), ("--against", "seal.txt")):
         status, lines, said = audit_all(FILES, *words)
         same(f"no seal of several: {words[0]}", (status, lines, said[:1]), (2, [], [f"error: the argument '{words[0]}' cannot be used with more than one '--db'"]))
-    # (a void of the last reading takes the meter back, one of a reading before it doesn't)
+    # (a void of the last reading sets the meter back, a void of an earlier reading does not)
     for what, place, last in (("the last reading is voided after the carry", 3, "1 differences between files"), ("one before it is voided", 2, "joined: fine")):
         changed_old = copy_of("first.db", f"void{place}.db")
         enter(changed_old, f"11 void m1 {place}\n")
@@ -496,7 +515,7 @@ def main():
         found = audit("program.db")
         subprocess.run([PROGRAM, "backup", "--db", "program.db", "--to", "copy.db"], check=True)
         same("a copy that backup made", audit("copy.db"), found)
-        # (its moments are the clock's, so each meter has a quarter hour or two)
+        # (its timestamps are the clock's, so each meter has one or two quarter hours)
         meters, entries, intervals, polls = whole("program.db")
         same("what the program wrote", (meters, entries, 2 <= intervals <= 4, polls >= 3), (2, 11, True, True))
         same("a file of the program", found, (0, [f"fine: 2 meters, 11 entries, {intervals} intervals, {polls} polls"], []))

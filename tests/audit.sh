@@ -1,9 +1,10 @@
 #!/usr/bin/env bash
-# Holds `sunreg audit` to files that are fine and to single changes in them, by sqlite3: `tests/audit.sh [PROGRAM]`, out/sunreg by default,
-# which `./sunreg-build` makes. CHANGES says how many changes are tried at random, 1000 by default, JOINS how many in one of three files that go on
-# from each other, 200 by default, and SEED which. tests/audit.py says more. It needs python3 and sqlite3, and takes some
-# 30 s and what the audits take, which it tells: a minute and a half where each takes 40 ms (reckoned, not measured). It ends on
-# 'N passed, M failed'.
+# audit.sh [PROGRAM]: compares `sunreg audit` with sqlite3 over sound files and over single changes
+# in them. PROGRAM is out/sunreg by default, which `./sunreg-build` makes. tests/audit.py says more.
+# CHANGES is the number of random changes, 1000 by default. JOINS is their number in three files
+# that continue each other, 200 by default. SEED chooses them. The script needs python3 and sqlite3.
+# It takes some 30 s, and the time of the audits, which it prints: a minute and a half at 40 ms each
+# (computed, not measured). It ends with 'N passed, M failed'.
 set -u
 here=$(dirname "$(readlink -f "$0")")
 program=${1:-${SUNREG:-$here/../out/sunreg}}

@@ -1,38 +1,42 @@
-"""What an audit of a file tells, by Python and sqlite3: tests/audit.py holds the program to it. It is written from docs/AUDIT.md, docs/SCHEMA.md and
-the definitions of energy_core and meter_audit, and stands on nothing of the program."""
+"""The audit of a file in Python and sqlite3, with which tests/audit.py compares the program.
+
+It is written from docs/AUDIT.md, docs/SCHEMA.md and the definitions of energy_core and meter_audit. It
+uses nothing of the program."""
 import collections
 
 OPENING, READING, _MANUAL, CLOSING, RESET, RESCALE = range(1, 7)
 LATEST, GREATEST_PLACE, SHOWN, MOST_ENERGY = 4_102_444_800, 2**62, 2**32 - 1, 4 * 10**18
-LONGEST = 3000  # quarter hours that a step may touch
-RUN = 4096  # polls are looked at by so many numbers at a time
+LONGEST = 3000  # the most quarter hours of a step
+RUN = 4096  # the audit reads polls in ranges of so many numbers
 CODES = {1: (0, 0), 2: (0, 255), 3: (0, 0), 4: (1, 5), 5: (1, 4)}  # by the kind of an outcome
 
 
 def unit(sf):
-    """The mWh of a count."""
+    """Returns the milliwatt-hours of a count."""
     return 10 ** (sf + 3)
 
 
 def touched(since, till):
-    """How many quarter hours lie between two moments."""
+    """Returns how many quarter hours two times span."""
     return (till - 1) // 900 - since // 900 + 1
 
 
 def can_count(ceiling, sf, seconds, count):
-    """Whether so many counts come within some seconds at a load of the ceiling, the first one at once: 5 mWh are 18 Ws."""
+    """Returns whether so many counts are possible in some seconds at the ceiling.
+
+    The first count may come at once: 5 mWh are 18 Ws."""
     return max(count - 1, 0) * unit(sf) * 18 <= ceiling * seconds * 5
 
 
 class Meter:
-    """A meter as its rows were so far."""
+    """A meter by its rows so far."""
 
     def __init__(self, range_, ceiling, at, raw, sf):
         self.range, self.ceiling, self.at, self.raw, self.sf = range_, ceiling, at, raw, sf
         self.place, self.total, self.is_ended, self.stands, self.rows = 1, 0, False, True, {}
 
     def cause(self, at, raw):
-        """For what a reading would be held; 0 for nothing."""
+        """Returns the cause for which a reading would be rejected; 0 for none."""
         seconds, far = at - self.at, (raw + self.range - self.raw) % self.range
         if raw == 0:
             return 1
@@ -49,7 +53,7 @@ class Meter:
         return 7 if self.total + far * unit(self.sf) > MOST_ENERGY else 0
 
     def shape(self, place, kind, rolls, after, sf, is_voided):
-        """What is wrong with a row by its kind and columns alone."""
+        """Returns the fault of a row by its kind and columns alone, or None."""
         is_change = kind in (RESET, RESCALE)
         if place != self.place + 1:
             return f"the next place is {self.place + 1}"
@@ -64,20 +68,20 @@ class Meter:
         return f"the scale factor there is {self.sf}" if kind != RESCALE and sf != self.sf else None
 
     def voided(self, at, raw, rolls):
-        """What is wrong with a reading that was voided, as far as the counter can show it."""
+        """Returns the fault of a voided reading, as far as the counter can show it, or None."""
         for cause, is_so in ((1, raw == 0), (8, raw >= self.range), (3, at <= self.at)):
             if is_so:
                 return f"it would be held, cause {cause}"
         return "the rollovers there are 1" if rolls > 1 else None
 
     def read(self, at, raw, rolls):
-        """What is wrong with a reading behind these rows."""
+        """Returns the fault of a reading after these rows, or None."""
         if cause := self.cause(at, raw):
             return f"it would be held, cause {cause}"
         return None if rolls == (raw < self.raw) else f"the rollovers there are {int(raw < self.raw)}"
 
     def book(self, kind, at, raw, rolls, after, sf):
-        """Books an entry, or tells why it would be refused."""
+        """Adds an entry, or returns why it would be refused."""
         is_change = kind in (RESET, RESCALE)
         reached = raw if is_change else raw + rolls * self.range
         mwh = (reached - self.raw) * unit(self.sf)
@@ -94,7 +98,8 @@ class Meter:
         return None
 
     def take(self, place, kind, at, raw, rolls, after, sf, is_voided):
-        """Takes the next row, or tells why it can't come there; then all is as it was but for the place."""
+        """Adds the next row, or returns why it is wrong there. A wrong row changes only the
+        place."""
         fault = self.shape(place, kind, rolls, after, sf, is_voided) or is_voided and self.voided(at, raw, rolls)
         if not fault and kind == READING and (not is_voided or self.stands):
             fault = self.read(at, raw, rolls)
@@ -107,12 +112,12 @@ class Meter:
 
 
 def within(rows, *limits):
-    """Whether each value of some rows is one that its column may have."""
+    """Returns whether each value of some rows is in the range of its column."""
     return all(least <= value <= most for row in rows for value, (least, most) in zip(row, limits, strict=True))
 
 
 def differences_of(books, next_place, installation):
-    """What differs of a meter, in order."""
+    """Returns the differences of a meter, in order."""
     place, name, _, ceiling, ended, *last, total = installation
     astray = "has a row in {} with a value that none may have"
     if not within([(place, ceiling, ended, *last, total)], (1, GREATEST_PLACE), (1, 10**9), (0, 1), (0, LATEST), (0, SHOWN), (-3, 3), (0, MOST_ENERGY)):
@@ -153,24 +158,24 @@ def differences_of(books, next_place, installation):
 
 
 def is_poll(poll, unit, started, tid, function, address, count):
-    """Whether a row of polls has values that it may have."""
+    """Returns whether a row of polls has valid values."""
     return within([(poll, unit, started, tid, function, address, count)], (1, GREATEST_PLACE), (0, 255), (0, LATEST), (0, 65535), (3, 4), (0, 65535), (1, min(125, 65536 - address)))
 
 
 def is_outcome(poll, moment, kind, code):
-    """Whether a row of outcomes has values that it may have."""
+    """Returns whether a row of outcomes has valid values."""
     return kind in CODES and within([(poll, moment, code)], (1, GREATEST_PLACE), (0, LATEST), CODES[kind])
 
 
 def gap(least, most):
-    """What is told of numbers that no poll has, in a list."""
+    """Returns the list of the lines about numbers that no poll has."""
     if least > most:
         return []
     return [f"poll {least} is missing" if least == most else f"polls {least} to {most} are missing"]
 
 
 def order_differences(least, most, numbers):
-    """What differs of the numbers of polls, which are to be those from one up to another."""
+    """Returns the differences of the numbers of polls from a sequence without gaps."""
     told = []
     for it in numbers:
         if least <= it <= most:
@@ -182,7 +187,7 @@ def order_differences(least, most, numbers):
 
 
 def poll_differences(books, before):
-    """What differs of polls, where so many differences were told before."""
+    """Returns the differences of polls, after so many differences before."""
     astray, number = "has a value that none may have", lambda row: row[0] if 1 <= row[0] <= GREATEST_PLACE else 0
     last = books.execute("SELECT max(poll) FROM polls").fetchone()[0] or 0
     if last > GREATEST_PLACE or last < 1 and books.execute("SELECT count(*) FROM polls").fetchone()[0]:
@@ -203,7 +208,7 @@ def poll_differences(books, before):
 
 
 def audit_of(books):
-    """The status of an audit, and its lines."""
+    """Returns the status of an audit, and its lines."""
     if books.execute("PRAGMA foreign_key_check").fetchone():
         return 3, []
     rows = books.execute("SELECT * FROM installations ORDER BY place").fetchall()
@@ -218,12 +223,12 @@ def audit_of(books):
 
 # ---- several files
 
-# what a file has of a meter: where it was opened, and where it stands at the end
+# a meter in a file: its opening, and its state at the end
 Filed = collections.namedtuple("Filed", "file name register range ceiling opening last total ended")
 
 
 def filed_of(file, books):
-    """The zone of a file, and its meters."""
+    """Returns the zone of a file, and its meters."""
     meters = []
     for _, name, register, ceiling, ended, *last, total in books.execute("SELECT * FROM installations ORDER BY place").fetchall():
         (range_,) = books.execute('SELECT "range" FROM ranges WHERE meter = ?', (name,)).fetchone()
@@ -233,7 +238,9 @@ def filed_of(file, books):
 
 
 def join_of(new, known):
-    """What is told of a meter of the next file, in a list, where these are the meters of the files before it, the latest first."""
+    """Returns the list of the lines about a meter of the next file.
+
+    `known` has the meters of the files before it, the latest first."""
     stand = lambda it: " ".join(map(str, it))
     before = [it for it in known if it.name == new.name]
     if not before:
@@ -251,7 +258,9 @@ def join_of(new, known):
 
 
 def joins_of(files):
-    """The status of files that are fine by themselves, the oldest first, and what is told of them: (name, connection) of each."""
+    """Returns the status and the lines of files that are sound by themselves.
+
+    The files come as (name, connection), the oldest first."""
     told, known, before = [], [], None
     for file, books in files:
         zone, meters = filed_of(file, books)
@@ -267,7 +276,7 @@ def joins_of(files):
 
 
 def audit_of_all(files):
-    """The status of an audit of several files, and its lines."""
+    """Returns the status of an audit of several files, and its lines."""
     lines, are_fine = [], True
     for file, books in files:
         status, told = audit_of(books)

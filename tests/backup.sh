@@ -1,7 +1,8 @@
 #!/bin/bash
-# Loses, mixes up and backs up the files of offices, also of one that runs and books meanwhile, with curl and sqlite3:
-# `tests/backup.sh [PROGRAM]`, out/sunreg by default, which `./sunreg-build` makes. BACKUPS says how many are made beside the
-# office that books, 40 by default. It ends on 'N passed, M failed'.
+# backup.sh [PROGRAM]: loses, mixes up and backs up the files of offices, also beside an office that
+# writes, with curl and sqlite3. PROGRAM is out/sunreg by default, which `./sunreg-build` makes.
+# BACKUPS is the number of backups beside the writing office, 40 by default. The script ends with
+# 'N passed, M failed'.
 set -u
 here=$(dirname "$(readlink -f "$0")")
 program=${1:-${SUNREG:-$here/../out/sunreg}}
@@ -19,7 +20,7 @@ passed=0
 failed=0
 port=${BACKUP_PORT:-18531}
 
-# same WHAT GOT WANTED: holds what came to what is wanted
+# same WHAT GOT WANTED: compares a result with the expected one, and counts it
 same() {
     if [ "$2" = "$3" ]; then
         passed=$((passed + 1))
@@ -29,24 +30,24 @@ same() {
     fi
 }
 
-# run WORDS..: runs the program, and keeps what comes
+# run WORDS..: runs the program, and keeps its output
 run() {
     "$program" "$@" > out 2> err < /dev/null
     status=$?
 }
 
-# refused WHAT TEXT: holds the last run to status 3 and a sentence, and nothing on standard output
+# refused WHAT TEXT: the last run had status 3, a sentence, and nothing on standard output
 refused() {
     same "$1" "$status $(cat out)$(cat err)" "3 failed
 sunreg: $2"
 }
 
-# sums NAME..: what the files of these names hold, and which are there
+# sums NAME..: prints the checksums of the files of these names
 sums() {
     sha256sum "$@" 2> /dev/null
 }
 
-# dump FILE: all rows of a file and its log, which stay as they are
+# dump FILE: prints all rows of a file and its log, and leaves both unchanged
 dump() {
     rm -rf dumped
     mkdir dumped
@@ -55,7 +56,7 @@ dump() {
     sqlite3 dumped/it .dump
 }
 
-# ask PATH [WORDS..]: asks the serving program, once it listens, and prints the reply's status
+# ask PATH [WORDS..]: sends a request to the serving program, once it listens, and prints the status
 ask() {
     path=$1
     shift
@@ -67,7 +68,7 @@ ask() {
     echo "$code"
 }
 
-# put PATH NUMBER BODY: asks a command
+# put PATH NUMBER BODY: sends a command
 put() {
     ask "$1" -H 'Office-Caller: desk' -H "Office-Request: $2" --data-binary "$3"
 }
@@ -131,7 +132,7 @@ ln -s office.db link.db
 run report --db link.db --register main
 same 'the log of a link is where it leads' "$status $(cat out err)" '1 refused 1'
 
-# A backup, and what is refused.
+# A backup, and refused arguments.
 before=$(sums office.db office.db-wal)
 rows=$(dump office.db)
 run backup --db office.db --to copy.db
@@ -174,7 +175,7 @@ refused 'backup of a torn file' 'torn.db: not an SQLite database, or damaged; no
 same 'nothing is left of those' "$(ls new.db* none 2> /dev/null)" ''
 same 'what was there stays' "$(sums copy.db)" "$before"
 
-# It is restored.
+# The backup is restored.
 mkdir restored
 cp copy.db restored/office.db
 run report --db restored/office.db --register main
@@ -182,8 +183,9 @@ same 'a backup that is restored' "$status $(cat out err)" "1 refused 1
 $(no_log restored/office.db)"
 same 'with its rows' "$(dump restored/office.db)" "$rows"
 
-# Backups beside an office that books: each list that it takes is one commit of some 300 rows, so the log is moved into the
-# file about each fourth time. A backup has the list of its last request, and no request that was acknowledged before is missing.
+# Backups beside a writing office. Each list that it takes is one commit of some 300 rows, so the
+# log is moved into the file about each fourth time. A backup has the list of its last request. It
+# lacks no request that was acknowledged before.
 list_of() {
     echo 'name,function,area,address,type,scale'
     echo "n$1,3,0,0,uint16,"

@@ -23,7 +23,7 @@ passed = failed = 0
 
 
 def holds(what, is_so, got=""):
-    """Counts whether something holds."""
+    """Counts whether a condition holds."""
     global passed, failed
     if is_so:
         passed += 1
@@ -59,7 +59,7 @@ class Process:
             lines.append(line.rstrip("\n"))
 
     def wait_for(self, words, seconds=20):
-        """Whether a line has come that has these words."""
+        """Returns whether a line with these words has come in time."""
         until = time.monotonic() + seconds * SLOW
         while time.monotonic() < until:
             if any(words in line for line in self.lines):
@@ -73,7 +73,7 @@ class Process:
 
 
 def wait_until(is_so, seconds):
-    """Waits until something holds, and returns whether it came to hold in that time."""
+    """Waits until a condition holds, and returns whether it held in time."""
     until = time.monotonic() + seconds * SLOW
     while not is_so():
         if time.monotonic() > until:
@@ -83,7 +83,8 @@ def wait_until(is_so, seconds):
 
 
 def exchange(port, request, pieces=None, seconds=20):
-    """What is replied to the bytes of a request, which comes in pieces of so many bytes."""
+    """Sends the bytes of a request, in pieces of so many bytes, and returns the bytes of the
+    response."""
     with socket.create_connection(("127.0.0.1", port), timeout=seconds * SLOW) as stream:
         stream.setsockopt(socket.IPPROTO_TCP, socket.TCP_NODELAY, 1)
         size = pieces or len(request)
@@ -101,7 +102,7 @@ def exchange(port, request, pieces=None, seconds=20):
 
 
 def head(method, path, hosts, body=None, number=1):
-    """A request that names these hosts."""
+    """Returns a request that names these hosts."""
     lines = [f"{method} {path} HTTP/1.1", *(f"Host: {host}" for host in hosts)]
     if body is not None:
         lines += [f"Content-Length: {len(body)}", "Office-Caller: desk", f"Office-Request: {number}", "Origin: http://evil.example"]
@@ -118,7 +119,7 @@ def post(port, number, path, body):
 
 
 def waits(port, seconds=20):
-    """Waits until somebody listens at a port."""
+    """Waits until a process listens at a port."""
     until = time.monotonic() + seconds * SLOW
     while time.monotonic() < until:
         try:
@@ -129,7 +130,7 @@ def waits(port, seconds=20):
 
 
 def stand_in(raw, host="127.0.0.1", family=socket.AF_INET):
-    """Starts the program's own stand-in, whose meter shows so much; its port."""
+    """Starts the program's own simulator, whose meter shows `raw`, and returns its port."""
     port = free_port(host, family)
     child = subprocess.Popen(
         [PROGRAM, "stand-in", "--host", host, "--port", str(port), "--connections", "1000"], stdin=subprocess.PIPE,
@@ -142,7 +143,9 @@ def stand_in(raw, host="127.0.0.1", family=socket.AF_INET):
 
 
 def office(name, timeout=1, **surroundings):
-    """Makes an office with the device inv, whose polls are silent after so many seconds, and its meter; its file."""
+    """Makes an office with the device inv and its meter, and returns its file.
+
+    The device's polls time out after so many seconds."""
     db = f"{ROOM}/{name}.db"
     same(f"{name}: create", subprocess.run([PROGRAM, "create", "--db", db, "--zone", "UTC0"]).returncode, 0)
     port = free_port()
@@ -160,7 +163,7 @@ def office(name, timeout=1, **surroundings):
 
 
 def said_safely():
-    """A file is its owner's alone, and a name can't make a terminal do something."""
+    """A file is readable by its owner only, and the output escapes names for a terminal."""
     db = f"{ROOM}/private.db"
     subprocess.run([PROGRAM, "create", "--db", db, "--zone", "UTC0"])
     modes = {os.path.basename(it): oct(os.stat(it).st_mode & 0o777) for it in glob.glob(db + "*")}
@@ -171,7 +174,7 @@ def said_safely():
         holds(f"{words[0]} spells a control byte", b"\\x1b" in said and not any(byte < 32 and byte != 10 for byte in said), said)
 
 
-# Who may ask, of a program that is given the name Office.example.
+# Hosts and their responses, for a program that is given the name Office.example.
 HOSTS = [
     (["127.0.0.1"], "200"), (["127.0.0.1:{port}"], "200"), (["127.0.0.1:1"], "200"), (["LOCALHOST:{port}"], "200"), (["[::1]"], "200"),
     (["office.example:443"], "200"), ([], "200"), (["evil.example:{port}"], "421"), (["127.0.0.1.evil.example"], "421"), ([""], "421"),
@@ -209,7 +212,7 @@ def foreign_pages():
 
 
 def methods(db):
-    """HEAD and POST on what a run tells of itself, and a request in a thousand pieces."""
+    """HEAD and POST on a run's status routes, and a request in a thousand pieces."""
     port, device = free_port(), stand_in(5100)
     run = Process("run", "--db", db, "--listen", str(port), "--every", "3600", "--devices", f"inv=127.0.0.1:{device}")
     holds("run listens", run.wait_for(f"listening {port}"), run.said)
@@ -247,14 +250,15 @@ def set_clock(text):
 
 
 def clock_of(library):
-    """The surroundings of a process whose clock `set_clock` sets."""
+    """Returns the environment of a process whose clock `set_clock` sets."""
     set_clock("+0")
     names = ("FAKETIME_NO_CACHE", "FAKETIME_DONT_FAKE_MONOTONIC", "DONT_FAKE_MONOTONIC")
     return {"LD_PRELOAD": library, "FAKETIME_TIMESTAMP_FILE": f"{ROOM}/clock", **{name: "1" for name in names}}
 
 
 def clock_ahead(db):
-    """A clock that goes ahead is told with both moments; an office that was left then isn't opened before, and that is explained."""
+    """A clock that jumps ahead is reported with both timestamps. The office refuses to open before
+    the last of them, and that is explained."""
     library = library_of_faketime()
     if library is None:
         return
@@ -327,8 +331,10 @@ def clock_set_back(db):
 
 
 def taken(stream, seconds=5):
-    """When all that was sent was there: the system at the other end has acknowledged it, so that it waits for its program, whatever that does. None where it
-    isn't acknowledged."""
+    """Returns the time when all sent bytes were acknowledged by the system at the other end, or
+    None.
+
+    Then they wait for its program, whatever the program does."""
     until = time.monotonic() + seconds
     while time.monotonic() < until:
         if struct.unpack("i", fcntl.ioctl(stream, termios.TIOCOUTQ, bytes(4))) == (0,):
@@ -338,14 +344,17 @@ def taken(stream, seconds=5):
 
 
 class Asked:
-    """A request that a device got: on which of its connections, by which transaction, and when its answer was there."""
+    """A request that a device got: its connection, its transaction, and the time when its response
+    was there."""
 
     def __init__(self, link, frame):
         self.link, self.tid, self.there = link, int.from_bytes(frame[:2], "big"), None
 
 
 class Meter:
-    """A device in a thread of this process, which answers after a while; how many times it has, when its connections came, and what it was asked."""
+    """A device in a thread of this process, which responds after a while.
+
+    It counts its responses, and records the times of its connections and its requests."""
 
     def __init__(self, after=0.0):
         self.after, self.answered, self.raw = after, 0, 5000
@@ -361,7 +370,7 @@ class Meter:
             threading.Thread(target=self.talk, args=(stream, len(self.joined)), daemon=True).start()
 
     def talk(self, stream, link):
-        # (a round may end the connection before it has all)
+        # (the round may close the connection before all bytes are sent)
         with stream, contextlib.suppress(ConnectionError):
             while True:
                 frame = b""
@@ -384,7 +393,8 @@ ANSWERED, LOST = 1, 5  # numbers of docs/SCHEMA.md
 
 
 def polls_of(db):
-    """The polls of inv, in their order: at which moment of the office's clock each was started, by which transaction, and how it ended."""
+    """Returns the polls of inv in order: the office's time at the start, the transaction, and the
+    outcome."""
     copy = f"{ROOM}/copy"
     shutil.rmtree(copy, ignore_errors=True)
     os.mkdir(copy)
@@ -398,16 +408,18 @@ def polls_of(db):
 
 
 def hold_deadlines(what, device, polls, timeout):
-    """Each poll whose answer was there before its deadline was answered. That is told by the office's books, what the device noted, and the clock of both: so
-    it holds on any machine, however long the process, or this one, was held up, and wherever. It answers how many polls were not answered, all of which were
-    late by that."""
+    """Checks that each poll whose response was there before its deadline was answered.
+
+    It compares the office's records, the device's records, and the clock of both. So it holds on
+    any machine, and for each delay of the process or of this one. It returns the number of polls
+    that were not answered, all of which were late by these records."""
     until = time.monotonic() + 10
     while time.monotonic() < until and len(device.asked) < len(polls):
         time.sleep(0.05)
     asked = sorted(device.asked, key=lambda one: one.link)
     same(f"{what}: each request came", [one.tid for one in asked], [tid for _, tid, _ in polls])
     if polls and polls[-1][2] == LOST:
-        # (the time of the run was up while it waited)
+        # (the time of the run was up while the poll waited)
         polls = polls[:-1]
     unanswered = [(started, outcome, one.there) for (started, _, outcome), one in zip(polls, asked) if outcome != ANSWERED]
     in_time = [poll for poll in unanswered if poll[2] is not None and poll[2] < poll[0] + timeout]
@@ -416,7 +428,9 @@ def hold_deadlines(what, device, polls, timeout):
 
 
 def slowed(child, seconds):
-    """Stops a process for most of each second, wherever it is: its turns then take as long as those of a machine that is at its limit."""
+    """Stops a process for most of each second, at any point of its loop.
+
+    Its turns then take as long as on an overloaded machine."""
     chance = random.Random(1)
     until = time.monotonic() + seconds
     while time.monotonic() < until and child.poll() is None:
@@ -427,8 +441,11 @@ def slowed(child, seconds):
 
 
 def bytes_before_a_deadline(db):
-    """A device answers in 0.4 s at a timeout of 1 s, while the process is held up for longer than that. It may be held up between a poll's moment and its
-    request too: the answer is then late. But where it is there before the deadline the poll is answered."""
+    """A device responds in 0.4 s at a timeout of 1 s, while the process is delayed for longer than
+    that.
+
+    The delay may also come between a poll's timestamp and its request: the response is then late. A
+    response that is there before the deadline must count as an answer."""
     before = len(polls_of(db))
     device, port = Meter(after=0.4), free_port()
     run = Process("run", "--db", db, "--listen", str(port), "--every", "2", "--devices", f"inv=127.0.0.1:{device.port}", "--for", "30")
@@ -443,7 +460,9 @@ def bytes_before_a_deadline(db):
 
 
 def large_meter():
-    """An office whose meter has two years of quarter hours, from a clock that stood so far back; its file."""
+    """Makes an office whose meter has two years of quarter hours, and returns its file.
+
+    The clock of its first records was set back by two years."""
     library = library_of_faketime()
     if library is None:
         print("bad_day: no faketime here: large questions aren't tried", flush=True)
@@ -458,7 +477,7 @@ def large_meter():
     for k in range(1, 25):
         entry = {"raw": 5000 + 1000000 * k, "rolls": 0, "at": now - 63072000 + k * 2620000}
         same(f"an entry by hand {k}", post(port, 100 + k, "/registers/main/manual", entry), "200")
-    # (so near that what the device shows is a reading, and not held)
+    # (so near that the device's counter gives a reading, which is accepted)
     entry |= {"at": now - 1}
     same("an entry by hand a moment ago", post(port, 125, "/registers/main/manual", entry), "200")
     serve.end()
@@ -469,7 +488,7 @@ ALL_ROWS = head("GET", "/meters/m1/intervals", [])
 
 
 def readers(port, peers, seconds):
-    """A process of so many peers that ask for all rows again and again, and read them."""
+    """Starts a process of so many clients that request all rows again and again, and read them."""
     script = os.path.join(os.path.dirname(os.path.realpath(__file__)), "bad_day_readers.py")
     child = subprocess.Popen([sys.executable, script, str(port), str(peers), str(seconds)], stdin=subprocess.DEVNULL, stdout=subprocess.PIPE, text=True)
     CHILDREN.append(child)
@@ -477,7 +496,7 @@ def readers(port, peers, seconds):
 
 
 def asks_and_reads_nothing(port, request=ALL_ROWS):
-    """A peer that asks and reads nothing, and has next to no room for what comes."""
+    """Starts a client that requests and reads nothing, with a very small receive buffer."""
     stream = socket.socket()
     stream.setsockopt(socket.SOL_SOCKET, socket.SO_RCVBUF, 4096)
     stream.settimeout(60)
@@ -487,22 +506,25 @@ def asks_and_reads_nothing(port, request=ALL_ROWS):
 
 
 def late_rounds(joined, every, until):
-    """How many seconds late each of a device's rounds began, of those that were due till then: one at each multiple of so many seconds."""
+    """Returns how many seconds late each of a device's due rounds began.
+
+    A round is due at each multiple of `every` seconds."""
     if not joined:
         return [float("inf")]
-    # (the run's seconds may begin a little before the clock's, since both are told in milliseconds)
+    # (the run's seconds may begin a little before the clock's, because both are in milliseconds)
     first = int(joined[0] + 0.05) // every * every
     return [min((at - due for at in joined if at > due - 0.05), default=until - due) for due in range(first, int(until), every)]
 
 
 def memory_of(child):
-    """How much memory a process has now, in MB."""
+    """Returns the memory of a process, in MB."""
     with open(f"/proc/{child.pid}/status") as file:
         return next(int(line.split()[1]) for line in file if line.startswith("VmRSS:")) / 1024
 
 
 def most_memory(child, until):
-    """The most memory that a process has till then, in MB, looked at ten times a second."""
+    """Returns the most memory that a process has until a time, in MB, looked at ten times a
+    second."""
     most = memory_of(child)
     while time.monotonic() < until:
         time.sleep(0.1)
@@ -515,11 +537,15 @@ def body_of(reply):
 
 
 def large_questions():
-    """A device answers in 0.4 s at a timeout of 2 s, so within a second at least, while up to 64 peers read all rows of a meter of two years again and again, and 80
-    ask for them and read nothing. A turn tells pieces of such replies for 20 ms, and two turns pass till a device that is due is asked. So a round
-    that begins a second late is far too late, and so is one that isn't begun; how many began 50 ms late is printed, which few do unless the machine has more
-    to do than it can. Of each reply one piece is held, of 1,000 rows: so memory grows by less than 64 KiB for each of 64 places. What one reply takes while it
-    is made, and what the file's pages take, is there before, since one peer has asked for all rows."""
+    """Devices are polled in time while many clients request two years of quarter hours.
+
+    The device responds in 0.4 s at a timeout of 2 s, so within a second at least. Up to 64 clients
+    read all rows again and again, and 80 request them and read nothing. A turn streams such
+    responses for 20 ms, and two turns pass before a due device is polled. So a round that begins a
+    second late fails the test, or a round that does not begin. The test prints how many began
+    50 ms late: few do, unless the machine is overloaded. The run holds one chunk of each response,
+    of 1,000 rows. So memory grows by less than 64 KiB for each of 64 slots. One client requests all
+    rows first, so the memory for one response and for the file's pages is there before."""
     db = large_meter()
     if db is None:
         return
@@ -529,7 +555,8 @@ def large_questions():
     holds("run listens", run.wait_for(f"listening {port}"), run.said)
     begun = time.monotonic()
     exchange(port, ALL_ROWS)
-    # (replies are made one after the other, and a connection has 10 seconds: a slow machine has fewer readers at once)
+    # (responses are made one after the other, and a connection has 10 seconds: a slow machine has
+    # fewer readers at once)
     count = max(4, min(64, int(5 / (time.monotonic() - begun))))
     time.sleep(5)
     before, until = memory_of(run.child), time.monotonic() + 30
@@ -558,7 +585,10 @@ def large_questions():
 
 
 def pieces_of_one_moment(port):
-    """A reply is of one moment, however it is asked and whatever comes meanwhile; a void cuts it, or comes behind it."""
+    """A response is of one point in time, for each way of requesting it and for all events
+    meanwhile.
+
+    A void ends it early, or comes after it."""
     time.sleep(11)
     all_rows = body_of(exchange(port, ALL_ROWS)).splitlines()
     ranged = exchange(port, head("GET", "/meters/m1/intervals/0/9999999999", []))
@@ -582,7 +612,8 @@ def pieces_of_one_moment(port):
 
 
 def stuffed_pipes(db):
-    """Nobody reads what run prints: it polls and answers all the same, and says later how many lines it dropped."""
+    """Nobody reads the output of run: it still polls and responds, and later prints how many lines
+    it dropped."""
     device, port = Meter(), free_port()
     reader, writer = os.pipe()
     fcntl.fcntl(writer, 1031, 4096)  # F_SETPIPE_SZ
@@ -609,7 +640,8 @@ def stuffed_pipes(db):
 
 
 def what_is_lacking():
-    """What a device lacks is told at once, and again by /status; a refusal is explained once."""
+    """What a device lacks is reported at once, and again by /status; a refusal is explained
+    once."""
     db = office("lacking")
     port = free_port()
     serve = Process("serve", "--db", db, "--port", str(port), "--connections", "4")
@@ -644,7 +676,7 @@ def what_is_lacking():
 
 
 def held_once():
-    """A reading that is held again and again is explained once."""
+    """A reading that is rejected again and again is explained once."""
     db = office("held")
     device, port = Meter(), free_port()
     device.raw = 4000
@@ -658,12 +690,14 @@ def held_once():
 
 
 def kept_requests():
-    """Past --most-kept commands are answered 503, which people are told once; questions are answered, and what is kept is counted at a start."""
+    """After --most-kept commands, the next one gets 503, which is logged once.
+
+    Queries still get responses, and a start counts the kept requests."""
     db, port = office("kept"), free_port()
     words = ["run", "--db", db, "--listen", str(port), "--every", "60", "--devices", "inv=127.0.0.1:1"]
 
     def device(number):
-        """The status of a command whose body has 60,000 bytes."""
+        """Returns the status of a command whose body has 60,000 bytes."""
         return post(port, number, "/devices", json.dumps({"name": f"d{number}", "unit": 1, "timeout": 1, "window": 1}).ljust(60_000))
 
     def begin(megabytes):
@@ -672,7 +706,8 @@ def kept_requests():
         return run
 
     run = begin("1")
-    # (16 of them and what the office was set up by are less than a megabyte with their heads, and 17 are more)
+    # (16 of them and the set-up requests are less than a megabyte with their heads, and 17 are
+    # more)
     same("commands for which there is no room", [device(number) for number in range(20, 40)], ["200"] * 16 + ["503"] * 4)
     same("one for which there is", post(port, 40, "/devices", {"name": "small", "unit": 1, "timeout": 1, "window": 1}), "200")
     reply = exchange(port, head("POST", "/devices", ["localhost"], " " * 60_000, 41))
@@ -690,7 +725,8 @@ def kept_requests():
 
 
 def short_day():
-    """The parts that the gate runs: who may ask, a pipe that nobody reads, and a clock that is set back."""
+    """The parts that the gate runs: hosts, a pipe that nobody reads, and a clock that is set
+    back."""
     said_safely()
     foreign_pages()
     db = office("day")

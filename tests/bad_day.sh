@@ -1,10 +1,14 @@
 #!/bin/sh
-# Tries the built program on a bad day: pages of other names that ask it, requests in many pieces, a device by an IPv6 address, devices that
-# lack something, a process that is held up or asked for many rows while a device takes its time, pipes that nobody reads, a clock that is
-# set back while peers keep silent, and ahead: `tests/bad_day.sh [--short] [PROGRAM]`, out/sunreg by default, which `./sunreg-build` makes. `faketime`
-# sets the clock; where this is run as root it is installed by apt (not with PEERS_INSTALL=no), and where it can't be had that is said. It
-# takes four minutes and ends on 'N passed, M failed'. --short tries who may ask, a pipe that nobody reads and a clock that is set back
-# alone, in a minute and a half.
+# bad_day.sh [--short] [PROGRAM]: runs the built program under bad conditions. PROGRAM is out/sunreg
+# by default, which `./sunreg-build` makes. The conditions are:
+# - requests from foreign pages, requests in many pieces, a device at an IPv6 address
+# - devices that lack something, and a delayed or busy process while a device takes its time
+# - pipes that nobody reads
+# - a clock that is set back while clients are idle, and a clock that is set ahead
+#
+# `faketime` sets the clock. As root the script installs it by apt (not with PEERS_INSTALL=no), and it
+# says so if that fails. The script takes four minutes, and ends with 'N passed, M failed'. --short
+# tests hosts, a pipe that nobody reads and a clock that is set back, in a minute and a half.
 set -u
 here=$(dirname "$(readlink -f "$0")")
 short=

@@ -1,4 +1,5 @@
-"""bad_day_files.py PROGRAM ROOM [NAME..]: see bad_day_files.sh; with names, the checks of these names alone."""
+"""bad_day_files.py PROGRAM ROOM [NAME..]: see bad_day_files.sh; with names, only the checks of
+these names."""
 import json
 import os
 import resource
@@ -10,7 +11,7 @@ import sys
 import time
 
 PROGRAM, ROOM, NAMES = sys.argv[1], sys.argv[2], sys.argv[3:]
-# By how much a build that isn't optimized is slower.
+# The factor by which a build without optimization is slower.
 SLOW = int(os.environ.get("SLOW", "1"))
 CHILDREN = []
 passed = failed = 0
@@ -35,7 +36,8 @@ def free_port():
 
 
 def begin(*words, limit=None, output=None, **ways):
-    """Starts the program, which may open so many descriptors; its output and errors go into files."""
+    """Starts the program, which may open so many descriptors; its output and errors go into
+    files."""
     name = f"{ROOM}/{len(CHILDREN)}"
 
     def set_limit():
@@ -74,7 +76,7 @@ def is_open(port):
 
 
 def post(port, number, path, body):
-    """The status of the reply to a command, and its body."""
+    """Returns the status of the response to a command, and its body."""
     text = body if isinstance(body, str) else json.dumps(body)
     head = f"POST {path} HTTP/1.1\r\nContent-Length: {len(text)}\r\nOffice-Caller: desk\r\nOffice-Request: {number}\r\n\r\n"
     reply = b""
@@ -94,7 +96,7 @@ def device(number):
 
 
 def stand_in():
-    """Starts the program's own simulator of a device; its port."""
+    """Starts the program's own simulator of a device, and returns its port."""
     port = free_port()
     child = begin("stand-in", "--port", str(port), "--connections", "1000", stdin=subprocess.PIPE)
     child.stdin.write(b"area holding 40000 100\nset holding 40095 5000\n")
@@ -103,7 +105,7 @@ def stand_in():
 
 
 def make_office(name):
-    """Makes an office with the device inv and its meter; its file."""
+    """Makes an office with the device inv and its meter, and returns its file."""
     db, port = f"{ROOM}/{name}.db", free_port()
     equal(f"{name}: create", subprocess.run([PROGRAM, "create", "--db", db, "--zone", "UTC0"]).returncode, 0)
     serve = begin("serve", "--db", db, "--port", str(port), "--connections", "9")
@@ -121,7 +123,9 @@ def make_office(name):
 
 
 def begin_run(db, *words, **ways):
-    """Starts a run that polls the device inv each second, and waits until it listens; it, and its port."""
+    """Starts a run that polls the device inv each second, and waits until it listens.
+
+    Returns the run and its port."""
     port = free_port()
     run = begin("run", "--db", db, "--listen", str(port), "--every", "1", "--devices", f"inv=127.0.0.1:{stand_in()}", *words, **ways)
     check("run listens", wait_until(lambda: is_open(port)), printed(run, "err"))
@@ -146,7 +150,7 @@ WORDS = {"removed": "removed or renamed", "renamed": "removed or renamed", "repl
 
 
 def hold_ending(what, run, path, words):
-    """The run ends with 3 in some seconds, and one line names the file and how it is lost."""
+    """The run exits with 3 in some seconds, and one line names the file and the loss."""
     check(f"{what}: it ends", wait_until(lambda: run.poll() is not None, 15))
     equal(f"{what}: with 3", run.poll(), 3)
     lines = [line for line in printed(run, "err") if f"sunreg: {path}: " in line]
@@ -154,7 +158,7 @@ def hold_ending(what, run, path, words):
 
 
 def lost_files():
-    """A command over a file that is gone is answered 503, and the run ends."""
+    """A command over a removed file gets 503, and the run ends."""
     source = make_office("lost")
     for how, change in CHANGES.items():
         for ending in ("", "-wal"):
@@ -169,7 +173,8 @@ def lost_files():
 
 
 def lost_unasked():
-    """A run whose file goes ends where nobody asks, too; one whose file gets a second name goes on."""
+    """A run whose file is removed also ends without requests. A run whose file gets a second name
+    continues."""
     db = make_office("unasked")
     run, _ = begin_run(db)
     os.link(db, f"{db}.second")
@@ -181,13 +186,14 @@ def lost_unasked():
 
 
 def polls_in(db):
-    """How many polls of the device were answered by the file of an office that has ended."""
+    """Returns how many polls of the device were answered, by the file of an office that has
+    ended."""
     with sqlite3.connect(db) as rows:
         return rows.execute("SELECT count(*) FROM outcomes WHERE outcome = 1").fetchone()[0]
 
 
 def reader_goes():
-    """A run whose lines nobody reads any more goes on to its end."""
+    """A run continues to its end when the reader of its lines exits."""
     db = make_office("reader")
     reads, writes = os.pipe()
     run, _ = begin_run(db, "--for", "6", output=writes)
@@ -200,7 +206,8 @@ def reader_goes():
 
 
 def few_descriptors():
-    """By few descriptors the device is polled beside silent clients, and the run says what it lacks."""
+    """With few descriptors the run polls the device beside idle clients, and reports what it
+    lacks."""
     for limit in (16, 24, 40):
         db = make_office(f"few{limit}")
         run, port = begin_run(db, "--for", "12", limit=limit)
@@ -223,7 +230,8 @@ def few_descriptors():
 
 
 def clock_ahead():
-    """Where the last record is later than the clock, each command says both timestamps, and prints the refusal alone."""
+    """If the last record is later than the clock, each command prints both timestamps, and nothing
+    but the refusal."""
     db = make_office("ahead")
     with sqlite3.connect(db) as rows:
         rows.execute("UPDATE replies SET moment = moment + 100000 WHERE number = 4")

@@ -1,7 +1,8 @@
 #!/bin/sh
-# Tries what a run makes of files, readers, descriptors and a clock that go wrong under it: `tests/bad_day_files.sh [PROGRAM]`, out/sunreg by
-# default. Its file or its log is removed, renamed, replaced or cut short; the reader of its lines goes away; it may open few descriptors
-# while clients keep silent; and the last record is later than the clock. It takes two minutes and ends on 'N passed, M failed'.
+# bad_day_files.sh [PROGRAM]: tests a run whose files, readers, descriptors and clock fail. PROGRAM
+# is out/sunreg by default. Its file or its log is removed, renamed, replaced or cut short. The
+# reader of its lines exits. It may open few descriptors while clients are idle. The last record is
+# later than the clock. The script takes two minutes, and ends with 'N passed, M failed'.
 set -u
 here=$(dirname "$(readlink -f "$0")")
 program=$(readlink -f "${1:-$here/../out/sunreg}")

@@ -1,6 +1,9 @@
-"""bad_day_readers.py PORT PEERS SECONDS: so many peers ask a run for all quarter hours of the meter m1, again and again for so long, and read what is replied.
+"""bad_day_readers.py PORT CLIENTS SECONDS: requests all quarter hours of the meter m1 again and
+again.
 
-It prints as JSON how many bytes each reply had, and the last line of each. A process of its own, so that who measures the run meanwhile isn't held up by it.
+So many clients do so for so long, and read the responses. The script prints as JSON the bytes of each
+response, and its last line. It is a separate process, so that it does not delay the process that
+measures the run.
 """
 import json
 import socket
@@ -24,7 +27,7 @@ def asks_on(until):
                     size += count
                     last = (last + bytes(room[max(0, count - 32) : count]))[-32:]
             sizes.append(size)
-            # (one without its newline is no last line)
+            # (a line without its newline is no last line)
             ends.append(last.rsplit(b"\n", 2)[-2].decode() if last.endswith(b"\n") else "")
         except OSError:
             time.sleep(0.1)

@@ -1,4 +1,6 @@
-"""A browser that page.py drives: chromium without a window, by its debugging protocol over a pipe, by Python's standard library alone."""
+"""A browser that page.py drives: chromium without a window, by its debugging protocol over a pipe.
+
+It uses only Python's standard library."""
 import fcntl
 import json
 import os
@@ -13,7 +15,7 @@ KEYS = {"Enter": 13, "Tab": 9, "Escape": 27, "ArrowLeft": 37, "ArrowRight": 39}
 
 
 def found():
-    """The browser's program, or None."""
+    """Returns the browser's program, or None."""
     names = [os.environ.get("CHROMIUM", ""), "chromium", "chromium-browser", "google-chrome"]
     return next((path for path in map(shutil.which, filter(None, names)) if path), None)
 
@@ -30,7 +32,8 @@ class Browser:
             "--host-resolver-rules=MAP * ~NOTFOUND, EXCLUDE 127.0.0.1", *(["--no-sandbox"] if os.getuid() == 0 else []), "about:blank",
         ]
 
-        # The pipes' ends are to be the browser's files 3 and 4: they are copied out of the way of those first.
+        # The browser gets the ends of the pipes as its files 3 and 4. They are first copied to
+        # higher numbers, so that neither overwrites the other.
         def ends():
             copies = [fcntl.fcntl(it, fcntl.F_DUPFD_CLOEXEC, 100) for it in (here[0], theirs[1])]
             os.dup2(copies[0], 3)
@@ -98,14 +101,14 @@ class Tab:
         self.browser.ask("Target.closeTarget", targetId=self.target)
 
     def run(self, text):
-        """The value of an expression, or of the promise that it is."""
+        """Returns the value of an expression, or of the promise that it returns."""
         said = self.ask("Runtime.evaluate", expression=text, returnByValue=True, awaitPromise=True)
         if "exceptionDetails" in said:
             raise RuntimeError(f"{text}: {said['exceptionDetails']}")
         return said["result"].get("value")
 
     def wait(self, text, seconds=60):
-        """Waits until an expression holds; whether it did."""
+        """Waits until an expression is true, and returns whether it was."""
         until = time.time() + seconds
         while time.time() < until:
             if self.run(f"Boolean({text})"):
@@ -122,7 +125,7 @@ class Tab:
         self.ask("Emulation.setDeviceMetricsOverride", width=width, height=height, deviceScaleFactor=scale, mobile=is_phone)
 
     def told(self, *methods):
-        """What came of these events, since the last time that `forget` was called."""
+        """Returns the events of these methods since the last call of `forget`."""
         return [it["params"] for it in list(self.browser.events) if it.get("sessionId") == self.session and it["method"] in methods]
 
     def forget(self):

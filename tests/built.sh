@@ -1,9 +1,11 @@
 #!/bin/sh
-# Tries ./sunreg-build: `tests/built.sh [--whole]`. On four small crates, with a kit beside which nothing is kept: that it proves and builds them,
-# goes on where it was cut off or a proof failed, leaves no compiler running, proves only what changed and what stands on it, and takes what `rt ci`
-# proved, where the kit keeps that (some ten minutes). With --whole it is also timed in a clone of what is committed, where nothing is built and nothing
-# kept is taken, then once more over what it built, and the README's example is run by what it built (an hour). It needs the kit and git, and ends on
-# 'N passed, M failed'.
+# built.sh [--whole]: tests ./sunreg-build on four small crates, with a kit that has nothing kept.
+# It proves and builds them, and continues where it was interrupted or a proof failed. It leaves no
+# compiler running, and proves only the changes and the crates above them. If the kit keeps results,
+# it takes what `rt ci` proved. That takes some ten minutes. --whole also times it in a clone of the
+# committed tree, where nothing is built and nothing kept is taken, and then once more over the
+# result. Then the built program runs the README's example (an hour). The script needs the kit and
+# git, and ends with 'N passed, M failed'.
 set -u
 here=$(dirname "$(readlink -f "$0")")
 case "${1-}:$#" in :0 | --whole:1) ;; *) echo "usage: tests/built.sh [--whole]" >&2; exit 2 ;; esac
@@ -12,7 +14,7 @@ trap 'rm -rf "$room"' EXIT
 passed=0
 failed=0
 
-# same WHAT GOT WANTED: holds what came to what is wanted
+# same WHAT GOT WANTED: compares a result with the expected one, and counts it
 same() {
     if [ "$2" = "$3" ]; then
         passed=$((passed + 1))
@@ -22,7 +24,7 @@ same() {
     fi
 }
 
-# run WORDS..: keeps what the words print, their status and their seconds
+# run WORDS..: runs a command, and keeps its output, its status and its seconds
 run() {
     since=$(date +%s)
     "$@" < /dev/null > "$room/out" 2> "$room/err"
@@ -30,7 +32,7 @@ run() {
     took=$(($(date +%s) - since))
 }
 
-# proves WHAT PROVED OF: holds the last run to success, to how many crates it proved, and to what it says of the program
+# proves WHAT PROVED OF: the last run succeeded, proved so many crates, and named the program
 proves() {
     same "$1: status" "$status $(cat "$room/err")" '0 '
     same "$1: proves" "$(sed -n 's/^sunreg-build: proves \([0-9]*\) of \([0-9]*\) .*/\1 \2/p' "$room/out")" "$([ "$2" = 0 ] || echo "$2 $3")"
@@ -42,12 +44,12 @@ proves() {
     echo "$1: $took s"
 }
 
-# none_runs WHAT: holds the processes that work in the checkout to none
+# none_runs WHAT: no process works in the checkout
 none_runs() {
     same "$1: what still runs" "$(ls -l /proc/[0-9]*/cwd 2> /dev/null | grep -c -F "$checkout/")" 0
 }
 
-# cuts SIGNAL STATUS: sends it while a crate is being proved, which must end it
+# cuts SIGNAL STATUS: sends a signal while a crate is being proved, which must end the run
 cuts() {
     : > "$room/out"
     env --default-signal="$1" "$checkout/sunreg-build" < /dev/null > "$room/out" 2> "$room/err" &
@@ -131,7 +133,7 @@ same 'once more: within 20 s' "$([ "$took" -le 20 ] || echo "$took s")" ''
 same 'the program: status' $? 0
 first=$(sha256sum < "$checkout/out/sunreg")
 
-# A proof that fails, beside another that is longer.
+# A proof that fails, beside a longer proof.
 library right "$(echo "$right" | sed 's/sum(a, 1)/sum(a + 1, 1)/')"
 echo '// another text' >> "$checkout/crates/left/src/lib.rt"
 run "$checkout/sunreg-build"
@@ -146,7 +148,7 @@ run "$checkout/sunreg-build"
 same 'mended: status' "$status $(cat "$room/err")" '0 '
 same 'mended: the same program' "$(sha256sum < "$checkout/out/sunreg")" "$first"
 
-# What rt ci proved is taken, with a kit that keeps it, where it isn't told to prove anew.
+# sunreg-build takes what rt ci proved, with a kit that keeps it, except with `--anew`.
 if python3 -B -c 'import sys; sys.path.insert(0, sys.argv[1]); import kit; sys.exit(not hasattr(kit.load_rt(), "Kept"))' "$here/../bench"; then
     (cd "$checkout" && rt ci > "$room/ci" 2>&1)
     same 'rt ci' "$(tail -n 1 "$room/ci")" '4 passed, 0 failed'

@@ -1,7 +1,8 @@
 #!/bin/bash
-# Carries an office into a new file by the built program, also beside one that runs, and goes on in both, with curl and sqlite3:
-# `tests/carry.sh [PROGRAM]`, out/sunreg by default, which `./sunreg-build` makes. KILLS says how many carries are killed, 60 by default,
-# and CARRY_PORT from which port on it listens. It ends on 'N passed, M failed'.
+# carry.sh [PROGRAM]: carries an office into a new file with the built program, also beside a
+# running office, and continues in both files, with curl and sqlite3. PROGRAM is out/sunreg by
+# default, which `./sunreg-build` makes. KILLS is the number of killed carries, 60 by default.
+# CARRY_PORT is the first port on which it listens. The script ends with 'N passed, M failed'.
 set -u
 here=$(dirname "$(readlink -f "$0")")
 program=${1:-${SUNREG:-$here/../out/sunreg}}
@@ -15,14 +16,14 @@ room=$(mktemp -d) || exit 2
 children=''
 trap 'for it in $children; do kill -9 "$it" 2> /dev/null; done; rm -rf "$room"' EXIT
 cd "$room" || exit 2
-# (a carry that is killed may leave its copy of the old file among the files that come and go)
+# (a killed carry may leave its copy of the old file among the temporary files)
 mkdir passing
 export TMPDIR="$room/passing"
 passed=0
 failed=0
 port=${CARRY_PORT:-18631}
 
-# same WHAT GOT WANTED: holds what came to what is wanted
+# same WHAT GOT WANTED: compares a result with the expected one, and counts it
 same() {
     if [ "$2" = "$3" ]; then
         passed=$((passed + 1))
@@ -32,25 +33,26 @@ same() {
     fi
 }
 
-# run WORDS..: runs the program, and keeps what comes, but that a file without its log is told
+# run WORDS..: runs the program, and keeps its output without the message about a missing log
 run() {
     "$program" "$@" > out 2> said < /dev/null
     status=$?
     grep -v 'it had no log' said > err
 }
 
-# refused WHAT TEXT: holds the last run to status 3 and a sentence, and nothing on standard output
+# refused WHAT TEXT: the last run had status 3, a sentence, and nothing on standard output
 refused() {
     same "$1" "$status $(cat out)$(cat err)" "3 failed
 sunreg: $2"
 }
 
-# sums NAME..: what the files of these names hold, and which are there
+# sums NAME..: prints the checksums of the files of these names
 sums() {
     sha256sum "$@" 2> /dev/null
 }
 
-# ask_rows FILE SQL: what sqlite3 tells of a copy of a file and its log, which stay as they are
+# ask_rows FILE SQL: prints what sqlite3 reads in a copy of a file and its log, and leaves both
+# unchanged
 ask_rows() {
     rm -rf asked
     mkdir asked
@@ -65,7 +67,8 @@ enter() {
     came="$? $(paste -sd ';' out)"
 }
 
-# polled FILE LINES: polls inv at a stand-in that these lines set up; status and the lines of its meters (joined by ;) are in came
+# polled FILE LINES: polls inv at a simulator that these lines set up; status and the lines of its
+# meters (joined by ;) are in came
 polled() {
     port=$((port + 1))
     printf "$2" | "$program" stand-in --port "$port" --connections 1 > peer 2>&1 &
@@ -79,12 +82,12 @@ polled() {
     came="$status $(grep -E '^(reading|held) ' out | sort | paste -sd ';')"
 }
 
-# bank MAIN SIDE: the stand-in's lines for the counters of both registers
+# bank MAIN SIDE: prints the simulator's lines for the counters of both registers
 bank() {
     printf 'area holding 40094 6\\nset holding 40095 %s\\nset holding 40098 %s\\n' "$1" "$2"
 }
 
-# ask PATH: asks the program that serves, once it listens
+# ask PATH: sends a request to the serving program, once it listens
 ask() {
     for _try in $(seq 100); do
         curl -s --max-time 30 "http://127.0.0.1:$port$1"
@@ -101,7 +104,7 @@ serve() {
     children="$children $child"
 }
 
-# meters FILE NAME..: what a file tells of each meter by HTTP, but for its energy
+# meters FILE NAME..: prints the HTTP response about each meter, without its energy
 meters() {
     file=$1
     shift
@@ -113,17 +116,17 @@ meters() {
     wait "$child"
 }
 
-# shown NAME FIELD: a field of a meter in what was asked last
+# shown NAME FIELD: prints a field of a meter in the last response
 shown() {
     grep "\"meter\":\"$1\"" asked-meters | sed -E "s/.*\"$2\":([^,}]*).*/\1/"
 }
 
-# energy FILE REGISTER: the energy that its report tells, of all days
+# energy FILE REGISTER: prints the energy of a report of all days
 energy() {
     "$program" report --db "$1" --register "$2" 2> /dev/null < /dev/null | awk '$1 != "end" { sum += $3 } END { printf "%d\n", sum }'
 }
 
-# An office with an exchange, a reading that was voided, and a reset.
+# An office with a replaced meter, a voided reading, and a reset.
 run create --db old.db --zone CET-1CEST,M3.5.0,M10.5.0/3
 same 'create' "$status $(cat out err)" '0 '
 printf 'name,function,area,address,type,scale\nwh,3,0,40094,acc32,wh_sf\nwh_sf,3,0,40096,sunssf,\nside,3,0,40097,acc32,side_sf\nside_sf,3,0,40099,sunssf,\n' > inv.csv
@@ -153,7 +156,7 @@ same 'a reset' "$came" '0 ok'
 meters old.db m1 m3 m4 > asked-meters
 same 'what stands' "$(shown m1 last) $(shown m3 last) $(shown m4 last)" '5020 120 10'
 
-# It is carried.
+# The carry.
 before=$(sums old.db old.db-wal)
 run carry --from old.db --to new.db
 same 'carry' "$status $(cat out err)" '0 carried 3 meters'
@@ -208,7 +211,7 @@ same 'nothing is left of those' "$(ls next.db* none passing 2> /dev/null | grep 
 same 'what was there stays' "$(sums new.db)" "$sum"
 same 'the old one too' "$(sums old.db old.db-wal)" "$before"
 
-# Up to a moment.
+# Up to a time.
 run carry --from old.db --to past.db --until "$until_exchange"
 same 'carry up to a moment' "$status $(cat out err)" '0 carried 3 meters'
 meters past.db m1 m3 m4 > asked-past
@@ -222,7 +225,7 @@ same 'is all of it' "$(ask_rows late.db .dump)" "$carried"
 run carry --from old.db --to stood.db --until "$(ask_rows old.db "SELECT moment FROM entries WHERE meter = 'm1' AND place = 4")"
 same 'what was voided does not stand' "$status $(ask_rows stood.db "SELECT last_raw FROM installations WHERE meter = 'm1'")" '0 5020'
 
-# Beside an office that runs.
+# Beside a running office.
 port=$((port + 1))
 "$program" run --db old.db --listen "$port" --every 86400 --devices inv=127.0.0.1:1 > ran 2>&1 < /dev/null &
 child=$!
@@ -237,7 +240,8 @@ same 'and runs' "$(ask /meters/m4 | sed -E 's/.*"last":([0-9]*).*/\1/')" 10
 kill -9 "$child"
 wait "$child" 2> /dev/null
 
-# Energy goes on: the old file and the new one have together what one has that took all.
+# Energy continues: the old file and the new one have together the energy of one file that took all
+# readings.
 run backup --db old.db --to all.db
 same 'a file that takes all' "$status" 0
 sleep 1.1
@@ -277,7 +281,7 @@ enter bare.db '1 device inv 1 5 1\n2 register main inv 3 40094 0\n'
 run carry --from bare.db --to bare3.db
 same 'no meter' "$status $(cat out err) $(ask_rows bare3.db 'SELECT count(*) FROM registers')" '0 carried 0 meters 1'
 
-# A carry that is killed leaves the new file whole, or not there.
+# A killed carry leaves the new file complete, or no new file.
 started=$(date +%s%N)
 run carry --from old.db --to timed.db
 most=$((($(date +%s%N) - started) * 12 / 10 / 1000000 + 5))

@@ -1,10 +1,16 @@
 #!/usr/bin/env python3
-"""cases.sh [PROGRAM]: plays every case with the built program, and ends on 'N passed, M failed'.
+"""cases.sh [PROGRAM]: plays every golden test with the built program.
 
-Cases of texts stand in crates/script_cases/data, where the gate plays them with the proved libraries: the ending of a file's name says
-which command reads it, and whether each line behind the first is a text of its own. Cases of words stand in tests/cases: NAME.words has
-a word a line behind its first, which says what it shows; NAME.in is standard input, NAME.out what is printed, NAME.err the first line on
-standard error and NAME.status the status, each empty, or 0, where there is no such file. ROOM in a word is a folder of the run's own.
+Golden tests of texts are in crates/script_cases/data, where the gate plays them with the proved
+libraries. The ending of a file's name says which command reads it, and whether each line after the
+first is a separate text. Golden tests of arguments are in tests/cases:
+- NAME.words: what the test shows, and then an argument a line. ROOM in an argument is a temporary
+  folder.
+- NAME.in: standard input
+- NAME.out: the output
+- NAME.err: the first line on standard error
+- NAME.status: the status
+A missing file means an empty text, or status 0. The script ends with 'N passed, M failed'.
 """
 import os
 import pathlib
@@ -24,7 +30,7 @@ def run(program, words, text):
 
 
 def texts_of(kind, text):
-    """The texts that a case gives to its command."""
+    """Returns the texts that a test gives to its command."""
     behind = text.partition(b"\n")[2]
     if kind in BY_LINES:
         return [it for it in re.split(rb"(?<=\n)", behind) if it]
@@ -37,7 +43,7 @@ def zone_words(text):
 
 
 def play_texts(program, path):
-    """Why a case of texts is not as it should be, or nothing."""
+    """Returns the difference of a test of texts from what it expects, or nothing."""
     kind, text = path.suffix[1:], path.read_bytes()
     words, printed = [COMMANDS[kind], *zone_words(text)], b""
     for it in texts_of(kind, text):
@@ -58,7 +64,7 @@ def part(path, ending):
 
 
 def play_words(program, path, room):
-    """Why a case of words is not as it should be, or nothing."""
+    """Returns the difference of a test of arguments from what it expects, or nothing."""
     words = [it.replace("ROOM", room) for it in path.read_text().splitlines()[1:]]
     ran = run(program, words, part(path, ".in"))
     status, said = int(part(path, ".status") or b"0"), ran.stderr.partition(b"\n")[0]

@@ -1,12 +1,18 @@
 #!/bin/sh
-# Copies the energy of many offices into ClickHouse by central/collect: `tests/central.sh [PROGRAM]`, out/sunreg by default. Two servers of
-# ClickHouse are the shards, on ports of 127.0.0.1. CENTRAL_PARTS says which of these are tried, all by default: `copies` (what is copied of
-# what happens at mock offices, which faults are told, and the same rows by PostgreSQL), `failures` (each request to ClickHouse fails in turn),
-# `kills` (collect and servers are killed at random, CENTRAL_ROUNDS times, 30 by default, while 20 mock offices go on, and then 20 of the
-# program, where it is built, of fifty meters each), and `measures` (CENTRAL_SITES mock offices, 300 by default, of 30 meters with a month each, into one shard and
-# into two, timed). What lacks is installed by apt where this is run as root (not with PEERS_INSTALL=no); what can't be had is named and not
-# tried. It takes some 15 minutes (12 were seen beside provers, before the program's offices had fifty meters) and 1 GB, and ends on
-# 'N passed, M failed'.
+# central.sh [PROGRAM]: copies the energy of many offices into ClickHouse with central/collect.
+# PROGRAM is out/sunreg by default. Two servers of ClickHouse are the shards, on ports of 127.0.0.1.
+# CENTRAL_PARTS chooses the parts, all by default:
+# - `copies`: the copies after events at mock offices, reported faults, and the same rows in
+#   PostgreSQL
+# - `failures`: each request to ClickHouse fails in turn
+# - `kills`: collect and servers are killed at random, CENTRAL_ROUNDS times, 30 by default. First 20
+#   mock offices run meanwhile, and then 20 of the program, if it is built, of fifty meters each
+# - `measures`: times copies of CENTRAL_SITES mock offices, 300 by default, into one shard and into
+#   two. Each office has 30 meters with a month each
+#
+# As root the script installs missing tools by apt (not with PEERS_INSTALL=no). It names tools that
+# it can't install, and skips their parts. It takes some 15 minutes (12 were seen beside proofs,
+# before the program's offices had fifty meters) and 1 GB, and ends with 'N passed, M failed'.
 set -u
 here=$(dirname "$(readlink -f "$0")")
 program=$(readlink -f "${1:-${SUNREG:-$here/../out/sunreg}}")

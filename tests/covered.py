@@ -1,8 +1,11 @@
 #!/usr/bin/env python3
-"""covered.py NAME..: tells, in a minute or two for each of these crates, which of its functions and tests the borrow checker does not cover, before anything is
-proved: also where no library below was built. A check tells the same when it has ended, and the gate after an hour.
+"""covered.py NAME..: lists the functions and tests of crates that the borrow checker does not
+cover.
 
-It prints a line for each such function and for each error of the front end, and ends on 'N passed, M failed', of the crates; the status is 1 where M > 0.
+It takes a minute or two for each crate, proves nothing, and needs no built library. A check reports
+the same at its end, and the gate after an hour. The script prints a line for each such function and
+for each error of the front end. It ends with 'N passed, M failed', counted in crates; the status is 1
+if M > 0.
 """
 import os
 import subprocess
@@ -15,7 +18,9 @@ import kit
 
 
 def uncovered(rt, crate):
-    """Returns what the kit says of the crate where it is asked for no proof: the lines of a fault, and its last line where it has not come to its end."""
+    """Returns the kit's output for a crate without proofs.
+
+    It is the lines of faults, and the last line if the kit did not finish."""
     tests = ["--test"] * crate.has_tests()
     words = crate.words(["--jobs", "1", "--only", "", "--progress", *tests], tests=bool(tests), as_source=True)
     how = {"cwd": crate.folder, "stdin": subprocess.DEVNULL, "stdout": subprocess.PIPE, "stderr": subprocess.STDOUT}

@@ -1,9 +1,11 @@
 #!/usr/bin/env python3
 """damage.sh [PROGRAM]: damages the files of an office, and gives commands names and files that they must refuse.
 
-A young office has all that it recorded in its log. One byte of the log's header or of its first frame is changed: every command refuses
-the file, `recover` makes a new office of the rest, and no byte of either file changes. Then: names that belong to other files, what a
-killed carry leaves, a `create` without room, and files that are pipes, devices or far too long. It ends on 'N passed, M failed'.
+A young office has all its records in its log. The script changes one byte of the log's header or of
+its first frame: every command refuses the file, `recover` makes a new office of the rest, and no byte
+of either file changes. Then it tests names that belong to other files, the remains of a killed carry,
+and a `create` without space. It also tests pipes, devices and files that are far too long. It ends
+with 'N passed, M failed'.
 """
 import os
 import pathlib
@@ -62,13 +64,14 @@ class Office:
 
 
 def refused(ran, *parts):
-    """Whether a command ended with status 3, printed nothing, and said each of these."""
+    """Returns whether a command exited with 3, printed nothing, and its message has each of these
+    parts."""
     said = ran.stderr.decode()
     return ran.returncode == 3 and ran.stdout == b"" and said.startswith("failed\nsunreg: ") and said.count("\n") == 2 and all(it in said for it in parts)
 
 
 def commands(name):
-    """Commands that open an office, with what they are given."""
+    """Returns commands that open an office, with their input."""
     return {
         "report": (["report", "--db", name, "--register", "main"], b""),
         "audit": (["audit", "--db", name], b""),
@@ -81,7 +84,7 @@ def commands(name):
 
 
 def damaged_logs(office):
-    """One byte of the header, and of the first frame."""
+    """Changes one byte of the header, and of the first frame."""
     for at, said in ((0, "has a damaged header"), (4, "has a damaged header"), (20, "has a damaged header"), (60, "is damaged at byte 32"), (100, "is damaged at byte 32")):
         office.fresh()
         whole = office.bytes_of()
@@ -112,7 +115,7 @@ def damaged_logs(office):
 
 
 def names(office):
-    """Names that belong to other files."""
+    """Commands refuse names that belong to other files."""
     office.fresh()
     for end in ("-wal", "-journal", "-shm", ".part"):
         for words in (["create", "--zone", "UTC0", "--db"], ["backup", "--db", "office.db", "--to"], ["carry", "--from", "office.db", "--to"]):
@@ -129,7 +132,7 @@ def names(office):
 
 
 def without_room(office):
-    """A `create` on a disk without room, by a file system of so many bytes, leaves nothing."""
+    """A `create` on a disk without space, on a file system of so many bytes, leaves nothing."""
     folder = office.path("small")
     folder.mkdir()
     if subprocess.run(["mount", "-t", "tmpfs", "-o", "size=204800", "tmpfs", str(folder)], capture_output=True).returncode:
@@ -153,7 +156,7 @@ def without_room(office):
 
 
 def killed_makers(office):
-    """What a killed `create` leaves is in nobody's way, and two at once make one office."""
+    """The remains of a killed `create` do no harm, and two at once make one office."""
     for turn in range(30):
         child = subprocess.Popen([office.program, "create", "--db", "young.db", "--zone", "UTC0"], cwd=office.room, stdout=subprocess.DEVNULL, stderr=subprocess.DEVNULL)
         time.sleep(0.002 * turn)
@@ -176,7 +179,7 @@ def killed_makers(office):
 
 
 def bounds(office):
-    """Files that are no regular files, or far too long."""
+    """Commands refuse files that are no regular files, or far too long."""
     office.fresh()
     os.mkfifo(office.path("pipe"))
     os.symlink("/dev/zero", office.path("zero"))

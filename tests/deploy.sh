@@ -1,8 +1,15 @@
 #!/bin/sh
-# Tries what deploy/ has: the unit by systemd-analyze, the configuration of nginx by Debian's nginx, which is asked by curl, those of Prometheus by promtool and by a Prometheus that
-# asks through nginx, and the dashboard's queries: `tests/deploy.sh [PROGRAM]`, out/sunreg by default, which `./sunreg-build` makes; behind nginx stands tests/deploy/office.py, which shows
-# what came to it, and then the program, where it is built. What lacks is installed by apt where this is run as root (not with PEERS_INSTALL=no); what can't be had is named, and not
-# tried. All is on this machine's loopback. It takes a minute and a half, and ends on 'N passed, M failed'.
+# deploy.sh [PROGRAM]: tests the files of deploy/. PROGRAM is out/sunreg by default, which
+# `./sunreg-build` makes.
+# - the unit, with systemd-analyze
+# - the configuration of nginx, with Debian's nginx and curl. Behind nginx is
+#   tests/deploy/office.py, which records its requests, and then the program, if it is built
+# - the files of Prometheus, with promtool and a Prometheus that sends its requests through nginx
+# - the dashboard's queries
+#
+# As root the script installs missing tools by apt (not with PEERS_INSTALL=no). It names tools that
+# it can't install, and skips their checks. It uses only this machine's loopback, takes a minute and
+# a half, and ends with 'N passed, M failed'.
 set -u
 here=$(dirname "$(readlink -f "$0")")
 deploy=$here/../deploy
@@ -12,7 +19,7 @@ room=$(mktemp -d) || exit 2
 children=''
 trap 'for it in $children; do kill -9 "$it" 2> /dev/null; done; [ ! -s "$room/nginx.pid" ] || kill "$(cat "$room/nginx.pid")" 2> /dev/null; rm -rf "$room"' EXIT
 . "$here/peers/install.sh"
-# (nginx and prometheus may stand where only root looks)
+# (nginx and prometheus may be in folders that only root searches)
 PATH=$PATH:/usr/sbin:/sbin
 
 install python3 curl openssl systemd-analyze nginx promtool
@@ -24,7 +31,7 @@ port=${DEPLOY_PORT:-18700}
 tls=$((port + 1))
 prometheus=$((port + 2))
 
-# same WHAT GOT WANTED: holds what came to what is wanted
+# same WHAT GOT WANTED: compares a result with the expected one, and counts it
 same() {
     if [ "$2" = "$3" ]; then
         passed=$((passed + 1))
@@ -34,7 +41,7 @@ same() {
     fi
 }
 
-# fine WHAT WORDS..: holds that words end well
+# fine WHAT WORDS..: a command succeeds
 fine() {
     what=$1
     shift
@@ -42,7 +49,7 @@ fine() {
     same "$what" "$?$([ $? = 0 ] || tail -n 5 said)" 0
 }
 
-# waits WORDS..: tries words until they end well, for 20 seconds
+# waits WORDS..: runs a command until it succeeds, for 20 seconds
 waits() {
     for turn in $(seq 100); do
         "$@" > said 2>&1 && return
@@ -53,12 +60,12 @@ waits() {
 
 # ---- the unit
 
-# sunreg need not be installed here, so another program stands in its place
+# sunreg need not be installed here, so the unit runs another program
 sed "s|^ExecStart=/usr/local/bin/sunreg |ExecStart=/bin/true |" "$deploy/sunreg.service" > sunreg.service
 if has systemd-analyze; then
     systemd-analyze verify ./sunreg.service > said 2>&1
     same 'the unit: systemd-analyze verify' "$? $(grep sunreg said)" '0 '
-    # of 100: 12 when this was written, and 96 of a unit without any of it
+    # of 100: 12 when this was written, and 96 without all restrictions
     fine 'the unit: its exposure' systemd-analyze security --offline=yes --threshold=12 ./sunreg.service
     for word in CapabilityBoundingSet= ProtectSystem= NoNewPrivileges= SystemCallFilter=@ RestrictAddressFamilies= PrivateUsers=; do
         mkdir -p less
@@ -75,7 +82,7 @@ same 'each option of its command is one of run' "$(for it in $(grep '^ExecStart=
 
 # ---- nginx
 
-# asks USER TARGET WORDS..: asks nginx as a user, and prints status and body
+# asks USER TARGET WORDS..: sends a request to nginx as a user, and prints status and body
 asks() {
     user=$1
     target=$2
@@ -86,19 +93,19 @@ asks() {
     echo "$code $(cat body 2> /dev/null)"
 }
 
-# came FIELD: what the last request that came to the office has of it
+# came FIELD: prints a field of the last request that the office got
 came() {
     tail -n 1 came | python3 -c 'import json, sys
 came = json.load(sys.stdin)
 print("|".join(value for name, value in came["headers"] if name == sys.argv[1].lower()) if sys.argv[1] not in came else came[sys.argv[1]])' "$1"
 }
 
-# status_of ANSWER: its first word
+# status_of ANSWER: prints its first word
 status_of() {
     echo "${1%% *}"
 }
 
-# rows METHOD: the targets that docs/HTTP.md has of a method
+# rows METHOD: prints the targets of a method in docs/HTTP.md
 rows() {
     sed -n "s/^| \`*$1 \`*\(\/[^\` ]*\)\`.*/\1/p" "$here/../docs/HTTP.md" | sed 's/{name}/m1/; s/{number}/1/; s/{from}/900/; s/{till}/1800/; s/{place}/1/; s/{first}/2026-11-01/; s/{end}/2026-12-01/'
 }
@@ -122,7 +129,7 @@ while True: print(journal.recv(65536).decode(), flush=True)' "$room/log" > journ
     OFFICE_CAME=$room/came python3 -B "$here/deploy/office.py" run --db office.db --listen "$port" --every 60 --devices inv=192.0.2.7:502 > office 2>&1 &
     office=$!
     children="$children $office"
-    # another name, other ports and other places, and no IPv6 where there is none
+    # another name, other ports and other folders, and no IPv6 if there is none
     sed "s|meters\.example|localhost|; s|:443 |:$tls |; s|listen 443 |listen $tls |; s|127\.0\.0\.1:8080|127.0.0.1:$port|; s|/dev/log|$room/log|; s|/etc/nginx/sunreg|$room/sunreg|
         s|/etc/ssl/certs/sunreg.pem|$room/cert.pem|; s|/etc/ssl/private/sunreg.key|$room/key.pem|" "$deploy/nginx.conf" > site.conf
     [ -s /proc/net/if_inet6 ] || sed -i '/listen \[::\]/d' site.conf
@@ -145,7 +152,7 @@ END
     waits grep -q listening office
     waits curl -s -o /dev/null -k "https://localhost:$tls/nothing"
 
-    # Each route of docs/HTTP.md, by who may, by others and by nobody.
+    # Each route of docs/HTTP.md, for users who may use it, for others, and without a user.
     same 'rows of docs/HTTP.md are found' "$([ "$(rows POST | wc -l)" -ge 10 ] && [ "$(rows GET | wc -l)" -ge 6 ] || echo no)" ''
     for target in / $(rows GET); do
         same "GET $target: by one who may ask" "$(status_of "$(asks eye "$target")") $(came method) $(came target)" "200 GET $target"
@@ -183,7 +190,7 @@ END
         | timeout 5 openssl s_client -quiet -connect "localhost:$tls" -servername localhost > said 2>&1
     same 'none of these came to the office' "$(wc -l < came)" "$lines"
 
-    # What else is to hold.
+    # Headers, hosts and the rest.
     asks desk /devices -H 'Office-Caller: a' -H 'Office-Caller: b' -H 'Office-Request: 1' -d '{}' > said
     same 'a header that stands twice is the office'"'"'s to judge' "$(came Office-Caller)" 'a|b'
     same 'a method that is none is the office'"'"'s to judge' "$(status_of "$(asks eye /status -X DELETE)") $(came method)" '405 DELETE'
@@ -203,7 +210,7 @@ end 1'
     same 'and no passwords' "$(grep -c -e word-of -e "$(printf 'eye:word-of-eye' | base64)" journal)" 0
     same 'nginx wrote no file' "$(grep -v '\[notice\]' nginx.errors; find . -name '*access*')" ''
 
-    # The line that makes the caller the user.
+    # The line that makes the user the caller.
     sed -i 's|#proxy_set_header Office-Caller|proxy_set_header Office-Caller|' site.conf
     nginx -p "$room" -c nginx.conf -e "$room/nginx.errors" -s reload
     sleep 1
@@ -212,17 +219,17 @@ fi
 
 # ---- Prometheus and the dashboard
 
-# metrics: the names that the program's metrics have, by its source
+# metrics: prints the names of the program's metrics, from its source
 metrics() {
     sed -n 's/^ *b"\(sunreg_[a-z_]*\)",$/\1/p' "$here/../crates/run_http/src/texts/metrics.rt" "$here/../crates/run_http/src/texts/energy_lines.rt" | sort
 }
 
-# strange FILE: the names in a file that are none of these
+# strange FILE: prints the names in a file that are no metrics
 strange() {
     grep -o 'sunreg_[a-z_]*' "$1" | sort -u | while read -r it; do metrics | grep -q -x "$it" || echo "$it"; done
 }
 
-# unused FILE: those of these that a file has not
+# unused FILE: prints the metrics that a file lacks
 unused() {
     metrics | while read -r it; do grep -q "$it" "$1" || echo "$it"; done
 }
@@ -252,7 +259,7 @@ if has promtool; then
     fine 'the dashboard'"'"'s queries' promtool check rules queries.yml
     fine 'the alerts' promtool check rules alerts.yml
     fine 'the alerts, over made-up series' promtool test rules alerts.test.yml
-    # Each alert is seen: without it, the cases fail.
+    # Each alert is tested: without it, the tests fail.
     for it in $(sed -n 's/.*- alert: //p' "$deploy/alerts.yml"); do
         sed "s/- alert: $it\$/- alert: Other/" "$deploy/alerts.yml" > alerts.yml
         promtool test rules alerts.test.yml > said 2>&1

@@ -1,8 +1,9 @@
-"""A run that tells energy over earlier files, too: earlier_files.py PROGRAM; tests/earlier_files.sh calls it.
+"""earlier_files.py PROGRAM: compares a run over earlier files with a run over one file.
 
-The site is that of files_as_one.py, whose three files go on from each other. A run over the three replies by HTTP what one over the file
-replies that got all, byte for byte, and tells the same meters by `/site`; a run that begins a new file by itself replies what it replied before, where it tells earlier files;
-and files that don't join, or are damaged, are refused before anything is polled.
+tests/earlier_files.sh runs it. The site is that of files_as_one.py, whose three files continue each
+other. A run over the three files responds by HTTP as a run over the one file does, byte for byte, and
+reports the same meters by `/site`. A run that begins a new file by itself responds as before, if it
+reports earlier files. A run refuses files that don't join, or are damaged, before it polls anything.
 """
 import http.client
 import json
@@ -25,7 +26,8 @@ def free_port():
 
 
 class Run:
-    """A run over files, which ends with the block. Its device is a port at which nobody listens."""
+    """A run over files, which ends with the block. Its device is a port on which nothing
+    listens."""
 
     def __init__(self, files, *words):
         self.port = free_port()
@@ -49,7 +51,7 @@ class Run:
             return it.connect_ex(("127.0.0.1", self.port)) == 0
 
     def get(self, target):
-        """The status and the body of a reply."""
+        """Returns the status and the body of a response."""
         asked = http.client.HTTPConnection("127.0.0.1", self.port, timeout=30)
         asked.request("GET", target)
         reply = asked.getresponse()
@@ -57,7 +59,8 @@ class Run:
 
 
 def refused(what, files, status, begin, *words):
-    """Holds a run over files that can't be told of together to its end: nothing is polled, and HTTP isn't answered."""
+    """A run over files that it can't report together ends: it polls nothing, and does not serve
+    HTTP."""
     polls = ask(files[-1], "SELECT count(*) FROM polls")
     with Run(files, *words) as it:
         same(f"{what}: it ends", it.child.wait(30), status)
@@ -79,13 +82,15 @@ def targets():
 
 
 def registers_told(run):
-    """What `/site` tells of the registers, and how much of the energy of the meter at each is said to be that of earlier files."""
+    """Returns the registers of `/site`, and the energy of each one's meter that counts as that of
+    earlier files."""
     rows = json.loads(run.get("/site")[1])["registers"]
     return rows, {row["register"]: row.pop("earlier", None) for row in rows}
 
 
 def energy_before(rows, alone, files):
-    """How much of the energy of the meter at each register earlier files have, by what one file has of it, and the last one alone."""
+    """Returns the energy of each register's meter in earlier files, from one complete file and the
+    last file."""
     last = {row["register"]: row for row in alone}
     found = {}
     for row in rows:
@@ -130,7 +135,7 @@ def copy_into(folder, db, name):
 
 
 def hold_periods(place, whole, parts):
-    """A run that carries into a file of this month tells over those before, where it is asked for."""
+    """A run that carries into a file of this month reports the files before it, if asked to."""
     folder = place / "periods"
     folder.mkdir()
     office = copy_into(folder, whole, "office.db")

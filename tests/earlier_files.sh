@@ -1,7 +1,7 @@
 #!/bin/sh
-# Has a run tell energy over earlier files, too, and holds what it replies by HTTP to what one file tells that was never carried:
-# `tests/earlier_files.sh [PROGRAM]`, out/sunreg by default, which `./sunreg-build` makes. It needs python3 and
-# sqlite3. It ends on 'N passed, M failed'.
+# earlier_files.sh [PROGRAM]: compares a run that also reports energy of earlier files with one file
+# that was never carried. PROGRAM is out/sunreg by default, which `./sunreg-build` makes. The script
+# needs python3 and sqlite3, and ends with 'N passed, M failed'.
 set -eu
 here=$(dirname "$(readlink -f "$0")")
 program=${1:-${SUNREG:-$here/../out/sunreg}}

@@ -1,15 +1,19 @@
 #!/usr/bin/env python3
-"""edits.sh [--jobs N] [--verbose] [NAME..]: tries the edits that the prover must refuse, of the crates named or of all.
+"""edits.sh [--jobs N] [--verbose] [NAME..]: tries the mutants that the prover must refuse.
 
-The edits of a crate NAME are crates/NAME/must-fail/*.edit and tests/edits/NAME/*.edit, in the form that `rt must-fail` reads. One
-check tries many of them, at most one a function, over the work that the crate's own checks kept. An edit is refused where the
-check says so of the very function that it changes: a failed goal of that function, or an error in its own proof files. What
-isn't refused so is tried alone before it counts as let through. An edit outside the functions, as of a constant, is tried
-alone, and refused where any function is not proved. An edit that cannot be applied or read fails too.
+It tries the mutants of the named crates, or of all. The mutants of a crate NAME are
+crates/NAME/must-fail/*.edit and tests/edits/NAME/*.edit, in the form that `rt must-fail` reads. One
+check tries many of them, at most one a function, over the work that the crate's own checks kept. A
+mutant counts as refused if the check fails at the very function that it changes: at a goal of that
+function, or with an error in its own proof files. Any other mutant is tried alone before it counts as
+let through. A mutant outside the functions, such as of a constant, is tried alone. It is refused if
+any function is not proved. A mutant that cannot be applied or read fails too.
 
-It prints a line for each edit that fails and for each crate, and ends on 'N passed, M failed'; the status is 1 where M > 0.
---jobs N: crates side by side (2); --verbose: a line for each edit. The words of RT_RUN are put before each check.
-The crates' out/ stays as it is, but that libraries below are built where they lack, as `rt check` builds them.
+It prints a line for each mutant that fails and for each crate, and ends with 'N passed, M failed'; the
+status is 1 if M > 0.
+--jobs N: crates at once (2); --verbose: a line for each mutant. The words of RT_RUN precede each
+check. The crates' out/ does not change, except that missing libraries below are built, as by
+`rt check`.
 """
 import argparse
 import collections
@@ -29,20 +33,24 @@ sys.path.insert(0, os.path.join(os.path.dirname(os.path.realpath(__file__)), "..
 import kit
 
 HEAD = re.compile(r"( *)(?:pub(?:\([^)]*\))? )?(?:const )?fn (\w+)")
-# What a proof file says where it names something that the edit took away, which tells little of the contract.
+# The error of a proof file that names something that the mutant removed, which shows little about
+# the contract.
 NAMES = r": error.*(has no field|is not in scope|has no `|was not admitted)"
 TAKEN_AWAY = " (only because a proof file names what the edit took away)"
 CLAUSE = re.compile(r" *(requires|ensures)\b")
-# What a function's line says that is no fault of its own.
+# Text in a function's line that is no fault of the function itself.
 OF_OTHERS = re.compile(r"no proof|not proved|expected answers in \S+|it calls .* not proved|it waits for .*|the borrow checker's part in its proof is not made yet.*")
 
-# The lines of a function, and patterns of the name that a check gives it: one of an impl may go by the module of its type.
+# The lines of a function, and patterns of its name in a check: one of an impl may go by the module
+# of its type.
 Function = collections.namedtuple("Function", "file first last name loose")
-# What an edit makes of a file: its lines from `first` to before `end` become `lines`.
+# A mutant's change of a file: its lines from `first` to before `end` become `lines`.
 Change = collections.namedtuple("Change", "file first end lines")
-# An edit that also changes something outside the bodies `stands_alone`: what callers see may change with it.
+# A mutant that also changes something outside the bodies `stands_alone`: callers may see the
+# change.
 Edit = collections.namedtuple("Edit", "name changes functions stands_alone fault")
-# What a check said: whether it came to the proofs, whether all was proved by its last line, its lines, and what it said of each function.
+# The result of a check: whether it reached the proofs, whether its last line says that all is
+# proved, its lines, and its lines about each function.
 Said = collections.namedtuple("Said", "is_read is_proved lines functions")
 
 
@@ -51,7 +59,8 @@ kit.remember(rt.rtlib.Crate)
 
 
 def functions_of(crate, file):
-    """Returns the functions of a file that `rt fmt` has laid out, as a pattern of the name that a check gives each."""
+    """Returns the functions of a file that `rt fmt` has laid out, with a pattern of each name in a
+    check."""
     path = [it for it in file[len("src/") : -len(".rt")].split("/") if it not in ("lib", "main")]
     lines, found, owner = lines_of(crate, file), [], ""
     for at, line in enumerate(lines):
@@ -72,7 +81,7 @@ def functions_of(crate, file):
 
 
 def owner_of(line):
-    """Returns the pattern of the part of a function's name that stands for its impl or trait."""
+    """Returns the pattern of the part of a function's name that denotes its impl or trait."""
     taken = re.match(r"impl<(.*?)> ", line)
     while re.search(r"<[^<>]*>", line):
         line = re.sub(r"<[^<>]*>", "", line)
@@ -110,7 +119,7 @@ def read_edit(crate, path):
 
 
 def texts_of(crate, edits):
-    """Returns the files as all these edits leave them."""
+    """Returns the files with all these mutants applied."""
     texts = {}
     for change in sorted((it for edit in edits for it in edit.changes), key=lambda it: -it.first):
         lines = texts.setdefault(change.file, lines_of(crate, change.file))
@@ -119,7 +128,7 @@ def texts_of(crate, edits):
 
 
 class Trial:
-    """The edits of one crate."""
+    """The mutants of one crate."""
 
     def __init__(self, crate, room):
         self.crate, self.kept = crate, f"{room}/kept"
@@ -128,7 +137,7 @@ class Trial:
         self.checks, self.seconds, self.told, self.failed = 0, 0.0, [], 0
 
     def check(self, texts, kept):
-        """Checks a copy of the crate with these texts in place of its own."""
+        """Checks a copy of the crate with these texts instead of its own."""
         with tempfile.TemporaryDirectory(prefix="edits-") as room, tempfile.TemporaryFile("w+", errors="replace") as out:
             for part in rt.rtlib.PARTS:
                 if os.path.isdir(f"{self.crate.folder}/{part}"):
@@ -173,7 +182,8 @@ class Trial:
             self.attempt(edits)
 
     def rounds(self):
-        """Returns the edits in groups of different functions; one that stands alone is a group of its own."""
+        """Returns the mutants in groups of different functions; one that stands_alone is a separate
+        group."""
         groups, alone = [], []
         for edit in self.edits:
             if edit.fault:
@@ -222,14 +232,14 @@ class Trial:
 
 
 def reason_in(said, edit):
-    """Returns what a check says against the function that the edit changes, or None."""
+    """Returns what a check reports against the function that the mutant changes, or None."""
     open_ones = {name: line for name, line in said.functions.items() if line != "proved"}
     if not edit.functions:
         return None if said.is_proved else next((f"{name}: {line}" for name, line in open_ones.items()), error_in(said))
     for name in {name for it in edit.functions for name in names_of(said, it)} & {*open_ones}:
         parts = open_ones[name].removeprefix("no proof: ").split("; ")
         own = [it for it in parts if not OF_OTHERS.fullmatch(it)]
-        # The folder of a function that calls itself begins with a plus sign.
+        # The folder of a recursive function begins with a plus sign.
         proofs = r"(\./)?proofs/" + "/".join(rf"\+?{re.escape(it)}" for it in name.split("::")[1:]) + "/.*: error"
         errors = [it for it in said.lines if re.match(proofs, it)]
         if own or errors:
@@ -239,12 +249,12 @@ def reason_in(said, edit):
 
 
 def error_in(said):
-    """Returns the first error that a check told, or else its last line."""
+    """Returns the first error of a check, or else its last line."""
     return next((it for it in said.lines if ": error" in it), said.lines[-1])
 
 
 def lack_in(said, edit):
-    """Says how a check that was tried for this edit alone does not refuse it."""
+    """Returns how a check of this mutant alone does not refuse it."""
     if said.is_proved:
         return "at all: the crate is still proved"
     unknown = [it.name for it in edit.functions if not names_of(said, it)]

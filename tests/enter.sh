@@ -1,6 +1,7 @@
 #!/usr/bin/env bash
-# Enters files into an office in a file with the built program: `tests/enter.sh [PROGRAM]`, out/sunreg by default, which
-# `./sunreg-build` makes. It needs sqlite3, and ends on 'N passed, M failed'.
+# enter.sh [PROGRAM]: enters files into an office in a file with the built program. PROGRAM is
+# out/sunreg by default, which `./sunreg-build` makes. The script needs sqlite3, and ends with
+# 'N passed, M failed'.
 set -u
 here=$(dirname "$(readlink -f "$0")")
 program=${1:-${SUNREG:-$here/../out/sunreg}}
@@ -14,7 +15,7 @@ cd "$room" || exit 2
 passed=0
 failed=0
 
-# is WHAT FOUND WANTED
+# is WHAT FOUND WANTED: compares a result with the expected one, and counts it
 is() {
     if [ "$2" = "$3" ]; then
         passed=$((passed + 1))
@@ -24,8 +25,10 @@ is() {
     fi
 }
 
-# enter LINES [WORDS..]: enters lines; status, standard output (its lines joined by ;) and the first line on standard error are in came.
-# (sqlite3, by which facts are told, removes the log of a file that it closes, and the next command says that there is none)
+# enter LINES [WORDS..]: enters lines; status, standard output (its lines joined by ;) and the first
+# line on standard error are in came.
+# (sqlite3, which `facts` uses, removes the log of a file that it closes, and the next command
+# reports that there is none)
 enter() {
     lines=$1
     shift
@@ -34,7 +37,7 @@ enter() {
     came="$status $(paste -sd ';' out) / $(grep -v 'it had no log' err | head -n 1)"
 }
 
-# facts: what the office has recorded
+# facts: prints the records of the office
 facts() {
     sqlite3 office.db "SELECT name FROM sqlite_master WHERE type = 'table' ORDER BY name" | while read -r table; do
         echo "$table"
@@ -108,8 +111,9 @@ is 'the same without its mark' "$came" '1 refused 11 / '
 enter '27 close main 9000 0 !\n28 register main inv 3 40094 0 !\n' -n
 is 'marks, looked at' "$came" '1 new;bad line 2 / '
 
-# What a round says to people, behind what it prints for scripts.
-# polled DEVICE LINES: polls a device at a stand-in that these lines set up; status, standard output and error (their lines joined by ;) are in came
+# The messages of a round to people, after its output for scripts.
+# polled DEVICE LINES: polls a device at a simulator that these lines set up; status, standard
+# output and error (their lines joined by ;) are in came
 port=${ENTER_PORT:-15320}
 polled() {
     port=$((port + 1))
@@ -123,7 +127,7 @@ polled() {
     came="$status $(paste -sd ';' out) / $(grep -v 'it had no log' err | paste -sd ';')"
 }
 
-# means KIND NUMBER: what a number means, and what to do
+# means KIND NUMBER: prints the meaning of a number, and what to do
 means() {
     "$program" explain "$1" "$2" | sed -n -E 's/^[a-z]+ [0-9]+: //p; s/^What to do: (.*)\.$/\1/p' | paste -sd '|' | sed 's/|/; /'
 }
@@ -138,8 +142,8 @@ is 'a reading that is held' "$came" "0 ok;started 1 1 1 0000000000060103$(printf
 "$program" round --db office.db --device none --port "$port" > out 2> err
 is 'a round that fails says that alone' "$? $(cat out) $(grep -v 'it had no log' err | head -n 1) $(grep -c -v 'it had no log' err)" '3  failed 2'
 
-# Counters that are read when their lines' turn comes.
-# beside BANK LINES: enters lines while the device live is a stand-in that these lines set up
+# Counters that are read in the order of the lines.
+# beside BANK LINES: enters lines while the device live is a simulator that these lines set up
 beside() {
     port=$((port + 1))
     printf "$1" | "$program" stand-in --port "$port" --connections 1 > peer 2>&1 &
@@ -150,7 +154,8 @@ beside() {
     wait "$peer" 2> /dev/null
 }
 
-# bank LOW [TRICK..]: the stand-in's lines for a counter with these low 16 bits, 45 * 65536 above them, and the scale 0
+# bank LOW [TRICK..]: prints the simulator's lines for a counter with these low 16 bits, 45 * 65536
+# above them, and the scale 0
 bank() {
     printf 'area holding 40094 3\\nset holding 40094 45\\nset holding 40095 %s\\n' "$1"
     shift

@@ -1,6 +1,7 @@
 #!/bin/sh
-# Runs the built program's commands over an office in a file, with curl, sqlite3 and its own stand-in:
-# `tests/files.sh [PROGRAM]`, out/sunreg by default, which `./sunreg-build` makes. It ends on 'N passed, M failed'.
+# files.sh [PROGRAM]: runs the built program's commands over an office in a file, with curl, sqlite3
+# and its own simulator. PROGRAM is out/sunreg by default, which `./sunreg-build` makes. The script
+# ends with 'N passed, M failed'.
 set -u
 here=$(dirname "$(readlink -f "$0")")
 program=${1:-${SUNREG:-$here/../out/sunreg}}
@@ -19,7 +20,7 @@ failed=0
 port=${FILES_PORT:-18471}
 device=$((port + 1))
 
-# same WHAT GOT WANTED: holds what came to what is wanted
+# same WHAT GOT WANTED: compares a result with the expected one, and counts it
 same() {
     if [ "$2" = "$3" ]; then
         passed=$((passed + 1))
@@ -29,7 +30,8 @@ same() {
     fi
 }
 
-# is WHAT STATUS OUT ERR: holds the last run to what is wanted; of standard error its first line
+# is WHAT STATUS OUT ERR: compares the last run with what is expected; of standard error its first
+# line
 is() {
     same "$1" "$status $(cat out) / $(head -n 1 err)" "$2 $3 / $4"
     if [ "$2" = 3 ]; then
@@ -37,13 +39,14 @@ is() {
     fi
 }
 
-# run WORDS..: runs the program, and keeps what comes
+# run WORDS..: runs the program, and keeps its output
 run() {
     "$program" "$@" > out 2> err < /dev/null
     status=$?
 }
 
-# ask PATH [WORDS..]: asks the serving program, once it listens, and prints the reply's status and body, or what it says where it can't serve
+# ask PATH [WORDS..]: sends a request to the serving program, once it listens. Prints the response's
+# status and body, or the program's message if it can't serve
 ask() {
     path=$1
     shift
@@ -56,12 +59,12 @@ ask() {
     echo "$code $(cat body served)"
 }
 
-# put PATH NUMBER BODY: asks a command
+# put PATH NUMBER BODY: sends a command
 put() {
     ask "$1" -H 'Office-Caller: desk' -H "Office-Request: $2" --data-binary "$3"
 }
 
-# stand_in COUNT RAW: starts a device for so many connections, whose meter shows so much
+# stand_in COUNT RAW: starts a device for so many connections, whose meter shows RAW
 stand_in() {
     printf 'area holding 40000 100\nset holding 40095 %s\n' "$2" \
         | "$program" stand-in --port "$device" --connections "$1" > stand_in 2>&1 &
@@ -126,7 +129,7 @@ run serve --db office.db --port "$port" --connections 1
 is 'a port that is taken' 3 '' 'failed'
 kill -9 "$child"
 
-# (a reading lies seconds behind the opening)
+# (a reading comes seconds after the opening)
 sleep 2
 stand_in 1 5200
 run round --db office.db --device inv --port "$device"
@@ -152,7 +155,7 @@ wait "$round" 2> /dev/null
 kill -CONT "$child"
 # (sqlite3 moves the log, and removes it)
 same 'a poll waits behind the stop' "$(sqlite3 office.db 'SELECT (SELECT count(*) FROM polls) - (SELECT count(*) FROM outcomes)')" 1
-# (a reading of the second of the one before would be held)
+# (a reading of the same second as the one before would be rejected)
 sleep 1.1
 run round --db office.db --device inv --port "$device"
 is 'a round behind the stop' 0 'ok
@@ -177,7 +180,8 @@ else
     same 'a write that fails' 'no /dev/full here' ''
 fi
 
-# A file and a folder in which nobody may write. Root may, so it is asked as nobody then, by a program where nobody may reach it.
+# A file and a folder in which nobody may write. Root may, so root runs it as nobody, with a copy of
+# the program that nobody can reach.
 run report --db office.db --register main
 cp out wanted
 mkdir closed passing
@@ -200,7 +204,7 @@ same 'what writes is refused there' "$? $(cat out; head -n 1 err)" '3 failed'
 same 'file and folder are as they were' "$(seen)" "$before"
 same 'no copy is left' "$(ls passing)" ''
 
-# An audit leaves alone who has the file open.
+# An audit does not disturb a process that has the file open.
 "$program" serve --db office.db --port "$port" --connections 1 > served 2>&1 < /dev/null &
 child=$!
 children="$children $child"

@@ -1,10 +1,13 @@
-"""Reports and statements over several files of one office: files_as_one.py PROGRAM [--short]; tests/files_as_one.sh calls it.
+"""files_as_one.py PROGRAM [--short]: compares reports over several files of one office with one
+file.
 
-A site has a meter whose counter turns over, is reset, is corrected by hand and has a reading voided, and that is exchanged for another.
-One file gets all of it. Three files get it in parts, the second and the third of them begun by `sunreg carry`: the first carry falls into
-a quarter hour, the second on the begin of one. What the program prints of the three is what it prints of the one, byte for byte, and their
-statement is what Python computes of the entries. Of a second, small site it is held to numbers that were reckoned by hand.
-With --short all days are asked for in each form, and every other range in one form, a different one for each.
+tests/files_as_one.sh runs it. A site has a meter with a rollover, a reset, a correction by hand and a
+voided reading, which is replaced by another meter. One file gets all of it. Three files get it in
+parts; `sunreg carry` begins the second and the third. The first carry is inside a quarter hour, the
+second on the begin of one. The program's output for the three equals that for the one, byte for byte.
+Their statement equals what Python computes from the entries. The statement of a second, small site
+equals numbers that were computed by hand. --short requests all days in each form, and every other
+range in one form, a different one for each.
 """
 import datetime
 import itertools
@@ -18,21 +21,21 @@ HERE = pathlib.Path(__file__).resolve().parent
 ZONE = "CET-1CEST,M3.5.0,M10.5.0/3"
 BEGIN = 1703808000  # 2023-12-29 00:00 UTC
 DAY, STEP = 86400, 6 * 3600 + 431
-# In W: so little that the counter can't turn over twice in two steps.
+# In W: so little that the counter can't roll over twice in two steps.
 CEILING = 2500
 OPENING, READING, MANUAL, CLOSING, RESET, RESCALE = 1, 2, 3, 4, 5, 6
 counts = {"passed": 0, "failed": 0}
 
 
 def same(what, got, wanted):
-    """Holds what came to what is wanted."""
+    """Compares a result with the expected one, and counts it."""
     counts["passed" if got == wanted else "failed"] += 1
     if got != wanted:
         print(f"{what}: {got!r}\nand not {wanted!r}")
 
 
 class Entry:
-    """An entry of a meter: `raw` is what the counter showed, `after` what it was set to by a reset or a rescaling."""
+    """An entry of a meter: `raw` is the counter, `after` its value after a reset or a rescaling."""
 
     def __init__(self, kind, moment, raw, sf, rolls=0, after=0):
         self.kind, self.moment, self.raw, self.sf, self.rolls, self.after = kind, moment, raw, sf, rolls, after
@@ -43,13 +46,16 @@ class Entry:
 
 
 class Meter:
-    """A meter at the register `main`, by its entries in their order, and its readings that were held: moments and causes."""
+    """A meter at the register `main`: its entries in order, and the times and causes of its
+    rejected readings."""
 
     def __init__(self, name, top, entries):
         self.name, self.top, self.entries, self.held = name, top, entries, []
 
     def part(self, from_moment, till):
-        """What a file has of it that was begun at a moment; none where it was closed before, or was not there yet."""
+        """Returns the part of the meter in a file that was begun at a time.
+
+        Returns none if the meter was closed before, or not installed yet."""
         standing = [it for it in self.entries if not it.voided]
         first = [it for it in standing if it.moment <= from_moment]
         rest = [it for it in self.entries if from_moment < it.moment <= till]
@@ -62,7 +68,8 @@ class Meter:
         return found
 
     def steps(self):
-        """The steps between entries that stand: from when until when, and the energy in mWh."""
+        """Returns the steps between valid entries: their begin, their end, and their energy in
+        mWh."""
         last = self.entries[0]
         for it in self.entries[1:]:
             if not it.voided:
@@ -70,7 +77,7 @@ class Meter:
                 last = it
 
     def intervals(self):
-        """The energy of each quarter hour."""
+        """Returns the energy of each quarter hour."""
         found = {}
         for begin, end, energy in self.steps():
             def until(moment):
@@ -80,7 +87,7 @@ class Meter:
         return sorted(found.items())
 
     def statements(self, place):
-        """The rows of the tables."""
+        """Returns the rows of the tables."""
         standing = [it for it in self.entries if not it.voided]
         last, total = standing[-1], sum(energy for _, _, energy in self.steps())
         ended = int(any(it.kind == CLOSING for it in self.entries))
@@ -95,7 +102,7 @@ class Meter:
 
 
 def readings(from_moment, till, raw, top, sf, pace):
-    """Readings at a pace, which take the counter over its top."""
+    """Returns readings at a pace, past the counter's rollover."""
     found = []
     for at, moment in enumerate(range(from_moment, till, STEP)):
         more = pace + at * 37 % 211
@@ -105,11 +112,11 @@ def readings(from_moment, till, raw, top, sf, pace):
 
 
 def site():
-    """The two meters of the register."""
+    """Returns the two meters of the register."""
     top = 65536
     one = [Entry(OPENING, BEGIN, 60000, 0)]
     one += readings(BEGIN + STEP, BEGIN + 20 * DAY, 60000, top, 0, 350)
-    # (a reading that was voided: the next one has the energy of both)
+    # (a voided reading: the next one has the energy of both)
     last, gone = one[-1], one[-2]
     gone.voided = last.moment + 5
     last.rolls = 1 if last.raw < one[-3].raw else 0
@@ -132,7 +139,7 @@ def site():
 
 
 def polls(held):
-    """The rows of readings that were held."""
+    """Returns the rows of rejected readings."""
     for at, (meter, moment, cause) in enumerate(held, 1):
         yield f"INSERT INTO polls VALUES ({at}, 'inv', 1, {moment}, {at}, 3, 40094, 3);"
         yield f"INSERT INTO outcomes VALUES ({at}, {moment}, 1, 0);"
@@ -149,7 +156,8 @@ def ask(db, question):
 
 
 def run(*words):
-    """The status of a command, what it prints, and what it says, but that a file has no log beside it."""
+    """Returns the status, the output and the messages of a command, without that about a missing
+    log."""
     done = subprocess.run([PROGRAM, *words], capture_output=True, stdin=subprocess.DEVNULL)
     said = [it for it in done.stderr.decode().splitlines() if "it had no log" not in it]
     return done.returncode, done.stdout.decode(), said
@@ -162,7 +170,7 @@ def new_office(db):
 
 
 def fill(db, meters, held):
-    """Writes what a file has of the meters; one that was carried into it has its place there."""
+    """Writes a file's part of the meters; a meter that was carried into it keeps its place."""
     known = {line.split("|")[1]: line.split("|")[0] for line in ask(db, "SELECT place, meter FROM installations").splitlines()}
     at = itertools.count(len(known) + 1)
     statements = []
@@ -176,7 +184,10 @@ def fill(db, meters, held):
 
 
 def build(room, names, meters, carries, held):
-    """Makes files that get what comes to the meters in parts, each but the first begun by a carry from the one before, where its meter stands."""
+    """Makes files that get the events of the meters in parts.
+
+    Each but the first is begun by a carry from the file before it, with the counter of its
+    meter."""
     parts = [str(room / f"{name}.db") for name in names]
     begins, ends = [0, *carries], [*carries, BEGIN + 1000 * DAY]
     new_office(parts[0])
@@ -190,13 +201,13 @@ def build(room, names, meters, carries, held):
 
 
 def midnight(day):
-    """When a day begins by the clocks of the zone, which go forward on 2024-03-31."""
+    """Returns when a day begins by the clocks of the zone, which go forward on 2024-03-31."""
     begin = datetime.datetime.fromisoformat(f"{day}T00:00+00:00")
     return int(begin.timestamp()) - (3600 if day <= "2024-03-31" else 7200)
 
 
 def stated(meters, held, first, till):
-    """What a statement of meters says in text and mWh."""
+    """Returns the statement of meters in text and mWh."""
     begin, end = midnight(first) if first else 0, midnight(till) if till else BEGIN + 1000 * DAY
     rows = []
     for meter in meters:
@@ -223,7 +234,7 @@ def copy(db, name):
 
 
 def over(files, *words):
-    """A report of the register `main` over files."""
+    """Returns a report of the register `main` over files."""
     return run("report", *[word for db in files for word in ("--db", db)], "--register", "main", *words)
 
 
@@ -237,7 +248,7 @@ def in_forms(ranges, *choices):
 
 
 def hold_reports(whole, parts, ranges):
-    """Holds each form of the report over the parts to that of the whole."""
+    """Each form of the report over the parts equals that of the whole."""
     for (first, till), (period, unit, form) in in_forms(ranges, ("day", "month", "year"), ("mwh", "kwh"), ("text", "csv", "json")):
         words = ["--by", period, "--unit", unit, "--format", form]
         words += ["--from", first] if first else []
@@ -248,7 +259,8 @@ def hold_reports(whole, parts, ranges):
 
 
 def hold_statements(whole, parts, ranges, meters, held):
-    """Holds each form of the statement over the parts to that of the whole, and its text to what is computed."""
+    """Each form of the statement over the parts equals that of the whole, and its text what is
+    computed."""
     for (first, till), (unit, form) in in_forms(ranges, ("mwh", "kwh"), ("text", "csv", "json")):
         words = ["--statement", "--unit", unit, "--format", form]
         words += ["--from", first] if first else []
@@ -261,7 +273,9 @@ def hold_statements(whole, parts, ranges, meters, held):
 
 
 def small_site():
-    """A meter that is carried twice, first at midnight by the clocks of the zone, and is closed then, and the one after it."""
+    """Makes a meter that is carried twice and then closed, and the meter after it.
+
+    The first carry is at midnight by the clocks of the zone."""
     at = 1704148200  # 2024-01-01 23:30 by the clocks
     one = [Entry(OPENING, at, 1000, 0), Entry(READING, at + 900, 1100, 0), Entry(READING, at + 1800, 1300, 0), Entry(MANUAL, at + 2700, 1350, 0),
            Entry(READING, at + 3600, 1400, 0), Entry(READING, at + 4500, 1500, 0), Entry(CLOSING, at + 5400, 1600, 0)]
@@ -271,19 +285,19 @@ def small_site():
     return [Meter("m1", 65536, one), Meter("m2", 65536, two)], [at + 1800, at + 4500], held
 
 
-# Words, which of the three files are asked, and the statement.
+# Arguments, the names of the files, and the statement.
 SMALL = [
     ([], "one two three", """m1 1704148200 1000000 1704153600 1600000 600000 1 0 0 1 2=2,5=1
 m2 1704153600 7000 1704154500 0 10000 0 1 0 0 0
 end 2
 """),
-    # (the reading at which it was carried is of the second day)
+    # (the reading at the carry is of the second day)
     (["--till", "2024-01-02"], "one two three", "m1 1704148200 1000000 1704149100 1100000 300000 0 0 0 0 2=1\nend 1\n"),
     (["--from", "2024-01-02"], "one two three", """m1 1704150000 1300000 1704153600 1600000 300000 1 0 0 1 2=1,5=1
 m2 1704153600 7000 1704154500 0 10000 0 1 0 0 0
 end 2
 """),
-    # (a file that the meter was carried from is left out, or has nothing yet of what comes after it)
+    # (a file from which the meter was carried is left out, or has nothing yet of the time after it)
     ([], "two three", """m1 1704150000 1300000 1704153600 1600000 300000 1 0 0 1 2=1,5=1
 m2 1704153600 7000 1704154500 0 10000 0 1 0 0 0
 end 2
@@ -297,7 +311,7 @@ end 2
 
 
 def hold_by_hand(room):
-    """Holds statements of the small site to numbers that were reckoned by hand."""
+    """Statements of the small site equal numbers that were computed by hand."""
     room.mkdir()
     meters, carries, held = small_site()
     build(room, ["one", "two", "three"], meters, carries, held)
@@ -307,7 +321,7 @@ def hold_by_hand(room):
 
 
 def unjoined(what, files, begin, *words):
-    """Holds a report and a statement over files that don't join to their refusal."""
+    """A report and a statement over files that don't join are refused."""
     for form in ([], ["--statement"]):
         status, printed, said = over(files, *words, *form)
         same(f"{what} {' '.join(form)}", (status, printed, [it.startswith(f"sunreg: {begin}") for it in said]), (1, "", [True]))
@@ -353,7 +367,8 @@ def hold_refusals(room, parts, carries):
 
 
 def carry_parts(place):
-    """Makes the file that gets all, and the three that go on from each other; and when these were carried."""
+    """Makes the file that gets all, and the three that continue each other; returns when these were
+    carried."""
     meters, on_time = site()
     first = [it.moment for it in meters[0].entries if it.moment < BEGIN + 33 * DAY and not it.voided][-1]
     carries = [first, on_time]

@@ -1,7 +1,9 @@
 #!/bin/sh
-# Carries an office into a second file and a third, goes on in each, and holds reports and statements over the three to what one file tells that was never
-# carried: `tests/files_as_one.sh [--short] [PROGRAM]`, out/sunreg by default, which `./sunreg-build` makes. It needs python3 and sqlite3.
-# With --short, as in the gate, fewer ranges are asked for in each form. It ends on 'N passed, M failed'.
+# files_as_one.sh [--short] [PROGRAM]: carries an office into a second file and a third, and
+# continues in each. It compares reports and statements over the three with one file that was never
+# carried. PROGRAM is out/sunreg by default, which `./sunreg-build` makes. The script needs python3
+# and sqlite3. --short, as in the gate, requests fewer ranges in each form. The script ends with
+# 'N passed, M failed'.
 set -eu
 here=$(dirname "$(readlink -f "$0")")
 short=

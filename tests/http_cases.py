@@ -1,9 +1,11 @@
-"""http_cases.py PROGRAM ROOM: see http_cases.sh. Plays the cases of crates/http_cases over files, with `serve` and `run` at a port.
+"""http_cases.py PROGRAM ROOM: plays the golden tests of crates/http_cases over files.
 
-The lines of a script are entered with `enter`; a `connect`, `start` and `bytes` become a `round` at a device of this process. The clock of
-each process is set to the moment of the line or the request. Not tried here: a case with a poll that gets no answer, since the next
-process ends it as lost; one with a line that the office rejects, which `round` has no place for; and /status and /metrics of a run,
-which counts what it does at a device.
+See http_cases.sh. `serve` and `run` respond at a port. `enter` enters the lines of a script; a
+`connect`, `start` and `bytes` become a `round` at a device of this process. The clock of each process
+is set to the time of the line or the request. Not tested here:
+- a poll without an answer, since the next process ends it as lost
+- a line that the office rejects, for which `round` has no place
+- /status and /metrics of a run, which counts its work at a device
 """
 import glob
 import os
@@ -33,7 +35,7 @@ LIBRARY = library()
 
 
 class Clock:
-    """The clock of processes. It stands still at a moment."""
+    """The clock of processes, which is stopped at a time."""
 
     def __init__(self, path):
         self.path = path
@@ -50,11 +52,11 @@ class Clock:
 
 
 class NotTried(Exception):
-    """A case needs something that this script can't do."""
+    """A test needs something that this script can't do."""
 
 
 def decode(text):
-    """The bytes of a request, as crates/http_cases/README.md describes."""
+    """Returns the bytes of a request, as crates/http_cases/README.md describes."""
     found = bytearray()
     for line in text.split("\n"):
         is_open = line.endswith("~")
@@ -70,7 +72,7 @@ def decode(text):
 
 
 class Office:
-    """The office of a case, in a file."""
+    """The office of a test, in a file."""
 
     def __init__(self, folder):
         folder.mkdir()
@@ -91,7 +93,7 @@ class Office:
         self.call("enter", "--db", self.path, "--caller", "script", text=f"{self.lines} {line}\n")
 
     def set_up(self, lines):
-        """Carries out the lines of a script."""
+        """Executes the lines of a script."""
         for line in filter(None, lines.split("\n")):
             moment, verb, *words = line.split(" ")
             if verb == "connect":
@@ -112,7 +114,7 @@ class Office:
             raise NotTried("a poll without an answer")
 
     def poll(self, moment, frame):
-        """A round of the poll that was started, which is answered by a frame at a moment."""
+        """Runs a round of the started poll, which a frame answers at a time."""
         begun, device, function, address, count = self.start
         self.start = None
         (self.folder / "list.csv").write_text(f"name,function,area,address,type,scale\nall,{function},0,{address},string{count},\n")
@@ -132,7 +134,7 @@ class Office:
             stream.recv(260)
 
     def begin(self, command, moment, connections):
-        """A process that answers at a port."""
+        """Starts a process that responds at a port."""
         self.clock.set(moment)
         with socket.create_server(("127.0.0.1", 0)) as listener:
             port = listener.getsockname()[1]
@@ -144,7 +146,7 @@ class Office:
         return port, subprocess.Popen(words, stdin=subprocess.DEVNULL, stdout=subprocess.DEVNULL, stderr=subprocess.DEVNULL, env=self.clock.surroundings())
 
     def ask_all(self, command, requests):
-        """The replies of one process."""
+        """Returns the responses of one process."""
         port, process = self.begin(command, requests[0][0], len(requests))
         try:
             return [self.ask(port, moment, request) for moment, request in requests]
@@ -187,7 +189,9 @@ def read_all(stream):
 
 
 def blocks_of(text):
-    """The blocks of a case: the command, or `script`, with what belongs to it; requests of one command stand together."""
+    """Returns the blocks of a test: the command, or `script`, with its lines.
+
+    Requests of one command are in one block."""
     first, *others = text.removesuffix("\n").split("\n> ")
     blocks = [("script", first.partition("\n")[2])]
     for block in others:
@@ -203,7 +207,7 @@ def blocks_of(text):
 
 
 def differs(path, folder):
-    """Where the replies of a case differ from those that are expected; nothing, where they don't."""
+    """Returns the difference of a test's responses from the expected ones, or nothing."""
     text = path.with_suffix(".out").read_bytes()
     if b"\nrejected: " in text:
         raise NotTried("a line of its script that the office rejects")

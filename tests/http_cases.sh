@@ -1,6 +1,7 @@
 #!/bin/sh
-# Plays the cases of crates/http_cases with the built program, out/sunreg by default: `tests/http_cases.sh [PROGRAM]`. tests/http_cases.py
-# says more. `faketime` sets the clock; where this is run as root it is installed by apt (not with PEERS_INSTALL=no).
+# http_cases.sh [PROGRAM]: plays the golden tests of crates/http_cases with the built program,
+# out/sunreg by default. tests/http_cases.py says more. `faketime` sets the clock; as root the
+# script installs it by apt (not with PEERS_INSTALL=no).
 set -u
 here=$(dirname "$(readlink -f "$0")")
 program=$(readlink -f "${1:-$here/../out/sunreg}")

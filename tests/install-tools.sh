@@ -1,54 +1,56 @@
 #!/bin/sh
-# Installs the tools that the tests need and that this machine lacks: `tests/install-tools.sh [NAME..]`. Without a
-# name it installs the tools of the checks that the gate runs; `--long` adds those of the long checks.
-# `--lacking NAME..` prints the tools that are missing, and installs nothing.
+# install-tools.sh [--long | --lacking] [NAME..]: installs the missing tools of the tests. Without a
+# name it installs the tools of the checks that the gate runs; `--long` adds those of the long
+# checks. `--lacking NAME..` prints the tools that are missing, and installs nothing.
 #
-# This script is the only place that names Debian packages. It installs by apt-get, without a question, where it is
-# run as root (not with PEERS_INSTALL=no), says which tools are still missing, and always exits with 0: a check whose
-# tool is missing is reported as skipped. Other scripts source this file for `has`, `lacking` and `install`; they set
+# This script is the only place that names Debian packages. As root it installs by apt-get, without
+# a question (not with PEERS_INSTALL=no). It names the tools that are still missing, and always
+# exits with 0: a check whose tool is missing is reported as skipped. Other scripts source this file
+# for `has`, `lacking` and `install`; they set `here` to the folder tests/ and `room` to a temporary
+# folder.
 # `here` to the folder tests/ and `room` to a scratch folder.
 
-# python_of_pymodbus: the Python that has pymodbus: apt's is that of /usr/bin
+# python_of_pymodbus: prints the Python that has pymodbus: apt's is that of /usr/bin
 python_of_pymodbus() {
     for it in python3 /usr/bin/python3; do
         "$it" -B "$here/peers/pymodbus_peer.py" version > "$room/said" 2>&1 && echo "$it" && break
     done
 }
 
-# python_of_prometheus: the Python that has the parser of Prometheus's text
+# python_of_prometheus: prints the Python that has the parser of Prometheus's text
 python_of_prometheus() {
     for it in python3 /usr/bin/python3; do
         "$it" -B -c 'import prometheus_client.parser' > "$room/said" 2>&1 && echo "$it" && break
     done
 }
 
-# postgres_folder: where apt puts PostgreSQL's own programs
+# postgres_folder: prints the folder of PostgreSQL's own programs, as apt installs them
 postgres_folder() {
     for it in /usr/lib/postgresql/*/bin; do
         [ -x "$it/initdb" ] && echo "$it" && break
     done
 }
 
-# library_of_faketime: the library that sets a process's clock
+# library_of_faketime: prints the library that sets a process's clock
 library_of_faketime() {
     for it in /usr/lib/*/faketime/libfaketime.so.1 /usr/lib/faketime/libfaketime.so.1; do
         [ -e "$it" ] && echo "$it" && break
     done
 }
 
-# browser: the program that the tests of the page drive, as tests/browser.py looks for it
+# browser: prints the program that the tests of the page drive, as tests/browser.py looks for it
 browser() {
     for it in ${CHROMIUM:-} chromium chromium-browser google-chrome; do
         command -v "$it" && break
     done
 }
 
-# flags WORD: what the compiler needs for libmodbus
+# flags WORD: prints the compiler's flags for libmodbus
 flags() {
     pkg-config "$1" libmodbus 2> "$room/flags" || { [ "$1" = --libs ] && echo -lmodbus || echo -I/usr/include/modbus; }
 }
 
-# has NAME: whether a tool is here
+# has NAME: whether a tool is installed
 has() {
     case $1 in
         libmodbus) printf '#include <modbus.h>\n' | cc -E $(flags --cflags) - > "$room/said" 2>&1 ;;
@@ -64,14 +66,14 @@ has() {
     esac
 }
 
-# lacking NAME..: the tools that are missing
+# lacking NAME..: prints the missing tools
 lacking() {
     for it in "$@"; do
         has "$it" || echo "$it"
     done
 }
 
-# packages NAME..: the Debian packages of these tools
+# packages NAME..: prints the Debian packages of these tools
 packages() {
     for it in "$@"; do
         case $it in
@@ -91,13 +93,14 @@ packages() {
     done
 }
 
-# apt WORDS..: apt-get without a question, which waits for another one to end; what it prints is in $room/apt
+# apt WORDS..: runs apt-get without a question, after any other one; its output is in $room/apt
 apt() {
     DEBIAN_FRONTEND=noninteractive timeout 600 \
         apt-get -q -o Acquire::Retries=1 -o DPkg::Lock::Timeout=120 "$@" > "$room/apt" 2>&1 < /dev/null
 }
 
-# installed NAME..: installs the missing ones of these tools where it can, and sets `lacks` to those that are still missing
+# installed NAME..: installs the missing ones of these tools if it can, and sets `lacks` to those
+# that are still missing
 installed() {
     lacks=$(lacking "$@")
     if [ -n "$lacks" ] && [ "$(id -u)" = 0 ] && [ "${PEERS_INSTALL:-yes}" != no ] && has apt-get; then
@@ -110,7 +113,8 @@ installed() {
     fi
 }
 
-# install NAME..: the same for a script that needs these tools: it names the missing ones, and ends the script where nothing can be tried
+# install NAME..: the same for a script that needs these tools: it names the missing ones, and ends
+# the script if nothing can be tested
 install() {
     installed "$@"
     for it in $lacks; do
@@ -121,7 +125,7 @@ install() {
     done
 }
 
-# Below: what this file does where it is run, and not sourced.
+# The part for a script that is run, and not sourced.
 case ${0##*/} in
     install-tools.sh) ;;
     *) return 0 ;;

@@ -1,9 +1,13 @@
 #!/bin/bash
-# Types the commands of docs/INSTALL.md, in order, and holds what they print to what stands below them; and then lets the unit's program end in each way: `tests/install.sh [PROGRAM]`,
-# out/sunreg by default, which `./sunreg-build` makes; where it isn't built, tests/deploy/office.py stands in for it. Nothing of this machine changes: all runs in namespaces of its own, over
-# a scratch /etc, /var, /usr/local, /root, /run and /dev, under a systemd of its own that has nothing but the units of the page, and with a loopback network alone, where 192.0.2.7 and
-# meters.example are this machine's. Commands that need a network aren't typed, and are named. What lacks is installed by apt where this is run as root (not with PEERS_INSTALL=no); commands
-# of what can't be had aren't typed. It needs root and cgroups of version 2, takes two and a half minutes, and ends on 'N passed, M failed'.
+# install.sh [PROGRAM]: types the commands of docs/INSTALL.md in order, and compares their output
+# with the page. Then it lets the unit's program end in each way. PROGRAM is out/sunreg by default,
+# which `./sunreg-build` makes; tests/deploy/office.py replaces a program that is not built. Nothing
+# of this machine changes. All commands run in separate namespaces, over a temporary /etc, /var,
+# /usr/local, /root, /run and /dev. Their systemd has only the units of the page. Their network is a
+# loopback, where 192.0.2.7 and meters.example are this machine. The script names commands that need
+# a network, and does not type them. As root it installs missing tools by apt (not with
+# PEERS_INSTALL=no), and skips the commands of tools that it can't install. It needs root and
+# cgroups of version 2, takes two and a half minutes, and ends with 'N passed, M failed'.
 set -u
 here=$(dirname "$(readlink -f "$0")")
 page=$here/../docs/INSTALL.md
@@ -25,7 +29,8 @@ typed() {
     done
 }
 
-# type_it COMMAND WANTED: types a command in this shell, and holds its status and what it prints to what is wanted, where `...` stands for anything
+# type_it COMMAND WANTED: types a command in this shell, and compares its status and output with
+# what is expected, where `...` matches any text
 type_it() {
     local got status wanted
     if ! typed "$1"; then
@@ -48,7 +53,7 @@ type_it() {
     fi
 }
 
-# type_page: types what stands in the page's blocks of commands
+# type_page: types the commands in the page's blocks
 type_page() {
     local in_block='' command='' wanted='' line
     while IFS= read -r line <&3; do
@@ -64,13 +69,13 @@ type_page() {
     done 3< "$page"
 }
 
-# over FOLDER: lays a scratch folder over one
+# over FOLDER: mounts a temporary folder over one
 over() {
     mkdir -p "$ROOM/over$1/new" "$ROOM/over$1/work"
     mount -t overlay overlay -o "lowerdir=$1,upperdir=$ROOM/over$1/new,workdir=$ROOM/over$1/work" "$1"
 }
 
-# same WHAT GOT WANTED: holds what came to what is wanted
+# same WHAT GOT WANTED: compares a result with the expected one, and counts it
 same() {
     if [ "$2" = "$3" ]; then
         passed=$((passed + 1))
@@ -80,7 +85,7 @@ same() {
     fi
 }
 
-# waits SECONDS WORDS..: tries words until they end well
+# waits SECONDS WORDS..: runs a command until it succeeds
 waits() {
     local turn seconds=$1
     shift
@@ -91,12 +96,13 @@ waits() {
     return 1
 }
 
-# shown NAME..: properties of the unit, in systemd's order
+# shown NAME..: prints properties of the unit, in systemd's order
 shown() {
     systemctl show $(printf -- '--property=%s ' "$@") --value sunreg | paste -s -d ' '
 }
 
-# ends STATUS: lets the program end so as soon as it begins, for five seconds, and tells whether it was begun anew, and what the unit is three seconds after it may run
+# ends STATUS: lets the program end with a status when it begins, for five seconds. Prints whether
+# it was started again, and the unit's state three seconds after it may run
 ends() {
     local anew
     echo "$1" > /var/lib/sunreg/ends
@@ -110,7 +116,8 @@ ends() {
     systemctl stop sunreg
 }
 
-# unit_ends: the unit as it is, but for the pause before it begins anew, over a program that ends as it is told
+# unit_ends: the unit with a short pause before a restart, over a program that exits with the status
+# in a file
 unit_ends() {
     local main status
     useradd --system --home-dir /var/lib/sunreg --shell /usr/sbin/nologin sunreg
@@ -121,7 +128,7 @@ unit_ends() {
     printf '#!/bin/sh\n[ ! -e /var/lib/sunreg/ends ] || exit "$(cat /var/lib/sunreg/ends)"\nexec %s "$@"\n' "$PWD/out/sunreg" > /usr/local/bin/sunreg
     chmod 755 /usr/local/bin/sunreg
     systemctl daemon-reload
-    # (without a file it ends with 3)
+    # (without a file the program exits with 3)
     systemctl start sunreg 2> "$ROOM/said"
     same 'its folder is made, and is its own' "$(stat -c '%U %G %a' /var/lib/sunreg)" 'sunreg sunreg 750'
     runuser -u sunreg -- sunreg create --db /var/lib/sunreg/office.db --zone UTC0 > "$ROOM/said" 2>&1
@@ -155,7 +162,7 @@ unit_ends() {
     systemctl stop sunreg
 }
 
-# typing: what is done once systemd runs
+# typing: the work after systemd runs
 typing() {
     cd /usr/local/src/sunreg || exit 2
     PATH=/usr/local/sbin:/usr/local/bin:/usr/sbin:/usr/bin:/sbin:/bin
@@ -173,7 +180,7 @@ typing() {
     [ "$failed" = 0 ]
 }
 
-# within: lays the scratch folders, and becomes systemd
+# within: mounts the temporary folders, and becomes systemd
 within() {
     local it
     mount --make-rprivate /
@@ -193,7 +200,7 @@ within() {
     mount --rbind "$ROOM/dev" /dev
     mount -t devpts -o newinstance,ptmxmode=666 devpts /dev/pts
     mount -t tmpfs -o mode=755 scratch /run
-    # the kernel's words can be read alone; of cgroups those below ours are all that there are
+    # the kernel's settings are read-only; of cgroups only those below ours exist
     mount --bind /proc/sys /proc/sys && mount -o remount,bind,ro /proc/sys || exit 2
     mount --bind /sys /sys && mount -o remount,bind,ro /sys && mount -t cgroup2 cgroup2 /sys/fs/cgroup || exit 2
     ip link set lo up
@@ -202,7 +209,7 @@ within() {
     # as on a fresh machine
     userdel sunreg 2> "$ROOM/said"
     rm -rf /var/lib/sunreg /etc/default/sunreg /etc/nginx/sunreg.* /etc/systemd/system/* /var/log/journal
-    # the top of the repository, with the program, where another user reads it
+    # the top of the repository, with the program, in a folder that another user can read
     mkdir -p /usr/local/src
     cp -r "$ROOM.copy" /usr/local/src/sunreg
     chmod -R a+rX /usr/local/src/sunreg
@@ -235,7 +242,7 @@ mkdir "$room.copy"
 trap 'leave; rm -rf "$room" "$room.copy"' EXIT
 . "$here/peers/install.sh"
 
-# leave: ends all that was begun in there, and takes its cgroups away
+# leave: ends all processes in the namespaces, and removes their cgroups
 leave() {
     [ -d "${group:-}" ] || return
     for turn in $(seq 50); do

@@ -1,4 +1,6 @@
-"""The manual page, docs/sunreg.1, made of what the built program tells of itself: its help texts, its version, and what its numbers mean."""
+"""The manual page, docs/sunreg.1, made from the output of the built program.
+
+It uses the help texts, the version, and the meanings of numbers."""
 import functools
 import re
 import subprocess
@@ -27,13 +29,14 @@ SCRIPT.md on script lines and numbers, HTTP.md on requests, SCHEMA.md on the fil
 
 @functools.cache
 def said(program, *words):
-    """Returns what the program prints for words that it takes; none where it doesn't."""
+    """Returns the program's output for these arguments, or none if it refuses them."""
     run = subprocess.run([program, *words], capture_output=True, text=True, stdin=subprocess.DEVNULL, timeout=60)
     return run.stdout if run.returncode == 0 else None
 
 
 def parts(text):
-    """Returns a help text's parts by name: about, usage, commands, arguments, options, and what stands below."""
+    """Returns a help text's parts by name: about, usage, commands, arguments, options, and the text
+    below."""
     found, name = {"about": [], "after": []}, "about"
     for line in text.splitlines():
         if line.startswith("Usage: "):
@@ -51,19 +54,20 @@ def parts(text):
 
 
 def commands(program):
-    """Returns each command's name and sentence, in the order of the help, but for help itself."""
+    """Returns each command's name and sentence, in the order of the help, without `help` itself."""
     return [it for it in parts(said(program, "help"))["commands"] if it[0] != "help"]
 
 
 @functools.cache
 def numbers(program, word):
-    """Returns the numbers that stand behind a word, as the program tells them where it is given none."""
+    """Returns the numbers that `explain` knows for a word, as it prints them if it is given no
+    number."""
     run = subprocess.run([program, "explain", word, "none"], capture_output=True, text=True, stdin=subprocess.DEVNULL, timeout=60)
     return [int(it) for it in re.search(r"has the numbers([ \d]+)", run.stderr)[1].split()]
 
 
 def meanings(program, word):
-    """Returns the meanings behind a word: a heading, what it means, its cause, and what to do."""
+    """Returns the meanings for a word: a heading, the meaning, its cause, and what to do."""
     found = []
     for number in numbers(program, word):
         for text in (said(program, "explain", word, str(number)) or "").split("\n\n"):
@@ -74,7 +78,7 @@ def meanings(program, word):
 
 
 def quoted(text):
-    """Returns a text as roff shows it."""
+    """Returns a text quoted for roff."""
     text = text.replace("\\", r"\e").replace("-", r"\-").replace("^", r"\(ha").replace("~", r"\(ti").replace("'", r"\(aq").replace("`", r"\(ga")
     return "\\&" + text if text.startswith(".") else text
 

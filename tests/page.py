@@ -1,4 +1,5 @@
-"""page.py [PROGRAM]: see page.sh. It holds what the page shows to what the data say, which are computed here by whole numbers."""
+"""page.py [PROGRAM]: compares the page with the data, which this script computes in whole numbers.
+See page.sh."""
 import atexit
 import base64
 import datetime
@@ -23,7 +24,7 @@ from page_office import LONG, NOW, ZONE
 HERE = os.path.dirname(os.path.abspath(__file__))
 PICTURES = os.environ.get("PAGE_PICTURES", "")
 ROOM = tempfile.mkdtemp()
-# A minute becomes a second, so that nobody waits for it.
+# One minute becomes one second, so that the test does not wait for it.
 SHORT = "{const wait = window.setTimeout; window.setTimeout = (f, ms) => wait(f, ms >= 10000 ? ms / 60 : ms);}"
 TROUBLE = "document.getElementById('trouble')"
 passed = failed = 0
@@ -32,7 +33,7 @@ atexit.register(lambda: [end() for end in reversed(ENDS)])
 
 
 def holds(what, is_so, got=""):
-    """Counts whether something holds."""
+    """Counts whether a condition holds."""
     global passed, failed
     if is_so:
         passed += 1
@@ -46,7 +47,7 @@ def same(what, got, wanted):
 
 
 def kwh(mwh, least=6):
-    """Exact kWh, with at least so many decimals."""
+    """Returns exact kWh, with at least so many decimals."""
     part = f"{mwh % 10**6:06}"
     while len(part) > least and part.endswith("0"):
         part = part[:-1]
@@ -59,7 +60,7 @@ def plain_kwh(mwh):
 
 
 def title(period):
-    """A day as the page names it."""
+    """Returns a day as the page names it."""
     day = datetime.date.fromisoformat(period)
     return f"{day:%a} {day.day} {day:%b %Y}"
 
@@ -74,17 +75,17 @@ def text_of(tab, selector):
 
 
 def table_of(tab):
-    """The rows of the table, as texts."""
+    """Returns the rows of the table, as texts."""
     return tab.run("[...document.querySelectorAll('#rows tbody tr')].map(it => [...it.cells].map(it => it.textContent))")
 
 
 def bars_of(tab):
-    """How high the bars are drawn, in their order; those without a row are not among them."""
+    """Returns the drawn heights of the bars, in order, without the bars that have no row."""
     return tab.run("[...document.querySelectorAll('.curve .bar')].map(it => Number(it.getAttribute('height')))")
 
 
 def holds_curve(what, tab, values):
-    """Bars are as many and as high, by the greatest, as their values say."""
+    """The bars have the number and the heights of their values, by the greatest."""
     heights, most = bars_of(tab), max(values)
     same(f"{what}: how many bars", len(heights), len(values))
     scale = max(heights) / most
@@ -92,13 +93,13 @@ def holds_curve(what, tab, values):
 
 
 def show(tab, place, heading):
-    """Goes to a place, and waits until it is shown whole."""
+    """Goes to a place, and waits until it is shown completely."""
     tab.run(f"location.hash = {json.dumps(place)}")
     holds(f"{place} is shown", tab.wait(f"heading.innerText.startsWith({json.dumps(heading)}) && document.getElementById('sum')"), text_of(tab, "#detail"))
 
 
 def errors_of(tab):
-    """What stands on the console, or broke the policy of the page."""
+    """Returns the messages on the console, and violations of the page's policy."""
     told = [it["entry"].get("text") for it in tab.told("Log.entryAdded")]
     told += [it["exceptionDetails"] for it in tab.told("Runtime.exceptionThrown")]
     return told + [it for it in tab.told("Runtime.consoleAPICalled") if it["type"] in ("error", "warning", "assert")]
@@ -113,7 +114,8 @@ def holds_quiet(what, tab, origin):
 
 
 def rows_of(meters, day, zone):
-    """The quarter hours of a day of a zone: the energy of each by all meters, and the meters that have a part of it."""
+    """Returns the quarter hours of a day of a zone: the energy of each by all meters, and the
+    meters with a part of it."""
     found = {}
     for meter in meters:
         for start, mwh in meter.rows:
@@ -128,7 +130,7 @@ def clock(start, zone):
 
 
 def downloaded(name):
-    """The bytes of a file that the browser was made to download."""
+    """Returns the bytes of a file that the browser downloaded."""
     until = time.time() + 20
     while time.time() < until and not os.path.exists(f"{ROOM}/{name}"):
         time.sleep(0.05)
@@ -140,7 +142,7 @@ def downloaded(name):
 # ---- the words
 
 def words_of_tables(name):
-    """The sentences of a table of crates/printed_numbers, by number."""
+    """Returns the sentences of a table of crates/printed_numbers, by number."""
     with open(f"{HERE}/../crates/printed_numbers/src/tables/{name}.rt", encoding="utf-8") as file:
         text = file.read()
     form = r'number: (\d+),\s+means: "(.*)",\s+cause: "(.*)",\s+remedy: "(.*)",'
@@ -175,38 +177,40 @@ def see_words():
 # ---- the site
 
 def card_of(tab, register):
-    """The texts of a register's card: what stands about its meter, and its three figures."""
+    """Returns the texts of a register's card: the text about its meter, and its three figures."""
     card = f"document.getElementById('open-{register}').closest('.card')"
     return tab.run(f"[...{card}.querySelectorAll('p, dd')].map(it => it.innerText)")
 
 
 def this_year(register):
-    """Where the page asks the days by which the figures of a register go."""
+    """Returns the target of the days from which the page computes the figures of a register."""
     return f"/registers/{register}/days/2026-01-01/2027-01-01"
 
 
 def quarters(meter, day, zone=ZONE):
-    """Where it asks the quarter hours of a day, which is one of a zone."""
+    """Returns the target of the quarter hours of a day of a zone."""
     first = datetime.date.fromisoformat(day)
     both = [datetime.datetime.combine(it, datetime.time(), zone) for it in (first, first + datetime.timedelta(1))]
     return "/".join([f"/meters/{meter}/intervals", *(f"{it.timestamp():.0f}" for it in both)])
 
 
 def rows_asked(office):
-    """What rows were asked since the last look, each once; and it looks anew. Those of this year stand beside each card."""
+    """Returns the rows that were requested since the last call, each once, and clears the log.
+
+    It leaves out the rows of this year, which are beside each card."""
     found = sorted({it for it in office.log if it.startswith(("/meters/", "/registers/")) and not it.endswith("/2026-01-01/2027-01-01")})
     office.log.clear()
     return found
 
 
 def figures(office, register, day):
-    """The energy of a register on a day, in its month and in its year, by its rows."""
+    """Returns the energy of a register on a day, in its month and in its year, by its rows."""
     days = office.days(register)
     return [sum(mwh for it, (_, mwh) in days.items() if it.startswith(period)) for period in (day, day[:7], day[:4])]
 
 
 def see_site(tab, office, origin):
-    """The first view: what it asks, and each device and register."""
+    """The first view: its requests, and each device and register."""
     tab.ask("Page.navigate", url=f"{origin}/")
     holds("all registers have figures", tab.wait("document.querySelectorAll('dl').length === 4"), text_of(tab, "body"))
     wanted = ["/", "/icon.svg", "/page.css", "/page.js", "/site", "/status"]
@@ -243,7 +247,7 @@ def see_site(tab, office, origin):
 
 
 def see_notes(tab):
-    """What was held, refused and lacks, with words."""
+    """The rejected readings, refusals and lacks, with words."""
     notes = text_of(tab, "#notes")
     held = words_of_tables("held")
     for number, count in ((6, "3 readings"), (8, "1 reading")):
@@ -274,12 +278,12 @@ def holds_day(tab, meters, day, zone=ZONE):
 
 
 def meters_of(tab):
-    """What stands about each meter of a register."""
+    """Returns the text about each meter of a register."""
     return tab.run("[...document.querySelectorAll('#detail li')].map(it => it.innerText)")
 
 
 def meters_told(office, register):
-    """What must stand there: from when till when, what it showed last, and its energy."""
+    """Returns the expected text: from when till when, the last counter, and the energy."""
     told = []
     for line in office.meter_lines(register):
         name, opened, at, raw, scale, total, state = line.split()
@@ -291,7 +295,7 @@ def meters_told(office, register):
 
 
 def see_day(tab, office, origin):
-    """A click on a register: its day, the days before and after, as file and as picture."""
+    """A click on a register: its day, the days before and after, as a file and as a picture."""
     main, second = office.of_register("main")
     rows_asked(office)
     tab.run("document.getElementById('open-main').click()")
@@ -320,7 +324,7 @@ def see_day(tab, office, origin):
 
 
 def see_changes(tab, office, origin):
-    """Days of a clock change, of an exchange, before it, and without a row."""
+    """Days of a clock change, of a replaced meter, before it, and without a row."""
     main, second = office.of_register("main")
     rows_asked(office)
     show(tab, "#main/2026-10-25", "Sun 25 Oct 2026")
@@ -341,7 +345,10 @@ def see_changes(tab, office, origin):
 
 
 def see_exchange(tab, office):
-    """The day of an exchange, those around it, and those of a register whose meter was closed: each has the office's figure."""
+    """The day of a replaced meter, the days around it, and those of a register whose meter was
+    closed.
+
+    Each has the office's figure."""
     main, second = office.of_register("main")
     for day, meters in (("2026-06-10", [main, second]), ("2026-06-09", [main]), ("2026-06-11", [second])):
         show(tab, f"#main/{day}", title(day))
@@ -368,7 +375,7 @@ def see_exchange(tab, office):
 
 
 def rows_shown(tab, place, heading):
-    """The rows of a place."""
+    """Returns the rows of a place."""
     show(tab, place, heading)
     return table_of(tab)
 
@@ -422,7 +429,8 @@ def see_sums(tab, office, origin):
 
 
 def see_zone(tab, office, origin):
-    """In another zone than the office's its days don't add up to the office's, and it says so."""
+    """In another zone than the office's, the days don't add up to the office's, and the page says
+    so."""
     tab.ask("Emulation.setTimezoneOverride", timezoneId="America/New_York")
     tab.ask("Page.navigate", url="about:blank")
     tab.ask("Page.navigate", url=f"{origin}/#import/2026-11-24")
@@ -439,7 +447,7 @@ def see_zone(tab, office, origin):
 
 
 def see_today(tab, office):
-    """Today is the office's day while readings come, also where the browser has another one by its zone."""
+    """Today is the office's day while readings come, even if the browser's zone has another day."""
     meter, rows, at = office.of_register("main")[-1], list(office.of_register("main")[-1].rows), dict(office.at)
     past, eve = page_office.moment(2026, 11, 27, 0, 20), page_office.moment(2027, 1, 1, 0, 20)
     for zone, now, wanted in (
@@ -450,7 +458,7 @@ def see_today(tab, office):
         office.now, office.at["main"] = now, now - 60
         tab.ask("Emulation.setTimezoneOverride", timezoneId=zone)
         tab.run("document.getElementById('again').click()")
-        # (while other years are asked it has none)
+        # (while other years are requested the card has no figures)
         first = "(document.getElementById('open-main').closest('.card').querySelector('dl') || {innerText: ''}).innerText"
         told = [kwh(mwh, 3) for mwh in figures(office, "main", datetime.datetime.fromtimestamp(now, ZONE).date().isoformat())]
         holds(f"today in {zone}", tab.wait(f"{first}.startsWith('Today\\n{wanted}\\n{told[0]} kWh')"), tab.run(first))
@@ -462,7 +470,7 @@ def see_today(tab, office):
 # ---- what goes wrong
 
 def see_cut(tab, office, origin):
-    """A text without its end, and a question that is refused, are told, and not shown."""
+    """The page reports a text without its end and a refused request, and does not show them."""
     house = quarters("m-house", "2026-11-26")
     office.cut |= {this_year("main"), house}
     office.short.add(this_year("old"))
@@ -501,14 +509,15 @@ def see_cut(tab, office, origin):
     office.short.clear()
     holds("whole again", tab.wait("document.querySelectorAll('dl').length === 4 && document.getElementById('sum')"), text_of(tab, "body"))
     tab.run("location.hash = ''")
-    # (the console tells of a 503 by itself)
+    # (the console reports a 503 by itself)
     told = [it for it in errors_of(tab) if "503" not in it]
     same("the console", told, [])
     tab.forget()
 
 
 def see_names(tab, office, origin):
-    """A name that is none is shown as text, whatever stands in it; and a reply that is none is told."""
+    """An invalid name is shown as text, whatever characters it has; an invalid response is
+    reported."""
     office.great = {"last": 4294967295, "sf": 3, "total": "3999999999999999999"}
     tab.run("document.getElementById('again').click()")
     whole = "counter 4,294,967,295.000 kWh (3 Feb 2026, 10:29); 3,999,999,999,999.999999 kWh since installation."
@@ -527,13 +536,14 @@ def see_names(tab, office, origin):
     holds("a register that isn't there", tab.wait(f"detail.innerText.includes({json.dumps(none)})"), text_of(tab, "#detail"))
     tab.run("location.hash = '#<b>/2026'")
     holds("a place that is none", tab.wait("detail.hidden"), text_of(tab, "#detail"))
-    # (of the strange register the mock has no days, of which the console tells)
+    # (the mock has no days of the strange register, which the console reports)
     same("the console", [it for it in errors_of(tab) if "404" not in it], [])
     tab.forget()
 
 
 def see_refresh(tab, office, server, origin):
-    """It asks anew by itself, keeps its place, says when no answer comes, and comes back."""
+    """The page requests again by itself, keeps its place, reports a missing response, and
+    recovers."""
     show(tab, "#main/2026-11-26", "Thu 26 Nov 2026")
     tab.run("document.getElementById('rows').scrollTop = 120; document.getElementById('by-Day').focus()")
     meter = office.of_register("main")[-1]
@@ -571,7 +581,7 @@ def see_refresh(tab, office, server, origin):
 
 
 def see_hidden(tab, office):
-    """It asks nothing while nobody looks at it, and at once when somebody does."""
+    """The page requests nothing while it is hidden, and requests at once when it is shown."""
     tab.run("Object.defineProperty(document, 'hidden', {get: () => window.isAway, configurable: true}); window.isAway = true")
     time.sleep(1.5)
     office.log.clear()
@@ -588,7 +598,7 @@ def see_hidden(tab, office):
 # ---- by keys, on a telephone, in the dark
 
 def see_keys(tab, origin):
-    """All is reached by keys alone."""
+    """Keys reach every control."""
     tab.ask("Page.navigate", url="about:blank")
     tab.ask("Page.navigate", url=f"{origin}/")
     tab.wait("document.querySelectorAll('dl').length === 4")
@@ -620,7 +630,7 @@ def see_keys(tab, origin):
 
 
 def see_narrow(tab, origin):
-    """Nothing is wider than a telephone, and what is tapped is large enough."""
+    """Nothing is wider than a telephone, and each control is large enough to tap."""
     tab.size(360, 740, 2, True)
     for place in ("", "#main/2026-11-25", "#main/2026-06-10", "#main/2026-10", f"#{LONG}/2026"):
         tab.run(f"location.hash = {json.dumps(place)}")
@@ -644,14 +654,14 @@ LIGHTNESS = """(color) => {
 
 
 def contrast(tab, selector, behind):
-    """The contrast of a text with what is behind it, as WCAG 2 counts it."""
+    """Returns the contrast of a text with its background, as WCAG 2 counts it."""
     color = lambda what, part: f"light(getComputedStyle(document.querySelector('{what}')).{part})"
     return tab.run(f"(() => {{ const light = {LIGHTNESS}; const both = [{color(selector, 'color')}, {color(behind, 'backgroundColor')}].sort((a, b) => a - b);"
                    " return (both[1] + 0.05) / (both[0] + 0.05); })()")
 
 
 def see_dark(tab, origin):
-    """It is dark where the browser is, and can be read in both."""
+    """The page is dark if the browser is, and is readable in both."""
     grounds = {}
     show(tab, "#main/2026-11-25", "Wed 25 Nov 2026")
     for scheme in ("dark", "light"):
@@ -668,7 +678,7 @@ def see_dark(tab, origin):
 
 
 def picture(tab, name, width, height):
-    """Keeps a picture of what is shown, where pictures are wanted."""
+    """Keeps a picture of the view, if pictures are requested."""
     if not PICTURES:
         return
     if width:
@@ -680,14 +690,14 @@ def picture(tab, name, width, height):
 
 
 def see_mock(program):
-    """All of it, over the mock."""
+    """All checks over the mock."""
     office = page_office.Office()
     server = page_office.Server(office)
     origin = f"http://127.0.0.1:{server.port}"
     held = browser.Browser(program, "Europe/Berlin")
     ENDS.append(held.close)
     held.ask("Browser.setDownloadBehavior", behavior="allow", downloadPath=ROOM)
-    # (the first view in a minute that is one, so that it asks once)
+    # (the first view is within one minute, so that it requests once)
     tab = browser.Tab(held)
     tab.size(1000, 800)
     see_site(tab, office, origin)
@@ -729,7 +739,7 @@ def until_it_listens(port, seconds=30):
 
 
 def fetched(url):
-    """The status, the headers and the bytes of a reply."""
+    """Returns the status, the headers and the bytes of a response."""
     try:
         with urllib.request.urlopen(url, timeout=30) as reply:
             return reply.status, reply.headers, reply.read()
@@ -747,7 +757,7 @@ LIST = "name,function,area,address,type,scale\nwh,3,0,40094,acc32,\nexp,3,0,4009
 
 
 def started(sunreg, *words, text=None):
-    """A process of the program, which gets a text to read."""
+    """Starts a process of the program, which gets a text to read."""
     child = subprocess.Popen([sunreg, *words], cwd=ROOM, stdin=subprocess.PIPE, stdout=subprocess.DEVNULL, stderr=subprocess.DEVNULL)
     ENDS.append(child.kill)
     child.stdin.write((text or "").encode())
@@ -770,7 +780,8 @@ def see_parts(origin):
 
 
 def see_program(sunreg, program):
-    """A small site of the built program: a register whose meter went on by 7 Wh, and one without a meter."""
+    """A small site of the built program: a register whose meter counted 7 Wh more, and one without
+    a meter."""
     with open(f"{ROOM}/inv.csv", "w", encoding="utf-8") as file:
         file.write(LIST)
     subprocess.run([sunreg, "create", "--db", "office.db", "--zone", "UTC0"], cwd=ROOM, check=True, stdout=subprocess.DEVNULL)
@@ -818,7 +829,7 @@ def see_program(sunreg, program):
 
 
 def posted(origin, target, number, body):
-    """The status of a command."""
+    """Returns the status of a command."""
     headers = {"Office-Caller": "page", "Office-Request": str(number)}
     request = urllib.request.Request(origin + target, data=json.dumps(body).encode(), headers=headers)
     try:
@@ -829,9 +840,11 @@ def posted(origin, target, number, body):
 
 
 def exchanged(tab, origin):
-    """The register's meter is exchanged for another, which goes on by 7 Wh too: the day has both, and together they are the office's figure."""
+    """The register's meter is replaced by another, which counts 7 Wh more too.
+
+    The day has both, and their sum is the office's figure."""
     body = {"last": 5007, "rolls": 0, "meter": "m2", "raw": 5000, "sf": 0, "ceiling": 1_000_000_000}
-    # (a second that had a reading has no exchange any more)
+    # (a meter can't be replaced in a second that had a reading)
     done = any(posted(origin, "/registers/main/exchange", number, body) < 300 or time.sleep(0.3) for number in range(1, 30))
     same("an exchange", done, True)
     until = time.time() + 30
@@ -843,7 +856,7 @@ def exchanged(tab, origin):
     holds("its day has both meters", tab.wait(both), text_of(tab, "#detail"))
     holds("which its heading names", text_of(tab, "#heading").endswith("main, meter m1, meter m2"), text_of(tab, "#heading"))
     same("and the list", [it.split(": ")[0] for it in meters_of(tab)], ["m1", "m2"])
-    # (within one quarter hour, or two where one ended just now)
+    # (within one quarter hour, or two if one ended just now)
     names = {name for it in table_of(tab) for name in it[2].split(", ")}
     same("and the table", names, {"m1", "m2"})
     holds_quiet("an exchange", tab, origin)

@@ -1,8 +1,9 @@
 #!/bin/sh
-# Opens the page of web/ in chromium, over a mock office whose data are made up but exact, and holds what it shows to them: `tests/page.sh`.
-# `tests/page.sh PROGRAM` opens the page that the built program serves, over a small site. Where chromium lacks it is installed by apt if
-# this is run as root (not with PEERS_INSTALL=no); without it the page's words alone are tried. With PAGE_PICTURES=FOLDER it keeps pictures
-# there. It takes half a minute, and ends on 'N passed, M failed'.
+# page.sh [PROGRAM]: opens the page of web/ in chromium, and compares it with the data. Without
+# PROGRAM the page is over a mock office, whose data are made up but exact. With PROGRAM the built
+# program serves it, over a small site. As root the script installs a missing chromium by apt (not
+# with PEERS_INSTALL=no); without chromium it tests only the page's words. PAGE_PICTURES=FOLDER
+# keeps pictures there. The script takes half a minute, and ends with 'N passed, M failed'.
 set -u
 here=$(dirname "$(readlink -f "$0")")
 room=$(mktemp -d) || exit 2

@@ -1,5 +1,8 @@
-"""A mock of an office for page.py: it serves the files of web/ and the routes that the page asks, over data of a year that are made up
-but exact. The office's zone is Europe/Berlin, so that its days have 92, 96 or 100 quarter hours."""
+"""A mock of an office for page.py: it serves the files of web/ and the routes that the page
+requests.
+
+Its data of a year are made up but exact. The office's zone is Europe/Berlin, so that its days have
+92, 96 or 100 quarter hours."""
 import datetime
 import functools
 import http.server
@@ -24,7 +27,7 @@ LONG = "a-0_1-2_3-4_5-67"
 
 
 def moment(*civil):
-    """A moment of the office's zone, in seconds since 1970-01-01 UTC."""
+    """Returns a time of the office's zone, in seconds since 1970-01-01 UTC."""
     return int(datetime.datetime(*civil, tzinfo=ZONE).timestamp())
 
 
@@ -36,12 +39,14 @@ EXCHANGED = moment(2026, 6, 10, 11, 37)
 
 @functools.cache
 def civil_day(start):
-    """The office's day of a moment."""
+    """Returns the office's day of a time."""
     return datetime.datetime.fromtimestamp(start, ZONE).date().isoformat()
 
 
 def sun(start, peak):
-    """The energy of a quarter hour in mWh: what a roof gives, by whole numbers alone, with some mWh that no rounding keeps."""
+    """Returns the energy of a quarter hour of a roof in mWh, with some mWh that no rounding keeps.
+
+    It uses whole numbers only."""
     then = datetime.datetime.fromtimestamp(start, ZONE)
     quarter = (then.hour * 60 + then.minute) // 15
     season = 100 - abs(then.timetuple().tm_yday - 172) * 40 // 100
@@ -52,7 +57,7 @@ def sun(start, peak):
 
 
 def load(start, base):
-    """What a house takes."""
+    """Returns the load of a house."""
     then = datetime.datetime.fromtimestamp(start, ZONE)
     return base + (start // 900 * 6553) % 37_001 + (90_000 if then.hour in (7, 12, 18, 19) else 0)
 
@@ -71,28 +76,28 @@ class Meter:
 
 
 def number(word):
-    """A number of 1 to 19 digits."""
+    """Returns a number of 1 to 19 digits."""
     if not re.fullmatch("[0-9]{1,19}", word):
         raise ValueError(word)
     return int(word)
 
 
 def day(word):
-    """A day of the calendar."""
+    """Returns a day of the calendar."""
     if not re.fullmatch("[0-9]{4}-[0-9]{2}-[0-9]{2}", word):
         raise ValueError(word)
-    # (a year 0000 has no day in Python, but the days of 2000)
+    # (Python has no year 0000; its calendar is that of 2000)
     datetime.date.fromisoformat(word.replace("0000-", "2000-"))
     return word
 
 
 def intervals_of(meters, from_, till):
-    """The rows of meters that start from a moment on, and before another."""
+    """Returns the rows of meters that start at or after a time, and before another."""
     return [f"{start} {mwh}" for it in meters for start, mwh in it.rows if from_ <= start < till]
 
 
 def months_of(days):
-    """The rows of days, by their months."""
+    """Returns the rows of days, added up by month."""
     found = {}
     for name, (count, mwh) in days.items():
         before = found.get(name[:7], (0, 0))
@@ -101,14 +106,14 @@ def months_of(days):
 
 
 def lines_of(rows, wide, first="", end="~"):
-    """Rows as lines, from a first one on, and before an end."""
+    """Returns rows as lines, from a first one on, and before an end."""
     if end < first:
         raise ValueError(end)
     return [f"{name} {count:{wide}} {mwh:24}" for name, (count, mwh) in rows.items() if first <= name < end]
 
 
 class Office:
-    """What the office has, and what goes wrong with its replies."""
+    """The data of the office, and the faults of its responses."""
 
     def __init__(self):
         until = NOW // 900 * 900 + 900
@@ -120,20 +125,23 @@ class Office:
             Meter("m-house", "import", moment(2026, 10, 1), moment(2026, 11, 26, 9, 15), lambda it: load(it, 80_001)),
             Meter("b-9_8-7_6-5_4-32", LONG, moment(2026, 3, 1), until, lambda it: sun(it, 123_457)),
         ]
-        # A name that is none, for another register; and what the register "old" has in place of its own.
+        # An invalid name, for another register; and what the register "old" has instead of its own
+        # rows.
         self.strange, self.great = None, {}
         self.at = {"old": moment(2026, 2, 3, 10, 29), "main": NOW - 70, "import": moment(2026, 11, 26, 9, 14), LONG: NOW - 70}
         self.held = {name: 0 for name in ("not_accumulated", "scale_changed", "not_later", "span_too_long")}
         self.held |= {"gap_too_long": 0, "too_fast": 3, "total_full": 0, "not_below_range": 1}
         self.lacks = [{"device": "roof-2", "lack": "no_meter", "register": "export"}, {"device": "attic", "lack": "no_device"}]
-        # Paths whose texts lack their end, or a row of those that the end counts; paths that are refused; and what was asked.
+        # Paths whose texts lack their end, or a row that the end counts; paths that are refused;
+        # and the requests.
         self.cut, self.short, self.failing, self.log = set(), set(), {}, []
 
     def of_register(self, register):
         return [it for it in self.meters if it.register == register]
 
     def days(self, register):
-        """The rows of a register by civil days of the office: day, how many quarter hours, mWh."""
+        """Returns the rows of a register by civil days of the office: day, number of quarter hours,
+        mWh."""
         found, seen = {}, set()
         for meter in self.of_register(register):
             for start, mwh in meter.rows:
@@ -144,14 +152,15 @@ class Office:
         return {day: found[day] for day in sorted(found)}
 
     def last_of(self, meter):
-        """The moment, the counter and the scale of a meter's last entry, and whether it was closed by it."""
+        """Returns the time, the counter and the scale of a meter's last entry, and whether it
+        closed the meter."""
         register, scale = meter.register, 2 if meter.register == "old" else 0
         is_latest = meter is self.of_register(register)[-1]
         at = self.at[register] if is_latest else meter.ended
         return at, (5000 + meter.total // 1000) // 10**scale, scale, register == "old" or not is_latest
 
     def meter_lines(self, register):
-        """The meters of a register, as lines."""
+        """Returns the meters of a register, as lines."""
         lines = []
         for it in self.of_register(register):
             at, raw, scale, ended = self.last_of(it)
@@ -189,7 +198,7 @@ class Office:
         }
 
     def reply(self, path):
-        """The status, the type and the text of a reply."""
+        """Returns the status, the type and the text of a response."""
         if path in self.failing:
             return self.failing[path], "application/json", json.dumps({"refused": 13}, separators=(",", ":"))
         if path in PARTS:

@@ -1,9 +1,15 @@
 #!/bin/sh
-# Tries the built program on programs of others: `tests/peers.sh [PROGRAM]`, out/sunreg by default, which `./sunreg-build` makes.
-# Its stand-in is asked by mbpoll, libmodbus and pymodbus, its scans and rounds read servers of the latter two, and what a scan prints sets a
-# site up; its HTTP is asked by curl, and its file is read by sqlite3, also where a round was killed; a plain Modbus client and server in Python stand beside them. What lacks
-# is installed by apt where this is run as root (not with PEERS_INSTALL=no); what can't be had is named, and not tried.
-# It ends on 'N passed, M failed'.
+# peers.sh [PROGRAM]: tests the built program with other programs. PROGRAM is out/sunreg by default,
+# which `./sunreg-build` makes.
+# - mbpoll, libmodbus and pymodbus read its simulator.
+# - Its scans and rounds read servers of libmodbus and pymodbus. The output of a scan sets a site
+#   up.
+# - curl sends requests to its HTTP.
+# - sqlite3 reads its file, also after a killed round.
+# - A plain Modbus client and server in Python run beside them.
+#
+# As root the script installs missing tools by apt (not with PEERS_INSTALL=no). It names tools that
+# it can't install, and skips their tests. It ends with 'N passed, M failed'.
 set -u
 here=$(dirname "$(readlink -f "$0")")
 program=${1:-${SUNREG:-$here/../out/sunreg}}

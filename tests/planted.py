@@ -1,10 +1,11 @@
 #!/usr/bin/env python3
 """planted.py [--slow N] [--only NAME..] [PROGRAM]: shows that the checks of tests/program.py refuse a broken program.
 
-It wraps the built program, out/sunreg by default, in a script that breaks one thing of it: a status, a route, the page's
-script, an option, a command of README.md, an audit, a backup, a carry, a help text, a digit of a report. For each break
-it runs the check that must fail, and for each of these checks the program in a wrapper that breaks nothing, which must
-pass. It ends on 'N passed, M failed'; the status is 1 where M > 0.
+It wraps the built program, out/sunreg by default, in a script that breaks one thing: a status, a
+route, the page's script, an option, a command of README.md, an audit, a backup, a carry, a help text,
+or a digit of a report. For each break it runs the check that must fail. For each of these checks it
+also runs the program in a wrapper that breaks nothing, which must pass. It ends with 'N passed,
+M failed'; the status is 1 if M > 0.
 """
 import collections
 import os
@@ -14,19 +15,21 @@ import sys
 import tempfile
 
 TESTS = pathlib.Path(__file__).resolve().parent
-# A break: its name, the check that must fail, and a wrapper in sh. TRUE is the program; a wrapper that doesn't break a
-# command replaces itself by the program, so that a check can kill it.
+# A break: its name, the check that must fail, and a wrapper in sh. TRUE is the program. For a
+# command that it does not break, a wrapper replaces itself by the program, so that a check can kill
+# it.
 Break = collections.namedtuple("Break", "name check text")
 CONTROL = 'exec "$TRUE" "$@"\n'
 
 
 def breaking(commands, text):
-    """Returns a wrapper that runs a text where the first word is one of these commands, and else the program."""
+    """Returns a wrapper that runs a text if the first word is one of these commands, and else the
+    program."""
     return f'case "${{1-}}" in {commands}) ;; *) exec "$TRUE" "$@" ;; esac\n{text}'
 
 
 def printing(change):
-    """Returns a text that has the program print, and changes that by sed."""
+    """Returns a text that runs the program, and changes its output with sed."""
     return f'printed=$(mktemp)\n"$TRUE" "$@" > "$printed"\nstatus=$?\nsed "{change}" "$printed"\nrm -f "$printed"\nexit $status\n'
 
 
@@ -68,7 +71,7 @@ def make_wrapper(room, name, text, program):
 
 
 def run_check(check, wrapper, slow):
-    """Returns whether a check passes over a wrapper, and what was printed."""
+    """Returns whether a check passes over a wrapper, and its output."""
     words = [f"{TESTS}/program.py", "--slow", slow, "--only", check, wrapper]
     ran = subprocess.run(list(map(str, words)), capture_output=True, text=True)
     lines = ran.stdout.splitlines()

@@ -1,8 +1,10 @@
 #!/usr/bin/env python3
-"""planted_proxy.py FROM TO PROGRAM run ..: runs a program that answers HTTP, and changes one text of the same length in what passes.
+"""planted_proxy.py FROM TO PROGRAM run ..: runs a program that serves HTTP, and changes one text in
+its bytes.
 
-The program listens at another port than --listen says, and this process passes on what comes at that port; tests/planted.py
-uses it to break a route or a file of the page. It ends as the program does, and ends the program when it is ended.
+TO has the length of FROM. The program listens at another port than --listen says, and this process
+forwards the bytes of that port. tests/planted.py uses it to break a route or a file of the page. It
+ends when the program ends, and ends the program when it is ended.
 """
 import os
 import signal
@@ -16,7 +18,7 @@ WORDS = sys.argv[3:]
 
 
 def pass_on(one, other):
-    """Passes on the bytes of a stream until it ends."""
+    """Forwards the bytes of a stream until it ends."""
     try:
         while piece := one.recv(1 << 16):
             other.sendall(piece.replace(OLD, NEW))

@@ -1,15 +1,17 @@
 #!/usr/bin/env python3
 """program.py [--list] [--long] [--only NAME..] [--slow N] [--jobs N] [PROGRAM]: runs the checks of a built sunreg.
 
-PROGRAM is out/sunreg by default. Each check runs in a temporary folder and, where this is run as root, in a network
-namespace of its own, so no two checks meet at a port. As many run at once as there are processors, four at most, the
-longest first. A check fails when its command exits with another status than 0, when it counts fewer passed things than
-its least count, or when it exceeds its limit, which ends its whole process group. Its log is printed then. A check
-whose tool is missing is skipped, which is reported: tests/install-tools.sh installs the tools.
+PROGRAM is out/sunreg by default. Each check runs in a temporary folder. As root each check runs in a
+separate network namespace, so no two checks use the same port. As many run at once as there are
+processors, four at most, the longest first. A check fails if its exit status is not 0, if it counts
+fewer passed things than its least count, or if it exceeds its limit. The limit ends its whole process
+group. The log of a failed check is printed. A check whose tool is missing is reported as skipped:
+tests/install-tools.sh installs the tools.
 
---list prints the table of checks. --only runs the checks of these names. --long runs the long checks instead, one at a
-time. --slow multiplies every limit, for a slow build or machine. The last line is 'N passed, M failed', which counts
-checks, and names how many were skipped. The status is 1 where a check failed.
+--list prints the table of checks. --only runs the checks of these names. --long runs the long checks
+instead, one at a time. --slow multiplies every limit, for a slow build or machine. The last line is
+'N passed, M failed', which counts checks, and names how many were skipped. The status is 1 if a check
+failed.
 """
 import collections
 import concurrent.futures
@@ -30,8 +32,9 @@ import time
 
 TESTS = os.path.dirname(os.path.realpath(__file__))
 TOP = os.path.dirname(TESTS)
-# A check: its command, a file of tests/ behind what is set for it and before its words, the fewest things that it must count as passed, the
-# seconds that it may take, and the tools that it needs.
+# A check: its command, the least number of things that it must count as passed, its limit in
+# seconds, and its tools. The command is a file of tests/, after its environment and before its
+# arguments.
 Check = collections.namedtuple("Check", "name command least limit tools")
 CHECKS = [
     Check("readme", "readme.sh", 14, 120, ""),
@@ -82,16 +85,17 @@ LINES_OF_LOG = 200
 
 
 class Stopped(Exception):
-    """This program was asked to end."""
+    """A signal asked this program to end."""
 
 
 class Runner:
-    """Runs checks of a program, and counts how they ended."""
+    """Runs checks of a program, and counts their results."""
 
     def __init__(self, program, slow):
         self.program, self.slow = program, slow
         self.lock, self.running, self.is_stopped = threading.Lock(), set(), False
-        # (of each check that ended: how it ended, how many things it counted as passed, and its seconds)
+        # (of each finished check: its result, the things that it counted as passed, and its
+        # seconds)
         self.ends = {}
 
     def print_lines(self, *lines):
@@ -99,7 +103,7 @@ class Runner:
             print(*lines, sep="\n", flush=True)
 
     def run(self, check, lacking):
-        """Runs one check, or skips it where one of its tools is missing, and prints how it ended."""
+        """Runs one check, or skips it if one of its tools is missing, and prints the result."""
         missing = [it for it in check.tools.split() if it in lacking]
         if missing:
             self.ends[check.name] = "skipped", 0, 0
@@ -131,7 +135,8 @@ class Runner:
             self.print_lines(f"{check.name}: {took}")
 
     def run_command(self, check, room):
-        """Runs a check's command, which writes to the file log in the room, and returns why it failed, if it did."""
+        """Runs a check's command, which writes to the file log in the room, and returns why it
+        failed, if it did."""
         os.mkdir(f"{room}/work")
         os.chmod(f"{room}/work", 0o1777)
         words = check.command.replace("PROGRAM", self.program).split()
@@ -160,7 +165,7 @@ class Runner:
         return f"status {status}" if status else None
 
     def stop(self):
-        """Ends all that runs."""
+        """Ends all running checks."""
         self.is_stopped = True
         for child in list(self.running):
             end_group(child)
@@ -174,13 +179,14 @@ def end_group(child):
 
 
 def count_passed(log):
-    """Returns how many things a log counts as passed and as failed, by the last line that does."""
+    """Returns how many things a log counts as passed and as failed, by the last line that
+    counts."""
     found = COUNTS.findall(log)
     return (int(found[-1][0]), int(found[-1][1] or 0)) if found else (0, 0)
 
 
 def leave_network():
-    """Gives this process a network namespace of its own, with a loopback, where the system lets it."""
+    """Gives this process a separate network namespace with a loopback, if the system allows it."""
     of_network, up = 0x40000000, 1
     if ctypes.CDLL(None, use_errno=True).unshare(of_network) != 0:
         return
@@ -191,7 +197,7 @@ def leave_network():
 
 
 def find_lacking(checks):
-    """Returns the tools of checks that are missing."""
+    """Returns the missing tools of checks."""
     tools = sorted({tool for check in checks for tool in check.tools.split()})
     told = subprocess.run([f"{TESTS}/install-tools.sh", "--lacking", *tools], check=True, capture_output=True, text=True)
     return told.stdout.split()
@@ -203,7 +209,7 @@ def stop_with(word):
 
 
 def read_number(words, option):
-    """Takes an option and its number out of words, and returns the number, or None."""
+    """Removes an option and its number from the words, and returns the number, or None."""
     if option not in words:
         return None
     at = words.index(option)
@@ -231,7 +237,7 @@ def read_words(words):
 
 
 def run_checks(runner, checks, jobs):
-    """Runs checks, so many at once, and ends all of them where this program is asked to end."""
+    """Runs checks, so many at once, and ends all of them if this program is asked to end."""
     def stop(number, _):
         runner.stop()
         raise Stopped(number)

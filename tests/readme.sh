@@ -1,7 +1,8 @@
 #!/bin/sh
-# Types the commands that README.md shows under "A site in five commands" with the built program, and holds what they print to
-# what stands below them there, but for days, moments and what hangs on when a quarter hour ends: `tests/readme.sh [PROGRAM]`,
-# out/sunreg by default, which `./sunreg-build` makes. Half a minute. It ends on 'N passed, M failed'.
+# readme.sh [PROGRAM]: types the commands of README.md under "A site in five commands" with the
+# built program. It compares their output with the page, except for days, times and what depends on
+# the end of a quarter hour. PROGRAM is out/sunreg by default, which `./sunreg-build` makes. The
+# script takes half a minute, and ends with 'N passed, M failed'.
 set -eu
 top=$(dirname "$(dirname "$(readlink -f "$0")")")
 program=$(readlink -f "${1:-${SUNREG:-$top/out/sunreg}}")
@@ -13,12 +14,13 @@ clear_up() {
 }
 trap clear_up EXIT
 
-# block KIND: the first block of a kind below the heading
+# block KIND: prints the first block of a kind below the heading
 block() {
   awk -v kind="\`\`\`$1" '/^## /{ below = $0 == "## A site in five commands" } below && $0 == kind { inside = 1; next } inside && /^```$/ { exit } inside' "$top/README.md"
 }
 
-# what does not hang on when it is run: a day is DAY, a moment is AT, counts of quarter hours are N, and rounds alike are one
+# settled: replaces what depends on the time. A day is DAY, a time is AT, counts of quarter hours
+# are N, and equal rounds are one
 settled() {
   sed -E 's/[0-9]{4}-[0-9]{2}-[0-9]{2} +[0-9]+/DAY N/; s/(^| )[0-9]{10} /\1AT /g; /^fine: /s/[0-9]+ (entr|interval|poll)/N \1/g' | uniq
 }
@@ -39,7 +41,7 @@ same 'five commands' "$(grep -c . "$room/commands")" 5
 mkdir "$room/docs"
 cp "$top/docs/inverter.txt" "$room/docs"
 ln -s "$program" "$room/sunreg"
-# (the second in which the stand-in begins ends once it listens, and the stand-in is ended with the shell that began it)
+# (the simulator listens before its first second ends, and ends with the shell that began it)
 (cd "$room" && {
   echo ". $top/tests/waiting.sh"
   echo 'sleep() { command sleep "$1"; wait_for 60 listens 1502; }'
@@ -47,13 +49,13 @@ ln -s "$program" "$room/sunreg"
   echo 'kill $!'
 } | sh > out 2> err) || same 'status' "$?" 0
 same 'what is printed' "$(settled < "$room/out")" "$(block text | settled)"
-# (three of these lines stand at the head of the page)
+# (three of these lines are at the head of the page)
 awk '/^## /{ exit } $0 == "```text" { inside = 1; next } inside && /^```$/ { exit } inside' "$top/README.md" | settled > "$room/head"
 same 'lines at the head' "$(grep -c . "$room/head")" 3
 settled < "$room/out" > "$room/settled"
 same 'lines at the head that are not printed' "$(grep -vxFf "$room/settled" "$room/head" || :)" ''
 same 'what is said' "$(grep -v '^sunreg: ' "$room/err" || :)" ''
-# each script of the page's table prints what stands beside it
+# each script of the page's table prints the output beside it
 sed -n 's/^| .* | `\.\/sunreg \(.*< crates.*\.script\)` |$/\1/p' "$top/README.md" > "$room/scripts"
 same 'scripts of the table' "$(grep -c . "$room/scripts")" 8
 while read -r words; do

@@ -1,5 +1,6 @@
-// Preloaded into a program: counts its allocations in the file that COUNTS names, which holds one number of 8 bytes, and refuses
-// those from REFUSE_FIRST to REFUSE_LAST, counted from 1; none where they are not set.
+// Counts the allocations of a program into which it is preloaded, and refuses some of them. COUNTS
+// names the file of the count, one number of 8 bytes. REFUSE_FIRST to REFUSE_LAST are refused,
+// counted from 1; none if they are not set.
 #include <errno.h>
 #include <fcntl.h>
 #include <stdlib.h>

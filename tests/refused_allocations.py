@@ -1,17 +1,18 @@
 #!/usr/bin/env python3
 """refused_allocations.py LIBRARY SCRIPT REPLAY [PROGRAM..]: refuses the allocations of programs, under the preloaded LIBRARY.
 
-A run with none refused counts them. Then each is refused alone, and then each with all that come later. A run may end with
-status 3 ('failed' on standard error) behind any whole answer. Of the rest:
+A run without refusals counts them. Then each is refused alone, and then each with all later ones. A
+run may end with status 3 ('failed' on standard error) after any complete output line. Of the rest:
 
-REPLAY runs the lines of SCRIPT. A line that answers 'refused 14' changed nothing: every other line must answer as in a run
-where such lines are questions. Where a line of a device answers so, the office stops: every later line answers 'refused 15'.
-One 'refused 14' with status 1 tells that the office couldn't be opened.
+REPLAY runs the lines of SCRIPT. A line with the output 'refused 14' changed nothing: every other line
+must have the output of a run in which such lines are queries. If a line of a device has that output,
+the office stops: every later line has the output 'refused 15'. One 'refused 14' with status 1 means
+that the office couldn't be opened.
 
-A PROGRAM prints 'no memory' where a call was refused memory, and tries it once more. Its other lines, up to where it ends with
-status 3, must be those of the run with none refused.
+A PROGRAM prints 'no memory' if a call was refused memory, and retries it once. Its other lines, up to
+an end with status 3, must be those of the run without refusals.
 
-What the commands over a file may do, refused_in_file.py says.
+refused_in_file.py describes what the commands over a file may do.
 """
 import collections
 import os
@@ -23,7 +24,7 @@ import tempfile
 import refused_in_file
 
 ALL = 1 << 60
-# What comes from a device, or settles polls: where it fails, the office stops.
+# Lines that a device sends, or that settle polls: if one fails, the office stops.
 OF_DEVICES = ("bytes", "tick", "connect", "gone", "failed")
 ENDS_AN_ANSWER = re.compile(r"ok|started .*|refused \d+|bad line \d+")
 
@@ -31,7 +32,7 @@ Ran = collections.namedtuple("Ran", "status lines calls")
 
 
 class Wrong(Exception):
-    """Why a run is no right one."""
+    """The reason why a run is wrong."""
 
 
 def run(program, script, first, last):
@@ -55,7 +56,7 @@ def run(program, script, first, last):
 
 
 def answers_in(script, lines):
-    """Returns what each line of the script answered, as far as the run went."""
+    """Returns the output of each line of the script, as far as the run went."""
     found, at = [], 0
     for asked in script:
         if at == len(lines):
@@ -73,7 +74,7 @@ def answers_in(script, lines):
 
 
 def judge_replay(program, script, ran, whole):
-    """Says how a run of the script ended, or why it is wrong."""
+    """Returns how a run of the script ended, or why it is wrong."""
     if ran.status == 1 and ran.lines == ["refused 14"]:
         return "did not open the office"
     found = answers_in(script, ran.lines)
@@ -84,7 +85,7 @@ def judge_replay(program, script, ran, whole):
     for at, (answer, right) in enumerate(zip(found, answers_in(script, wanted.lines))):
         if at in lacking and at <= stop:
             continue
-        # (what is no name or no span is refused before the office is asked)
+        # (an invalid name or span is refused before the office gets it)
         is_asked = right != ["refused 12"] and not right[0].startswith("bad line")
         if answer != (["refused 15"] if at > stop and is_asked else right):
             raise Wrong(f"line {at + 1}, {script[at]}, answers {answer} and not {right}")
@@ -108,7 +109,7 @@ def judge_program(ran, whole):
 
 
 def try_all(program, script, judge):
-    """Refuses each allocation of the program, and returns how many runs were right and how many were not."""
+    """Refuses each allocation of the program, and returns the numbers of right and wrong runs."""
     name = os.path.basename(program)
     whole = run(program, script, 0, 0)
     if whole.status == 3 or not whole.calls:

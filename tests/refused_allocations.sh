@@ -1,12 +1,16 @@
 #!/usr/bin/env bash
-# Refuses each allocation of the program, and of the small programs in tests/programs/, alone and with all later ones:
-# `tests/refused_allocations.sh`. The program runs tests/sessions.script (devices, registers, meters and polls; no lists, rounds,
-# corrections, voids, intervals or days), and then its commands over a file; what each run may print,
-# tests/refused_allocations.py and tests/refused_in_file.py say. Of a command over a file, which allocates thousands of times, it refuses REFUSED_MOST
-# by chance (100; 0 is each, which takes hours) by REFUSED_SEED, shared by REFUSED_JOBS processes (1), and says how many of how many; where REFUSED_ONLY names
-# some of these commands (create, serve, round, exchange, report), of these alone. It ends on 'N passed, M failed'. It is no part of
-# the gate. It needs a C compiler, and proves and builds the programs first. (They are named .rattle, since the gate refuses a .rt file
-# outside the crates.) `tests/refused_allocations.sh PROGRAM` takes a program that is built, and leaves the small ones out.
+# refused_allocations.sh [PROGRAM]: refuses each allocation of the program, and of the small
+# programs in tests/programs/, alone and with all later ones. With PROGRAM, which is built, it
+# leaves the small ones out. Else it first proves and builds the programs, and needs a C compiler.
+# The program runs tests/sessions.script (devices, registers, meters and polls; no lists, rounds,
+# corrections, voids, intervals or days), and then its commands over a file.
+# tests/refused_allocations.py and tests/refused_in_file.py say what each run may print. A command
+# over a file allocates thousands of times. Of these the script refuses REFUSED_MOST (100; 0 is
+# each, which takes hours), chosen at random by REFUSED_SEED, with REFUSED_JOBS processes (1). It
+# prints how many of how many. REFUSED_ONLY names some of these commands (create, serve, round,
+# exchange, report), of which alone it refuses. It ends with 'N passed, M failed', and is no part of
+# the gate. (The small programs are named .rattle, since the gate refuses a .rt file outside the
+# crates.)
 set -euo pipefail
 program=${1:+$(readlink -f "$1")}
 cd "$(dirname "$(readlink -f "$0")")"

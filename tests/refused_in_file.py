@@ -1,13 +1,23 @@
 #!/usr/bin/env python3
 """refused_in_file.py LIBRARY PROGRAM: refuses the allocations of the commands over a file, under the preloaded LIBRARY.
 
-Over one file come `create`, then `serve` with the requests that set up a meter, then `round` against a device, then `exchange`, which is
-`serve` with the request that exchanges the meter, then `report`. A run of each with none refused counts its allocations. Then REFUSED_MOST
-of them (100; 0 is each) by chance are refused, each alone, and then as many, each with all that come later, over a copy of the file as it
-was before. The run may end with status 1 (`refused 14`) or 3 (`failed` on standard error); a request that is refused 14, or gets no whole
-reply, changed nothing or is done, so that its repeat is done. Behind each run the file is opened with none refused, and must be whole: every
-poll has an outcome, each meter's energy is its last reading less its first, what was printed as booked or answered as done is there, and
-the same command does then what it does in the run with none refused. Where REFUSED_ONLY names some of the commands, the others run as they are.
+The commands over one file are:
+- `create`
+- `serve` with the requests that set up a meter
+- `round` against a device
+- `exchange`, which is `serve` with the request that replaces the meter
+- `report`
+
+A run of each without refusals counts its allocations. Then REFUSED_MOST of them (100; 0 is each),
+chosen at random, are refused, each alone. Then as many are refused with all later ones, over a copy of
+the file as it was before. A run may end with status 1 (`refused 14`) or 3 (`failed` on standard
+error). A request with the response `refused 14`, or without a complete response, changed nothing or is
+done, so that a retry is done.
+
+After each run the file is opened without refusals, and must be sound. Every poll has an outcome. Each
+meter's energy is its last reading less its first. Each record that was printed or acknowledged is
+there. The same command then does what it does in a run without refusals. If REFUSED_ONLY names some of
+the commands, the others run without refusals.
 """
 import collections
 import concurrent.futures
@@ -29,7 +39,7 @@ import time
 ALL = 1 << 60
 MOST = int(os.environ.get("REFUSED_MOST", "100"))  # of a command, alone and with all later ones; 0: each
 ONLY = os.environ.get("REFUSED_ONLY", "").split()  # the commands whose allocations are refused; none: all
-JOBS = int(os.environ.get("REFUSED_JOBS", "1"))  # so many processes share them, each with a file of its own
+JOBS = int(os.environ.get("REFUSED_JOBS", "1"))  # the processes that share them, each with a file
 SEED = int(os.environ.get("REFUSED_SEED", time.time_ns() % 1_000_000_007))
 HOST, PORTS = "127.0.0.1", 16000
 OPENING, SHOWN, CLOSING = 5000, 5200, 5300
@@ -47,7 +57,7 @@ EXCHANGING = (
     ),
 )
 FIRST_SETTING_UP, FIRST_EXCHANGING = 0, 7
-# What requests set up or change, but for its moments.
+# The rows that requests set up or change, without timestamps.
 COMMANDED = (
     "SELECT * FROM devices",
     "SELECT * FROM points",
@@ -57,7 +67,8 @@ COMMANDED = (
     "SELECT meter, place, kind, raw, rolls, sf FROM entries",
     "SELECT caller, number, request, kind FROM replies",
 )
-# Of each meter its total, the sum of its intervals, and its last reading less its first, in mWh: no counter turns over, and all scales are 0.
+# Of each meter its total, the sum of its intervals, and its last reading less its first, in mWh. No
+# counter rolls over, and all scales are 0.
 ENERGY = """
     SELECT meter, total,
         (SELECT coalesce(sum(mwh), 0) FROM intervals WHERE intervals.meter = installations.meter),
@@ -69,7 +80,7 @@ Ran = collections.namedtuple("Ran", "status lines said seen calls")
 
 
 class Wrong(Exception):
-    """Why a run is no right one."""
+    """The reason why a run is wrong."""
 
 
 def needs(is_so, why):
@@ -97,11 +108,11 @@ class Device(threading.Thread):
 
 
 class Files:
-    """The program, and the file that its commands work on."""
+    """The program, and the file of its commands."""
 
     def __init__(self, library, program, room, share):
         self.library, self.program, self.room = library, program, room
-        first = PORTS + 500 * share  # (below those that the system hands out, so that no other share asks there)
+        first = PORTS + 500 * share  # (below the system's own range)
         self.ports = itertools.cycle(range(first, first + 500))
         self.file = f"{room}/now/office.db"
         self.device = Device()
@@ -109,7 +120,7 @@ class Files:
         os.mkdir(f"{room}/now")
 
     def free_port(self):
-        """A port of this share alone."""
+        """Returns a port that only this share uses."""
         for port in self.ports:
             with contextlib.suppress(OSError), socket.create_server((HOST, port)):
                 return port
@@ -145,7 +156,7 @@ class Files:
         return Ran(running.returncode, printed.decode().splitlines(), said, seen, calls)
 
     def rows(self, query, name="now"):
-        """Rows of a copy, so that the file stays as the program left it."""
+        """Returns rows of a copy, so that the file stays as the program left it."""
         shutil.rmtree(f"{self.room}/copy", ignore_errors=True)
         shutil.copytree(f"{self.room}/{name}", f"{self.room}/copy")
         books = sqlite3.connect(f"{self.room}/copy/office.db")
@@ -165,7 +176,7 @@ class Files:
 
 
 def connection(running, port):
-    """A connection to a program, or none where it has ended."""
+    """Returns a connection to a program, or none if it has ended."""
     while running.poll() is None:
         try:
             return socket.create_connection((HOST, port), timeout=60)
@@ -175,7 +186,8 @@ def connection(running, port):
 
 
 def ask(running, port, number, request):
-    """The status and the body of the reply to a request; none where no whole one comes."""
+    """Returns the status and the body of the response to a request, or none without a complete
+    one."""
     link = http.client.HTTPConnection(HOST, port, timeout=60)
     link.sock = connection(running, port)
     if link.sock is None:
@@ -192,7 +204,9 @@ def ask(running, port, number, request):
 
 
 def asking(port, connections, requests, number):
-    """Asks requests, numbered from that number on, each again where it gets no reply that it is done, and uses up the connections."""
+    """Sends requests, numbered from that number on, and uses up the connections.
+
+    It retries each one until a response says that it is done."""
 
     def play(running):
         replies = []
@@ -214,7 +228,7 @@ def create(files, first=0, last=0):
 
 
 def serve(files, requests, number, first, last):
-    """Serves requests, which are numbered from that number on, and has room for one repeat."""
+    """Serves requests, numbered from that number on, and one retry."""
     port, connections = files.free_port(), len(requests) + 1
     words = ("serve", "--port", str(port), "--connections", str(connections))
     return files.run(words, first, last, asking(port, connections, requests, number))
@@ -309,7 +323,8 @@ COMMANDS = (
 
 
 def try_all(files, share, name, command, judge):
-    """Refuses the allocations of a command that fall to a share, and counts how the runs ended; None is a wrong run."""
+    """Refuses the allocations of a command that belong to a share, and counts the results; None is
+    a wrong run."""
     files.keep("before")
     whole = command(files)
     files.keep("after")
@@ -337,7 +352,7 @@ def try_all(files, share, name, command, judge):
 
 
 def ended_so(ran):
-    """How a run ended, in few words."""
+    """Returns how a run ended, in few words."""
     first = [it[0] for it in ran.seen or ()]
     without = " and a request without a reply" * (ran.status == 0 and None in first)
     refused = " and a request refused 14" * any(it is not None and it[0] == 503 for it in first)
@@ -345,7 +360,8 @@ def ended_so(ran):
 
 
 def tried(calls, seed):
-    """Numbers from 1 to a count: all, or MOST of them, by chance, and the first and the last ones."""
+    """Returns numbers from 1 to a count: all, or MOST of them at random, with the first and the
+    last ones."""
     if MOST == 0 or calls <= MOST:
         return range(1, calls + 1)
     ends = {1, 2, 3, calls - 1, calls}
@@ -353,18 +369,18 @@ def tried(calls, seed):
 
 
 def try_share(library, program, share):
-    """Tries the allocations of each command that fall to a share."""
+    """Tries the allocations of each command that belong to a share."""
     with tempfile.TemporaryDirectory(prefix="refused-") as room:
         files = Files(library, program, room, share)
         found = []
         for command in COMMANDS:
             found.append(try_all(files, share, *command))
-            time.sleep(1.0)  # (a reading in the second of the entry before is held, and an exchange in it refused)
+            time.sleep(1.0)  # (no reading or exchange works in the second of the last entry)
         return [it for it in found if it]
 
 
 def try_commands(library, program):
-    """Tries each command in its turn, and returns of each how many runs were right and how many were not."""
+    """Tries each command in turn, and returns the numbers of right and wrong runs of each."""
     lacking = {*ONLY} - {name for name, *_ in COMMANDS}
     if lacking:
         raise Wrong(f"REFUSED_ONLY names {', '.join(sorted(lacking))}, and no such command is tried")

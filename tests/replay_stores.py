@@ -1,9 +1,10 @@
 #!/usr/bin/env python3
-"""replay_stores.py [PROGRAM]: compares the two stores of an office, books in memory and tables in a file.
+"""replay_stores.py [PROGRAM]: compares the two stores of an office, in memory and in a file.
 
-Plays each script in crates/script_cases/data by `replay`, and by `replay --db` over the file that `create` makes for the same zone. Both
-must print the same bytes and end with the same status. The file must have no differences by `audit`. Ends on 'N passed, M failed'.
-JOBS is how many scripts are played at a time, 2 by default.
+It plays each script in crates/script_cases/data with `replay`, and with `replay --db` over the file that
+`create` makes for the same zone. Both must print the same bytes and exit with the same status. `audit`
+must find no differences in the file. The script ends with 'N passed, M failed'. JOBS is how many
+scripts are played at a time, 2 by default.
 """
 import concurrent.futures
 import os
@@ -39,7 +40,7 @@ def play_both(program, zone, text, room):
 
 
 def play_case(program, path):
-    """Returns why the stores disagree on a case, or None."""
+    """Returns why the stores disagree on a test, or None."""
     text = path.read_bytes()
     zone = (cases.zone_words(text) or ["--zone", "UTC0"])[1]
     for it in cases.texts_of(path.suffix[1:], text):

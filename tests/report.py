@@ -1,7 +1,8 @@
-"""Reports on ranges of days, by periods, and statements, in both units and three formats: report.py PROGRAM; tests/report.sh calls it.
+"""report.py PROGRAM: compares reports and statements with Python, in both units and three formats.
 
-A file gets quarter hours over the end of a year, a 29 February and a clock change. What the program prints of them is held to what
-Python's own calendar, decimals, CSV and JSON make of the same quarter hours.
+tests/report.sh runs it. The reports are on ranges of days, by periods. A file gets quarter hours over
+the end of a year, a 29 February and a clock change. The expected output is computed from the same
+quarter hours by Python's own calendar, decimals, CSV and JSON.
 """
 import csv
 import datetime
@@ -25,17 +26,20 @@ counts = {"passed": 0, "failed": 0}
 
 
 def quarter(day):
-    """The energy of each quarter hour of a day of UTC, in mWh: on the first two nothing, and then one mWh."""
+    """Returns the energy of each quarter hour of a day of UTC, in mWh: nothing on the first two
+    days, and then one mWh."""
     return (0, 0, 1)[day] if day < 3 else 8_543 * day + 7
 
 
-# The readings that were held: one at every seventh noon of UTC, each for the next cause, and two in the last second of 2023 in the zone and the one after it.
+# The rejected readings: one at every seventh noon of UTC, each for the next cause. Two more are in
+# the last second of 2023 in the zone, and in the second after it.
 HELD = sorted([(BEGIN + DAY * day + DAY // 2, day // 7 % 8 + 1) for day in range(0, DAYS, 7)] + [(1704063599, 6), (1704063600, 6)])
 QUARTERS = [(BEGIN + DAY * day + 900 * at, quarter(day)) for day in range(DAYS) for at in range(96)]
 
 
 def office(db):
-    """A file of one meter that was read once a day, in mWh, and of a register that never had one."""
+    """Makes a file of one meter that was read once a day, in mWh, and of a register without a
+    reading."""
     entries, raw = [f"('m1', 1, 1, {BEGIN}, 0, 0, 0, -3)"], 0
     for day in range(DAYS):
         raw += 96 * quarter(day)
@@ -60,22 +64,22 @@ def office(db):
 
 
 def same(what, got, wanted):
-    """Holds what came to what is wanted."""
+    """Compares a result with the expected one, and counts it."""
     counts["passed" if got == wanted else "failed"] += 1
     if got != wanted:
         print(f"{what}: {got!r}\nand not {wanted!r}")
 
 
 def run(db, register, words):
-    """The status of a report, and what it prints."""
+    """Returns the status and the output of a report."""
     done = subprocess.run([PROGRAM, "report", "--db", db, "--register", register, *words], capture_output=True, stdin=subprocess.DEVNULL)
-    # (the file is sqlite3's own, so it has no log beside it, which is told)
+    # (sqlite3 wrote the file, so it has no log beside it, which the program reports)
     said = [it for it in done.stderr.decode().splitlines() if "it had no log" not in it]
     return done.returncode, done.stdout.decode(), said[:1]
 
 
 def rows(period, first, till):
-    """Each period of a range, with its count of quarter hours and its energy in mWh."""
+    """Returns each period of a range, with its number of quarter hours and its energy in mWh."""
     found = {}
     for start, mwh in QUARTERS:
         day = datetime.datetime.fromtimestamp(start, PLACE).date()
@@ -86,7 +90,7 @@ def rows(period, first, till):
 
 
 def energy(unit, mwh):
-    """An energy as a text."""
+    """Returns an energy as text."""
     return str(mwh) if unit == "mwh" else str(decimal.Decimal(mwh).scaleb(-6).quantize(decimal.Decimal("0.000001")))
 
 
@@ -96,7 +100,7 @@ def text_of(found, period, unit):
 
 
 def csv_of(found, period, unit):
-    """A table that Python's writer makes, with the line ends of RFC 4180."""
+    """Returns a table of Python's writer, with the line ends of RFC 4180."""
     table = io.StringIO()
     writer = csv.writer(table)
     writer.writerow([period, f"energy_{unit}"])
@@ -109,7 +113,7 @@ def objects_of(found, period, unit):
 
 
 def hold(db, period, unit, form, first, till):
-    """Holds one report."""
+    """Checks one report."""
     words = ["--by", period, "--unit", unit, "--format", form]
     words += ["--from", str(first)] if first else []
     words += ["--till", str(till)] if till else []
@@ -124,7 +128,8 @@ def hold(db, period, unit, form, first, till):
 
 
 def statement(unit, form, first, till):
-    """What a statement prints: the meter was read at the end of each day of UTC, and was there from the first of them on."""
+    """Returns the expected statement: the meter was read at the end of each day of UTC, from the
+    first on."""
     readings, raw = [(BEGIN, 0)], 0
     for day in range(DAYS):
         raw += 96 * quarter(day)
@@ -156,7 +161,7 @@ def statement(unit, form, first, till):
 
 
 def hold_statement(db, unit, form, first, till):
-    """Holds one statement, and its energy to that of the report by days."""
+    """Checks one statement, and compares its energy with that of the report by days."""
     words = ["--statement", "--unit", unit, "--format", form]
     words += ["--from", str(first)] if first else []
     words += ["--till", str(till)] if till else []
@@ -167,13 +172,13 @@ def hold_statement(db, unit, form, first, till):
 
 
 def refused(db, words, said):
-    """Words that are wrong."""
+    """Wrong arguments are refused."""
     status, printed, errors = run(db, "main", words)
     same(" ".join(words), (status, printed, errors), (2, "", [said]))
 
 
 def entries_stand(db):
-    """Holds the question of docs/REPORTS.md for a meter's entries to what the file was given."""
+    """The query of docs/REPORTS.md for a meter's entries returns the rows of the file."""
     page = (HERE.parent / "docs/REPORTS.md").read_text()
     question = page.split("```sql\n")[1].split("```")[0].replace("2026-11-01", "2024-01-01").replace("2026-12-01", "2024-02-01")
     done = subprocess.run(["sqlite3", "-bail", db, question], capture_output=True, text=True, check=True)

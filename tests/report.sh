@@ -1,7 +1,7 @@
 #!/bin/sh
-# Holds reports on ranges of days, by periods, in both units and three formats, to what Python computes from the same quarter hours:
-# `tests/report.sh [PROGRAM]`, out/sunreg by default, which `./sunreg-build` makes. It needs python3 with the zones of the system, and
-# sqlite3. It ends on 'N passed, M failed'.
+# report.sh [PROGRAM]: compares reports on ranges of days, by periods, with Python's, in both units
+# and three formats. PROGRAM is out/sunreg by default, which `./sunreg-build` makes. The script
+# needs python3 with the zones of the system, and sqlite3. It ends with 'N passed, M failed'.
 set -eu
 here=$(dirname "$(readlink -f "$0")")
 program=${1:-${SUNREG:-$here/../out/sunreg}}

@@ -1,6 +1,8 @@
 #!/usr/bin/env python3
-"""rooms.py: holds the map, the tables and the counts of docs/ARCHITECTURE.md to crates.txt. It prints what isn't so, and the counts, and ends on
-'N passed, M failed'; the status is 1 where something isn't."""
+"""rooms.py: compares the map, the tables and the counts of docs/ARCHITECTURE.md with crates.txt.
+
+It prints the differences and the counts, and ends with 'N passed, M failed'; the status is 1 if M > 0.
+"""
 import os
 import re
 import sys
@@ -11,7 +13,7 @@ OF_TESTS = {"script_cases", "http_cases", "failing_books"}
 
 
 def lists():
-    """Which crates of ours each crate of crates.txt stands on."""
+    """Returns the libraries of each of our crates in crates.txt."""
     found = {}
     with open(f"{TOP}/crates.txt", encoding="utf-8") as it:
         for line in it:
@@ -22,22 +24,22 @@ def lists():
 
 
 def chain_of(crates, name):
-    """The longest chain of crates that ends with one."""
+    """Returns the longest chain of crates that ends with one."""
     return max((chain_of(crates, it) for it in crates[name]), key=len, default=[]) + [name]
 
 
 def below(crates, name):
-    """All that a crate stands on, by way of others too."""
+    """Returns all crates below a crate, direct and indirect."""
     return set(crates[name]).union(*(below(crates, it) for it in crates[name]))
 
 
 def arrows_of(crates, names):
-    """The pairs of a crate and one that stands on it with none between."""
+    """Returns the pairs of a crate and a crate above it, with none between them."""
     return {(it, name) for name in names for it in crates[name] if not any(it in below(crates, other) for other in crates[name])}
 
 
 def drawn_in(text):
-    """The arrows of the map."""
+    """Returns the arrows of the map."""
     lines = re.search(r"```mermaid\n(.*?)```", text, re.S).group(1).splitlines()
     words = [[it.strip() for it in line.split("-->")] for line in lines]
     return {pair for it in words for pair in zip(it, it[1:])}
@@ -60,7 +62,7 @@ def main():
         if not re.search(rf"^\| {what}\b[^|]*\| {count} \|$", text, re.M):
             faults.append(f"the page doesn't say how many: {what}, {count}")
     print("\n".join(faults + [f"{len(libraries)} libraries, {len(tests)} crates of tests; the longest chain has {len(chain)}: {' '.join(chain)}"]))
-    # (an arrow, a crate's row and a count of the page is one each)
+    # (an arrow, a crate's row and a count of the page are one thing each)
     compared = len(wanted | drawn) + len(crates.keys() - {"script_cases"} | set(rows)) + len(counted)
     print(f"{compared - len(faults)} passed, {len(faults)} failed")
     return 1 if faults else 0

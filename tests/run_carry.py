@@ -23,7 +23,7 @@ passed = failed = 0
 
 
 def holds(what, is_so, got=""):
-    """Counts whether something holds."""
+    """Counts whether a condition holds."""
     global passed, failed
     if is_so:
         passed += 1
@@ -37,7 +37,7 @@ def same(what, got, wanted):
 
 
 def moment(*parts):
-    """The moment of a time in UTC."""
+    """Returns the timestamp of a time in UTC."""
     return int(datetime(*parts, tzinfo=timezone.utc).timestamp())
 
 
@@ -53,7 +53,7 @@ LIBRARY = library()
 
 
 class Clock:
-    """The clock of processes, which can be set. What nobody sets goes on as it does."""
+    """The clock of processes, which can be set. Without a setting it runs as it is."""
 
     def __init__(self, name, at):
         self.path = f"{ROOM}/{name}.clock"
@@ -71,7 +71,7 @@ class Clock:
 
 
 class Process:
-    """A process of the program, whose lines are kept with the time at which they came."""
+    """A process of the program, whose lines are kept with the times at which they came."""
 
     def __init__(self, *words, clock, stderr=subprocess.PIPE, user=None, folder=None):
         self.lines, self.said = [], []
@@ -89,7 +89,7 @@ class Process:
             lines.append((time.monotonic(), line.rstrip("\n")))
 
     def wait_for(self, words, seconds=20, count=1):
-        """Whether so many lines have come that have these words, on either stream."""
+        """Returns whether so many lines with these words have come, on either stream."""
         until = time.monotonic() + seconds
         while time.monotonic() < until:
             if sum(words in line for _, line in [*self.lines, *self.said]) >= count:
@@ -104,7 +104,7 @@ class Process:
         return [line for _, line in [*self.lines, *self.said]]
 
     def rounds(self):
-        """When rounds ended whose polls were answered."""
+        """Returns the ends of rounds whose polls were answered."""
         return [at for at, line in self.lines if "round answered" in line]
 
     def end(self, with_signal=signal.SIGTERM):
@@ -114,7 +114,7 @@ class Process:
 
 
 class Device:
-    """A Modbus device whose counter goes on as time does."""
+    """A Modbus device whose counter follows the time."""
 
     def __init__(self):
         self.begun = time.monotonic()
@@ -151,7 +151,7 @@ class Device:
 
 
 def wait_until(is_so, seconds):
-    """Waits until something holds, and returns whether it came to hold in that time."""
+    """Waits until a condition holds, and returns whether it held in time."""
     until = time.monotonic() + seconds
     while not is_so():
         if time.monotonic() > until:
@@ -170,7 +170,8 @@ def call(*words, clock, text="", user=None):
 
 
 def office(name, file, zone, clock, user=None):
-    """Makes an office with the device inv and its meter m1, which was installed at 5000; its file."""
+    """Makes an office with the device inv and its meter m1, which was installed at 5000, and
+    returns its file."""
     folder = f"{ROOM}/{name}"
     os.mkdir(folder)
     if user is not None:
@@ -195,7 +196,8 @@ def begin(path, period, device, clock, *words, named=None, **more):
 
 
 def files_of(path):
-    """The names of the files of an office, the led one last: its own, and then those of periods."""
+    """Returns the names of an office's files, the one in use last: its first one, and then those of
+    periods."""
     folder, name = os.path.split(path)
     stem = name.removesuffix(".db")
     others = sorted(it for it in os.listdir(folder) if it.startswith(f"{stem}-2") and not it.endswith(("-wal", ".part")))
@@ -203,7 +205,7 @@ def files_of(path):
 
 
 def asked(path, sql):
-    """What sqlite3 tells of a copy of a file and its log."""
+    """Returns what sqlite3 reads in a copy of a file and its log."""
     copy = f"{ROOM}/asked.db"
     for end in ("", "-wal", "-shm"):
         if os.path.exists(copy + end):
@@ -217,7 +219,7 @@ def asked(path, sql):
 
 
 def energy(path, clock):
-    """The energy that a file tells of the register, in mWh, of all days."""
+    """Returns the energy of the register in a file, in mWh, of all days."""
     told = call("report", "--db", path, "--register", "main", clock=clock)
     if told.returncode != 0:
         return None
@@ -225,7 +227,9 @@ def energy(path, clock):
 
 
 def holds_energy(what, path, clock, is_audited=True):
-    """All files have together what the counter went on by, from the opening to the last entry of all: nothing is lost, and nothing is there twice."""
+    """All files together have the counter's increase from the opening to the last entry.
+
+    Nothing is lost, and nothing is there twice."""
     folder = os.path.dirname(path)
     names = files_of(path)
     each = [energy(f"{folder}/{name}", clock) for name in names]
@@ -239,7 +243,7 @@ def holds_energy(what, path, clock, is_audited=True):
 
 
 class Asker:
-    """Asks a run by HTTP all the time, and keeps how long it did not answer at most."""
+    """Sends HTTP requests to a run all the time, and keeps the longest time without a response."""
 
     def __init__(self, port):
         self.port, self.away, self.ends = port, 0.0, False
@@ -310,7 +314,7 @@ def crossing(name, file, zone, period, end, before, after, seconds=8):
 
 
 def with_an_end():
-    """What --for says is the time of all files together."""
+    """--for gives the time of all files together."""
     end = moment(2026, 12, 1)
     clock = Clock("ended", end - 7200)
     path = office("ended", "office.db", "UTC0", clock)
@@ -327,7 +331,7 @@ def with_an_end():
 
 
 def kills():
-    """Killed at a moment by chance round the change, and started again."""
+    """A run is killed at a random time around the change, and started again."""
     end = moment(2026, 12, 1)
     clock = Clock("kills", end - 7200)
     path = office("kills", "office.db", "UTC0", clock)
@@ -376,7 +380,8 @@ def kills():
 
 
 def clock_set_back():
-    """A file of a later period than the clock says is gone on in, and a clock that is set back in a run changes nothing."""
+    """A run continues in a file of a later period than the clock's. A clock that is set back during
+    a run changes nothing."""
     end = moment(2026, 12, 1)
     clock = Clock("back", end - 7200)
     path = office("back", "office.db", "UTC0", clock)
@@ -407,7 +412,7 @@ def clock_set_back():
 
 
 def clock_ahead():
-    """A clock that is set right in a run, ahead into the next month."""
+    """The clock is corrected during a run, ahead into the next month."""
     end = moment(2026, 12, 1)
     clock = Clock("ahead", end - 7200)
     path = office("ahead", "office.db", "UTC0", clock)
@@ -422,7 +427,8 @@ def clock_ahead():
 
 
 def behind():
-    """A clock that stands before the last entry: nothing is carried, and the office is opened as it is without --carry."""
+    """The clock is before the last entry: nothing is carried, and the office opens as without
+    --carry."""
     end = moment(2026, 12, 1)
     clock = Clock("behind", end - 7200)
     path = office("behind", "office.db", "UTC0", clock)
@@ -435,7 +441,8 @@ def behind():
 
 
 def unwritable(name, spoil, mend, wanted, user=None):
-    """A folder in which no new file can be made: polling goes on, and once that can be mended it is carried at the next hour."""
+    """In a folder where no new file can be made, polling continues. Once the folder is mended, the
+    office is carried at the next hour."""
     end = moment(2026, 12, 1)
     clock = Clock(name, end - 7200)
     path = office(name, "office.db", "UTC0", clock, user)
@@ -461,7 +468,7 @@ def unwritable(name, spoil, mend, wanted, user=None):
 
 
 def left_part(folder):
-    """Something of the part's name that no carry left."""
+    """Makes a file with a name of a new part that no carry left."""
     os.mkdir(f"{folder}/office-2026-12.db.part")
 
 
@@ -476,8 +483,10 @@ def nothing_can_be_made():
 
 
 def full_disk(name, left, has_room_for_log):
-    """A disk without room for a new file. The file before goes on while there is room for its log, of which some 128 KiB are made at once;
-    else its rounds fail, which is told, and nothing is lost."""
+    """A disk has no space for a new file.
+
+    The old file continues while there is space for its log, which grows by some 128 KiB at once.
+    Else its rounds fail, which is reported, and nothing is lost."""
     folder = f"{ROOM}/{name}"
     os.mkdir(folder)
     if subprocess.run(["mount", "-t", "tmpfs", "-o", "size=2m", "tmpfs", folder], capture_output=True).returncode != 0:
@@ -551,12 +560,14 @@ def missing():
         file.write("text")
     ran = call("run", "--db", path, "--listen", str(free_port()), "--every", "2", "--devices", "inv=127.0.0.1:1", "--carry", "year", clock=clock)
     same("missing: a text", (ran.returncode, ran.stderr.splitlines()[:1]), (3, ["failed"]))
-    # (who opens a file makes its log, which is empty)
+    # (a command that opens a file makes its log, which is empty)
     same("missing: no file is made of it", sorted(os.listdir(f"{ROOM}/missing")), ["office.db", "office.db-wal"])
 
 
 def left_empty():
-    """A file of the new month that is empty, as a kill may leave it where the file system knows no second names: it is passed over. One with a log beside it is not."""
+    """An empty file of the new month is skipped. An empty file with a log beside it is not.
+
+    A kill may leave an empty file if the file system has no hard links."""
     clock = Clock("empty", moment(2026, 11, 20))
     path = office("empty", "office.db", "UTC0", clock)
     folder = os.path.dirname(path)
@@ -581,7 +592,7 @@ def left_empty():
 
 
 def second_run():
-    """Who starts a second run over the same files is refused, also all the time while a new file is begun."""
+    """A second run over the same files is refused, also all the time while a new file is begun."""
     end = moment(2026, 12, 1)
     clock = Clock("second", end - 7200)
     path = office("second", "office.db", "UTC0", clock)
@@ -606,7 +617,7 @@ def second_run():
 
 
 def unread():
-    """Standard error is a pipe that is full and that nobody reads: the change is made, and isn't told."""
+    """Standard error is a full pipe that nobody reads: the change happens, and isn't reported."""
     end = moment(2026, 12, 1)
     clock = Clock("unread", end - 7200)
     path = office("unread", "office.db", "UTC0", clock)

@@ -1,9 +1,14 @@
 #!/bin/sh
-# Has a run of the built program begin a new file each month, and each year, beside a device that counts on, over a clock that is set: at the end of a month in summer, in
-# winter and at new year, under KILLS (30) kills round the change, beside a second run, with a clock that was set back, in folders that can't be written, with a pipe that nobody reads:
-# `tests/run_carry.sh [--short] [PROGRAM]`, out/sunreg by default, which `./sunreg-build` makes. `faketime` sets the clock; where this is run as root it is installed by apt (not with
-# PEERS_INSTALL=no). It takes some eight minutes and ends on 'N passed, M failed'.
-# --short tries the end of one month and five kills alone, in a minute and a half.
+# run_carry.sh [--short] [PROGRAM]: tests that a run begins a new file each month, and each year.
+# PROGRAM is out/sunreg by default, which `./sunreg-build` makes. A device counts on, and `faketime`
+# sets the clock:
+# - at the end of a month in summer, in winter and at new year
+# - under KILLS (30) kills around the change, and beside a second run
+# - with a clock that was set back, in folders that can't be written, with a pipe that nobody reads
+#
+# As root the script installs `faketime` by apt (not with PEERS_INSTALL=no). It takes some eight
+# minutes and ends with 'N passed, M failed'. --short tests the end of one month and five kills, in
+# a minute and a half.
 set -u
 here=$(dirname "$(readlink -f "$0")")
 short=

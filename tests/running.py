@@ -1,4 +1,6 @@
-"""running.py PROGRAM PORT [--short] NAME=PATH..: see running.sh. PATH is libmodbus's server, or the Python that has pymodbus or Prometheus's parser."""
+"""running.py PROGRAM PORT [--short] NAME=PATH..: see running.sh.
+
+PATH is libmodbus's server, or the Python that has pymodbus or Prometheus's parser."""
 import atexit
 import json
 import os
@@ -37,7 +39,7 @@ atexit.register(end)
 
 
 def holds(what, is_so, got=""):
-    """Counts whether something holds."""
+    """Counts whether a condition holds."""
     global passed, failed
     if is_so:
         passed += 1
@@ -51,7 +53,7 @@ def same(what, got, wanted):
 
 
 class Device:
-    """A device in a thread of this process: it answers, keeps silent, or garbles."""
+    """A device in a thread of this process: it answers, times out, or garbles."""
 
     def __init__(self, how):
         self.how, self.times, self.shown, self.asked = how, [], [], 0
@@ -102,7 +104,7 @@ def free_port():
 
 
 def stand_in(raw):
-    """Starts the program's own stand-in, whose meter shows so much; its port."""
+    """Starts the program's own simulator, whose meter shows `raw`, and returns its port."""
     port = free_port()
     child = subprocess.Popen(
         [PROGRAM, "stand-in", "--port", str(port), "--connections", "1000"], stdin=subprocess.PIPE, stdout=subprocess.DEVNULL
@@ -114,7 +116,8 @@ def stand_in(raw):
 
 
 def server_of(name, raw):
-    """Starts a server of others, whose meter shows so much, or a stand-in where that isn't here; its port."""
+    """Starts another program's server, whose meter shows `raw`, or a simulator if it isn't here.
+    Returns its port."""
     if name not in PEERS:
         return stand_in(raw)
     port, bank = free_port(), f"{ROOM}/{name}.txt"
@@ -149,7 +152,7 @@ class Run:
             self.lines.append(line.rstrip("\n"))
 
     def wait_for(self, pattern, seconds=60):
-        """The first line that matches."""
+        """Returns the first line that matches."""
         until = time.time() + seconds * SLOW
         while time.time() < until:
             for line in list(self.lines):
@@ -162,7 +165,7 @@ class Run:
 
 
 def wait_until(is_so, seconds, step=0.05):
-    """Waits until something holds, and returns whether it came to hold in that time."""
+    """Waits until a condition holds, and returns whether it held in time."""
     until = time.monotonic() + seconds * SLOW
     while not is_so():
         if time.monotonic() > until:
@@ -172,7 +175,7 @@ def wait_until(is_so, seconds, step=0.05):
 
 
 def ask(path, number=None, body=None, seconds=30):
-    """The status and the text of a reply."""
+    """Returns the status and the text of a response."""
     headers = {} if number is None else {"Office-Caller": "desk", "Office-Request": str(number)}
     data = None if body is None else body.encode()
     request = urllib.request.Request(f"http://127.0.0.1:{PORT}{path}", data=data, headers=headers)
@@ -184,7 +187,7 @@ def ask(path, number=None, body=None, seconds=30):
 
 
 def ask_in_pieces(path, size=16):
-    """How long a reply took to a request that came in pieces, and its first line."""
+    """Returns the time of a response to a request in pieces, and its first line."""
     begun = time.time()
     with socket.create_connection(("127.0.0.1", PORT), timeout=30) as stream:
         text = f"GET {path} HTTP/1.1\r\nHost: 127.0.0.1\r\n\r\n".encode()
@@ -205,7 +208,9 @@ METRIC = re.compile(r'[a-z_][a-z0-9_]*(\{[a-z_]+="[^"\\\n]*"(,[a-z_]+="[^"\\\n]*
 
 
 def metrics_in(text):
-    """The values of a text in Prometheus's format: each line is a comment or a value of a family that was named before."""
+    """Returns the values of a text in Prometheus's format.
+
+    Each line must be a comment or a value of a family that was named before."""
     values, families = {}, set()
     for line in text.splitlines():
         if line.startswith("# TYPE "):
@@ -225,7 +230,7 @@ print(json.dumps([[it.name, it.labels, it.value] for family in families(sys.stdi
 
 
 def samples_in(text):
-    """The same by the parser of Prometheus's own library."""
+    """Returns the same values by the parser of Prometheus's own library."""
     read = subprocess.run([PEERS["prometheus"], "-B", "-c", READ_SAMPLES], input=text, capture_output=True, text=True)
     holds("Prometheus's parser reads the metrics", read.returncode == 0, read.stderr[-300:])
     samples = json.loads(read.stdout) if read.returncode == 0 else []
@@ -234,7 +239,7 @@ def samples_in(text):
 
 
 def books():
-    """A copy of the file and of its log."""
+    """Returns a connection to a copy of the file and of its log."""
     copy = f"{ROOM}/copy"
     shutil.rmtree(copy, ignore_errors=True)
     os.mkdir(copy)
@@ -245,7 +250,8 @@ def books():
 
 
 def hold_books(when, shown_by):
-    """Each reading in the books was shown, in that order and once, and the energy is the last one less the first."""
+    """Each recorded reading was shown, in that order and once. The energy is the last one less the
+    first."""
     file = books()
     same(f"{when}: the file is whole", file.execute("PRAGMA integrity_check").fetchall(), [("ok",)])
     for name, shown in shown_by.items():
@@ -264,7 +270,7 @@ def hold_books(when, shown_by):
 
 
 def energy_of(meter):
-    """The energy of a meter, by its rows, in Wh."""
+    """Returns the energy of a meter, by its rows, in Wh."""
     rows = [line.split() for line in ask(f"/meters/{meter}/intervals")[1].splitlines()]
     return sum(int(row[1]) for row in rows if row[0] != "end") / 1000
 
@@ -280,7 +286,10 @@ def add_device(number, name):
 
 
 def ask_beside_a_crowd():
-    """Has 100 connections by HTTP while all devices are polled: one is silent, and the others come in pieces. Then a table full of silent peers."""
+    """Opens 100 HTTP connections while all devices are polled: one is idle, and the others send
+    pieces.
+
+    Then idle clients fill the table of slots."""
     since = time.time()
     mute_peer = socket.create_connection(("127.0.0.1", PORT))
     took, threads = [], []
@@ -305,7 +314,7 @@ def ask_beside_a_crowd():
     times = sorted(seconds for seconds, _ in took)
     print(f"replies: median {times[49] * 1000:.1f} ms, 99 % {times[97] * 1000:.1f} ms, most {times[98] * 1000:.1f} ms")
     holds("within a second", times[98] < 1, times[98])
-    # (a round may begin a millisecond early, since a run's time is a whole number of them)
+    # (a round may begin a millisecond early, since a run's time is a whole number of milliseconds)
     late = [0 if it > EVERY - 0.005 else it for device in good.values() for it in lateness_of(device, since, until)]
     print(f"lateness: median {sorted(late)[len(late) // 2] * 1000:.1f} ms, most {max(late) * 1000:.1f} ms, of {len(late)} rounds")
     holds("good devices are polled each time", len(late) >= 3 * int((until - since) / EVERY - 1), len(late))
@@ -313,7 +322,7 @@ def ask_beside_a_crowd():
     pauses = [b - a for a, b in zip(silent.times, silent.times[1:])]
     holds("a silent device is tried again at each time", max(pauses[-3:]) < 2 * EVERY + 0.5, pauses)
 
-    # A table full of silent peers, and more of them: the oldest makes room.
+    # Idle clients fill the table, and more connect: the oldest one is dropped.
     crowd = [socket.create_connection(("127.0.0.1", PORT)) for _ in range(80)]
     begun = time.time()
     same("behind 80 silent peers", ask("/meters/none")[0], 404)
@@ -323,7 +332,8 @@ def ask_beside_a_crowd():
     for stream in crowd:
         stream.close()
 
-    # As many that have requested months, read nothing and stay: who was replied to makes room.
+    # As many clients that have requested months, read nothing and stay: a client with a response is
+    # dropped.
     crowd = [socket.create_connection(("127.0.0.1", PORT)) for _ in range(300)]
     for stream in crowd:
         stream.sendall(b"GET /registers/rg0/months HTTP/1.1\r\n\r\n")
@@ -332,7 +342,7 @@ def ask_beside_a_crowd():
     wait = time.time() - begun
     print(f"a reply behind 300 peers that read nothing: {wait * 1000:.0f} ms")
     holds("a request waits less than a second", wait < 1, wait)
-    # (the first of them was replied to, and its reply is whole)
+    # (the first of them got a response, which is complete)
     crowd[0].settimeout(30)
     reply = b""
     while more := crowd[0].recv(65536):
@@ -375,7 +385,7 @@ holds("no line a poll", not any(" poll " in line for line in run.lines), run.lin
 if not IS_SHORT:
     ask_beside_a_crowd()
 
-# A peer that closes its side once it has asked, one that goes, and one that sends no HTTP.
+# A client that closes its side after its request, one that disconnects, and one that sends no HTTP.
 with socket.create_connection(("127.0.0.1", PORT), timeout=10 * SLOW) as stream:
     stream.sendall(b"GET /status HTTP/1.0\r\n\r\n")
     stream.shutdown(socket.SHUT_WR)
@@ -404,12 +414,12 @@ with socket.create_connection(("127.0.0.1", PORT), timeout=10 * SLOW) as stream:
     stream.setsockopt(socket.SOL_SOCKET, socket.SO_LINGER, struct.pack("ii", 1, 0))
     stream.sendall(b"GET /status HTTP/1.1\r\n")
 
-# What it says of itself.
+# The run's report about itself.
 told = {}
 
 
 def are_counted():
-    """Whether the run counts so many polls of each kind."""
+    """Returns whether the run counts so many polls of each kind."""
     told.update(json.loads(ask("/status")[1]))
     return told["polls"]["answered"] > 20 and told["polls"]["silent"] > 3 and told["polls"]["lost"] > 3
 
@@ -426,7 +436,7 @@ if "prometheus" in PEERS:
 holds("and so in the metrics", values['sunreg_polls_total{outcome="answered"}'] >= told["polls"]["answered"], values)
 holds("with the reading's moment", 'sunreg_last_reading_timestamp_seconds{device="g0"}' in values, values)
 
-# Which registers and meters there are, one without a meter among them.
+# The list of registers and meters, with one register without a meter.
 spare = {"name": "spare", "device": "g0", "function": 3, "address": 40094, "fixed": 0}
 same("a register without a meter", ask("/registers", 901, json.dumps(spare))[0], 200)
 status, text = ask("/site")
@@ -453,7 +463,7 @@ holds("energy in the metrics", f"\nsunreg_energy_watthours_total{of} 7.000\n" in
 holds("the moment of the last entry", metrics_in(text)["sunreg_last_entry_timestamp_seconds" + of] >= meters["mlib"]["at"], text)
 same("each meter has its energy", text.count("\nsunreg_energy_watthours_total{"), len(ports))
 
-# Quarter hours of a span: the first of a meter whose energy came all by its first reading.
+# Quarter hours of a span: the first of a meter whose energy all came with its first reading.
 rows = ask("/meters/mlib/intervals")[1].splitlines(keepends=True)
 start = int(rows[0].split()[0])
 same("a quarter hour", ask(f"/meters/mlib/intervals/{start}/{start + 1}"), (200, rows[0] + "end 1\n"))
@@ -473,7 +483,8 @@ same("what is no place", ask("/meters/mlib/entries/all"), (400, '{"fault":400}')
 same("entries of what is no meter", ask("/meters/none/entries/1"), (404, '{"refused":1}'))
 same("entries by another method", ask("/meters/mlib/entries/1", 905, "{}")[0], 405)
 
-# The energy of a register by days of a range and by months, as a report prints it. A quarter hour may end between two requests.
+# The energy of a register by days of a range and by months, as a report prints it. A quarter hour
+# may end between two requests.
 for _ in range(3):
     days = ask("/registers/rlib/days")[1]
     ranged = ask("/registers/rlib/days/0000-01-01/9999-12-31")
@@ -494,7 +505,8 @@ same("what is no day", ask("/registers/rlib/days/2026-02-29/2026-03-01"), (400, 
 same("months of what is no register", ask("/registers/none/months"), (404, '{"refused":1}'))
 same("months by another method", ask("/registers/rlib/months", 906, "{}")[0], 405)
 
-# Months that are asked for again tell what was booked since: energy only rises, and what a meter shows is asked of the office each time.
+# Months that are requested again include what was recorded since: energy only rises, and the office
+# gives a meter's counter each time.
 def months_energy(register):
     return sum(int(line.split()[2]) for line in ask(f"/registers/{register}/months")[1].splitlines()[:-1])
 
@@ -524,7 +536,7 @@ same("a register at which none was installed", ask("/registers/spare/meters"), (
 same("the meters at what is no register", ask("/registers/none/meters"), (404, '{"refused":1}'))
 same("meters by another method", ask("/registers/rlib/meters", 907, "{}")[0], 405)
 
-# The page is its files, of which a browser is told what they are.
+# The page consists of its files, with their content types.
 for path, kind, name in [
     ("/", "text/html; charset=utf-8", "page.html"),
     ("/page.css", "text/css; charset=utf-8", "page.css"),
@@ -538,11 +550,12 @@ for path, kind, name in [
         same(f"{path}: how long it is kept", reply.headers.get_all("Cache-Control"), ["no-cache"])
 same("no page by another method", ask("/", 903, "{}")[0], 405)
 
-# A meter that goes back is held, and that is told.
+# A reading of a meter that goes back is rejected and reported.
 good["g2"].raw = 4000
 holds("a reading that is held", run.wait_for(r"\d+ g2 held mg2 4\d\d\d cause \d", 10), run.lines)
 
-# It is killed while it polls. The next start tells what was lost, and the books hold what the devices showed.
+# The run is killed while it polls. The next start reports the lost polls, and the records equal
+# what the devices showed.
 asked = silent.asked
 holds("a poll waits for its answer", wait_until(lambda: silent.asked > asked, 30, 0.001), asked)
 run.child.send_signal(signal.SIGKILL)
@@ -592,7 +605,7 @@ if os.path.exists("/dev/full"):
             [PROGRAM, "run", "--db", f"{ROOM}/office.db", "--listen", str(PORT), *words],
             stdout=full, stderr=subprocess.PIPE, text=True, timeout=20,
         )
-    # (what the devices lack is said before)
+    # (the lacks of the devices are reported before)
     same("a printing that fails", (run.returncode, "failed" in run.stderr.split("\n")), (3, True))
 
 print(f"{passed} passed, {failed} failed")

@@ -1,10 +1,12 @@
 #!/bin/sh
-# Runs `sunreg run` of the built program against eight devices, of which one is served by libmodbus and one by pymodbus, and one garbles, one
-# keeps silent and one isn't there, and against 100 connections by HTTP, of which one is silent; then kills it, compares its books with what
-# the devices showed, and starts it again: `tests/running.sh [--short] [PROGRAM]`, out/sunreg by default, which `./sunreg-build` makes. What lacks is
-# installed by apt where this is run as root (not with PEERS_INSTALL=no); what can't be had is named, and a stand-in takes its place. It takes
-# a minute, prints how late devices were polled and how long replies took, and ends on 'N passed, M failed'. --short leaves the 100
-# connections and the servers of others out, and takes 20 seconds.
+# running.sh [--short] [PROGRAM]: runs `sunreg run` of the built program against eight devices and
+# 100 HTTP connections. PROGRAM is out/sunreg by default, which `./sunreg-build` makes. One device
+# is served by libmodbus and one by pymodbus; one garbles, one times out and one isn't there. One
+# connection is idle. Then the script kills the run, compares its records with what the devices
+# showed, and starts it again. As root it installs missing tools by apt (not with PEERS_INSTALL=no).
+# It names servers that it can't install, and a simulator replaces them. It takes a minute, prints
+# how late polls were and how long responses took, and ends with 'N passed, M failed'. --short
+# leaves out the 100 connections and the servers of other programs, and takes 20 seconds.
 set -u
 here=$(dirname "$(readlink -f "$0")")
 short=

@@ -1,6 +1,7 @@
-"""How long one waits who asks a running office while it polls: asking.py PROGRAM
+"""asking.py PROGRAM: measures how long a client of a running office waits while the office polls.
 
-bench/asking.sh calls it. One question is asked after the other, each on a connection of its own, from the second round on.
+bench/asking.sh runs it. The client sends one request after the other, each on a new connection, from
+the second round on.
 """
 import os
 import statistics
@@ -16,7 +17,8 @@ QUESTION, PAUSE = "registers/r1/days", 0.003
 
 
 def commit(room):
-    """The median milliseconds of a commit of two pages that were written to a file before, each brought to the disk."""
+    """Returns the median milliseconds of a commit: two writes of pages of a file, each with a sync
+    to the disk."""
     page, took = os.urandom(8192), []
     with open(room / "commit", "wb", buffering=0) as it:
         it.write(page * 256)
@@ -30,7 +32,7 @@ def commit(room):
 
 
 def waits(program, room):
-    """How many milliseconds each question waited for its reply."""
+    """Returns the milliseconds that each request waited for its response."""
     db, port = str(room / "office.db"), free_port()
     names = site(db, DEVICES, METERS, METERS, WINDOW)
     addresses = ",".join(f"{it}=127.0.0.1:{at}" for it, at in zip(names, serve(DEVICES)))

@@ -1,8 +1,10 @@
-"""What a settled poll calls: calls.py PROGRAM..
+"""calls.py PROGRAM..: counts what a settled poll calls.
 
-bench/calls.sh calls it. Each program's `round`, and the offices in C and Python, poll a device once under strace, and once more where their statements
-are counted: of the offices by a library that is loaded before libsqlite3, of a program of sunreg's, whose SQLite is its own, by breakpoints of gdb. All
-is counted from the connection to the device to its end, so without the opening.
+bench/calls.sh runs it. Each program's `round`, and the offices in C and Python, poll a device once
+under strace. They poll it once more while their statements are counted. A library that is loaded
+before libsqlite3 counts those of the offices. Breakpoints of gdb count those of a sunreg program,
+which links its own SQLite. All counts run from the connection to the device to its end, so they do
+not include the opening.
 """
 import os
 import re
@@ -13,12 +15,13 @@ import time
 from rounds import offices
 from sites import clear, compiled, machine, places, run, serve, site
 
-# Polls, how many at once, and how many of them have a meter.
+# Polls, how many of them at once, and how many of them have a meter.
 ROUNDS = [(512, 1, 32), (512, 16, 32), (32, 1, 32), (32, 16, 32)]
 CALL = re.compile(r"\d+ +(\w+)\((\d+)<([^>]*)>, ?(?:(\"[^\"]*\")\.*, (\d+))?.* = (-?\d+)")
 CONNECTS = re.compile(r"\d+ +connect\((\d+)<.*AF_INET")
-# The functions of the kit's `sqlite` that each statement comes through, by one row of them and once: those that read, and those that write. Of a row the
-# first counts that the compiler left as a function of its own.
+# The functions of the kit's `sqlite` that execute statements: those that read, and those that
+# write. Each statement goes through one row of them, once. Of a row the first function counts that
+# the compiler did not inline.
 READING = (("connection::Connection::query_near",), ("connection::Connection::rows_near", "connection::Connection::query"))
 WRITING = (("connection::Connection::execute_inside", "transaction::Transaction::execute"),)
 HEADS = ["Polls/at once", "Office", "reads of tables", "writes of rows", "fdatasyncs", "bytes of the log", "of them zeros ahead", "of them a count", "writes into the file"]
@@ -27,7 +30,8 @@ HEADS += ["writes to standard output", "sends", "takes"]
 
 
 def traced(words, folder):
-    """What strace sees of a program, from its connection on: pairs of a count's name and how much."""
+    """Yields the counts that strace sees of a program from its connection on, as pairs of a name
+    and a number."""
     log = folder / "strace"
     calls = "trace=connect,close,write,writev,pwrite64,pwritev,fdatasync,fsync,sendto,recvfrom,read,poll"
     with open(folder / "printed", "w") as out:
@@ -45,7 +49,8 @@ def traced(words, folder):
             size = int(got)
             if call.startswith(("pwrite", "write")) and name.endswith("-wal"):
                 yield "bytes of the log", size
-                # (the kit's SQLite begins a commit that it syncs once by a frame of no page, with a count of what follows)
+                # (the kit's SQLite begins a commit that it syncs once with a frame of no page,
+                # which counts the frames after it)
                 if size == 8 and text.startswith('"\\377\\0\\0\\0'):
                     yield "of them a count", FRAME
                 if size > 4096 and text and not text.strip('"').replace("\\0", ""):
@@ -61,7 +66,8 @@ def traced(words, folder):
 
 
 def preloaded(words, folder):
-    """The statements of an office over libsqlite3 that only read, and that write, from its connection on."""
+    """Returns how many statements of an office over libsqlite3 only read, and how many write, from
+    its connection on."""
     counts = folder / "counts"
     more = {"LD_PRELOAD": str(compiled("count_statements.so")), "COUNTS": str(counts)}
     subprocess.run([str(it) for it in words], env={**os.environ, **more}, stdin=subprocess.DEVNULL, stdout=subprocess.DEVNULL, check=True)
@@ -69,19 +75,22 @@ def preloaded(words, folder):
 
 
 def addresses(program, rows):
-    """Where the functions begin that a program has of these, one of each row."""
+    """Returns the addresses of these functions in a program, one of each row."""
     found = {name: int(at, 16) for at, name in re.findall(r"^(\w+) [tT] (.*?)(?:::<.*)?$", run("nm", program).stdout, re.M)}
     kept = [next((found[f"sqlite::{it}"] for it in row if f"sqlite::{it}" in found), None) for row in rows]
     return [] if None in kept else kept
 
 
 def broken(words, folder):
-    """The statements of a program of sunreg's that read, and that write, from its connection on: dashes where it lacks the functions' names."""
+    """Returns how many statements of a sunreg program read, and how many write, from its connection
+    on.
+
+    Returns dashes if the program lacks the functions' names."""
     program, *more = map(str, words)
     both = [addresses(program, it) for it in (READING, WRITING)]
     if [] in both:
         return "-", "-"
-    # (gdb puts a program that can be moved at the same place each time)
+    # (gdb loads a position-independent program at the same address each time)
     base = 0x555555554000 if "DYN" in run("readelf", "-h", program).stdout else 0
     script = ["set pagination off", "set confirm off", "set breakpoint pending on", "starti", "tbreak connect"]
     for number, it in enumerate(sum(both, []), 2):

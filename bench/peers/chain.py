@@ -1,7 +1,9 @@
-"""What a file a month costs over years: chain.py PROGRAM [MONTHS]
+"""chain.py PROGRAM [MONTHS]: measures what a file a month costs over years.
 
-bench/growth.sh --chain calls it. Polls are put into a file by SQL, and the program carries its meters into the next month's. The first, the middle and the last month are made in full, with all
-meters, each carried from a file in which they stand as they do then; all months one after the other, with one meter, since each of them is opened for a report over all.
+bench/growth.sh --chain runs it. SQL puts polls into a file, and the program carries its meters into
+the file of the next month. The first, the middle and the last month are complete, with all meters.
+Each is carried from a file whose meters have the counters of that time. All months, one after the
+other, have one meter, because a report over all of them opens each file.
 """
 import datetime
 import os
@@ -18,12 +20,12 @@ from sites import QUARTER, fill, machine, places, query
 from room import free_port, is_listening
 
 METERS = 64
-# In Wh, in each quarter hour.
+# The energy of each quarter hour, in Wh.
 STEP = 50
 
 
 def beginning(month):
-    """When a month begins, counted from the year 0, in UTC."""
+    """Returns the time when a month begins, in UTC; months are counted from the year 0."""
     return int(datetime.datetime(month // 12, month % 12 + 1, 1, tzinfo=datetime.timezone.utc).timestamp())
 
 
@@ -36,7 +38,7 @@ def name_of(month):
 
 
 def site_lines(meters, at, raw):
-    """A site of meters that were installed at a moment, with this counter."""
+    """Returns the rows of a site whose meters were installed at one time, with this counter."""
     made = []
     for n in range(meters):
         made += [
@@ -51,7 +53,8 @@ def site_lines(meters, at, raw):
 
 
 def month_lines(meters, month, raw):
-    """A month's polls of each device, by which meters go on from this counter, and their rows."""
+    """Returns the rows of a month's polls of each device, in which meters continue from this
+    counter."""
     begin, count = beginning(month), quarters(month)
     made = []
     for n in range(meters):
@@ -67,7 +70,7 @@ def month_lines(meters, month, raw):
 
 
 def timed(words):
-    """The seconds that a call takes, of the processor, and what it prints."""
+    """Returns the processor seconds of a call, and what it prints."""
     before = resource.getrusage(resource.RUSAGE_CHILDREN)
     done = subprocess.run(words, capture_output=True, text=True)
     after = resource.getrusage(resource.RUSAGE_CHILDREN)
@@ -82,7 +85,7 @@ def carried(program, meters, old, new):
 
 
 def begun(program, meters, month, raw, room):
-    """The file of a month, carried from one in which meters stand at this counter."""
+    """Returns the file of a month, carried from a file whose meters have this counter."""
     before, db = str(room / "before.db"), str(room / name_of(month))
     fill(before, site_lines(meters, beginning(month), raw))
     query(before, "PRAGMA journal_mode = WAL")
@@ -107,7 +110,8 @@ def fine(program, files):
 
 
 def measure_month(program, first, at, room):
-    """One month of all meters: what its file takes to open, and to be carried into the next."""
+    """Measures one month of all meters: the opening of its file, and its carry into the next
+    month."""
     month = first + at - 1
     raw = STEP * sum(quarters(it) for it in range(first, month))
     db = begun(program, METERS, month, raw, room)
@@ -124,7 +128,7 @@ def measure_month(program, first, at, room):
 
 
 def chain(program, first, months, room):
-    """The files of all months, of one meter, each carried from the one before."""
+    """Makes the files of all months, of one meter, each carried from the file before it."""
     files, raw, carrying = [], 0, 0.0
     for month in range(first, first + months):
         db = str(room / name_of(month))
@@ -139,7 +143,7 @@ def chain(program, first, months, room):
 
 
 def report(program, files):
-    """What a report by months over files takes of the processor, and the energy that it tells."""
+    """Returns the processor seconds of a report by months over files, and its energy."""
     words = [program, "report", "--register", "r0", "--by", "month"]
     for it in files:
         words += ["--db", it]
@@ -151,8 +155,11 @@ def report(program, files):
 
 
 def run_over(program, files, targets):
-    """A run that tells energy over files: the processor seconds until it listens, the memory that it holds then and has held at most, in MB, and of each target the
-    milliseconds that the least of five replies takes of the processor, and the reply."""
+    """Measures a run that reports energy over files.
+
+    Returns the processor seconds until it listens, and the memory that it holds then and has held
+    at most, in MB. For each target it returns the response, and the milliseconds of the processor
+    of the fastest of five responses."""
     port = free_port()
     dbs = [word for it in files for word in ("--db", it)]
     words = [program, "run", *dbs, "--listen", str(port), "--every", "86400", "--devices", "d0=127.0.0.1:9"]
@@ -178,7 +185,7 @@ def run_over(program, files, targets):
 
 
 def measure_run(program, files, first, months, lines, energy):
-    """A run over all files beside one over the last alone."""
+    """Measures a run over all files beside a run over the last file alone."""
     last = datetime.date((first + months - 1) // 12, (first + months - 1) % 12 + 1, 1)
     targets = ["/registers/r0/months", f"/registers/r0/days/{last}/{last + datetime.timedelta(days=28)}", "/site"]
     print("| A run over | Begun, of the processor | Memory | at most | Its months | 28 days | `/site` |\n|" + "---|" * 7)

@@ -1,5 +1,6 @@
-/* Loaded before libsqlite3 (LD_PRELOAD), counts the statements that a program carries out from its first connect() on: at its end the file that
-   COUNTS names gets a line of how many only read, and how many write. BEGIN and COMMIT are neither. */
+/* Counts the statements that a program executes from its first connect() on. It is loaded before
+   libsqlite3 (LD_PRELOAD). At the program's end it writes a line to the file that COUNTS names: how
+   many statements only read, and how many write. BEGIN and COMMIT are neither. */
 #define _GNU_SOURCE
 #include <dlfcn.h>
 #include <sqlite3.h>

@@ -1,8 +1,10 @@
-"""How late rounds are, and how long a quiet client waits, while a crowd requests months and reads nothing: crowd.py PROGRAM [SECONDS]
+"""crowd.py PROGRAM [SECONDS]: measures how late rounds are, and how long a quiet client waits,
+while a crowd requests months and reads nothing.
 
-bench/crowd.sh calls it. The office has one device with a year of quarter hours, and polls it every second. Each client of
-the crowd connects, requests all months of the register, and reads no byte; when it is dropped it connects again. Another
-client requests /status twice a second. The same run without a crowd comes first, so that both have the same machine.
+bench/crowd.sh runs it. The office has one device with a year of quarter hours, and polls it every
+second. Each client of the crowd connects, requests all months of the register, and reads no byte;
+when it is dropped it connects again. Another client requests /status twice a second. The same run
+without a crowd comes first, so that both have the same machine.
 """
 import os
 import select
@@ -23,7 +25,7 @@ STATUS = b"GET /status HTTP/1.1\r\nHost: localhost\r\n\r\n"
 
 
 class Device(socketserver.ThreadingTCPServer):
-    """A device that answers each read, and notes when each connection came."""
+    """A device that answers each read, and records the time of each connection."""
 
     daemon_threads = allow_reuse_address = True
 
@@ -47,7 +49,7 @@ class Reads(socketserver.BaseRequestHandler):
 
 
 def crowd(port, clients):
-    """Keeps so many clients connected that have requested months, and reads nothing of what comes."""
+    """Keeps so many clients connected that have requested months and read nothing."""
     poll, streams = select.poll(), {}
 
     def join():
@@ -71,7 +73,8 @@ def crowd(port, clients):
 
 
 def waited(port):
-    """The seconds until a quiet client has its reply, or infinity where it gets none in 30 s."""
+    """Returns the seconds until a quiet client has its response, or infinity if it gets none in 30
+    s."""
     began = time.monotonic()
     try:
         with socket.create_connection(("127.0.0.1", port), timeout=30) as stream:
@@ -85,14 +88,16 @@ def waited(port):
 
 
 def lateness(joined, begun, ended):
-    """How many seconds late the round of each full second began; infinity where none began in that second."""
-    # (the run's seconds may begin a little before the clock's, since both are in milliseconds)
+    """Returns how many seconds late the round of each full second began; infinity if none began in
+    that second."""
+    # (the run's seconds may begin a little before the clock's, because both are in milliseconds)
     due = range(int(begun) + 1, int(ended) - 1)
     return [min((at - second for at in joined if -0.05 < at - second < EVERY - 0.05), default=float("inf")) for second in due]
 
 
 def measure(program, room, clients, seconds):
-    """Runs the office beside a crowd; how late each round was, and how long the quiet client waited each time."""
+    """Runs the office beside a crowd. Returns how late each round was, and each wait of the quiet
+    client."""
     db, device, port = str(room / "office.db"), Device(), free_port()
     fill(db, lines(1, 900, 365)[0])
     words = [program, "run", "--db", db, "--listen", str(port), "--every", str(EVERY), "--devices", f"d0=127.0.0.1:{device.server_address[1]}", "--for", str(seconds + 20)]

@@ -1,7 +1,9 @@
-"""How long files of some months and years take to open: growth.py PROGRAM [MOST_ROWS]
+"""growth.py PROGRAM [MOST_ROWS]: measures how long files of some months and years take to open.
 
-bench/growth.sh calls it. Each device has one counter with one meter, and was polled evenly; each poll was answered and gave a reading. The opening is what `serve` takes until it listens;
-the memory is the most of the process up to then. Beside it stands what sqlite3 takes to check the same file.
+bench/growth.sh runs it. Each device has one counter with one meter, and was polled at equal
+intervals; each poll was answered and gave a reading. The opening is the time until `serve` listens;
+the memory is the most of the process until then. The comparison is the time in which sqlite3 checks
+the same file.
 """
 import os
 import pathlib
@@ -25,12 +27,14 @@ STEP_MWH = 50_000
 
 
 def each(count):
-    """The numbers from 0 on, as a table t of n."""
+    """Returns the numbers from 0 on, as a table t of n."""
     return f"WITH RECURSIVE t(n) AS (SELECT 0 UNION ALL SELECT n + 1 FROM t WHERE n < {count - 1})"
 
 
 def lines(devices, every, days):
-    """The rows of a site. In each second from poll to poll a meter counts evenly, so that each quarter hour has the same."""
+    """Returns the rows of a site.
+
+    Each meter counts evenly from poll to poll, so that each quarter hour has the same energy."""
     polls = DAY * days // every
     begin = int(time.time()) // QUARTER * QUARTER - QUARTER - every * polls
     raw = f"(n * {every} / {QUARTER} * {STEP_MWH // 1000})" if every >= QUARTER else f"(n * {STEP_MWH // 1000 * every} / {QUARTER})"
@@ -48,7 +52,7 @@ def lines(devices, every, days):
             f"INSERT INTO entries {each(polls + 1)} SELECT '{meter}', n + 1, CASE n WHEN 0 THEN 1 ELSE 2 END, {begin} + {every} * n, {raw}, 0, 0, 0 FROM t;",
             f"INSERT INTO intervals {each(every * polls // QUARTER)} SELECT '{meter}', {begin} + {QUARTER} * n, {STEP_MWH} FROM t;",
         ]
-    # (polls are numbered in the order in which they were started)
+    # (polls are numbered in the order of their starts)
     made += [
         f"INSERT INTO polls {each(polls * devices)} SELECT n + 1, 'd' || (n % {devices}), 1, {begin} + {every} * (n / {devices} + 1), n % 65536, 3, 40094, 2 FROM t;",
         f"INSERT INTO outcomes {each(polls * devices)} SELECT n + 1, {begin} + {every} * (n / {devices} + 1), 1, 0 FROM t;",
@@ -57,7 +61,8 @@ def lines(devices, every, days):
 
 
 def opening(program, db):
-    """The seconds until an office in a file listens, by the clock and of the processor, and the most memory up to then, in MB."""
+    """Returns the seconds until an office in a file listens, by the clock and of the processor, and
+    its most memory in MB."""
     port, began = free_port(), time.monotonic()
     child = subprocess.Popen([program, "serve", "--db", db, "--port", str(port), "--connections", "1"], stdout=subprocess.DEVNULL, stderr=subprocess.DEVNULL)
     while not is_listening(port):
@@ -74,7 +79,7 @@ def opening(program, db):
 
 
 def checked(db):
-    """The processor seconds that sqlite3 takes to check a file."""
+    """Returns the processor seconds in which sqlite3 checks a file."""
     began = resource.getrusage(resource.RUSAGE_CHILDREN)
     if query(db, "PRAGMA integrity_check; PRAGMA foreign_key_check") != ["ok"]:
         sys.exit("growth.py: sqlite3 finds a fault")

@@ -24,10 +24,10 @@
 
 enum { MOST_DEVICES = 64, MOST_WINDOW = 16, NAME = 17, QUARTER = 900, MOST_QUARTERS = 3000, ROOM = 4096 };
 static const int64_t MOST_TOTAL = 4000000000000000000;
-/* mWh of a count at a scale factor of -3 to 3 */
+/* milliwatt-hours of a count at a scale factor of -3 to 3 */
 static const int64_t UNITS[] = {1, 10, 100, 1000, 10000, 100000, 1000000};
 
-/* A counter and the meter that is open at it. */
+/* A counter and its open meter. */
 struct counter {
     int function, address, sf;
     char meter[NAME];
@@ -70,7 +70,7 @@ static void fail(const char *what) {
 
 /* ---- The database ---- */
 
-/* A statement with its values: of the kinds, `i` is an int64_t and `s` a text. */
+/* Returns a statement with its values bound. Of the kinds, `i` is an int64_t and `s` a text. */
 static sqlite3_stmt *with(sqlite3_stmt *it, const char *kinds, ...) {
     va_list values;
     va_start(values, kinds);
@@ -95,7 +95,7 @@ static sqlite3_stmt *prepared(const char *text) {
     return made;
 }
 
-/* The next row of a query; after the last the query is let go. */
+/* Returns whether a query has a next row; after the last row it finalizes the query. */
 static bool has_row(sqlite3_stmt *query) {
     int got = sqlite3_step(query);
     if (got == SQLITE_ROW)
@@ -141,7 +141,7 @@ static void load_list(struct device *device) {
     }
 }
 
-/* Puts a counter behind the others of its read. */
+/* Adds a counter after the others of its read. */
 static void add_counter(struct device *device, const struct counter *counter) {
     for (struct read *read = device->list; read < device->list + device->reads; read++)
         if (read->function == counter->function && read->address == counter->address) {
@@ -188,7 +188,7 @@ static void open_file(const char *path) {
     load_counters();
     next_poll = one("SELECT coalesce(max(poll), 0) + 1 FROM polls");
     next_hold = one("SELECT coalesce(max(place), 0) + 1 FROM holds");
-    /* polls that an earlier run left are lost */
+    /* polls that an earlier run left unsettled are lost */
     if (one("SELECT (SELECT count(*) FROM polls) > (SELECT count(*) FROM outcomes)")) {
         sqlite3_stmt *lost = prepared("INSERT INTO outcomes SELECT poll, ?, 5, 4 FROM polls WHERE poll NOT IN (SELECT poll FROM outcomes)");
         carry_out(with(lost, "i", (int64_t)time(NULL)));
@@ -198,7 +198,7 @@ static void open_file(const char *path) {
 
 /* ---- Booking ---- */
 
-/* Why a reading is held, or 0. */
+/* Returns the cause for which a reading is rejected, or 0. */
 static int cause_of(const struct counter *it, int64_t now, int64_t raw) {
     int64_t unit = UNITS[it->last_sf + 3], gone = (raw - it->last_raw + it->range) % it->range;
     __int128 could = (__int128)it->ceiling * (now - it->last_at) * 5;
@@ -219,7 +219,7 @@ static int cause_of(const struct counter *it, int64_t now, int64_t raw) {
     return (__int128)it->total + (__int128)gone * unit > MOST_TOTAL ? 7 : 0;
 }
 
-/* Adds a step's energy to the quarter hours that it touches. */
+/* Adds a step's energy to its quarter hours. */
 static void spread(const struct counter *it, int64_t till, int64_t energy) {
     int64_t told = 0;
     for (int64_t at = it->last_at / QUARTER * QUARTER; at < till; at += QUARTER) {
@@ -249,7 +249,7 @@ static void book(struct counter *it, int64_t poll, int64_t now, int64_t raw) {
         printf("reading %s %lld rolls %lld step %lld\n", it->meter, (long long)raw, (long long)rolls, (long long)step);
 }
 
-/* Books how a poll ended, by a frame from its unit identifier on. */
+/* Records how a poll ended, by a frame from its unit identifier on. */
 static void settle(struct device *device, struct waiting *waiting, const uint8_t *frame, size_t length) {
     static const char *const words[] = {"", "answered", "exception", "silent", "malformed", "lost"};
     int64_t now = time(NULL), outcome = 1, code = 0;
@@ -315,7 +315,7 @@ static void start(struct device *device) {
         fail("send");
 }
 
-/* Books the outcomes of the frames that have come whole, in one transaction, and starts more polls. */
+/* Records the outcomes of the complete frames, in one transaction, and starts more polls. */
 static void take(struct device *device) {
     ssize_t got = recv(device->socket, device->in + device->held, ROOM - device->held, 0);
     size_t at = 0;
@@ -373,7 +373,7 @@ static void leave(struct device *device) {
     fflush(stdout);
 }
 
-/* A round of all devices. */
+/* Polls all devices once. */
 static void run_round(void) {
     struct pollfd sockets[MOST_DEVICES];
     int left = count_of_devices;

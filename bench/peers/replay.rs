@@ -1,7 +1,10 @@
-//! Carries out the script on standard input as a plain Rust program does, by maps and lists, with no proof.
+//! Executes the script on standard input as a plain Rust program does, by maps and lists, without
+//! proof.
 //!
-//! bench/replay.sh times sunreg beside it. It knows the lines of the timed scripts (device, list, register, install, connect, start, round, bytes,
-//! tick, meter and intervals) and their answers, counters of a fixed scale, and lists of counters that lie too far apart for one read of two.
+//! bench/replay.sh times sunreg beside it. It knows the lines of the timed scripts (device, list,
+//! register, install, connect, start, round, bytes, tick, meter and intervals) and their outputs.
+//! It handles counters of a fixed scale, and lists of counters that are too far apart for one read
+//! of two.
 use std::collections::{BTreeMap, HashMap};
 use std::fmt::Write as _;
 use std::io::{self, Read, Write};
@@ -12,7 +15,7 @@ const MOST_QUARTERS: u64 = 3000;
 const MOST_TOTAL: u64 = 4_000_000_000_000_000_000;
 const FULL_RANGE: u64 = 1 << 32;
 
-/// Why a line changes nothing: it fits no form, or it is refused with a number.
+/// Why a line changes nothing: it has no valid form, or it is refused with a number.
 enum Fault {
     Bad,
     Refused(u8),
@@ -70,9 +73,9 @@ struct Meter {
     ceiling: u64,
     range: u64,
     total: u64,
-    /// Where it stands.
+    /// The last entry.
     last: Entry,
-    /// Where it stood before.
+    /// The entries before the last.
     entries: Vec<Entry>,
     quarters: BTreeMap<u64, u64>,
 }
@@ -142,13 +145,13 @@ fn enter(names: &mut HashMap<String, usize>, name: &str) -> Done<usize> {
 
 // ---- Meters ----
 
-/// mWh of a count at a scale factor.
+/// Returns the milliwatt-hours of a count at a scale factor.
 fn unit(sf: i32) -> u64 {
     10u64.pow((sf + 3) as u32)
 }
 
 impl Meter {
-    /// Why a reading is held, if it is.
+    /// Returns the cause for which a reading is rejected, if there is one.
     fn cause(&self, at: u64, raw: u64, sf: i32) -> Option<u8> {
         let (last, gone) = (self.last.at, (raw + self.range - self.last.raw) % self.range);
         let could = self.ceiling as u128 * at.saturating_sub(last) as u128 * 5;
@@ -166,7 +169,7 @@ impl Meter {
         causes.into_iter().find(|it| it.0).map(|it| it.1)
     }
 
-    /// Books what the counter says, or holds it.
+    /// Records a reading of the counter, or rejects it.
     fn read(&mut self, at: u64, raw: u64, sf: i32, told: &mut String) {
         if let Some(cause) = self.cause(at, raw, sf) {
             let _ = writeln!(told, "held {} {raw} cause {cause}", self.name);
@@ -181,7 +184,8 @@ impl Meter {
         let _ = writeln!(told, "reading {} {raw} rolls {rolls} step {step}", self.name);
     }
 
-    /// Gives each quarter hour its part: what came since the step's begin, rounded down, less what was given.
+    /// Gives each quarter hour the energy since the step's begin, rounded down, less what was
+    /// already given.
     fn spread(&mut self, till: u64, step: u64) {
         let (begin, mut given) = (self.last.at, 0);
         for start in (begin / QUARTER * QUARTER..till).step_by(QUARTER as usize) {
@@ -196,7 +200,7 @@ impl Meter {
 // ---- The office ----
 
 impl Office {
-    /// The polls whose time is over by this moment are silent.
+    /// Times out the polls whose deadline has passed at this time.
     fn reach(&mut self, at: u64, told: &mut String) -> Done {
         check(at >= self.latest, 3)?;
         let over: Vec<u64> = self.pending.iter().filter(|it| it.1.due <= at).map(|it| *it.0).collect();
@@ -283,7 +287,7 @@ impl Office {
         Ok(())
     }
 
-    /// A device that can start a poll now.
+    /// Returns a device that can start a poll now.
     fn ready(&self, name: &str) -> Done<usize> {
         let place = find(&self.device_names, name)?;
         let device = &self.devices[place];
@@ -316,7 +320,7 @@ impl Office {
         Ok(())
     }
 
-    /// Starts one more poll, and tells its frame.
+    /// Starts one more poll, and prints its frame.
     fn ask(&mut self, at: u64, place: usize, function: u8, address: u16, count: u16, told: &mut String) {
         let device = &mut self.devices[place];
         let id = device.next_id;

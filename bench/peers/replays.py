@@ -1,6 +1,6 @@
-"""Times scripts of polls and replies beside plain programs in Rust and Python that carry out the same lines: replays.py PROGRAM [N [TURNS]]
+"""replays.py PROGRAM [N [TURNS]]: times scripts of polls beside plain programs in Rust and Python.
 
-bench/replay.sh calls it. All must print the same.
+bench/replay.sh runs it. All programs execute the same lines, and must print the same.
 """
 import os
 import sys
@@ -14,9 +14,13 @@ OFFICE = HERE.parent / "office.py"
 
 
 def script(polls, devices, registers, window):
-    """The devices, as many registers at each and a list of these, a meter at each register, and then rounds over the devices in turn, each of as many
-    polls as may wait, with their replies in one line; each counter rises by 1 Wh from reading to reading, which come 900 seconds apart. Where one poll
-    may wait, it is started by itself, without a list. Two questions end it."""
+    """Returns a script of polls and their responses.
+
+    It sets the devices up, the registers of each with a list, and a meter at each register. Then
+    come rounds over the devices in turn, each of as many polls as may wait, with their responses in
+    one line. Each counter rises by 1 Wh from reading to reading, and readings come every 900
+    seconds. Where one poll may wait, a line starts it without a list. Two queries end the
+    script."""
     text = "name,function,area,address,type,scale\n" + "".join(f"c{r},3,0,{200 * r},acc32,\n" for r in range(registers))
     out = []
     for d in range(devices):
@@ -35,7 +39,7 @@ def script(polls, devices, registers, window):
 
 
 def compare(room, program, row, turns):
-    """One row of the table: the least of some runs."""
+    """Returns one row of the table: the least of some runs."""
     polls, devices, registers, window = row
     lines = script(*row)
     if len(lines) > MOST:

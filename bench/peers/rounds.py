@@ -1,6 +1,7 @@
-"""Booked polls a second of rounds over a file, beside offices in C and Python: rounds.py PROGRAM [TURNS]
+"""rounds.py PROGRAM [TURNS]: measures accepted polls a second of rounds over a file.
 
-bench/round.sh calls it. Each office has a file and devices of its own; all must have printed the same, and booked the same in the end.
+bench/round.sh runs it. The comparisons are offices in C and Python. Each office has its own file and
+devices. All must print the same, and have the same records in the end.
 """
 import os
 import subprocess
@@ -9,14 +10,15 @@ import time
 
 from sites import TESTS, check_same, check_told, check_whole, clear, compiled, free_port, load, machine, measured, medians, places, query, serve, site
 
-# Polls, how many at once, devices, meters a device, and whether each meter stands in the place of one before.
+# Polls, how many at once, devices, meters a device, and whether each meter replaced an earlier one.
 ROUNDS = [(32, 16, 1, 32, False), (32, 1, 1, 32, False), (512, 16, 1, 32, False), (512, 1, 1, 32, False)]
 ROUNDS += [(32, 16, 64, 32, False), (32, 1, 64, 32, False), (32, 16, 64, 32, True), (32, 1, 64, 32, True)]
 SECONDS = 12
 
 
 def offices(program):
-    """The words of a round of each office that can be measured here, by their names, for a file, a device and its port."""
+    """Returns the command of a round of each office that can be measured here, by its name, for a
+    file, a device and its port."""
     sockets, plain = TESTS / "peers/plain_office.py", compiled("office")
     found = {
         "sunreg": lambda db, name, port: [program, "round", "--db", db, "--device", name, "--port", port],
@@ -38,7 +40,7 @@ def ratio(peer, ours):
 
 
 def compare(place, room, words, row, turns):
-    """One row of the table: rounds of the first device of a file."""
+    """Returns one row of the table: rounds of the first device of a file."""
     polls, window, devices, meters, exchanged = row
     files = {name: room / f"{name}.db" for name in words}
     for db in files.values():
@@ -65,8 +67,11 @@ def compare(place, room, words, row, turns):
 
 
 def check_alike(files):
-    """Ends the process unless all files, by their names, are whole, and have the same readings of each meter, booked or held, as far as all have so many:
-    two rounds in one second, as a busy machine makes them, are held."""
+    """Ends the process unless all files, by their names, are sound and have the same readings of
+    each meter, accepted or rejected.
+
+    It compares as many readings as all files have. Two rounds in one second, as on a busy machine,
+    are rejected."""
     readings = {}
     for name, db in files.items():
         check_whole(name, db)
@@ -82,7 +87,7 @@ def check_alike(files):
 
 
 def scheduled(place, room, program, window):
-    """One row of the second table: 64 devices of 32 meters each, polled each second."""
+    """Returns one row of the second table: 64 devices of 32 meters each, polled each second."""
     devices, reads = 64, 32
     files = {"sunreg": room / "sunreg.db", "C": room / "C.db"}
     cells = [f"{devices} x {reads}/{window}", place]
@@ -118,7 +123,7 @@ def main():
             compare(place, room, words, row, turns)
     heads = ["Each second", "Place"] + [it for name in ("sunreg", "C") for it in (f"{name}, polls a second", "of a processor", "a poll")]
     print("\n|", " | ".join(heads), "|\n|" + "---|" * len(heads), flush=True)
-    # (one poll at a time is 4,096 commits a second, which a disk that writes them through doesn't have)
+    # (one poll at a time is 4,096 commits a second, which a disk that syncs them does not reach)
     for place, window in (("tmpfs", 16), ("tmpfs", 1), ("disk", 16)):
         if place in rooms:
             scheduled(place, rooms[place], program, window)

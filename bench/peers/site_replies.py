@@ -1,6 +1,8 @@
-"""What a running office takes to tell its registers and meters, and the meters of each register: site_replies.py PROGRAM
+"""site_replies.py PROGRAM: measures how long a running office takes to list its registers and
+meters.
 
-bench/site.sh calls it. The devices are not there, so that nothing else is done meanwhile; the processor time is that of the process.
+bench/site.sh runs it. It also measures the lists of each register's meters. The devices do not exist,
+so the office does nothing else meanwhile. The processor time is that of the process.
 """
 import os
 import pathlib
@@ -15,7 +17,8 @@ DEVICES, METERS, TURNS = 64, 32, 5
 
 
 def replies(program, db, devices):
-    """The milliseconds of the processor of some replies, the first one first, and how many bytes one has."""
+    """Returns the processor milliseconds of some responses, the first one first, and the bytes of
+    one."""
     port = free_port()
     words = [program, "run", "--db", db, "--listen", str(port), "--every", "3600", "--devices", ",".join(f"{it}=127.0.0.1:9" for it in devices)]
     child = start(words, port, stdout=subprocess.DEVNULL, stderr=subprocess.DEVNULL)
@@ -31,13 +34,16 @@ def replies(program, db, devices):
 
 
 def lists(program, db):
-    """The milliseconds of the processor of the replies that tell each register's meters, as one who copies all of them asks: all together, and
-    that in which most was taken; and the seconds by the clock."""
+    """Returns the processor milliseconds of the lists of each register's meters, and the clock
+    seconds.
+
+    A client that copies all meters requests them so: returns the time of all together, and of the
+    slowest."""
     port = free_port()
     words = [program, "run", "--db", db, "--listen", str(port), "--every", "3600", "--devices", "d0=127.0.0.1:9"]
     child = start(words, port, stdout=subprocess.DEVNULL, stderr=subprocess.DEVNULL)
     time.sleep(1)
-    # (so that each meter was looked up once)
+    # (so that the office has looked up each meter once)
     urllib.request.urlopen(f"http://127.0.0.1:{port}/site").read()
     ran, told, began = pathlib.Path(f"/proc/{child.pid}/schedstat"), [], time.monotonic()
     for place in range(1, DEVICES * METERS + 1):

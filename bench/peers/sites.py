@@ -1,4 +1,6 @@
-"""What the measures of offices over a file share: files of a site, devices, what an office takes, and whether two have booked the same."""
+"""Functions that the measurements of offices over a file share.
+
+They make files of a site and devices, measure an office's costs, and compare the records of two offices."""
 import atexit
 import contextlib
 import os
@@ -25,7 +27,8 @@ COMPILED = {
 APART = 128
 QUARTER = 900
 BEGUN = 990
-# Each table's columns that hold no moment: offices that are measured one after the other differ in those.
+# The columns of each table that hold no timestamp: the offices are measured one after the other, so
+# their timestamps differ.
 COLUMNS = {
     "meta": "*",
     "devices": "*",
@@ -44,7 +47,7 @@ LAST_IS_ENTRY = "SELECT count(*) FROM installations AS it WHERE last_moment <> (
 
 
 def compiled(name):
-    """Compiles a peer, and returns it."""
+    """Compiles another program in C, and returns its path."""
     made = ROOM / name
     if not made.exists():
         subprocess.run([*map(str, COMPILED[name]), "-o", str(made)], check=True)
@@ -52,7 +55,10 @@ def compiled(name):
 
 
 def places():
-    """The folders that are measured in: a tmpfs, where a commit costs no disk, and TMPDIR, unless that is one too. They go with the process."""
+    """Returns the folders to measure in: a tmpfs, where a commit costs no disk, and TMPDIR, unless
+    it is the same.
+
+    They are removed when the process ends."""
     found, names = {}, {"tmpfs": "/dev/shm", "disk": tempfile.gettempdir()}
     for name, folder in names.items():
         kind = run("stat", "-f", "-c", "%T", folder).stdout.strip()
@@ -65,7 +71,7 @@ def places():
 
 
 def said(*words):
-    """The first line that a program prints, or a dash where it isn't here."""
+    """Returns the first line that a program prints, or a dash if the program is not here."""
     try:
         done = subprocess.run(words, capture_output=True, text=True)
     except OSError:
@@ -74,7 +80,7 @@ def said(*words):
 
 
 def machine(*programs):
-    """Prints when, where and of what it is measured."""
+    """Prints the date, the machine and the programs of a measurement."""
     cpu = next((it.split(":")[1].strip() for it in open("/proc/cpuinfo") if it.startswith("model name")), "?")
     print(f"{time.strftime('%Y-%m-%d %H:%M')} UTC, {os.cpu_count()} processors ({cpu}), Linux {os.uname().release}; load {load()}")
     for it in programs:
@@ -94,18 +100,20 @@ def fill(db, lines):
 
 
 def device_lines(place, name, window, reads):
-    """A device whose list has so many counters, no two of them near enough for one read."""
+    """Returns the rows of a device whose list has so many counters, no two of them near enough for
+    one read."""
     lines = [f"INSERT INTO devices VALUES ({place}, '{name}', 1, 30, {window});"]
     return lines + [f"INSERT INTO points VALUES ('{name}', {n + 1}, 'P{n}', 3, 0, {APART * n}, 'acc32', '');" for n in range(reads)]
 
 
 def register_line(place, device, read):
-    """A register at a read of a device."""
+    """Returns the row of a register at a read of a device."""
     return f"INSERT INTO registers VALUES ({place}, 'r{place}', '{device}', 3, {APART * read}, 0, 0);"
 
 
 def meter_lines(place, register, entries, rows=(), ended=0):
-    """A meter at the register of a place, with its entries and interval rows."""
+    """Returns the rows of a meter at the register of a place, with its entries and interval
+    rows."""
     meter, *_, end, raw, _, _, _ = entries[-1]
     total = sum(mwh for _, _, mwh in rows)
     return [
@@ -117,8 +125,10 @@ def meter_lines(place, register, entries, rows=(), ended=0):
 
 
 def site(db, devices, reads, meters, window, exchanged=False):
-    """A file of devices with so many reads each, of which the first have a meter each, and where they were exchanged one before it. Returns the
-    devices' names."""
+    """Makes a file of devices with so many reads each, and returns the devices' names.
+
+    The first reads of a device have a meter each, and with `exchanged` also a closed meter before
+    it."""
     at, lines, names, place = int(time.time()) - 10, [], [f"d{n}" for n in range(devices)], 0
     for n, name in enumerate(names):
         lines += device_lines(n + 1, name, window, reads)
@@ -154,10 +164,11 @@ def clear(folder):
 
 
 def measured(words, printed, read=os.devnull):
-    """The seconds that a program takes: by the clock, of the processor, and of the processor until it printed its first line."""
+    """Returns the seconds of a program: by the clock, of the processor, and of the processor until
+    its first line."""
     began, opened = time.monotonic(), 0.0
     with contextlib.suppress(PermissionError):
-        # (so that this process looks in time; children run as they would)
+        # (so that this process looks in time; its children run with the usual priority)
         os.sched_setscheduler(0, os.SCHED_RR | os.SCHED_RESET_ON_FORK, os.sched_param(1))
     with open(read) as script, open(printed, "w") as out:
         child = subprocess.Popen([str(it) for it in words], stdin=script, stdout=out)
@@ -174,7 +185,9 @@ def measured(words, printed, read=os.devnull):
 
 
 def memory(words, read):
-    """The most memory of a program, in MiB, as a look each millisecond finds it. (What wait4 tells of a child counts this process too.)"""
+    """Returns the most memory of a program, in MiB, by a look each millisecond.
+
+    (The figure of wait4 for a child includes this process.)"""
     with open(read) as script:
         child = subprocess.Popen([str(it) for it in words], stdin=script, stdout=subprocess.DEVNULL)
     most = 0
@@ -186,7 +199,7 @@ def memory(words, read):
 
 
 def medians(runs):
-    """The medians of each part of some runs."""
+    """Returns the medians of each part of some runs."""
     return tuple(statistics.median(it) for it in zip(*runs))
 
 
@@ -198,7 +211,7 @@ def query(db, text):
 
 
 def stray_interval(db):
-    """The first interval row that is not that of the file's own entries, or None."""
+    """Returns the first interval row that the file's own entries do not give, or None."""
     steps = {}
     for row in query(db, "SELECT meter, moment, raw, sf, \"range\" FROM entries JOIN ranges USING (meter) ORDER BY meter, place"):
         meter, *numbers = row.split("|")
@@ -216,7 +229,8 @@ def stray_interval(db):
 
 
 def check_whole(name, db):
-    """Ends the process unless a file's tables are sound, and its installations and interval rows are those of its entries."""
+    """Ends the process unless a file's tables are sound, and its entries give its installations and
+    interval rows."""
     for text, wanted in (("PRAGMA integrity_check; PRAGMA foreign_key_check", ["ok"]), (LAST_IS_ENTRY, ["0"])):
         if query(db, text) != wanted:
             sys.exit(f"{name}: {text} finds a fault")
@@ -225,7 +239,10 @@ def check_whole(name, db):
 
 
 def check_same(files):
-    """Ends the process unless the files of all offices, by their names, are whole, and have the same rows but for the moments."""
+    """Ends the process unless the files of all offices, by their names, are sound and have the same
+    rows.
+
+    Timestamps are not compared."""
     tables = {}
     for name, db in files.items():
         check_whole(name, db)
@@ -239,7 +256,10 @@ def check_same(files):
 
 
 def told(printed, window):
-    """What a round printed. Where more than one poll may wait, how many come together differs: then what was settled and sent, in order."""
+    """Returns what a round printed.
+
+    If more than one poll may wait, responses arrive in groups that differ. Then it returns the
+    settled polls and the sent frames, in order."""
     lines = pathlib.Path(printed).read_text().splitlines()
     if window == 1:
         return lines

@@ -1,7 +1,9 @@
-"""Booked readings a second over files of few and of many quarter hours, beside plain offices in C and Python: store.py PROGRAM [TURNS]
+"""store.py PROGRAM [TURNS]: measures accepted readings a second over small and large files.
 
-bench/store.sh calls it. Each round of a device books one reading of each of its meters. The device tells how
-long its connection stood, from after the opening of the file to the last booking, so an opening is told apart. All must have booked the same in the end.
+bench/store.sh runs it. The comparisons are plain offices in C and Python. Each round of a device
+records one reading of each of its meters. The device reports how long its connection was open, from
+the opening of the file to the last record, so the opening is separate. All files must have the same
+records in the end.
 """
 import os
 import shutil
@@ -13,13 +15,13 @@ from rounds import offices, ratio
 from sites import BEGUN, QUARTER, check_same, check_told, clear, device_lines, fill, load, machine, measured, medians, meter_lines, places, query, register_line, serve, shares
 
 STEP = 2000
-# Meters of the device that is polled, how many at once, devices.
+# Meters of the polled device, how many polls at once, devices.
 SITES = [(512, 16, 1), (512, 1, 1), (32, 1, 1), (32, 1, 64)]
 ROWS = [1, 10_000, 350_000]
 
 
 def history(meter, quarters, end):
-    """The rows of a meter which was read once in STEP quarter hours at most, and now."""
+    """Returns the rows of a meter that was read at most once in STEP quarter hours, and now."""
     begin = end - end % QUARTER - QUARTER * (quarters - 1)
     moments = [*range(begin + QUARTER * STEP, end, QUARTER * STEP), end]
     entries = [(meter, 1, 1, begin, 0, 0, 0, 0)]
@@ -32,7 +34,9 @@ def history(meter, quarters, end):
 
 
 def filled(db, meters, window, devices, quarters):
-    """A file of devices, and of a meter for each of their reads; where there is 1 quarter hour the first meter alone has it."""
+    """Makes a file of devices, with a meter for each of their reads.
+
+    If there is 1 quarter hour, only the first meter has it."""
     end, lines = int(time.time()) - 10, []
     for at in range(devices):
         name = f"d{at}"
@@ -46,7 +50,7 @@ def filled(db, meters, window, devices, quarters):
 
 
 def compare(place, room, words, row, rows, turns):
-    """One row of the table."""
+    """Returns one row of the table."""
     meters, window, devices = row
     files = {name: room / f"{name}.db" for name in words}
     first, *others = files.values()
@@ -91,7 +95,7 @@ def main():
     for row in SITES:
         for rows in ROWS:
             for place, room in rooms.items():
-                # (on a disk commits are most of a round, however many rows there are)
+                # (on a disk commits are most of a round, for any number of rows)
                 if place == "tmpfs" or rows == ROWS[-1]:
                     compare(place, room, words, row, rows, turns)
     print(f"load {load()} at the end", flush=True)

@@ -1,7 +1,9 @@
-"""What a running office takes to void a reading: voids.py PROGRAM
+"""voids.py PROGRAM: measures how long a running office takes to void a reading.
 
-bench/voids.sh calls it. Readings are voided from the first tenth of the meter's entries, from the middle and from the last ones; no two of them are neighbours. The processor
-time is that of the process, for the whole request; the median counts. Afterwards the interval rows are compared with those that the entries that stand give.
+bench/voids.sh runs it. It voids readings of the first tenth of the meter's entries, of the middle and
+of the end; no two of them are neighbours. The processor time is that of the process, for the whole
+request; the median counts. Afterwards it compares the interval rows with those that the remaining
+entries give.
 """
 import json
 import os
@@ -27,7 +29,8 @@ def void(port, number, place):
 
 
 def voids(program, db, spots):
-    """The milliseconds of the processor, and by the clock, of voids about each of these places."""
+    """Returns the milliseconds of voids around each of these places, of the processor and by the
+    clock."""
     port = free_port()
     words = [program, "run", "--db", db, "--listen", str(port), "--every", "86400", "--devices", "d0=127.0.0.1:9"]
     child = start(words, port, stdout=subprocess.DEVNULL, stderr=subprocess.DEVNULL)
@@ -46,7 +49,9 @@ def voids(program, db, spots):
 
 
 def is_moved(db):
-    """Whether energy was lost, made or moved: the counter counts evenly, so a void of a reading between two others changes no quarter hour."""
+    """Returns whether energy was lost, made or moved.
+
+    The counter counts evenly, so a void of a reading between two others changes no quarter hour."""
     (rows, least, most), = (map(int, it.split("|")) for it in query(db, "SELECT count(*), min(mwh), max(mwh) FROM intervals WHERE meter = 'm0'"))
     total, = query(db, "SELECT total FROM installations WHERE meter = 'm0'")
     return least != most or rows * least != int(total)
