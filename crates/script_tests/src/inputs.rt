@@ -21,20 +21,6 @@ fn after_lines(rt: &impl Abort, alloc: Global, count: usize, text: &str) -> Stri
     all
 }
 
-// After one byte less than there may be.
-static LAST_BYTES: [(&str, &str); 2] = [("x", "bad line 4194304\n"), ("x\n", "too long\n")];
-
-#[test]
-fn inputs_of_4194304_bytes_are_run(rt: HostRuntime) {
-    for (text, output) in &LAST_BYTES {
-        let all = after_lines(&rt, rt.alloc(), MOST_BYTES - 1, text);
-        let mut slow = Slow::whole(all.as_bytes());
-        let ended = run(&rt, rt.alloc(), &mut slow, Kept::whole(rt.alloc()));
-        assert!(rt; ended.output.got.as_slice() == output.as_bytes());
-        assert!(rt; ended.status == ExitStatus::Refused);
-    }
-}
-
 #[test]
 fn no_more_reads_are_made_than_bytes_fit(rt: HostRuntime) {
     let text = after_lines(&rt, rt.alloc(), MOST_BYTES, "\n");

@@ -1,5 +1,5 @@
-//! Tests of scripts: streams that fail and inputs of megabytes, what no script prints, stand-ins for devices, and the words of the
-//! program. What a script and its output can show is a case in the data of `script_cases`.
+//! Tests of scripts: streams that fail and inputs of megabytes, what no script prints, and the values of arguments. What a script
+//! and its output can show is a case in the data of `script_cases`; wrong arguments and help are tried by `tests/arguments.py`.
 #![tactic(auto)]
 
 #[cfg(test)]
@@ -9,17 +9,11 @@ mod connections;
 #[cfg(test)]
 mod fault_texts;
 #[cfg(test)]
-mod help;
-#[cfg(test)]
 mod inputs;
 #[cfg(test)]
 mod lines;
 #[cfg(test)]
 mod loops;
-#[cfg(test)]
-mod numbers;
-#[cfg(test)]
-mod option_values;
 #[cfg(test)]
 mod printing;
 #[cfg(test)]
@@ -29,12 +23,6 @@ mod right_words;
 #[cfg(test)]
 mod rows;
 #[cfg(test)]
-mod scans;
-#[cfg(test)]
-mod set_ups;
-#[cfg(test)]
 mod spelled_words;
 #[cfg(test)]
 mod streams;
-#[cfg(test)]
-mod wrong_words;
