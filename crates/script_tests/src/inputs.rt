@@ -14,16 +14,10 @@ fn repeated(rt: &impl Abort, alloc: Global, count: usize, text: &str) -> String 
     all
 }
 
-// So many empty lines, and a text after them.
-fn after_lines(rt: &impl Abort, alloc: Global, count: usize, text: &str) -> String {
-    let mut all = repeated(rt, alloc, count, "\n");
-    all.push_str(text).expect(rt, "no memory");
-    all
-}
-
 #[test]
 fn no_more_reads_are_made_than_bytes_fit(rt: HostRuntime) {
-    let text = after_lines(&rt, rt.alloc(), MOST_BYTES, "\n");
+    let mut text = repeated(&rt, rt.alloc(), MOST_BYTES, "\n");
+    text.push_str("\n").expect(&rt, "no memory");
     let mut slow = Slow::whole(text.as_bytes());
     let fault = read_whole(rt.alloc(), &mut slow).err();
     assert!(rt; fault == Some(ReadFault::TooLong));

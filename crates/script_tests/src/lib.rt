@@ -15,6 +15,8 @@ mod lines;
 #[cfg(test)]
 mod loops;
 #[cfg(test)]
+mod numbers;
+#[cfg(test)]
 mod printing;
 #[cfg(test)]
 mod replays;

@@ -3,6 +3,7 @@ use crate::made::{found, opened};
 use crate::stops::asked::Asked;
 use crate::stops::offices::acknowledges;
 use crate::stops::shown::{number, shows};
+use office_books::Books;
 use office_store::{OpenFault, SqlBooks};
 use sqlite::{Alter, Connection};
 use std::alloc::Global;
@@ -145,16 +146,24 @@ fn stands_once<S: Alter>(rt: &impl Abort, connection: &mut Connection<S>, asked:
     }
 }
 
-/// Sends a request again, which is acknowledged as the first time. Asserts that it is recorded once, and returns the store.
+/// Opens an office at 5000. Sends it a request again, if there is one, and asserts that it is acknowledged. Returns the store.
+fn reopened<B: Books>(rt: &impl Abort, alloc: Global, books: B, again: Option<Asked>) -> B {
+    let mut office = opened(rt, alloc, books, 5000);
+    if let Some(asked) = again {
+        assert!(rt; acknowledges(rt, alloc, &mut office, asked, 5000));
+    }
+    office.into_books()
+}
+
+/// Sends a request again. Asserts that it is recorded once, and returns the store.
 fn retried<S: Alter + Drop>(
     rt: &impl Abort,
     alloc: Global,
     connection: Connection<S>,
     asked: Asked,
 ) -> S {
-    let mut office = opened(rt, alloc, found(rt, alloc, connection), 5000);
-    assert!(rt; acknowledges(rt, alloc, &mut office, asked, 5000));
-    let mut connection = office.into_books().into_connection();
+    let books = reopened(rt, alloc, found(rt, alloc, connection), Some(asked));
+    let mut connection = books.into_connection();
     stands_once(rt, &mut connection, asked);
     connection.into_store()
 }
@@ -169,9 +178,8 @@ pub(crate) fn stands<S: Alter + Drop>(
 ) -> S {
     match SqlBooks::open(alloc, connection) {
         Ok(books) => {
-            let mut connection = opened(rt, alloc, books, 5000)
-                .into_books()
-                .into_connection();
+            let books = reopened(rt, alloc, books, None);
+            let mut connection = books.into_connection();
             assert!(rt;
                 may_stand(rt, &mut connection, asked, steps),
                 "{asked:?} {steps}"

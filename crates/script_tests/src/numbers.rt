@@ -1,0 +1,12 @@
+//! The words of the kinds of printed numbers. `tests/words.py` explains each number.
+use printed_numbers::{Kind, kind_named, kinds};
+
+#[test]
+fn each_kind_is_named(rt: HostRuntime) {
+    for kind in kinds() {
+        let found = kind_named(kind.word()).expect(&rt, "no kind");
+        assert!(rt; found.word() == kind.word());
+    }
+    assert!(rt; kind_named("fault") == Some(Kind::RowFault));
+    assert!(rt; kind_named("cause").is_none());
+}
