@@ -13,67 +13,70 @@ use std::process::Abort;
 /// events of the script, after the exchange, and after the void.
 ///
 /// The opening loses the poll that was pending.
-static STATES: [(&str, [i64; 10]); 16] = [
+static STATES: [(&str, &[i64]); 16] = [
     (
-        "SELECT count(*) FROM devices WHERE name = 'inv'",
-        [0, 0, 1, 1, 1, 1, 1, 1, 1, 1],
+        "SELECT count(*) FROM devices",
+        &[0, 0, 1, 1, 1, 1, 1, 1, 1, 1],
     ),
     (
         "SELECT count(*) FROM registers WHERE device = 'inv'",
-        [0, 0, 0, 1, 1, 1, 1, 1, 1, 1],
+        &[0, 0, 0, 1, 1, 1, 1, 1, 1, 1],
     ),
-    ("SELECT count(*) FROM polls", [0, 0, 0, 0, 0, 0, 1, 1, 1, 1]),
+    (
+        "SELECT count(*) FROM polls",
+        &[0, 0, 0, 0, 0, 0, 1, 1, 1, 1],
+    ),
     (
         "SELECT count(*) FROM outcomes WHERE poll = 1 AND outcome = 5 AND code = 4",
-        [0, 0, 0, 0, 0, 0, 1, 0, 0, 0],
+        &[0, 0, 0, 0, 0, 0, 1, 0, 0, 0],
     ),
     (
         "SELECT count(*) FROM outcomes WHERE poll = 1 AND outcome = 1 AND code = 0",
-        [0, 0, 0, 0, 0, 0, 0, 1, 1, 1],
+        &[0, 0, 0, 0, 0, 0, 0, 1, 1, 1],
     ),
     (
         "SELECT count(*) FROM installations WHERE meter = 'm1'",
-        [0, 0, 0, 0, 1, 1, 1, 1, 1, 1],
+        &[0, 0, 0, 0, 1, 1, 1, 1, 1, 1],
     ),
     (
         "SELECT count(*) FROM installations WHERE meter = 'm1' AND last_moment = 1000 AND last_raw = 5000 AND last_sf = 0 AND total = 0 AND ended = 0",
-        [0, 0, 0, 0, 1, 1, 1, 0, 0, 1],
+        &[0, 0, 0, 0, 1, 1, 1, 0, 0, 1],
     ),
     (
         "SELECT count(*) FROM installations WHERE meter = 'm1' AND last_moment = 1900 AND last_raw = 5200 AND last_sf = 0 AND total = 200000 AND ended = 0",
-        [0, 0, 0, 0, 0, 0, 0, 1, 0, 0],
+        &[0, 0, 0, 0, 0, 0, 0, 1, 0, 0],
     ),
     (
         "SELECT count(*) FROM installations WHERE meter = 'm1' AND last_moment = 2800 AND last_raw = 5300 AND last_sf = 0 AND total = 300000 AND ended = 1",
-        [0, 0, 0, 0, 0, 0, 0, 0, 1, 0],
+        &[0, 0, 0, 0, 0, 0, 0, 0, 1, 0],
     ),
     (
         "SELECT count(*) FROM installations WHERE meter = 'm2'",
-        [0, 0, 0, 0, 0, 0, 0, 0, 1, 0],
+        &[0, 0, 0, 0, 0, 0, 0, 0, 1, 0],
     ),
     (
         "SELECT count(*) FROM installations WHERE meter = 'm2' AND last_moment = 2800 AND last_raw = 0 AND last_sf = 0 AND total = 0 AND ended = 0",
-        [0, 0, 0, 0, 0, 0, 0, 0, 1, 0],
+        &[0, 0, 0, 0, 0, 0, 0, 0, 1, 0],
     ),
     (
         "SELECT count(*) FROM intervals",
-        [0, 0, 0, 0, 0, 0, 0, 2, 3, 0],
+        &[0, 0, 0, 0, 0, 0, 0, 2, 3, 0],
     ),
     (
         "SELECT count(*) FROM intervals WHERE meter = 'm1' AND start = 900 AND mwh = 177777",
-        [0, 0, 0, 0, 0, 0, 0, 1, 1, 0],
+        &[0, 0, 0, 0, 0, 0, 0, 1, 1, 0],
     ),
     (
         "SELECT count(*) FROM intervals WHERE meter = 'm1' AND start = 1800 AND mwh = 22223",
-        [0, 0, 0, 0, 0, 0, 0, 1, 0, 0],
+        &[0, 0, 0, 0, 0, 0, 0, 1, 0, 0],
     ),
     (
         "SELECT count(*) FROM intervals WHERE meter = 'm1' AND start = 1800 AND mwh = 111111",
-        [0, 0, 0, 0, 0, 0, 0, 0, 1, 0],
+        &[0, 0, 0, 0, 0, 0, 0, 0, 1, 0],
     ),
     (
         "SELECT count(*) FROM intervals WHERE meter = 'm1' AND start = 2700 AND mwh = 11112",
-        [0, 0, 0, 0, 0, 0, 0, 0, 1, 0],
+        &[0, 0, 0, 0, 0, 0, 0, 0, 1, 0],
     ),
 ];
 
@@ -110,8 +113,11 @@ static VOIDED_ROWS: [(&str, i64); 5] = [
 /// Whether each query shows the number of a state.
 fn is_in_state<S: Alter>(rt: &impl Abort, connection: &mut Connection<S>, state: usize) -> bool {
     for (query, numbers) in &STATES {
-        let shown = number(rt, connection, query);
-        if numbers.get(state) != Some(&shown) {
+        let is_shown = match numbers.get(state) {
+            Some(wanted) => number(rt, connection, query) == *wanted,
+            None => false,
+        };
+        if !is_shown {
             return false;
         }
     }
