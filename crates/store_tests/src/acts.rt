@@ -4,7 +4,7 @@ use crate::stops::asked::Asked;
 use crate::stops::files::{Stop, Stopping, connected, files};
 use crate::stops::offices::play;
 use crate::stops::standing::stands;
-use crate::stops::work::{Work, carry_out, is_whole};
+use crate::stops::work::{bring, is_brought, prepare};
 use crate::{damage, databases, held_readings, laws, refused_facts};
 use sqlite::{Alter, Connection, Files};
 use sqlite_disk::{Fuse, Memory};
@@ -14,14 +14,16 @@ use std::process::Abort;
 /// An act over a database.
 #[derive(Clone, Copy, Debug)]
 pub(crate) enum Act {
-    /// Makes or opens the tables.
-    File(Work),
+    /// Makes a file of version 1.
+    Prepare,
+    /// Opens a file, which brings it to today's version.
+    Bring,
     /// Plays all steps of an office.
-    Office(Asked),
-    /// Asserts what the file holds after a crash, where the work was acknowledged or not.
-    FileAfter(Work, bool),
+    Play(Asked),
+    /// Asserts what the file holds after a crash, where so many steps were acknowledged.
+    Brought(usize),
     /// Asserts what the office holds after a crash, where so many steps were acknowledged.
-    OfficeAfter(Asked, usize),
+    Played(Asked, usize),
     /// Tests an empty database.
     Damage,
     Databases,
@@ -38,10 +40,11 @@ fn act_over<S: Alter + Drop>(
     act: Act,
 ) -> (usize, S) {
     match act {
-        Act::File(work) => carry_out(rt, connection, work),
-        Act::Office(asked) => play(rt, alloc, connection, asked),
-        Act::FileAfter(work, is_done) => (0, is_whole(rt, connection, work, is_done)),
-        Act::OfficeAfter(asked, steps) => (0, stands(rt, alloc, connection, asked, steps)),
+        Act::Prepare => prepare(rt, connection),
+        Act::Bring => bring(rt, connection),
+        Act::Play(asked) => play(rt, alloc, connection, asked),
+        Act::Brought(steps) => (0, is_brought(rt, connection, steps)),
+        Act::Played(asked, steps) => (0, stands(rt, alloc, connection, asked, steps)),
         Act::Damage => (0, damage::failures_are_counted(rt, alloc, connection)),
         Act::Databases => (0, databases::each_is_handed_back(rt, alloc, connection)),
         Act::HeldReadings => (0, held_readings::they_are_handed_on(rt, alloc, connection)),
@@ -66,7 +69,7 @@ pub(crate) fn act_in(
             (steps, store.close())
         }
         Err(files) => {
-            assert!(rt; matches!(act, Act::File(_) | Act::Office(_)), "not opened");
+            assert!(rt; matches!(act, Act::Bring | Act::Play(_)), "not opened");
             (0, files)
         }
     }

@@ -1,13 +1,5 @@
 //! The exit status of each ending, and what is printed of it on standard error.
-use std::alloc::Global;
 use stored_files::{Ending, Failure, say};
-
-/// Returns what is printed of an ending.
-fn said(alloc: Global, ending: &Ending<'_>) -> Vec<u8> {
-    let mut errors = Vec::new(alloc);
-    say(ending, &mut errors);
-    errors
-}
 
 // Nothing is printed of a command that ended well or was refused. Of a failure `failed` is printed, and a line that says more.
 #[test]
@@ -60,9 +52,8 @@ fn endings_have_their_statuses_and_texts(rt: HostRuntime) {
     ];
     for (ending, status, text) in &endings {
         assert!(rt; ending.number() == *status, "{text}");
-        assert!(rt;
-            said(rt.alloc(), ending).as_slice() == text.as_bytes(),
-            "{text}"
-        );
+        let mut errors = Vec::new(rt.alloc());
+        say(ending, &mut errors);
+        assert!(rt; errors.as_slice() == text.as_bytes(), "{text}");
     }
 }

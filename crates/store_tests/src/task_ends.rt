@@ -109,19 +109,18 @@ const STATUSES: [(ExitStatus, u8); 3] = [
     (ExitStatus::Failed, 3),
 ];
 
-/// Asserts that the text of a failure begins so.
-fn begins(rt: &impl Abort, alloc: Global, failure: Failure<'_>, text: &str) {
-    let said = format!(in alloc; "{failure}").expect(rt, "no memory");
-    assert!(rt; said.as_str().starts_with(text), "{text}");
-    assert!(rt; !text.is_empty());
-}
-
 /// Asserts that a task ends with this status, and fails with a text that begins so.
 fn ends(rt: &impl Abort, alloc: Global, done: Result<Done, Failure<'_>>, status: u8, text: &str) {
     let ending = ending_of_done(done, "h", 80);
     assert!(rt; ending.number() == status, "{text}");
     match &ending {
-        Ending::Failed(failure) => begins(rt, alloc, *failure, text),
+        Ending::Failed(failure) => {
+            let said = format!(in alloc; "{failure}").expect(rt, "no memory");
+            assert!(rt;
+                !text.is_empty() && said.as_str().starts_with(text),
+                "{text}"
+            );
+        }
         _ => assert!(rt; text.is_empty(), "{text}"),
     }
 }

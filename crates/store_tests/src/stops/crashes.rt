@@ -2,91 +2,73 @@
 use crate::acts::{Act, act_in, empty_files};
 use crate::stops::asked::Asked;
 use crate::stops::files::{Stop, Stopping, files, restarted};
-use crate::stops::work::Work;
 use sqlite::Files;
 use sqlite_disk::{Fuse, Memory};
 use std::alloc::Global;
 use std::process::Abort;
 
-/// What is in progress at the crash.
-#[derive(Clone, Copy, Debug)]
-enum Task {
-    File(Work),
-    Office(Asked),
-}
-
-/// A task and its number of steps. A crash comes after each of these counts of acknowledged steps, and at more than so many calls
+/// An act and its number of steps. A crash comes after each of these counts of acknowledged steps, and at more than so many calls
 /// of the log.
 struct Case {
-    task: Task,
+    act: Act,
     steps: usize,
     after: &'static [usize],
     calls: usize,
 }
 
-// The office's step after the first four connects the device, and books nothing.
-static CASES: [Case; 4] = [
+// The office's first step makes the tables. The step after the first four connects the device, and records nothing.
+static CASES: [Case; 3] = [
     Case {
-        task: Task::File(Work::Making),
+        act: Act::Bring,
         steps: 1,
         after: &[0],
         calls: 5,
     },
     Case {
-        task: Task::File(Work::Bringing),
-        steps: 1,
-        after: &[0],
-        calls: 5,
-    },
-    Case {
-        task: Task::Office(Asked::Exchange),
+        act: Act::Play(Asked::Exchange),
         steps: 8,
         after: &[0, 1, 2, 3, 5, 6, 7],
         calls: 30,
     },
     Case {
-        task: Task::Office(Asked::Void),
+        act: Act::Play(Asked::Void),
         steps: 8,
         after: &[0, 1, 2, 3, 5, 6, 7],
         calls: 30,
     },
 ];
 
-/// Returns the files with which the task begins.
-fn given(rt: &impl Abort, alloc: Global, task: Task) -> Files<Fuse<Memory>> {
+/// Returns the files with which an act begins.
+fn given(rt: &impl Abort, alloc: Global, act: Act) -> Files<Fuse<Memory>> {
     let empty = empty_files(rt, alloc);
-    match task {
-        Task::File(Work::Bringing) => {
-            let (_steps, old) = act_in(rt, alloc, empty, Act::File(Work::Preparing));
+    match act {
+        Act::Bring => {
+            let (_steps, old) = act_in(rt, alloc, empty, Act::Prepare);
             old
         }
         _ => empty,
     }
 }
 
-/// Crashes during the task, and asserts what the files hold afterwards. Returns how many steps were acknowledged.
+/// Crashes during the act, and asserts what the files hold afterwards. Returns how many steps were acknowledged.
 fn stopped(
     rt: &impl Abort,
     alloc: Global,
     given: &Files<Fuse<Memory>>,
-    task: Task,
+    act: Act,
     stop: Stop,
 ) -> usize {
     let (log, db) = (given.log.inner().bytes(), given.db.inner().bytes());
-    let act = match task {
-        Task::File(work) => Act::File(work),
-        Task::Office(asked) => Act::Office(asked),
-    };
     let (steps, files) = act_in(rt, alloc, files(rt, alloc, log, db, stop), act);
-    let after = match task {
-        Task::File(work) => Act::FileAfter(work, steps == 1),
-        Task::Office(asked) => Act::OfficeAfter(asked, steps),
+    let after = match act {
+        Act::Play(asked) => Act::Played(asked, steps),
+        _ => Act::Brought(steps),
     };
     let (_, _files) = act_in(rt, alloc, restarted(rt, alloc, files, stop.is_lost), after);
     steps
 }
 
-/// Crashes at each call of a file, until the task makes no further call. Returns how many steps each crash left acknowledged.
+/// Crashes at each call of a file, until the act makes no further call. Returns how many steps each crash left acknowledged.
 fn stop_each(
     rt: &impl Abort,
     alloc: Global,
@@ -94,7 +76,7 @@ fn stop_each(
     file: Stopping,
     is_lost: bool,
 ) -> Vec<usize> {
-    let given = given(rt, alloc, case.task);
+    let given = given(rt, alloc, case.act);
     let mut stops = Vec::new(alloc);
     for calls in 0..1000 {
         let stop = Stop {
@@ -102,7 +84,7 @@ fn stop_each(
             calls,
             is_lost,
         };
-        let steps = stopped(rt, alloc, &given, case.task, stop);
+        let steps = stopped(rt, alloc, &given, case.act, stop);
         if steps == case.steps {
             return stops;
         }
@@ -123,13 +105,11 @@ fn each_came_up(after: &[usize], stops: &[usize]) -> bool {
 
 /// Crashes at each call of each file. What was not synced is lost, or is in the file.
 fn stop_all(rt: &impl Abort, alloc: Global, case: &Case) {
-    let task = case.task;
     for is_lost in [true, false] {
         let of_log = stop_each(rt, alloc, case, Stopping::Log, is_lost);
-        assert!(rt; case.calls < of_log.len(), "{task:?}");
-        assert!(rt; each_came_up(case.after, &of_log), "{task:?}");
+        assert!(rt; case.calls < of_log.len() && each_came_up(case.after, &of_log));
         let of_database = stop_each(rt, alloc, case, Stopping::Database, is_lost);
-        assert!(rt; 5 < of_database.len(), "{task:?}");
+        assert!(rt; 5 < of_database.len());
     }
 }
 

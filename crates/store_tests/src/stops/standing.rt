@@ -1,5 +1,5 @@
 //! What an office holds after a crash.
-use crate::made::{found, opened};
+use crate::made::{found, made, opened};
 use crate::stops::asked::Asked;
 use crate::stops::offices::acknowledges;
 use crate::stops::shown::{number, shows};
@@ -13,7 +13,11 @@ use std::process::Abort;
 /// events of the script, after the exchange, and after the void.
 ///
 /// The opening loses the poll that was pending.
-static STATES: [(&str, &[i64]); 16] = [
+static STATES: [(&str, &[i64]); 17] = [
+    (
+        "SELECT count(*) FROM meta WHERE id = 1 AND version = 3 AND zone = 'UTC0'",
+        &[0, 1, 1, 1, 1, 1, 1, 1, 1, 1],
+    ),
     (
         "SELECT count(*) FROM devices",
         &[0, 0, 1, 1, 1, 1, 1, 1, 1, 1],
@@ -174,6 +178,15 @@ fn retried<S: Alter + Drop>(
     connection.into_store()
 }
 
+/// Asserts that the database is empty, and that the tables can be made in it. Returns the store.
+fn remade<S: Alter + Drop>(rt: &impl Abort, alloc: Global, mut connection: Connection<S>) -> S {
+    assert!(rt; number(rt, &mut connection, "SELECT count(*) FROM sqlite_schema") == 0);
+    let books = made(rt, alloc, connection, "UTC0");
+    let mut connection = found(rt, alloc, books.into_connection()).into_connection();
+    assert!(rt; is_in_state(rt, &mut connection, 1));
+    connection.into_store()
+}
+
 /// Asserts that the steps are recorded, or one more. Where none was acknowledged, there may be no tables. Returns the store.
 pub(crate) fn stands<S: Alter + Drop>(
     rt: &impl Abort,
@@ -198,7 +211,7 @@ pub(crate) fn stands<S: Alter + Drop>(
         }
         Err(unopened) => {
             assert!(rt; steps == 0 && unopened.fault == OpenFault::NotOurs);
-            unopened.connection.into_store()
+            remade(rt, alloc, unopened.connection)
         }
     }
 }
