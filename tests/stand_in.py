@@ -42,13 +42,14 @@ TEXTS = [
     ("1000 tick\n", "bad line 1\n", 1),
     ("area  holding 0 1\n", "bad line 1\n", 1),
 ]
-# The addresses that this text sets are read back. Both tricks change the second response.
-SET_UP = "area holding 7 2\nset holding 8 9\narea coil 0 1\nset coil 0 5\ntrick 2 unit\ntrick 2 id\n"
-FRAMES = [
-    ("holding registers 7 and 8", "000100000006010300070002", "00010000000701030400000009"),
-    ("coil 0 under two tricks", "000200000006010100000001", "00030000000402010101"),
-    ("holding register 9, which is none", "000300000006010300090001", "000300000003018302"),
-    ("holding register 8 again", "000400000006010300080001", "0004000000050103020009"),
+# A text whose values are read back by these frames, and the responses without tricks.
+SET_UP = "area holding 7 2\nset holding 8 9\narea coil 0 1\nset coil 0 5\n"
+FRAMES = ["000100000006010300070002", "000200000006010100000001", "000300000006010300090001", "000400000006010300080001"]
+RESPONSES = ["00010000000701030400000009", "00020000000401010101", "000300000003018302", "0004000000050103020009"]
+# Tricks behind the text, and the responses that they change: of two tricks of a frame the first one counts.
+TRICKED = [
+    ("", {}), ("trick 2 unit\ntrick 2 id\n", {1: "00020000000402010101"}), ("trick 2 id\ntrick 2 unit\n", {1: "00030000000401010101"}),
+    ("trick 2 unit\ntrick 3 id\n", {1: "00020000000402010101", 2: "000400000003018302"}),
 ]
 # Each client sends a frame, and reads its response up to the end of the connection. The garbled frame has no length.
 NINE = "area holding 0 1\nset holding 0 9\n"
@@ -179,11 +180,12 @@ def check_set_ups():
 
 
 def check_values():
-    child, port = started(SET_UP, 1)
-    with connected(child, port) as link:
-        for what, frame, response in FRAMES:
-            same(what, exchange(link, frame), response)
-    same("the simulator ends", ended(child), (0, "", ""))
+    for tricks, changed in TRICKED:
+        child, port = started(SET_UP + tricks, 1)
+        with connected(child, port) as link:
+            for place, frame in enumerate(FRAMES):
+                same(f"frame {place} after {tricks!r}", exchange(link, frame), changed.get(place, RESPONSES[place]))
+        same(f"the simulator ends after {tricks!r}", ended(child), (0, "", ""))
 
 
 def check_connections():
