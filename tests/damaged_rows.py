@@ -165,14 +165,10 @@ EVENTS = """5000 register roof inv 3 40168 0
 5000 install roof m2 0 0 100000
 5000 connect inv
 5000 round inv 0
-5001 bytes inv 00000000000901030600001518000000
+5001 bytes inv 000000000009010306000015180000
 5002 void m1 2
 meter m1
 intervals m1
-"""
-EVENT_ANSWERS = """ok
-ok
-ok
 """
 
 
