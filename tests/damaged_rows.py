@@ -6,6 +6,7 @@ commands over the file report damage. Ends on 'N passed, M failed'.
   keys. A value that SQLite refuses is not tried further.
 - Damage is reported as `refused 13`, or the file isn't opened, since it holds no office or no zone (status 3).
 - No command reports damage in rows without damage, at the limits of their columns, or in columns that no query reads.
+- Numbers keep their signs and digits, from a line to a row and back.
 - A meter may not have more energy in all files than a meter may have. No rows make so much, so sqlite3 writes it.
 All values are written by hand. JOBS files are tried at a time, 2 by default.
 """
@@ -294,6 +295,26 @@ def check_counter(damaged):
         same("a counter below zero", run("replay", "--db", db, text="meter m1\npoll 1\n"), (0, "refused 13\npoll 1 answered\n", ""))
 
 
+# The latest time, and the least scale.
+LATEST = """4102444800 device inv 1 5 1
+4102444800 register main inv 3 40094 -3
+4102444800 install main m1 5000 -3 100000
+meter m1
+"""
+
+
+def check_numbers(room):
+    """Numbers keep their signs and digits, from a line to a row and back."""
+    db = f"{room}/latest.db"
+    run("create", "--db", db, "--zone", "UTC0")
+    printed = "ok\nok\nok\nmeter m1 last 5000 sf -3 at 4102444800 total 0 open\n"
+    same("the latest time and the least scale", run("replay", "--db", db, text=LATEST)[:2], (0, printed))
+    with contextlib.closing(sqlite3.connect(db)) as connection:
+        rows = connection.execute("SELECT moment, raw, sf, typeof(moment), typeof(sf) FROM entries").fetchall()
+        same("their row", rows, [(4102444800, 5000, -3, "integer", "integer")])
+        same("the scale of the register", connection.execute("SELECT scale_kind, scale FROM registers").fetchall(), [(0, -3)])
+
+
 BEGUN = """1000 device inv 1 5 1
 1000 register main inv 3 40094 @40096
 1000 install main m1 5000 0 100000 100000
@@ -327,6 +348,7 @@ def main():
         check_sound(damaged)
         check_counter(damaged)
         check_columns(damaged)
+        check_numbers(room)
         check_energy_of_all_files(room)
     print(f"{counts['passed']} passed, {counts['failed']} failed")
     return 1 if counts["failed"] else 0
