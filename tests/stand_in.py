@@ -234,14 +234,13 @@ def check_scans():
 
 
 def reset_after(listener, count):
-    """Answers so many reads of a connection, and then resets it: after the next request, or before any where the count is None."""
+    """Answers so many reads of a connection, and resets it after the next request."""
     link, _ = listener.accept()
-    for address, length in READS[: count or 0]:
+    for address, length in READS[:count]:
         request = link.recv(12, socket.MSG_WAITALL)
         words = b"".join(WORDS.get(it, 0).to_bytes(2, "big") for it in range(address, address + length))
         link.sendall(request[:4] + (len(words) + 3).to_bytes(2, "big") + request[6:8] + bytes([len(words)]) + words)
-    if count is not None:
-        link.recv(12, socket.MSG_WAITALL)
+    link.recv(12, socket.MSG_WAITALL)
     # (a connection that is closed so is reset)
     link.setsockopt(socket.SOL_SOCKET, socket.SO_LINGER, struct.pack("ii", 1, 0))
     link.close()
@@ -249,16 +248,15 @@ def reset_after(listener, count):
 
 def check_failing_scans():
     """A connection that fails in a scan prints nothing of the device."""
-    for count in (None, 0, 1, 2, 3):
+    for count in range(len(READS)):
         with socket.create_server((HOST, 0)) as listener:
             port = listener.getsockname()[1]
             device = threading.Thread(target=reset_after, args=(listener, count), daemon=True)
             device.start()
             status, printed, said = scan(port)
             device.join(LIMIT)
-        said = said.splitlines()
-        wanted = ["failed", f"sunreg: port {port} of {HOST} can't be scanned: the connection failed"]
-        same(f"a connection that fails after {count} reads", (status, printed, said), (3, "", wanted))
+        is_said = f"port {port} of {HOST}" in said and said.endswith(": the connection failed\n")
+        same(f"a connection that fails after {count} reads", (status, printed, is_said or said), (3, "", True))
 
 
 def main():

@@ -25,6 +25,8 @@ mod right_words;
 #[cfg(test)]
 mod rows;
 #[cfg(test)]
+mod scans;
+#[cfg(test)]
 mod spelled_words;
 #[cfg(test)]
 mod streams;

@@ -19,6 +19,8 @@ mod fault_texts;
 #[cfg(test)]
 mod held_readings;
 #[cfg(test)]
+mod joins;
+#[cfg(test)]
 mod laws;
 #[cfg(test)]
 mod made;

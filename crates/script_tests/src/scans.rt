@@ -1,0 +1,39 @@
+//! A scan over a link that fails. `tests/stand_in.py` scans simulators.
+use device_scan::{ScanFault, ScanObserver};
+use mb_wire::MemoryLink;
+use sun_chain::Model;
+use sunspec_text::{ScanForm, scan_text};
+
+// Who is shown nothing.
+#[derive(Drop)]
+struct Nobody;
+
+impl ScanObserver for Nobody {
+    fn reads(&mut self, _model: Model) {}
+}
+
+// What a device responds to the four reads of a scan: the mark, a model 103 with 50 registers whose counter WH shows 5000 at scale
+// 0, and the end.
+const REPLIES: &[u8] = &[
+    0, 1, 0, 0, 0, 7, 1, 3, 4, 83, 117, 110, 83, 0, 2, 0, 0, 0, 7, 1, 3, 4, 0, 103, 0, 50, 0, 3, 0,
+    0, 0, 103, 1, 3, 100, 0, 0, 0, 0, 0, 0, 0, 0, 0, 0, 0, 0, 0, 0, 0, 0, 0, 0, 0, 0, 0, 0, 0, 0,
+    0, 0, 0, 0, 0, 0, 0, 0, 0, 0, 0, 0, 0, 0, 0, 0, 0, 0, 0, 0, 0, 0, 19, 136, 0, 0, 0, 0, 0, 0, 0,
+    0, 0, 0, 0, 0, 0, 0, 0, 0, 0, 0, 0, 0, 0, 0, 0, 0, 0, 0, 0, 0, 0, 0, 0, 0, 0, 0, 0, 0, 0, 0, 0,
+    0, 0, 0, 0, 0, 0, 0, 0, 0, 0, 0, 0, 0, 0, 4, 0, 0, 0, 7, 1, 3, 4, 255, 255, 0, 0,
+];
+
+// The first give, the first take, and a give of the last request.
+static CALLS: [u64; 3] = [1, 13, 180];
+
+#[test]
+fn a_link_that_fails_prints_nothing(rt: HostRuntime) {
+    for call in &CALLS {
+        let mut given = [0; 48];
+        let mut output = Vec::new(rt.alloc());
+        let mut link = MemoryLink::new(REPLIES, &mut given, 1, Some(*call));
+        let form = ScanForm::Chain;
+        let end = scan_text(rt.alloc(), &mut link, 1, form, &mut Nobody, &mut output);
+        assert!(rt; end == Err(ScanFault::Failed), "{call}");
+        assert!(rt; output.is_empty(), "{call}");
+    }
+}

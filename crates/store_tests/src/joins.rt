@@ -1,0 +1,64 @@
+//! A meter with more energy in all files than a meter may have. The rows of a sound file never have so much.
+use energy_core::{Last, MAX_TOTAL};
+use meter_audit::Standing;
+use meter_journal::Installed;
+use std::alloc::Global;
+use std::process::Abort;
+use table_seals::{FiledMeter, FiledOffice, Joining, put_joins};
+
+const STAND: Last = Last {
+    at: 1900,
+    raw: 5200,
+    sf: 0,
+};
+
+/// Returns a file whose meter has this energy.
+fn file_of(rt: &impl Abort, alloc: Global, file: &'static str, total: u64) -> FiledOffice<'static> {
+    let meter = FiledMeter {
+        file,
+        meter: String::from_str(alloc, "m1").expect(rt, "no memory"),
+        register: String::from_str(alloc, "main").expect(rt, "no memory"),
+        installed: Installed {
+            range: 100_000,
+            ceiling: 100_000,
+            opening: STAND,
+        },
+        standing: Standing {
+            last: STAND,
+            total,
+            is_ended: false,
+        },
+    };
+    let mut meters = Vec::new(alloc);
+    meters.push(meter).expect(rt, "no memory");
+    FiledOffice {
+        file,
+        zone: String::from_str(alloc, "UTC0").expect(rt, "no memory"),
+        meters,
+        latest: 1,
+    }
+}
+
+/// The energy in the new file, and what is printed of it and an old file with 200 Wh.
+static TOTALS: [(u64, &[u8]); 2] = [
+    (3_999_999_999_999_800_000, b"joined: fine\n"),
+    (
+        MAX_TOTAL,
+        b"meter m1 has more energy in all files up to new.db than a meter may have\n1 differences between files\n",
+    ),
+];
+
+// The energy of a meter in all files has the limit of a meter in one file.
+#[test]
+fn the_energy_of_all_files_has_a_limit(rt: HostRuntime) {
+    for (total, printed) in &TOTALS {
+        let mut joining = Joining::new(rt.alloc());
+        let old = file_of(&rt, rt.alloc(), "old.db", 200_000);
+        joining.join(rt.alloc(), old).expect(&rt, "no join");
+        let new = file_of(&rt, rt.alloc(), "new.db", *total);
+        joining.join(rt.alloc(), new).expect(&rt, "no join");
+        let mut text = Vec::new(rt.alloc());
+        put_joins(&mut text, joining.lines.as_slice()).expect(&rt, "no memory");
+        assert!(rt; text.as_slice() == *printed);
+    }
+}
