@@ -4,7 +4,8 @@ commands over the file report damage. Ends on 'N passed, M failed'.
 
 - Two files are damaged: one with the tables of docs/SCHEMA.md, and one whose tables have the same names and columns, without types and
   keys. A value that SQLite refuses is not tried further.
-- Damage is reported as `refused 13`, or the file isn't opened, since it holds no office or no zone (status 3).
+- Damage is reported as `refused 13`, or the file isn't opened, since it holds no office, no zone, or a row that refers to none
+  (status 3).
 - No command reports damage in rows without damage, at the limits of their columns, or in columns that no query reads.
 - Numbers keep their signs and digits, from a line to a row and back.
 All values are written by hand. JOBS files are tried at a time, 2 by default.
@@ -21,7 +22,8 @@ import tempfile
 
 HERE = pathlib.Path(__file__).resolve().parent
 PROGRAM = pathlib.Path(sys.argv[1] if len(sys.argv) > 1 else os.environ.get("SUNREG", HERE.parent / "out" / "sunreg")).resolve()
-NOT_OURS, NO_ZONE = "sunreg create makes", "the zone in its table meta"
+# Parts of why a file isn't opened: it holds no office, its zone is none, or SQLite finds a row that refers to none.
+NOT_OURS, NO_ZONE, NO_DATABASE = "sunreg create makes", "the zone in its table meta", "SQLite database, or"
 ZONE = "CET-1CEST,M3.5.0,M10.5.0/3"
 counts = {"passed": 0, "failed": 0}
 
@@ -201,7 +203,7 @@ def reported(db, text):
     """Returns 1 or 2 where the file is not opened, 13 where a command reports damage, and 0 where none does."""
     for status, printed, said in asked(db, text):
         if status == 3 and not printed:
-            return 1 if NOT_OURS in said else 2 if NO_ZONE in said else said
+            return 1 if NOT_OURS in said else 2 if NO_ZONE in said else 13 if NO_DATABASE in said else said
         if status not in (0, 1) or "refused 14" in printed:
             return status, printed, said
         if "refused 13" in printed.splitlines():

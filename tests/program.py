@@ -56,7 +56,7 @@ CHECKS = [
     Check("stores", "stores.sh PROGRAM", 296, 180, "sqlite3"),
     Check("bad_day_files", "bad_day_files.sh PROGRAM", 127, 300, "faketime"),
     Check("damage", "damage.sh PROGRAM", 170, 120, ""),
-    Check("damaged_rows", "damaged_rows.py", 465, 180, "sqlite3"),
+    Check("damaged_rows", "damaged_rows.py", 467, 180, "sqlite3"),
     Check("running", "running.sh --short", 240, 180, ""),
     Check("bad_day", "bad_day.sh --short", 88, 360, "faketime"),
     Check("run_carry", "run_carry.sh --short", 50, 300, "faketime"),
