@@ -38,7 +38,7 @@ CHECKS = [
     Check("cases", "cases.sh", 459, 120, ""),
     Check("statuses", "statuses.sh", 52, 120, ""),
     Check("arguments", "arguments.py", 150, 120, ""),
-    Check("words", "words.sh", 298, 120, ""),
+    Check("words", "words.sh", 299, 120, ""),
     Check("manual", "words.sh --man", 19, 60, "man groff"),
     Check("scan", "scan.sh", 17, 120, ""),
     Check("stand_in", "stand_in.py", 52, 120, ""),

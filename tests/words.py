@@ -82,7 +82,7 @@ def check_numbers(program):
         word = kind if kind in told else "fault"
         holds(f"each number of {kind} has a meaning", [it for it in range(1, greatest + 1) if place.format(it) not in told[word]], [])
     holds("how many numbers have a meaning", sum(len(it) for it in told.values()), 72)
-    holds("the first fault is that of a row", next(iter(told["fault"])), "fault 1 of a row of a point list")
+    holds("the first fault is that of a row", next(iter(told["fault"])), PLACES["row"].format(1))
 
 
 def check_wrong(program):
