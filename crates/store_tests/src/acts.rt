@@ -1,5 +1,5 @@
-//! What the tests do over a database, and the one place that does it over files in memory. The gate pays for each place that
-//! names the type of a store.
+//! What the tests do over a database, and the one place that does it over files in memory. The gate
+//! pays for each place that names the type of a store.
 use crate::stops::asked::Asked;
 use crate::stops::files::{Stop, Stopping, connected, files};
 use crate::stops::offices::play;
@@ -94,8 +94,8 @@ static TESTS: [Act; 5] = [
     Act::RefusedFacts,
 ];
 
-// A store counts its failures. It returns a database without an office. It returns rejected readings with all fields, and the days
-// of a range. Records that it refuses leave no row.
+// A store counts its failures. It returns a database without an office. It returns rejected
+// readings with all fields, and the days of a range. Records that it refuses leave no row.
 #[test]
 fn stores_keep_what_they_promise(rt: HostRuntime) {
     for act in &TESTS {

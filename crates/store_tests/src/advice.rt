@@ -9,7 +9,8 @@ static PRINTED: &[u8] =
 static SAID: &[u8] =
     b"sunreg: m1: held: more energy than the ceiling allows; compare the reading with the meter: enter a reset or an exchange where the counter was changed, and one by hand where it is right\nsunreg: inv: the store failed; look at the disk's room and the file's rights, and start again: what was acknowledged stays\n";
 
-// The meanings of a rejected reading and of a refusal are printed. Other lines, and a round without a connection, add nothing.
+// The meanings of a rejected reading and of a refusal are printed. Other lines, and a round without
+// a connection, add nothing.
 #[test]
 fn what_numbers_mean_is_said(rt: HostRuntime) {
     let mut said = Vec::new(rt.alloc());

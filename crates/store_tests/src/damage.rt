@@ -1,5 +1,5 @@
-//! A store with damage answers the question that reads the damage with a failure, and counts its failures. Checks of the program
-//! damage every column (`tests/damaged_rows.py`).
+//! A store with damage answers the question that reads the damage with a failure, and counts its
+//! failures. Checks of the program damage every column (`tests/damaged_rows.py`).
 use crate::made::found;
 use crate::refused_facts::known_device;
 use crate::tables::strict;
@@ -9,7 +9,8 @@ use sqlite::{Alter, Connection};
 use std::alloc::Global;
 use std::process::Abort;
 
-/// Asserts failures and their count, where each entry has a counter below zero. A known device is refused. Returns the store.
+/// Asserts failures and their count, where each entry has a counter below zero. A known device is
+/// refused. Returns the store.
 pub(crate) fn failures_are_counted<S: Alter + Drop>(
     rt: &impl Abort,
     alloc: Global,

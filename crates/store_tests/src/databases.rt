@@ -4,7 +4,8 @@ use sqlite::{Alter, Connection};
 use std::alloc::Global;
 use std::process::Abort;
 
-/// Makes a store in a zone, or opens one. Returns the number of the fault, or 0, and the connection.
+/// Makes a store in a zone, or opens one. Returns the number of the fault, or 0, and the
+/// connection.
 fn opening<S: Alter + Drop>(
     alloc: Global,
     connection: Connection<S>,
@@ -20,7 +21,8 @@ fn opening<S: Alter + Drop>(
     }
 }
 
-/// A change of the database, the zone of the store that is made then (none opens the store), and the number of the fault.
+/// A change of the database, the zone of the store that is made then (none opens the store), and
+/// the number of the fault.
 type Step = (&'static str, Option<&'static str>, u8);
 
 static STEPS: [Step; 10] = [

@@ -1,4 +1,5 @@
-//! The texts of faults of the tables and of their file, which no command prints, and the numbers of faults.
+//! The texts of faults of the tables and of their file, which no command prints, and the numbers of
+//! faults.
 use sqlite::Error;
 use std::alloc::Global;
 use std::fmt::Display;

@@ -9,7 +9,7 @@ use std::alloc::Global;
 use std::process::Abort;
 use store_queries::holds;
 
-/// Two readings of m1, of which the later row has the earlier time, and a reading of m0 between them.
+/// Two readings of m1 and a reading of m0 between them. The later row of m1 has the earlier time.
 const HOLDS: &str =
     "DELETE FROM holds; INSERT INTO installations VALUES (2, 'm0', 'main', 20000, 1, 2000, 0, 0, 0);
 INSERT INTO holds VALUES (3, 'm1', 2, 1500, 4294967295, -32768, 1), (1, 'm1', 1, 1900, 0, 32767, 8), (2, 'm0', 2, 2000, 7, 0, 6)";

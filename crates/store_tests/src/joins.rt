@@ -1,4 +1,5 @@
-//! A meter with more energy in all files than a meter may have. The rows of a sound file never have so much.
+//! A meter with more energy in all files than a meter may have. The rows of a sound file never have
+//! so much.
 use energy_core::{Last, MAX_TOTAL};
 use meter_audit::Standing;
 use meter_journal::Installed;

@@ -46,8 +46,8 @@ fn days_between<B: Books>(rt: &impl Abort, office: &mut Office<B>, from: &str, t
     counted.count
 }
 
-/// Asserts that a range has its days. A range that ends before it begins has none, and no command asks for it. Returns the
-/// store.
+/// Asserts that a range has its days. A range that ends before it begins has none, and no command
+/// asks for it. Returns the store.
 fn ranges_over<B: Books>(rt: &impl Abort, alloc: Global, books: B) -> B {
     let mut office = opened(rt, alloc, books, 0);
     for line in DAY.lines() {
@@ -58,8 +58,8 @@ fn ranges_over<B: Books>(rt: &impl Abort, alloc: Global, books: B) -> B {
     office.into_books()
 }
 
-/// Applies the theorems: the energy over several files is the energy of one file. Asserts the days of ranges over an empty
-/// database, and returns its store.
+/// Applies the theorems: the energy over several files is the energy of one file. Asserts the days
+/// of ranges over an empty database, and returns its store.
 pub(crate) fn files_and_ranges_have_their_days<S: Alter + Drop>(
     rt: &impl Abort,
     alloc: Global,

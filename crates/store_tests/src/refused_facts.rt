@@ -58,8 +58,8 @@ static COUNTS: [(&str, i64); 4] = [
     ("intervals", 2),
 ];
 
-/// Books a poll and a reading, which may follow the rows. A known device may not, and neither may a counter that goes back.
-/// Returns the store.
+/// Books a poll and a reading, which may follow the rows. A known device may not, and neither may a
+/// counter that goes back. Returns the store.
 pub(crate) fn they_leave_no_row<S: Alter + Drop>(
     rt: &impl Abort,
     alloc: Global,

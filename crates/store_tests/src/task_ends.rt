@@ -9,7 +9,8 @@ use std::process::Abort;
 use stored_files::{Ending, Failure, ending_of};
 use stored_office::{Done, ending_of_done};
 
-/// How a task at port 80 of h ended, its exit status, and how the text of its failure begins. Only status 3 has one.
+/// How a task at port 80 of h ended, its exit status, and how the text of its failure begins. Only
+/// status 3 has one.
 const ENDS: [(Result<Done, Failure<'static>>, u8, &str); 25] = [
     (Ok(Done::Reported(ExitStatus::Fine)), 0, ""),
     (Ok(Done::Reported(ExitStatus::Refused)), 1, ""),

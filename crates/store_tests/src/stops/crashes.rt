@@ -7,8 +7,8 @@ use sqlite_disk::{Fuse, Memory};
 use std::alloc::Global;
 use std::process::Abort;
 
-/// An act and its number of steps. A crash comes after each of these counts of acknowledged steps, and at more than so many calls
-/// of the log.
+/// An act and its number of steps. A crash comes after each of these counts of acknowledged steps,
+/// and at more than so many calls of the log.
 struct Case {
     act: Act,
     steps: usize,
@@ -16,7 +16,8 @@ struct Case {
     calls: usize,
 }
 
-// The office's first step makes the tables. The step after the first four connects the device, and records nothing.
+// The office's first step makes the tables. The step after the first four connects the device, and
+// records nothing.
 static CASES: [Case; 3] = [
     Case {
         act: Act::Bring,
@@ -50,7 +51,8 @@ fn given(rt: &impl Abort, alloc: Global, act: Act) -> Files<Fuse<Memory>> {
     }
 }
 
-/// Crashes during the act, and asserts what the files hold afterwards. Returns how many steps were acknowledged.
+/// Crashes during the act, and asserts what the files hold afterwards. Returns how many steps were
+/// acknowledged.
 fn stopped(
     rt: &impl Abort,
     alloc: Global,
@@ -68,7 +70,8 @@ fn stopped(
     steps
 }
 
-/// Crashes at each call of a file, until the act makes no further call. Returns how many steps each crash left acknowledged.
+/// Crashes at each call of a file, until the act makes no further call. Returns how many steps each
+/// crash left acknowledged.
 fn stop_each(
     rt: &impl Abort,
     alloc: Global,

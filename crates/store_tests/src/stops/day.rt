@@ -9,7 +9,8 @@ INSERT INTO polls VALUES (1, 'inv', 1, 1898, 0, 3, 40094, 3);
 INSERT INTO outcomes VALUES (1, 1900, 1, 0);
 INSERT INTO intervals VALUES ('m1', 900, 177777), ('m1', 1800, 22223)";
 
-/// A hundred Wh more each quarter of an hour for a day: 88,888 mWh in the interval of the last reading, and 11,112 in the next.
+/// A hundred Wh more each quarter of an hour for a day: 88,888 mWh in the interval of the last
+/// reading, and 11,112 in the next.
 pub(crate) const DAY: &str =
     "UPDATE installations SET last_moment = 88300, last_raw = 14800, total = 9800000;
 UPDATE intervals SET mwh = 111111 WHERE start = 1800;

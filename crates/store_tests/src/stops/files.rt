@@ -1,4 +1,5 @@
-//! The two files of a database, in memory. From one of their calls on each call fails, as if the machine had crashed.
+//! The two files of a database, in memory. From one of their calls on each call fails, as if the
+//! machine had crashed.
 use sqlite::{Connection, FileStore, Files, Options};
 use sqlite_disk::{Crash, Disk, Fuse, Memory};
 use std::alloc::Global;
@@ -59,7 +60,8 @@ pub(crate) fn connected(
     }
 }
 
-/// Returns the files after the restart. What was not synced is lost, or is in the file as it was written.
+/// Returns the files after the restart. What was not synced is lost, or is in the file as it was
+/// written.
 pub(crate) fn restarted(
     rt: &impl Abort,
     alloc: Global,

@@ -19,7 +19,8 @@ const READ: &str = "1000 device inv 1 5 1
 1898 start inv 3 40094 3
 1900 bytes inv 000000000009010306000014500000";
 
-/// Plays all steps but the first over a new store: opens an office, feeds it the script, and sends a request.
+/// Plays all steps but the first over a new store: opens an office, feeds it the script, and sends
+/// a request.
 fn play_over<B: Books>(rt: &impl Abort, alloc: Global, books: B, asked: Asked) -> (usize, B) {
     let mut office = match Office::open(alloc, books, 0) {
         Ok(office) => office,
@@ -29,8 +30,8 @@ fn play_over<B: Books>(rt: &impl Abort, alloc: Global, books: B, asked: Asked) -
     (steps, office.into_books())
 }
 
-/// Plays all steps over a new database. The first step makes the tables. Returns how many steps were acknowledged before the
-/// store refused one.
+/// Plays all steps over a new database. The first step makes the tables. Returns how many steps
+/// were acknowledged before the store refused one.
 pub(crate) fn play<S: Alter + Drop>(
     rt: &impl Abort,
     alloc: Global,
@@ -76,7 +77,8 @@ pub(crate) fn accepts<B: Books>(
     }
 }
 
-/// Whether the office acknowledges a request at a time. Any other response says that the store failed.
+/// Whether the office acknowledges a request at a time. Any other response says that the store
+/// failed.
 pub(crate) fn acknowledges<B: Books>(
     rt: &impl Abort,
     alloc: Global,
@@ -97,8 +99,8 @@ pub(crate) fn acknowledges<B: Books>(
     panic!(rt; "another reply")
 }
 
-/// Returns how many steps are acknowledged before the store refuses one. The first step is done. The events of the script
-/// follow, and then the request.
+/// Returns how many steps are acknowledged before the store refuses one. The first step is done.
+/// The events of the script follow, and then the request.
 fn steps<B: Books>(rt: &impl Abort, alloc: Global, office: &mut Office<B>, asked: Asked) -> usize {
     let mut steps = 1usize;
     for line in READ.lines() {

@@ -9,8 +9,8 @@ use sqlite::{Alter, Connection};
 use std::alloc::Global;
 use std::process::Abort;
 
-/// Queries of an office that was opened at 5000, and what each shows in these states: no tables, new tables, after each of the six
-/// events of the script, after the exchange, and after the void.
+/// Queries of an office that was opened at 5000, and what each shows in these states: no tables,
+/// new tables, after each of the six events of the script, after the exchange, and after the void.
 ///
 /// The opening loses the poll that was pending.
 static STATES: [(&str, &[i64]); 17] = [
@@ -128,7 +128,8 @@ fn is_in_state<S: Alter>(rt: &impl Abort, connection: &mut Connection<S>, state:
     true
 }
 
-/// Whether the store has so many steps that were acknowledged, or also the one in flight. The last step is the request.
+/// Whether the store has so many steps that were acknowledged, or also the one in flight. The last
+/// step is the request.
 fn may_stand<S: Alter>(
     rt: &impl Abort,
     connection: &mut Connection<S>,
@@ -156,7 +157,8 @@ fn stands_once<S: Alter>(rt: &impl Abort, connection: &mut Connection<S>, asked:
     }
 }
 
-/// Opens an office at 5000. Sends it a request again, if there is one, and asserts that it is acknowledged. Returns the store.
+/// Opens an office at 5000. Sends it a request again, if there is one, and asserts that it is
+/// acknowledged. Returns the store.
 fn reopened<B: Books>(rt: &impl Abort, alloc: Global, books: B, again: Option<Asked>) -> B {
     let mut office = opened(rt, alloc, books, 5000);
     if let Some(asked) = again {
@@ -187,7 +189,8 @@ fn remade<S: Alter + Drop>(rt: &impl Abort, alloc: Global, mut connection: Conne
     connection.into_store()
 }
 
-/// Asserts that the steps are recorded, or one more. Where none was acknowledged, there may be no tables. Returns the store.
+/// Asserts that the steps are recorded, or one more. Where none was acknowledged, there may be no
+/// tables. Returns the store.
 pub(crate) fn stands<S: Alter + Drop>(
     rt: &impl Abort,
     alloc: Global,

@@ -16,7 +16,8 @@ pub(crate) fn prepare<S: Alter + Drop>(rt: &impl Abort, mut conn: Connection<S>)
     (1, conn.into_store())
 }
 
-/// Opens a file, which brings it to today's version. Returns 1 if this was acknowledged and 0 if the store failed, and the store.
+/// Opens a file, which brings it to today's version. Returns 1 if this was acknowledged and 0 if
+/// the store failed, and the store.
 pub(crate) fn bring<S: Alter + Drop>(rt: &impl Abort, mut conn: Connection<S>) -> (usize, S) {
     let fault = fault(open(&mut conn));
     assert!(rt; fault == 0 || fault == 3, "{fault}");
@@ -24,8 +25,8 @@ pub(crate) fn bring<S: Alter + Drop>(rt: &impl Abort, mut conn: Connection<S>) -
     (steps, conn.into_store())
 }
 
-/// Asserts that the file is of version 1, if it was not acknowledged, or of version 3. It has every row, and opens. Returns the
-/// store.
+/// Asserts that the file is of version 1, if it was not acknowledged, or of version 3. It has every
+/// row, and opens. Returns the store.
 pub(crate) fn is_brought<S: Alter + Drop>(
     rt: &impl Abort,
     mut conn: Connection<S>,
