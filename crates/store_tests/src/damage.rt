@@ -1,13 +1,22 @@
 //! A store with damage answers the question that reads the damage with a failure, and counts its
 //! failures. Checks of the program damage every column (`tests/damaged_rows.py`).
-use crate::made::found;
+use crate::made::{found, opened};
 use crate::refused_facts::known_device;
 use crate::tables::strict;
 use office_books::{Books, BooksFault, StoreFault};
-use office_events::Name;
+use office_events::{Name, Refusal, StoreCause};
 use sqlite::{Alter, Connection};
 use std::alloc::Global;
 use std::process::Abort;
+
+/// Asserts that an office refuses the question that reads the damage, for this cause. Returns the
+/// store.
+fn asked<B: Books>(rt: &impl Abort, alloc: Global, books: B) -> B {
+    let mut office = opened(rt, alloc, books, 5000);
+    let answer = office.meter(&Name::new(b"m1"));
+    assert!(rt; matches!(answer, Err(Refusal::Store(StoreCause::Damaged))));
+    office.into_books()
+}
 
 /// Asserts failures and their count, where each entry has a counter below zero. A known device is
 /// refused. Returns the store.
@@ -28,5 +37,5 @@ pub(crate) fn failures_are_counted<S: Alter + Drop>(
     let refused = BooksFault::Store(StoreFault::Refused);
     assert!(rt; books.book(facts).err() == Some(refused) && books.faults() == 2);
     assert!(rt; books.register_count(&meter) == Ok(0) && books.faults() == 2);
-    books.into_connection().into_store()
+    asked(rt, alloc, books).into_connection().into_store()
 }
