@@ -1,23 +1,11 @@
-//! A stand-in on a listener, and its peers in the same process.
-use mb_device::{Area, Bank, Kind, ServeFault, Trick, answer_all, answer_one};
+//! A stand-in over a link that fails.
+use mb_device::{Area, Bank, Kind, ServeFault, Trick, answer_one};
 use mb_wire::MemoryLink;
 use std::alloc::Global;
-use std::io::{self, Read, Write};
-use std::net::{Shutdown, TcpListener, TcpStream};
 use std::process::Abort;
 
-// A read of holding register 0 by unit 1, and its answer where the register is 9.
+// A read of holding register 0 by unit 1.
 const READ: &[u8] = &[0, 7, 0, 0, 0, 6, 1, 3, 0, 0, 0, 1];
-
-const NINE: &[u8] = &[0, 7, 0, 0, 0, 5, 1, 3, 2, 0, 9];
-
-// A write of 5 to it, whose answer is the same bytes, and the answer to a read from then on.
-const WRITE: &[u8] = &[0, 8, 0, 0, 0, 6, 1, 6, 0, 0, 0, 5];
-
-const FIVE: &[u8] = &[0, 7, 0, 0, 0, 5, 1, 3, 2, 0, 5];
-
-// A frame whose length is none: it garbles the stream.
-const GARBLED: &[u8] = &[0, 7, 0, 0, 0, 1, 1, 3];
 
 static AREA: [Area; 1] = [Area {
     kind: Kind::Holding,
@@ -29,70 +17,6 @@ fn bank_with_nine(rt: &impl Abort, alloc: Global) -> Bank {
     let mut bank = Bank::new(alloc, &AREA).ok().expect(rt, "no bank");
     bank.set(Kind::Holding, 0, 9);
     bank
-}
-
-/// What a peer sends, and what it is answered; none where it sends on.
-struct Peer {
-    sent: &'static [u8],
-    answer: Option<&'static [u8]>,
-}
-
-static PEERS: [Peer; 5] = [
-    Peer {
-        sent: READ,
-        answer: Some(NINE),
-    },
-    Peer {
-        sent: WRITE,
-        answer: Some(WRITE),
-    },
-    Peer {
-        sent: READ,
-        answer: Some(FIVE),
-    },
-    Peer {
-        sent: GARBLED,
-        answer: None,
-    },
-    Peer {
-        sent: READ,
-        answer: Some(FIVE),
-    },
-];
-
-// The stream of a peer that has sent its bytes.
-fn stream_of(rt: &HostRuntime, listener: &TcpListener, peer: &Peer) -> io::Result<TcpStream> {
-    let mut stream = TcpStream::connect(rt, listener.local_addr()?)?;
-    stream.write_all(peer.sent)?;
-    if peer.answer.is_some() {
-        stream.shutdown(Shutdown::Write)?;
-    }
-    Ok(stream)
-}
-
-// Asserts that a peer gets its answer, and then the end.
-fn assert_answered(rt: &impl Abort, alloc: Global, stream: &mut TcpStream, peer: &Peer) {
-    if let Some(answer) = peer.answer {
-        let mut got = Vec::new(alloc);
-        assert!(rt; stream.read_to_end(&mut got).is_ok());
-        assert!(rt; got.as_slice() == answer);
-    }
-}
-
-// Each connection is answered in turn, and a garbled one ends alone.
-#[test]
-fn each_connection_is_answered_in_turn(rt: HostRuntime) {
-    let listener = TcpListener::bind(&rt, "127.0.0.1:0").expect(&rt, "no listener");
-    let mut streams = Vec::new(rt.alloc());
-    for peer in &PEERS {
-        let stream = stream_of(&rt, &listener, peer).expect(&rt, "no peer");
-        streams.push(stream).expect(&rt, "no memory");
-    }
-    let mut bank = bank_with_nine(&rt, rt.alloc());
-    assert!(rt; answer_all(&listener, 5, &mut bank, &[]).is_ok());
-    for (stream, peer) in streams.iter_mut().zip(&PEERS) {
-        assert_answered(&rt, rt.alloc(), stream, peer);
-    }
 }
 
 // A call of a link that fails, if one does, how a read is answered then under a trick, and the bytes that are written.

@@ -58,10 +58,6 @@ fn faults_say_their_texts(rt: HostRuntime) {
     assert_texts(&rt, rt.alloc(), &INPUTS);
     assert_texts(&rt, rt.alloc(), &DEVICES);
     assert_texts(&rt, rt.alloc(), &PARTS);
-}
-
-#[test]
-fn faults_of_words_say_their_texts(rt: HostRuntime) {
     let wrong = String::from_str(rt.alloc(), "error: x\n").expect(&rt, "no memory");
     let help = String::from_str(rt.alloc(), "Usage: x\n").expect(&rt, "no memory");
     let texts = [

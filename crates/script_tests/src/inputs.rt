@@ -14,30 +14,10 @@ fn repeated(rt: &impl Abort, alloc: Global, count: usize, text: &str) -> String 
     all
 }
 
-// So many empty lines, and a text after them.
-fn after_lines(rt: &impl Abort, alloc: Global, count: usize, text: &str) -> String {
-    let mut all = repeated(rt, alloc, count, "\n");
-    all.push_str(text).expect(rt, "no memory");
-    all
-}
-
-// After one byte less than there may be.
-static LAST_BYTES: [(&str, &str); 2] = [("x", "bad line 4194304\n"), ("x\n", "too long\n")];
-
-#[test]
-fn inputs_of_4194304_bytes_are_run(rt: HostRuntime) {
-    for (text, output) in &LAST_BYTES {
-        let all = after_lines(&rt, rt.alloc(), MOST_BYTES - 1, text);
-        let mut slow = Slow::whole(all.as_bytes());
-        let ended = run(&rt, rt.alloc(), &mut slow, Kept::whole(rt.alloc()));
-        assert!(rt; ended.output.got.as_slice() == output.as_bytes());
-        assert!(rt; ended.status == ExitStatus::Refused);
-    }
-}
-
 #[test]
 fn no_more_reads_are_made_than_bytes_fit(rt: HostRuntime) {
-    let text = after_lines(&rt, rt.alloc(), MOST_BYTES, "\n");
+    let mut text = repeated(&rt, rt.alloc(), MOST_BYTES, "\n");
+    text.push_str("\n").expect(&rt, "no memory");
     let mut slow = Slow::whole(text.as_bytes());
     let fault = read_whole(rt.alloc(), &mut slow).err();
     assert!(rt; fault == Some(ReadFault::TooLong));
