@@ -2,6 +2,7 @@
 use crate::office::metered;
 use command_io::ExitStatus;
 use failing_books::FailingBooks;
+use office_books::Books;
 use office_events::{Device, Register};
 use office_program::{NamedFiles, Shown, enter_books, round_status};
 use office_rounds::RoundFault;
