@@ -78,7 +78,7 @@ fi
 same 'the words of its file are those of its command' "$(sed -n 's/^\([A-Z]*\)=.*/\1/p' "$deploy/sunreg.env" | sort)" \
     "$(grep '^ExecStart=' "$deploy/sunreg.service" | grep -o '\$[{A-Z}]*' | tr -d '${}' | sort)"
 same 'each option of its command is one of run' "$(for it in $(grep '^ExecStart=' "$deploy/sunreg.service" | grep -o ' --[a-z]*'); do
-    grep -q "^ *${it} <" "$here/../crates/script_tests/src/help.rt" || echo "$it"; done)" ''
+    grep -q "^ *${it} <" "$here/arguments.py" || echo "$it"; done)" ''
 
 # ---- nginx
 

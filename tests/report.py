@@ -177,6 +177,32 @@ def refused(db, words, said):
     same(" ".join(words), (status, printed, errors), (2, "", [said]))
 
 
+def held_by_cause(room):
+    """Holds the counts of rejected readings: of a day with one for each cause, between two others, and of ten for one cause."""
+    day = [(86399, 6), *((86399 + cause, cause) for cause in range(1, 8)), (172799, 8), (172800, 6)]
+    cases = (("a day", day, ["--from", "1970-01-02", "--till", "1970-01-03"], {str(cause): 1 for cause in range(1, 9)}),
+             ("a cause", [(moment, 5) for moment, _ in day], [], {"5": 10}))
+    for name, held, words, wanted in cases:
+        db = str(room / f"held in {name}.db")
+        polls = [f"({poll}, 'inv', 1, {moment}, {poll}, 3, 40094, 3)" for poll, (moment, _) in enumerate(held, 1)]
+        outcomes = [f"({poll}, {moment}, 1, 0)" for poll, (moment, _) in enumerate(held, 1)]
+        holds = [f"({poll}, 'm1', {poll}, {moment}, 5, 0, {cause})" for poll, (moment, cause) in enumerate(held, 1)]
+        text = f"""BEGIN;
+            INSERT INTO devices VALUES (1, 'inv', 1, 5, 1);
+            INSERT INTO registers VALUES (1, 'main', 'inv', 3, 40094, 0, -3);
+            INSERT INTO installations VALUES (1, 'm1', 'main', 100000, 0, 0, 0, -3, 0);
+            INSERT INTO ranges VALUES ('m1', 4294967296);
+            INSERT INTO entries VALUES ('m1', 1, 1, 0, 0, 0, 0, -3);
+            INSERT INTO polls VALUES {", ".join(polls)};
+            INSERT INTO outcomes VALUES {", ".join(outcomes)};
+            INSERT INTO holds VALUES {", ".join(holds)};
+            COMMIT;"""
+        subprocess.run(["bash", str(HERE / "schema.sh"), db, "UTC0"], check=True)
+        subprocess.run(["sqlite3", "-bail", db], input=text, text=True, check=True)
+        status, printed, _ = run(db, "main", ["--statement", "--format", "json", *words])
+        same(f"readings that were rejected in {name}", (status, json.loads(printed)[0]["held"]), (0, wanted))
+
+
 def entries_stand(db):
     """The query of docs/REPORTS.md for a meter's entries returns the rows of the file."""
     page = (HERE.parent / "docs/REPORTS.md").read_text()
@@ -211,11 +237,14 @@ def main():
         for option in ("--from", "--till"):
             refused(db, [option, word], f"error: invalid value '{word}' for '{option} <DAY>': not a calendar date (like 2026-11-25)")
     refused(db, ["--from", "2024-02-02", "--till", "2024-02-01"], "error: '--till <DAY>' is before '--from <DAY>'")
-    refused(db, ["--unit", "wh"], "error: invalid value 'wh' for '--unit <UNIT>': expected one of mwh, kwh")
+    for word in ("wh", "kWh"):
+        refused(db, ["--unit", word], f"error: invalid value '{word}' for '--unit <UNIT>': expected one of mwh, kwh")
     refused(db, ["--by", "week"], "error: invalid value 'week' for '--by <PERIOD>': expected one of day, month, year")
     refused(db, ["--statement", "--by", "day"], "error: the argument '--statement' cannot be used with '--by'")
-    refused(db, ["--format", "xml"], "error: invalid value 'xml' for '--format <FORMAT>': expected one of text, csv, json")
+    for word in ("xml", ""):
+        refused(db, ["--format", word], f"error: invalid value '{word}' for '--format <FORMAT>': expected one of text, csv, json")
     entries_stand(db)
+    held_by_cause(pathlib.Path(room.name))
     room.cleanup()
     print(f"{counts['passed']} passed, {counts['failed']} failed")
     sys.exit(1 if counts["failed"] else 0)

@@ -27,6 +27,8 @@ SCRIPT = (HERE.parent / "docs/SCRIPT.md").read_text()
 HTTP = (HERE.parent / "docs/HTTP.md").read_text()
 HEADS = {"refused": "Refused", "held": "Held for", "lost": "Lost for", "malformed": "Malformed for", "row": "Row fault", "chain": "It prints | Since", "status": "Status | When"}
 PLACES = {"row": "fault {} of a point list row", "chain": "fault {} of a model chain"}
+# The greatest number of each kind that is printed, from 1 on.
+GREATEST = {"refused": 17, "held": 8, "lost": 4, "malformed": 5, "row": 12, "chain": 4}
 COUNTS = {"passed": 0, "failed": 0}
 
 
@@ -71,11 +73,22 @@ def check_numbers(program):
         holds(f"numbers beside those of {word}", [it for it in beside if manual.said(program, "explain", word, str(it))], [])
         for heading, *sentences in manual.meanings(program, word):
             holds(heading, [bool(it.strip(".")) and not it.startswith(" ") for it in sentences], [True] * 3)
+            # (the program adds the full stop of the last two)
+            means, cause, remedy = sentences
+            bare = [means, cause.removesuffix("."), remedy.removesuffix(".")]
+            holds(f"{heading}: no sentence ends with a full stop or a space of its own", [it[-1:] for it in bare if it[-1:] in (".", " ", "")], [])
+    for kind, greatest in GREATEST.items():
+        place = PLACES.get(kind, f"{kind} {{}}")
+        word = kind if kind in told else "fault"
+        holds(f"each number of {kind} has a meaning", [it for it in range(1, greatest + 1) if place.format(it) not in told[word]], [])
+    holds("how many numbers have a meaning", sum(len(it) for it in told.values()), 72)
+    holds("the first fault is that of a row", next(iter(told["fault"])), PLACES["row"].format(1))
 
 
 def check_wrong(program):
     for words, said in {
         ("refuse", "12"): "error: invalid value 'refuse' for '<WHAT>': expected refused, held, lost, malformed, exception, fault or status",
+        ("cause", "1"): "error: invalid value 'cause' for '<WHAT>': expected refused, held, lost, malformed, exception, fault or status",
         ("lost", "0"): "error: invalid value '0' for '<NUMBER>': lost has the numbers 1 2 3 4",
         ("lost", "five"): "error: invalid value 'five' for '<NUMBER>': lost has the numbers 1 2 3 4",
         ("status", "4294967296"): "error: invalid value '4294967296' for '<NUMBER>': status has the numbers 0 1 2 3",

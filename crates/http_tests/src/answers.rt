@@ -1,4 +1,4 @@
-//! Replies that tell what an office answers.
+//! Statuses and bodies of answers. No request gets some of them.
 use energy_core::Cause;
 use http_answer::{done_body, fault_body, kind_answered, refused_body, status_of};
 use http_request::Status;
@@ -26,11 +26,14 @@ static STATUSES: [(Refusal, u16); 19] = [
     (Refusal::NotPlausible(Cause::TooFast), 422),
 ];
 
+// Each refusal has its HTTP status.
 #[test]
 fn each_refusal_has_a_status(rt: HostRuntime) {
     for (refusal, status) in &STATUSES {
         assert!(rt; status_of(*refusal).number() == *status);
     }
+    assert!(rt; refused_body(14).bytes() == b"{\"refused\":14}".as_slice());
+    assert!(rt; fault_body(Status::Conflict).bytes() == b"{\"fault\":409}".as_slice());
 }
 
 static KINDS: [(CommandKind, &[u8]); 11] = [
@@ -47,8 +50,9 @@ static KINDS: [(CommandKind, &[u8]); 11] = [
     (CommandKind::Start, b"{\"done\":\"start\"}"),
 ];
 
+// The body names the kind of the command, whether the command acts or is a retry.
 #[test]
-fn each_kind_of_command_is_told(rt: HostRuntime) {
+fn each_kind_of_command_has_a_body(rt: HostRuntime) {
     for (kind, body) in &KINDS {
         assert!(rt; done_body(*kind) == *body);
         assert!(rt; kind_answered(Answer::Done(*kind)) == Some(*kind));
@@ -61,10 +65,4 @@ fn each_kind_of_command_is_told(rt: HostRuntime) {
         of: 1,
     };
     assert!(rt; kind_answered(started) == Some(CommandKind::Start));
-}
-
-#[test]
-fn numbers_are_told(rt: HostRuntime) {
-    assert!(rt; refused_body(14).bytes() == b"{\"refused\":14}".as_slice());
-    assert!(rt; fault_body(Status::Conflict).bytes() == b"{\"fault\":409}".as_slice());
 }

@@ -1,6 +1,6 @@
-//! Books that fail at each of their calls in turn. Asked again, a request has its reply.
-use crate::cases::{Case, Served, has_reply, serve};
-use crate::office::polled;
+//! Requests to an office whose store fails at each of its calls in turn.
+use crate::cases::{Case, Served, assert_reply, serve};
+use crate::office::polled_store;
 use crate::tables::{COMMANDS, QUESTIONS};
 use failing_books::FailingBooks;
 use office_books::Books;
@@ -8,12 +8,12 @@ use office_core::Office;
 use std::alloc::{AllocError, Global};
 use std::process::Abort;
 
-// What is replied where the books fail.
+// The reply if the store fails.
 static FAILED: &[u8] =
     b"HTTP/1.1 503 Service Unavailable\r\nContent-Type: application/json\r\nContent-Length: 14\r\nConnection: close\r\n\r\n{\"refused\":13}";
 
-// Opens an office. Where the books fail, they are handed back, and it is opened again.
-fn opened(rt: &impl Abort, alloc: Global, books: FailingBooks) -> Office<FailingBooks> {
+// Opens an office. If the store fails, the office hands it back, and is opened again.
+fn opened<B: Books>(rt: &impl Abort, alloc: Global, books: B) -> Office<B> {
     let books = match Office::open(alloc, books, 1900) {
         Ok(office) => return office,
         Err(refused) => refused.0,
@@ -24,44 +24,34 @@ fn opened(rt: &impl Abort, alloc: Global, books: FailingBooks) -> Office<Failing
     }
 }
 
-// Whether the books failed.
-fn is_refused(served: &Served) -> bool {
-    served.given.starts_with(FAILED)
-}
-
-// Serves a request, and serves it again where the books failed.
-fn serve_again(
+// Serves a request. If the store fails, the request is sent again.
+fn serve_again<B: Books>(
     alloc: Global,
-    office: &mut Office<FailingBooks>,
+    office: &mut Office<B>,
     case: &Case<'_>,
 ) -> Result<Served, AllocError> {
     let served = serve(alloc, office, case.at, case.request)?;
-    if is_refused(&served) {
+    if served.given.starts_with(FAILED) {
         return serve(alloc, office, case.at, case.request);
     }
     Ok(served)
 }
 
-// Serves each request so, and tells how often the books failed.
-fn play(
-    rt: &impl Abort,
-    alloc: Global,
-    mut office: Office<FailingBooks>,
-    cases: &[Case<'_>],
-) -> u64 {
+// Serves each request, asserts its reply, and returns the store.
+fn serve_all<B: Books>(rt: &impl Abort, alloc: Global, books: B, cases: &[Case<'_>]) -> B {
+    let mut office = opened(rt, alloc, books);
     for case in cases {
         let served = serve_again(alloc, &mut office, case).expect(rt, "no memory");
-        has_reply(rt, alloc, case, &served);
+        assert_reply(rt, alloc, case, &served);
     }
-    office.into_books().faults()
+    office.into_books()
 }
 
-// Each call of the books fails in turn, until there are no more.
+// Each call of the store fails in turn, until the requests make no more calls.
 fn fail_each(rt: &impl Abort, alloc: Global, cases: &[Case<'_>]) {
     for failing in 1..1000 {
-        let books = FailingBooks::new(polled(rt, alloc).into_books(), failing);
-        let office = opened(rt, alloc, books);
-        if play(rt, alloc, office, cases) == 0 {
+        let books = FailingBooks::new(polled_store(rt, alloc), failing);
+        if serve_all(rt, alloc, books, cases).faults() == 0 {
             assert!(rt; failing as usize > cases.len(), "{failing} calls");
             return;
         }
@@ -69,8 +59,9 @@ fn fail_each(rt: &impl Abort, alloc: Global, cases: &[Case<'_>]) {
     panic!(rt; "a call fails each time")
 }
 
+// A request gets 503 if a call of the store fails, and its own reply when it is sent again.
 #[test]
-fn each_call_of_the_books_may_fail(rt: HostRuntime) {
+fn each_call_of_the_store_may_fail(rt: HostRuntime) {
     fail_each(&rt, rt.alloc(), &QUESTIONS);
     fail_each(&rt, rt.alloc(), &COMMANDS)
 }

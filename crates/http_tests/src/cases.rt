@@ -6,7 +6,7 @@ use office_http::{HandleFault, handle};
 use std::alloc::{AllocError, Global};
 use std::process::Abort;
 
-/// A request that comes at a moment, and its reply: the status with its reason, and the body.
+/// A request at a time, and its reply: the status with its reason, and the body.
 #[derive(Clone, Copy)]
 pub(crate) struct Case<'c> {
     pub(crate) at: u64,
@@ -15,35 +15,37 @@ pub(crate) struct Case<'c> {
     pub(crate) body: &'static str,
 }
 
-/// How a request was served, and what was given.
+/// The result of a request, and the bytes that were written.
 #[derive(Drop)]
 pub(crate) struct Served {
     pub(crate) handled: Result<(), HandleFault>,
     pub(crate) given: Vec<u8>,
 }
 
-/// The bytes of a reply.
+/// The bytes of a reply whose head has the length of its body: JSON, or text.
+pub(crate) fn sized_reply(alloc: Global, status: &str, body: &str) -> Result<String, AllocError> {
+    let size = body.len();
+    let kind = if body.starts_with('{') {
+        "application/json"
+    } else {
+        "text/plain"
+    };
+    format!(in alloc;
+        "HTTP/1.1 {status}\r\nContent-Type: {kind}\r\nContent-Length: {size}\r\nConnection: close\r\n\r\n{body}"
+    )
+}
+
+/// The bytes of a reply of an office. The head of a text has no length.
 pub(crate) fn reply(alloc: Global, status: &str, body: &str) -> Result<String, AllocError> {
     if body.starts_with('{') {
-        let size = body.len();
-        return format!(in alloc;
-            "HTTP/1.1 {status}\r\nContent-Type: application/json\r\nContent-Length: {size}\r\nConnection: close\r\n\r\n{body}"
-        );
+        return sized_reply(alloc, status, body);
     }
     format!(in alloc;
         "HTTP/1.1 {status}\r\nContent-Type: text/plain\r\nConnection: close\r\n\r\n{body}"
     )
 }
 
-/// The bytes of a reply of text whose size is told.
-pub(crate) fn text_reply(alloc: Global, body: &str) -> Result<String, AllocError> {
-    let size = body.len();
-    format!(in alloc;
-        "HTTP/1.1 200 OK\r\nContent-Type: text/plain\r\nContent-Length: {size}\r\nConnection: close\r\n\r\n{body}"
-    )
-}
-
-/// Serves a request over a link that takes and gives so many bytes a call, and of which one call fails.
+/// Serves a request over a link that reads and writes so many bytes a call, and fails at one call.
 pub(crate) fn serve_over<B: Books>(
     alloc: Global,
     office: &mut Office<B>,
@@ -71,15 +73,16 @@ pub(crate) fn serve<B: Books>(
     serve_over(alloc, office, at, request, 400, None)
 }
 
-/// What was served is the case's reply.
-pub(crate) fn has_reply(rt: &impl Abort, alloc: Global, case: &Case<'_>, served: &Served) {
+/// Asserts that a request got the reply of its case.
+pub(crate) fn assert_reply(rt: &impl Abort, alloc: Global, case: &Case<'_>, served: &Served) {
     assert!(rt; served.handled == Ok(()));
     let want = reply(alloc, case.status, case.body).expect(rt, "no memory");
     assert!(rt; served.given.as_slice() == want.as_bytes());
 }
 
-/// Serves a case's request over a link that takes and gives so many bytes a call, and it has its reply.
-pub(crate) fn play<B: Books>(
+/// Serves the request of a case over a link that reads and writes so many bytes a call, and asserts
+/// its reply.
+pub(crate) fn assert_served<B: Books>(
     rt: &impl Abort,
     alloc: Global,
     office: &mut Office<B>,
@@ -90,5 +93,5 @@ pub(crate) fn play<B: Books>(
         rt,
         "no memory",
     );
-    has_reply(rt, alloc, case, &served);
+    assert_reply(rt, alloc, case, &served);
 }

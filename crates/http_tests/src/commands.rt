@@ -2,22 +2,9 @@
 use http_answer::{CommandFault, command_in};
 use http_request::Route;
 use office_events::{Command, Name};
-use std::alloc::Global;
 
-// The command of a body, where the route's parameter is `main`.
-fn command(alloc: Global, route: Route, body: &[u8]) -> Result<Command, CommandFault> {
-    command_in(alloc, route, Name::new(b"main"), body)
-}
-
-#[test]
-fn a_question_has_no_body(rt: HostRuntime) {
-    let asked = command(rt.alloc(), Route::Meter, b"{}");
-    assert!(rt; matches!(asked, Err(CommandFault::Malformed)));
-}
-
-// A list, how many points it has, and how many reads its plan.
+// A list, how many points it has, and how many reads its plan has.
 static LISTS: [(&[u8], usize, usize); 2] = [
-    // a list is put with its plan
     (
         b"name,function,area,address,type,scale\nwh,3,0,40094,acc32,whsf\nwhsf,3,0,40096,sunssf,\n",
         2,
@@ -27,14 +14,18 @@ static LISTS: [(&[u8], usize, usize); 2] = [
     (b"name,function,area,address,type,scale\n", 0, 0),
 ];
 
+// A list parses to a command with the plan of its reads. The body of a query is no command.
 #[test]
-fn lists_are_put_with_their_plans(rt: HostRuntime) {
+fn lists_parse_with_their_plans(rt: HostRuntime) {
+    let device = Name::new(b"main");
     for (text, points, reads) in &LISTS {
-        let Ok(Command::PutList(put)) = command(rt.alloc(), Route::List, text) else {
+        let Ok(Command::PutList(put)) = command_in(rt.alloc(), Route::List, device, text) else {
             panic!(rt; "no list");
         };
-        assert!(rt; put.device == Name::new(b"main"));
+        assert!(rt; put.device == device);
         assert!(rt; put.list.points().len() == *points);
         assert!(rt; put.list.reads().len() == *reads);
     }
+    let asked = command_in(rt.alloc(), Route::Meter, device, b"{}");
+    assert!(rt; matches!(asked, Err(CommandFault::Malformed)));
 }

@@ -1,4 +1,4 @@
-//! Requests of clients of the same process, which connected and wrote before.
+//! Clients in the same process, on a blocking listener.
 use crate::office::metered;
 use memory_books::ListBooks;
 use office_core::Office;
@@ -12,21 +12,22 @@ use std::net::{Shutdown, TcpListener, TcpStream};
 use std::test::Fail;
 use std::time::Duration;
 
-/// What a client writes, whether it ends its stream then, and all that it is replied.
+/// The bytes that a client writes, whether it ends its stream then, and its reply.
 struct Client {
     bytes: &'static [u8],
     ends: bool,
     reply: &'static [u8],
 }
 
-/// The meter `m1` is exchanged for `m2`.
+/// Exchanges the meter `m1` for `m2`.
 pub(crate) const REQUEST: &[u8] =
     b"POST /registers/main/exchange HTTP/1.1\r\nContent-Length: 68\r\nOffice-Caller: desk\r\nOffice-Request: 7\r\n\r\n{\"ceiling\":100000,\"last\":5300,\"meter\":\"m2\",\"raw\":0,\"rolls\":0,\"sf\":0}";
 
 const REPLY: &[u8] =
     b"HTTP/1.1 200 OK\r\nContent-Type: application/json\r\nContent-Length: 19\r\nConnection: close\r\n\r\n{\"done\":\"exchange\"}";
 
-// Clients ask one after the other: the second repeats the first, and the third asks for another last value under the same number.
+// The second client retries the request of the first. The third sends another last value under the
+// same idempotency key.
 static ASKING: [Client; 3] = [
     Client {
         bytes: REQUEST,
@@ -45,7 +46,7 @@ static ASKING: [Client; 3] = [
     },
 ];
 
-// One client ends inside its request, one says nothing until its time is over, and one is served.
+// The first client ends inside its request, the second times out, and the third is served.
 static FAILING: [Client; 3] = [
     Client {
         bytes: b"POST /registers/main",
@@ -67,7 +68,8 @@ static FAILING: [Client; 3] = [
 const TURNED_AWAY: &[u8] =
     b"HTTP/1.1 421 Misdirected Request\r\nContent-Type: application/json\r\nContent-Length: 13\r\nConnection: close\r\n\r\n{\"fault\":421}";
 
-// A page of another name asks, then one of the given name, and a third repeats that.
+// A page of an unauthorized host asks, then one of the given host, and the third client retries
+// that request.
 static NAMED: [Client; 3] = [
     Client {
         bytes: b"POST /registers/main/exchange HTTP/1.1\r\nHost: evil.example:80\r\nContent-Length: 68\r\nOffice-Caller: desk\r\nOffice-Request: 7\r\n\r\n{\"ceiling\":100000,\"last\":5301,\"meter\":\"m2\",\"raw\":0,\"rolls\":0,\"sf\":0}",
@@ -86,7 +88,7 @@ static NAMED: [Client; 3] = [
     },
 ];
 
-/// A client of a listener that connected and wrote bytes.
+/// Connects a client to a listener, and writes bytes.
 pub(crate) fn client_of(
     rt: &HostRuntime,
     listener: &TcpListener,
@@ -97,7 +99,7 @@ pub(crate) fn client_of(
     Ok(client)
 }
 
-// The streams of clients.
+// Connects clients.
 fn streams_of(
     rt: &HostRuntime,
     listener: &TcpListener,
@@ -114,7 +116,7 @@ fn streams_of(
     Ok(streams)
 }
 
-// Whether each client has its reply, and its stream ends.
+// Whether each client gets its reply, and its stream ends.
 fn are_replied(alloc: Global, streams: &mut [TcpStream], clients: &[Client]) -> Result<bool, Fail> {
     for (stream, client) in streams.iter_mut().zip(clients) {
         let mut got = Vec::new(alloc);
@@ -126,7 +128,7 @@ fn are_replied(alloc: Global, streams: &mut [TcpStream], clients: &[Client]) -> 
     Ok(true)
 }
 
-/// The energy of `m1`, where it was ended.
+/// The energy of `m1`, if it was closed.
 pub(crate) fn energy_of_ended(office: &mut Office<ListBooks>) -> Option<u64> {
     match office.meter(&Name::new(b"m1")) {
         Ok(row) if row.ended => Some(row.total),
@@ -134,7 +136,7 @@ pub(crate) fn energy_of_ended(office: &mut Office<ListBooks>) -> Option<u64> {
     }
 }
 
-/// A clock by which so many seconds pass each time that it is read.
+/// A clock that advances by so many seconds each time that it is read.
 #[derive(Drop)]
 pub(crate) struct Stepping {
     seconds: Cell<u64>,
@@ -162,8 +164,8 @@ impl std::rt::Clock for Stepping {
     }
 }
 
-// Whether an office serves as many clients as there are. So many seconds pass each time that the clock of their waits is read; where
-// none is given, `serve_on` serves them.
+// Whether an office serves so many clients. The clock of their time limits advances by `step`
+// seconds each time that it is read. Without a step, `serve_on` serves them.
 fn serves(
     alloc: Global,
     listener: &TcpListener,
@@ -182,7 +184,7 @@ fn serves(
     }
 }
 
-// Whether clients have their replies, and the meter is exchanged once.
+// Whether clients get their replies, and the meter is exchanged once.
 fn are_served(
     rt: &HostRuntime,
     office: &mut Office<ListBooks>,
@@ -199,6 +201,7 @@ fn are_served(
     are_replied(rt.alloc(), &mut streams, clients)
 }
 
+// Clients are served one after the other, and a fault of one is not that of another.
 #[test]
 fn clients_are_served(rt: HostRuntime) -> Result<(), Fail> {
     let served: [(&str, &[Client], Option<u64>); 4] = [

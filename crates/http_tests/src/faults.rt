@@ -1,4 +1,4 @@
-//! What faults of requests say to a person.
+//! The sentences of faults of requests.
 use http_answer::{BodyFault, CommandFault};
 use http_request::TakeFault;
 use point_list::{FaultyRow, FaultyRows, RowFault};
@@ -6,15 +6,11 @@ use std::alloc::Global;
 use std::fmt::Display;
 use std::process::Abort;
 
-// Each fault says its text, which has no full stop.
-fn tells<F: Display>(rt: &impl Abort, alloc: Global, texts: &[(F, &str)]) {
+// Asserts the sentence of each fault, which has no full stop.
+fn assert_texts<F: Display>(rt: &impl Abort, alloc: Global, texts: &[(F, &str)]) {
     for (fault, text) in texts {
-        assert_eq!(rt;
-            format!(in alloc; "{fault}")
-                .expect(rt, "no memory")
-                .as_str(),
-            *text
-        );
+        let printed = format!(in alloc; "{fault}").expect(rt, "no memory");
+        assert!(rt; printed.as_str() == *text, "{text}");
         assert!(rt; !text.ends_with('.'));
     }
 }
@@ -37,34 +33,28 @@ const TAKES: [(TakeFault, &str); 3] = [
     ),
 ];
 
-#[test]
-fn bodies_and_takes_tell_their_faults(rt: HostRuntime) {
-    tells(&rt, rt.alloc(), &BODIES);
-    tells(&rt, rt.alloc(), &TAKES)
-}
-
-// One faulty row.
-fn faulty(rt: &impl Abort, alloc: Global) -> FaultyRows {
+// A list with one faulty row.
+fn faulty(rt: &impl Abort, alloc: Global) -> CommandFault {
     let row = FaultyRow {
         row: 2,
         fault: RowFault::Function,
     };
-    FaultyRows::new(vec![in alloc; row].expect(rt, "no memory"))
+    CommandFault::Faulty(FaultyRows::new(vec![in alloc; row].expect(rt, "no memory")))
 }
 
+// Each fault of a body, of a read and of a command has its sentence.
 #[test]
-fn commands_tell_their_rows(rt: HostRuntime) {
+fn faults_have_sentences(rt: HostRuntime) {
+    assert_texts(&rt, rt.alloc(), &BODIES);
+    assert_texts(&rt, rt.alloc(), &TAKES);
     let commands = [
         (
             CommandFault::Malformed,
             "the body is no JSON object, or a member that is wanted is missing or of another kind",
         ),
         (CommandFault::Negative, "a number of the body is negative"),
-        (
-            CommandFault::Faulty(faulty(&rt, rt.alloc())),
-            "row 2: the function is not 3 or 4",
-        ),
+        (faulty(&rt, rt.alloc()), "row 2: the function is not 3 or 4"),
         (CommandFault::Memory, "memory ran out"),
     ];
-    tells(&rt, rt.alloc(), &commands)
+    assert_texts(&rt, rt.alloc(), &commands)
 }

@@ -1,12 +1,9 @@
-//! Tests of HTTP, of an office after it, and of the program's commands over one: requests and their heads, bodies and replies; an
-//! office over books in memory, also where links and books fail at each call; listeners with clients in the same process; and commands
-//! that serve, report and poll.
+//! Tests of HTTP, of an office after it, and of the program's commands where no text shows the
+//! result: links and stores that fail, sockets, damaged rows, and numbers that no office reaches.
 #![tactic(auto)]
 
 #[cfg(test)]
 mod answers;
-#[cfg(test)]
-mod asks;
 #[cfg(test)]
 mod book_failures;
 #[cfg(test)]
@@ -16,41 +13,25 @@ mod commands;
 #[cfg(test)]
 mod connections;
 #[cfg(test)]
+mod days;
+#[cfg(test)]
 mod energy_over;
 #[cfg(test)]
-mod entering;
+mod failing_commands;
 #[cfg(test)]
 mod faults;
 #[cfg(test)]
-mod held_readings;
-#[cfg(test)]
-mod hosts;
-#[cfg(test)]
-mod lines;
+mod laws;
 #[cfg(test)]
 mod links;
-#[cfg(test)]
-mod narrow;
 #[cfg(test)]
 mod office;
 #[cfg(test)]
 mod office_requests;
 #[cfg(test)]
-mod openings;
-#[cfg(test)]
 mod peers;
 #[cfg(test)]
 mod pieces;
-#[cfg(test)]
-mod program_commands;
-#[cfg(test)]
-mod replies;
-#[cfg(test)]
-mod report_forms;
-#[cfg(test)]
-mod reports;
-#[cfg(test)]
-mod rounds;
 #[cfg(test)]
 mod row_lines;
 #[cfg(test)]

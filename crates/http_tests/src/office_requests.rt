@@ -1,34 +1,35 @@
-//! Requests that are cut off at each byte, and whose link fails at each of its calls.
-use crate::cases::{Case, play, reply, serve, serve_over};
+//! Requests to an office that come in chunks, are cut off, or whose link fails.
+use crate::cases::{Case, assert_served, reply, serve, serve_over};
 use crate::office::polled;
 use crate::tables::{COMMANDS, QUESTIONS};
-use memory_books::ListBooks;
+use office_books::Books;
 use office_core::Office;
 use office_http::HandleFault;
 use std::alloc::Global;
 use std::process::Abort;
 
-// Whatever lacks of a request, it is short, and nothing is given. Then the whole request is served.
-fn cut_off(rt: &impl Abort, alloc: Global, office: &mut Office<ListBooks>, case: &Case<'_>) {
+// More bytes follow the body of this request.
+static LONGER: Case<'static> = Case {
+    at: 2800,
+    request: b"POST /devices HTTP/1.1\r\nContent-Length: 45\r\nOffice-Caller: anna\r\nOffice-Request: 7\r\n\r\n{\"name\":\"b\",\"unit\":2,\"timeout\":5,\"window\":16} and more",
+    status: "200 OK",
+    body: "{\"done\":\"device\"}",
+};
+
+// Cuts a request off at each byte. The office writes nothing then, and serves the complete request.
+fn cut_off<B: Books>(rt: &impl Abort, alloc: Global, office: &mut Office<B>, case: &Case<'_>) {
     for end in 0..case.request.len() {
         let cut = case.request.get(..end).unwrap_or(case.request);
         let served = serve(alloc, office, case.at, cut).expect(rt, "no memory");
         assert!(rt; served.handled == Err(HandleFault::Short), "{end} bytes");
         assert!(rt; served.given.is_empty());
     }
-    play(rt, alloc, office, case, 400);
+    assert_served(rt, alloc, office, case, 400);
 }
 
-#[test]
-fn an_end_inside_a_request_is_short(rt: HostRuntime) {
-    let mut office = polled(&rt, rt.alloc());
-    for case in [&QUESTIONS[0], &QUESTIONS[15]] {
-        cut_off(&rt, rt.alloc(), &mut office, case);
-    }
-}
-
-// What a failed call of the link is told, and what was given then: nothing, or a beginning of the reply.
-fn is_told(fault: HandleFault, given: &[u8], reply: &[u8]) -> bool {
+// Whether a fault is that of a failed call: a read that fails writes nothing, and a write that
+// fails cuts the reply off.
+fn is_reported(fault: HandleFault, given: &[u8], reply: &[u8]) -> bool {
     match fault {
         HandleFault::Read => given.is_empty(),
         HandleFault::Write => reply.starts_with(given),
@@ -36,8 +37,9 @@ fn is_told(fault: HandleFault, given: &[u8], reply: &[u8]) -> bool {
     }
 }
 
-// Each call of the link fails in turn, until there are no more; a command that stands by then gets its kept answer.
-fn fail_each(rt: &impl Abort, alloc: Global, office: &mut Office<ListBooks>, case: &Case<'_>) {
+// Each call of the link fails in turn, until the request makes no more calls. A command that acted
+// gets its kept answer.
+fn fail_each<B: Books>(rt: &impl Abort, alloc: Global, office: &mut Office<B>, case: &Case<'_>) {
     let want = reply(alloc, case.status, case.body).expect(rt, "no memory");
     for call in 1..100 {
         let served = serve_over(alloc, office, case.at, case.request, 20, Some(call)).expect(
@@ -45,7 +47,7 @@ fn fail_each(rt: &impl Abort, alloc: Global, office: &mut Office<ListBooks>, cas
             "no memory",
         );
         match served.handled {
-            Err(fault) => assert!(rt; is_told(fault, &served.given, want.as_bytes())),
+            Err(fault) => assert!(rt; is_reported(fault, &served.given, want.as_bytes())),
             Ok(()) => {
                 assert!(rt; served.given.as_slice() == want.as_bytes());
                 assert!(rt; call > 2, "{call} calls");
@@ -56,15 +58,27 @@ fn fail_each(rt: &impl Abort, alloc: Global, office: &mut Office<ListBooks>, cas
     panic!(rt; "it fails each time")
 }
 
-fn fail_all(rt: &impl Abort, alloc: Global, cases: &[Case<'_>]) {
-    let mut office = polled(rt, alloc);
-    for case in cases {
-        fail_each(rt, alloc, &mut office, case);
+// A request may come in chunks of any size, or end at any byte. The office answers a retry as
+// before.
+#[test]
+fn requests_come_in_chunks_or_are_cut_off(rt: HostRuntime) {
+    let mut office = polled(&rt, rt.alloc());
+    for piece in 1..100 {
+        assert_served(&rt, rt.alloc(), &mut office, &LONGER, piece);
+    }
+    for case in [&QUESTIONS[0], &QUESTIONS[15]] {
+        cut_off(&rt, rt.alloc(), &mut office, case);
     }
 }
 
+// A link may fail at each of its calls, and a command acts once.
 #[test]
 fn each_call_of_the_link_may_fail(rt: HostRuntime) {
-    fail_all(&rt, rt.alloc(), &QUESTIONS);
-    fail_all(&rt, rt.alloc(), &COMMANDS)
+    let tables: [&[Case<'static>]; 2] = [&QUESTIONS, &COMMANDS];
+    for cases in tables {
+        let mut office = polled(&rt, rt.alloc());
+        for case in cases {
+            fail_each(&rt, rt.alloc(), &mut office, case);
+        }
+    }
 }

@@ -1,7 +1,6 @@
-//! Peers of a run, over sockets that don't wait.
+//! Clients of a run, over sockets that don't block.
 use crate::connections::{REQUEST, Stepping, client_of, energy_of_ended};
-use crate::energy_over::Earlier;
-use crate::office::{metered, polled};
+use crate::office::{metered, utc};
 use http_peers::{
     EarlierFiles, HttpPort, KeptRoom, Now, Outbox, PORT_TOKEN, RunSystem, RunTold, Went,
     even_milliseconds, went_by,
@@ -18,7 +17,7 @@ use std::net::{TcpListener, TcpStream};
 use std::test::Fail;
 use std::time::Duration;
 
-// A clock, and whether the files of the office are still there.
+// A clock, and whether the files of the office still exist.
 #[derive(Drop)]
 struct System {
     clock: Stepping,
@@ -41,7 +40,7 @@ impl RunSystem for System {
     }
 }
 
-// A port, and what a run has beside it.
+// A port, and the rest of a run.
 #[derive(Drop)]
 struct Listening {
     system: System,
@@ -51,7 +50,7 @@ struct Listening {
     monitor: RunMonitor,
 }
 
-// A listener that doesn't wait, and is registered as that of a port.
+// Registers a nonblocking listener as that of a port.
 fn registered(listener: TcpListener, poll: &Poll) -> io::Result<mio::net::TcpListener> {
     listener.set_nonblocking(true)?;
     let mut listener = mio::net::TcpListener::from_std(listener);
@@ -85,7 +84,7 @@ impl Listening {
         Ok(Listening::of(rt.alloc(), poll, listener, room)?)
     }
 
-    // What waits is accepted, each peer attended, and those that were replied to are dropped.
+    // Accepts the waiting clients, attends each client, and drops those that have their replies.
     fn turn(&mut self, earlier: &EarlierFiles<'_>, office: &mut Office<ListBooks>, time: u64) {
         let now = Now { time, moment: 2800 };
         self.port.begin_turn();
@@ -104,7 +103,7 @@ impl Listening {
         self.port.sweep(time);
     }
 
-    // Waits a tenth of a second at most, and takes note of what came.
+    // Waits a tenth of a second at most, and marks the clients that are ready.
     fn look(&mut self) -> io::Result<()> {
         self.poll
             .poll(&mut self.events, Some(Duration::from_millis(100)))?;
@@ -129,126 +128,134 @@ impl Listening {
     }
 }
 
-// Whether the clients of a listener are served, so that none of them waits, and it is then to be said once that nothing more is
-// kept, or isn't.
-fn serves(
-    rt: &HostRuntime,
-    listener: TcpListener,
-    room: KeptRoom,
-    earlier: &Earlier,
-    office: &mut Office<ListBooks>,
-    is_full: bool,
-) -> Result<bool, Fail> {
-    let mut listening = Listening::open(rt, listener, room)?;
-    listening.turns(&earlier.files(), office)?;
-    let is_idle = !listening.port.is_waiting() && !listening.port.is_ready();
-    let is_told = listening.port.take_full() == is_full;
-    Ok(is_idle && is_told && !listening.port.take_full())
-}
-
 fn read_all(alloc: Global, mut stream: TcpStream) -> Result<Vec<u8>, Fail> {
     let mut got = Vec::new(alloc);
     stream.read_to_end(&mut got)?;
     Ok(got)
 }
 
-// What a client is replied that asks this; it is then to be said that nothing more is kept, or isn't.
+// A request of a client. `most` is the limit of kept bytes, and `kept` their number. `energy` is
+// that of the meter if the request closed it.
+struct Client {
+    are_there: bool,
+    most: Option<u64>,
+    kept: u64,
+    request: &'static [u8],
+    is_full: bool,
+    reply: &'static [u8],
+    energy: Option<u64>,
+}
+
+// Whether the client of a listener is served, and doesn't wait if the files exist. The port reports
+// the limit, once, and lost files.
+fn serves(
+    rt: &HostRuntime,
+    listener: TcpListener,
+    client: &Client,
+    earlier: &EarlierFiles<'_>,
+    office: &mut Office<ListBooks>,
+) -> Result<bool, Fail> {
+    let mut listening = Listening::open(rt, listener, KeptRoom::new(client.most, client.kept))?;
+    listening.system.are_there = client.are_there;
+    listening.turns(earlier, office)?;
+    let is_busy = listening.port.is_waiting() || listening.port.is_ready();
+    let is_lost = !client.are_there && client.request == REQUEST;
+    let is_reported = listening.port.has_lost() == is_lost
+        && listening.port.take_full() == client.is_full
+        && !listening.port.take_full();
+    Ok(is_reported && !(client.are_there && is_busy))
+}
+
+// The reply to a client.
 fn replied(
     rt: &HostRuntime,
-    room: KeptRoom,
-    request: &[u8],
-    earlier: &Earlier,
+    client: &Client,
+    earlier: &EarlierFiles<'_>,
     office: &mut Office<ListBooks>,
-    is_full: bool,
 ) -> Result<Vec<u8>, Fail> {
     let listener = TcpListener::bind(rt, "127.0.0.1:0")?;
-    let client = client_of(rt, &listener, request)?;
-    if !serves(rt, listener, room, earlier, office, is_full)? {
-        return Err(Fail::from("a client waits, or what is kept is told otherwise"));
+    let stream = client_of(rt, &listener, client.request)?;
+    if !serves(rt, listener, client, earlier, office)? {
+        return Err(Fail::from("a client waits, or the port reports something else"));
     }
-    read_all(rt.alloc(), client)
+    read_all(rt.alloc(), stream)
 }
 
-static MONTHS: &[u8] = b"GET /registers/main/months HTTP/1.1\r\n\r\n";
+const MONTHS: &[u8] = b"GET /registers/main/months HTTP/1.1\r\n\r\n";
 
-static MONTHS_OF_BOTH: &[u8] =
-    b"HTTP/1.1 200 OK\r\nX-Content-Type-Options: nosniff\r\nCross-Origin-Resource-Policy: same-origin\r\nCache-Control: no-store\r\nContent-Type: text/plain\r\nContent-Length: 44\r\nConnection: close\r\n\r\n1970-01    3                   200012\nend 1\n";
+const NO_MONTHS: &[u8] =
+    b"HTTP/1.1 200 OK\r\nX-Content-Type-Options: nosniff\r\nCross-Origin-Resource-Policy: same-origin\r\nCache-Control: no-store\r\nContent-Type: text/plain\r\nContent-Length: 6\r\nConnection: close\r\n\r\nend 0\n";
 
-// The quarter hour from 900 is in both, and counted once.
-#[test]
-fn a_peer_is_told_of_earlier_files_too(rt: HostRuntime) -> Result<(), Fail> {
-    let mut office = polled(&rt, rt.alloc());
-    let earlier = Earlier::of_main(&rt, rt.alloc());
-    let room = KeptRoom::new(None, 0);
-    let got = replied(&rt, room, MONTHS, &earlier, &mut office, false)?;
-    assert!(rt; got.as_slice() == MONTHS_OF_BOTH);
-    Ok(())
-}
-
-static AFTER_LINES: &[u8] =
+const AFTER_LINES: &[u8] =
     b"\r\n\r\nPOST /registers/main/exchange HTTP/1.1\r\nContent-Length: 68\r\nOffice-Caller: desk\r\nOffice-Request: 7\r\n\r\n{\"ceiling\":100000,\"last\":5300,\"meter\":\"m2\",\"raw\":0,\"rolls\":0,\"sf\":0}";
 
-static EXCHANGED: &[u8] =
+const EXCHANGED: &[u8] =
     b"HTTP/1.1 200 OK\r\nX-Content-Type-Options: nosniff\r\nCross-Origin-Resource-Policy: same-origin\r\nCache-Control: no-store\r\nContent-Type: application/json\r\nContent-Length: 19\r\nConnection: close\r\n\r\n{\"done\":\"exchange\"}";
 
-static NO_ROOM: &[u8] =
+const UNAVAILABLE: &[u8] =
     b"HTTP/1.1 503 Service Unavailable\r\nX-Content-Type-Options: nosniff\r\nCross-Origin-Resource-Policy: same-origin\r\nCache-Control: no-store\r\nContent-Type: application/json\r\nContent-Length: 13\r\nConnection: close\r\n\r\n{\"fault\":503}";
 
-/// How many bytes may be kept and how many are, the request, whether it is told that nothing more is kept, the reply, and the energy
-/// of the meter where the request ended it.
-type Kept = (u64, u64, &'static [u8], bool, &'static [u8], Option<u64>);
+// REQUEST has 170 bytes.
+static CLIENTS: [Client; 4] = [
+    // a command fits
+    Client {
+        are_there: true,
+        most: Some(170),
+        kept: 0,
+        request: REQUEST,
+        is_full: false,
+        reply: EXCHANGED,
+        energy: Some(300_000),
+    },
+    // a command doesn't fit, also after empty lines
+    Client {
+        are_there: true,
+        most: Some(300),
+        kept: 200,
+        request: AFTER_LINES,
+        is_full: true,
+        reply: UNAVAILABLE,
+        energy: None,
+    },
+    // the office acted, but its files are gone, so the command is not acknowledged
+    Client {
+        are_there: false,
+        most: None,
+        kept: 0,
+        request: REQUEST,
+        is_full: false,
+        reply: UNAVAILABLE,
+        energy: Some(300_000),
+    },
+    // a query doesn't look at the files
+    Client {
+        are_there: false,
+        most: None,
+        kept: 0,
+        request: MONTHS,
+        is_full: false,
+        reply: NO_MONTHS,
+        energy: None,
+    },
+];
 
+// A run acknowledges a command if there is room for it and its files exist.
 #[test]
-fn a_peer_is_replied_to(rt: HostRuntime) -> Result<(), Fail> {
-    let peers: [Kept; 2] = [
-        (
-            REQUEST.len() as u64,
-            0,
-            REQUEST,
-            false,
-            EXCHANGED,
-            Some(300_000),
-        ),
-        // a command has no room; empty lines before it don't hide it from who counts what is kept
-        (300, 200, AFTER_LINES, true, NO_ROOM, None),
-    ];
-    let earlier = Earlier::of_main(&rt, rt.alloc());
-    for (most, kept, request, is_full, reply, energy) in peers {
+fn clients_have_their_replies(rt: HostRuntime) -> Result<(), Fail> {
+    let earlier = EarlierFiles {
+        zone: utc(&rt),
+        registers: &[],
+    };
+    assert!(rt; REQUEST.len() == 170);
+    for (slot, client) in CLIENTS.iter().enumerate() {
         let mut office = metered(&rt, rt.alloc());
-        let room = KeptRoom::new(Some(most), kept);
-        let got = replied(&rt, room, request, &earlier, &mut office, is_full)?;
-        assert!(rt; got.as_slice() == reply, "room for {most}");
-        assert!(rt; energy_of_ended(&mut office) == energy, "room for {most}");
+        let got = replied(&rt, client, &earlier, &mut office)?;
+        assert!(rt; got.as_slice() == client.reply, "client {slot}");
+        assert!(rt;
+            energy_of_ended(&mut office) == client.energy,
+            "client {slot}"
+        );
     }
-    Ok(())
-}
-
-// The reply to this request while a file of the office is gone.
-fn replied_without_files(
-    rt: &HostRuntime,
-    request: &[u8],
-    earlier: &Earlier,
-    office: &mut Office<ListBooks>,
-) -> Result<Vec<u8>, Fail> {
-    let listener = TcpListener::bind(rt, "127.0.0.1:0")?;
-    let client = client_of(rt, &listener, request)?;
-    let mut listening = Listening::open(rt, listener, KeptRoom::new(None, 0))?;
-    listening.system.are_there = false;
-    listening.turns(&earlier.files(), office)?;
-    if listening.port.has_lost() != (request == REQUEST) {
-        return Err(Fail::from("the files are looked at for another request"));
-    }
-    read_all(rt.alloc(), client)
-}
-
-#[test]
-fn a_command_over_lost_files_is_not_acknowledged(rt: HostRuntime) -> Result<(), Fail> {
-    let mut office = polled(&rt, rt.alloc());
-    let earlier = Earlier::of_main(&rt, rt.alloc());
-    let got = replied_without_files(&rt, REQUEST, &earlier, &mut office)?;
-    assert!(rt; got.as_slice() == NO_ROOM);
-    let got = replied_without_files(&rt, MONTHS, &earlier, &mut office)?;
-    assert!(rt; got.starts_with(b"HTTP/1.1 200 "));
     Ok(())
 }
 
@@ -257,41 +264,39 @@ static GET: &[u8] = b"GET /meters/m1 HTTP/1.1\r\n\r\n";
 // A command of 28 bytes, with the empty line before it.
 static POST: &[u8] = b"\r\nPOST /devices HTTP/1.1\r\n\r\n";
 
-// A reply that begins so.
-fn reply_of(alloc: Global, text: &[u8]) -> Result<PeerReply, AllocError> {
-    Ok(PeerReply::Replied(text.to_vec(alloc)?))
-}
-
+// A command that acted takes room. A query, a refused command and an incomplete one take none.
+// Without a limit there is always room.
 #[test]
-fn a_command_that_acted_is_counted(rt: HostRuntime) -> Result<(), Fail> {
+fn commands_that_acted_take_room(rt: HostRuntime) {
+    let refused = b"HTTP/1.1 409 Conflict"
+        .to_vec(rt.alloc())
+        .expect(&rt, "no memory");
+    let acted = b"HTTP/1.1 200 OK"
+        .to_vec(rt.alloc())
+        .expect(&rt, "no memory");
+    let acted = PeerReply::Replied(acted);
     let mut room = KeptRoom::new(Some(100), 60);
     assert!(rt; !room.lacks(POST));
     room.count(POST, &PeerReply::Open);
-    room.count(POST, &reply_of(rt.alloc(), b"HTTP/1.1 409 Conflict")?);
-    let acted = reply_of(rt.alloc(), b"HTTP/1.1 200 OK")?;
+    room.count(POST, &PeerReply::Replied(refused));
     room.count(GET, &acted);
     assert!(rt; !room.lacks(POST));
     room.count(POST, &acted);
     assert!(rt; room.lacks(POST));
     assert!(rt; !room.lacks(GET));
-    Ok(())
-}
-
-#[test]
-fn without_a_limit_no_command_lacks_room(rt: HostRuntime) {
-    let mut room = KeptRoom::new(None, u64::MAX);
-    assert!(rt; !room.lacks(POST));
-    room.count(POST, &PeerReply::Failed);
+    let mut unlimited = KeptRoom::new(None, u64::MAX);
+    assert!(rt; !unlimited.lacks(POST));
+    unlimited.count(POST, &PeerReply::Failed);
     assert!(rt; KeptRoom::new(Some(10), 11).lacks(POST));
 }
 
-// Whether all of an outbox is taken by a connection, which ends then.
+// Whether a connection takes all of an outbox. The connection ends then.
 fn is_taken(stream: TcpStream, outbox: &mut Outbox) -> bool {
     let stream = mio::net::TcpStream::from_std(stream);
     outbox.write_all(&stream) == Went::On && outbox.is_written()
 }
 
-// What comes of a connection on which an outbox was written.
+// The bytes that come through a connection to which an outbox is written.
 fn written(rt: &HostRuntime, outbox: &mut Outbox) -> Result<Vec<u8>, Fail> {
     let listener = TcpListener::bind(rt, "127.0.0.1:0")?;
     if !is_taken(client_of(rt, &listener, b"")?, outbox) {
@@ -300,33 +305,27 @@ fn written(rt: &HostRuntime, outbox: &mut Outbox) -> Result<Vec<u8>, Fail> {
     read_all(rt.alloc(), listener.accept()?.0)
 }
 
-// An outbox of some bytes.
-fn outbox_of(alloc: Global, bytes: &[u8]) -> Result<Outbox, AllocError> {
-    Ok(Outbox::of(bytes.to_vec(alloc)?))
-}
-
+// Bytes that were put are written once, and then make room for others.
 #[test]
-fn what_is_put_is_written_once(rt: HostRuntime) -> Result<(), Fail> {
-    let mut outbox = outbox_of(rt.alloc(), b"one")?;
-    outbox.put(b"two")?;
+fn bytes_that_are_put_are_written_once(rt: HostRuntime) -> Result<(), Fail> {
+    let mut empty = Outbox::empty(rt.alloc());
+    assert!(rt; empty.is_empty() && empty.is_written());
+    empty.put(b"one").expect(&rt, "no memory");
+    assert!(rt; empty.len() == 3);
+    let bytes = b"one".to_vec(rt.alloc()).expect(&rt, "no memory");
+    let mut outbox = Outbox::of(bytes);
+    outbox.put(b"two").expect(&rt, "no memory");
     assert!(rt; outbox.len() == 6);
     assert!(rt; !outbox.is_written());
     assert!(rt; written(&rt, &mut outbox)?.as_slice() == b"onetwo".as_slice());
     assert!(rt; !outbox.is_empty());
-    Ok(())
-}
-
-#[test]
-fn what_was_written_makes_room(rt: HostRuntime) -> Result<(), Fail> {
-    let mut outbox = Outbox::empty(rt.alloc());
-    assert!(rt; outbox.is_empty() && outbox.is_written());
-    outbox.put(b"one")?;
-    assert!(rt; written(&rt, &mut outbox)?.as_slice() == b"one".as_slice());
-    outbox.put(b"more")?;
+    outbox.put(b"more").expect(&rt, "no memory");
     assert!(rt; outbox.len() == 4);
     Ok(())
 }
 
+// Each error of a socket means that it waits, is tried again or is over. The milliseconds of the
+// monotonic clock are exact.
 #[test]
 fn errors_of_sockets_have_a_meaning(rt: HostRuntime) {
     assert!(rt; went_by(ErrorKind::WouldBlock) == Went::Waits);

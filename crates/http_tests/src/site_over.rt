@@ -1,19 +1,20 @@
-//! What a peer is replied who asks which registers and meters there are, of which earlier files tell, too.
-use crate::cases::reply;
+//! The meters of a site, which earlier files report, too.
+use crate::cases::sized_reply;
 use crate::energy_over::earlier_register;
 use crate::office::{polled, unmetered};
 use energy_core::Last;
 use http_peers::reply_site_over;
-use memory_books::ListBooks;
+use office_books::Books;
 use office_core::Office;
 use office_events::{Installation, Name, Opening};
 use std::alloc::Global;
 use std::process::Abort;
 
-// The meters that earlier files have at a register: the name of each, its energy in mWh, and whether it was closed.
+// A meter of earlier files: its name, its energy in mWh, and whether it was closed.
 type Earlier = (&'static [u8], u64, bool);
 
-// A case: what it shows, what earlier files have at a register, and what is told of the meter at it.
+// What a case shows, a register of earlier files, its meters there, and the members of the meter in
+// the reply.
 type Case = (
     &'static str,
     &'static [u8],
@@ -21,40 +22,40 @@ type Case = (
     &'static str,
 );
 
-// The office's meter m1 stands at 5200, after 200 Wh.
+// The meter m1 of the office shows 5200, after 200 Wh.
 static OF_A_METER: [Case; 7] = [
     (
-        "a meter that was left open has the energy of all files",
+        "an open meter has the energy of all files",
         b"main",
         &[(b"m1", 5, false)],
         "\"m1\",\"at\":1900,\"last\":5200,\"sf\":0,\"total\":\"200005\",\"earlier\":\"5\",\"ended\":false",
     ),
     (
-        "it is the last of theirs",
+        "the last meter of earlier files counts",
         b"main",
         &[(b"m0", 9, true), (b"m1", 7, false)],
         "\"m1\",\"at\":1900,\"last\":5200,\"sf\":0,\"total\":\"200007\",\"earlier\":\"7\",\"ended\":false",
     ),
     (
-        "its energy is at most what 64 bits hold",
+        "its energy is at most 2^64 - 1 mWh",
         b"main",
         &[(b"m1", u64::MAX, false)],
         "\"m1\",\"at\":1900,\"last\":5200,\"sf\":0,\"total\":\"18446744073709551615\",\"earlier\":\"18446744073709551615\",\"ended\":false",
     ),
     (
-        "one of its name that was closed is another",
+        "a closed meter of its name is another meter",
         b"main",
         &[(b"m1", 5, true)],
         "\"m1\",\"at\":1900,\"last\":5200,\"sf\":0,\"total\":\"200000\",\"ended\":false",
     ),
     (
-        "one of another name is another",
+        "a meter of another name is another meter",
         b"main",
         &[(b"m0", 5, false)],
         "\"m1\",\"at\":1900,\"last\":5200,\"sf\":0,\"total\":\"200000\",\"ended\":false",
     ),
     (
-        "earlier files may have none",
+        "earlier files may have no meter",
         b"main",
         &[],
         "\"m1\",\"at\":1900,\"last\":5200,\"sf\":0,\"total\":\"200000\",\"ended\":false",
@@ -69,12 +70,12 @@ static OF_A_METER: [Case; 7] = [
 
 static OF_NO_METER: [Case; 2] = [
     (
-        "where the office has none, it is the last of theirs",
+        "an office without a meter reports the last one of earlier files",
         b"main",
         &[(b"m1", 5, true)],
         "\"m1\",\"at\":950,\"last\":4,\"sf\":-3,\"total\":\"5\",\"earlier\":\"5\",\"ended\":true",
     ),
-    ("there may be none at all", b"main", &[], "null"),
+    ("no file may have a meter", b"main", &[], "null"),
 ];
 
 // A meter as earlier files have it.
@@ -102,11 +103,11 @@ fn earlier_meter(rt: &impl Abort, it: &Earlier) -> Installation {
     }
 }
 
-// What is replied by an office at moment 2800, with these meters of earlier files at a register.
-fn replied(
+// The reply of an office at time 2800, with these meters of earlier files at a register.
+fn replied<B: Books>(
     rt: &impl Abort,
     alloc: Global,
-    office: &mut Office<ListBooks>,
+    office: &mut Office<B>,
     register: &[u8],
     meters: &[Earlier],
 ) -> Vec<u8> {
@@ -114,34 +115,29 @@ fn replied(
     for it in meters {
         listed.push(earlier_meter(rt, it)).expect(rt, "no memory");
     }
-    let earlier = [earlier_register(rt, alloc, register, &listed, &[])];
+    let earlier = [earlier_register(rt, alloc, register, &listed)];
     let mut text = Vec::new(alloc);
     reply_site_over(alloc, &mut text, office, &earlier, 2800).expect(rt, "no memory");
     text
 }
 
-// Whether an office tells that of a case.
-fn tells(rt: &impl Abort, alloc: Global, office: &mut Office<ListBooks>, case: &Case) -> bool {
-    let (_, register, meters, told) = *case;
-    let body = format!(in alloc;
-        "{{\"at\":2800,\"registers\":[{{\"device\":\"inv\",\"register\":\"main\",\"meter\":{told}}}]}}\n"
-    ).expect(rt, "no memory");
-    let want = reply(alloc, "200 OK", &body).expect(rt, "no memory");
-    replied(rt, alloc, office, register, meters).as_slice() == want.as_bytes()
+// Asserts the reply of an office in each case.
+fn assert_sites<B: Books>(rt: &impl Abort, alloc: Global, office: &mut Office<B>, cases: &[Case]) {
+    for (name, register, meters, meter) in cases {
+        let body = format!(in alloc;
+            "{{\"at\":2800,\"registers\":[{{\"device\":\"inv\",\"register\":\"main\",\"meter\":{meter}}}]}}\n"
+        ).expect(rt, "no memory");
+        let want = sized_reply(alloc, "200 OK", &body).expect(rt, "no memory");
+        let text = replied(rt, alloc, office, register, meters);
+        assert!(rt; text.as_slice() == want.as_bytes(), "{name}");
+    }
 }
 
+// The meter at a register is the last one of all files, with the energy of all files.
 #[test]
-fn the_meter_at_a_register_is_that_of_all_files(rt: HostRuntime) {
+fn a_site_has_the_meters_of_all_files(rt: HostRuntime) {
     let mut office = polled(&rt, rt.alloc());
-    for case in &OF_A_METER {
-        assert!(rt; tells(&rt, rt.alloc(), &mut office, case), "{}", case.0);
-    }
-}
-
-#[test]
-fn a_register_may_have_meters_in_earlier_files_alone(rt: HostRuntime) {
+    assert_sites(&rt, rt.alloc(), &mut office, &OF_A_METER);
     let mut office = unmetered(&rt, rt.alloc());
-    for case in &OF_NO_METER {
-        assert!(rt; tells(&rt, rt.alloc(), &mut office, case), "{}", case.0);
-    }
+    assert_sites(&rt, rt.alloc(), &mut office, &OF_NO_METER);
 }

@@ -1,6 +1,6 @@
-//! Books that fail while rows are handed on, or while a poll is settled.
-use crate::cases::{Case, play, serve};
-use crate::office::{poll, polled};
+//! An office whose store fails while rows are written, or while a poll is settled.
+use crate::cases::{Case, assert_served, serve};
+use crate::office::{poll, polled_store};
 use crate::tables::{COMMANDS, QUESTIONS};
 use failing_books::FailingBooks;
 use office_books::Books;
@@ -12,9 +12,8 @@ use std::process::Abort;
 
 static INTERVALS: &[u8] = b"GET /meters/m1/intervals HTTP/1.1\r\n\r\n";
 
-// What is given of the intervals, where the books fail after their last row.
-fn cut(rt: &impl Abort, alloc: Global, failing: u64) -> Option<Vec<u8>> {
-    let books = FailingBooks::after_rows(polled(rt, alloc).into_books(), failing);
+// Returns the bytes of a reply that the store cuts off.
+fn cut<B: Books>(rt: &impl Abort, alloc: Global, books: B) -> Option<Vec<u8>> {
     let Ok(mut office) = Office::open(alloc, books, 1900) else {
         return None;
     };
@@ -28,11 +27,14 @@ fn cut(rt: &impl Abort, alloc: Global, failing: u64) -> Option<Vec<u8>> {
 static ROWS: &[u8] =
     b"HTTP/1.1 200 OK\r\nContent-Type: text/plain\r\nConnection: close\r\n\r\n900 177777\n1800 22223\n";
 
+// A text has no last line if the store fails after its last row. The store can fail there in one
+// call.
 #[test]
-fn a_text_that_is_cut_has_no_end(rt: HostRuntime) {
+fn a_text_that_is_cut_off_has_no_end(rt: HostRuntime) {
     let mut cuts = 0u8;
     for failing in 1..20 {
-        if let Some(given) = cut(&rt, rt.alloc(), failing) {
+        let books = FailingBooks::after_rows(polled_store(&rt, rt.alloc()), failing);
+        if let Some(given) = cut(&rt, rt.alloc(), books) {
             assert!(rt; given.as_slice() == ROWS);
             cuts = cuts.saturating_add(1);
         }
@@ -40,7 +42,7 @@ fn a_text_that_is_cut_has_no_end(rt: HostRuntime) {
     assert!(rt; cuts == 1);
 }
 
-// An office over these books that has stopped while it settled a poll.
+// Returns an office that has stopped, since the store failed while a poll was settled.
 fn stopped<B: Books>(rt: &impl Abort, alloc: Global, books: B) -> Option<Office<B>> {
     let Ok(mut office) = Office::open(alloc, books, 1900) else {
         return None;
@@ -55,20 +57,11 @@ fn stopped<B: Books>(rt: &impl Abort, alloc: Global, books: B) -> Option<Office<
     None
 }
 
-// An office that stops at the first call of the books where it can.
-fn first_stopped(rt: &impl Abort, alloc: Global) -> Office<FailingBooks> {
-    for failing in 1..20 {
-        let books = FailingBooks::new(polled(rt, alloc).into_books(), failing);
-        if let Some(office) = stopped(rt, alloc, books) {
-            return office;
-        }
-    }
-    panic!(rt; "it never stops")
-}
-
-#[test]
-fn a_stopped_office_is_unavailable(rt: HostRuntime) {
-    let mut office = first_stopped(&rt, rt.alloc());
+// Whether the office over a store stops. Then each request gets 503.
+fn is_unavailable<B: Books>(rt: &impl Abort, alloc: Global, books: B) -> bool {
+    let Some(mut office) = stopped(rt, alloc, books) else {
+        return false;
+    };
     for request in [INTERVALS, COMMANDS[0].request, QUESTIONS[12].request] {
         let case = Case {
             at: 2800,
@@ -76,6 +69,19 @@ fn a_stopped_office_is_unavailable(rt: HostRuntime) {
             status: "503 Service Unavailable",
             body: "{\"refused\":15}",
         };
-        play(&rt, rt.alloc(), &mut office, &case, 400);
+        assert_served(rt, alloc, &mut office, &case, 400);
     }
+    true
+}
+
+// An office that has stopped answers each request with 503.
+#[test]
+fn a_stopped_office_is_unavailable(rt: HostRuntime) {
+    for failing in 1..20 {
+        let books = FailingBooks::new(polled_store(&rt, rt.alloc()), failing);
+        if is_unavailable(&rt, rt.alloc(), books) {
+            return;
+        }
+    }
+    panic!(rt; "it never stops")
 }

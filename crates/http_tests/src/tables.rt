@@ -1,7 +1,8 @@
-//! Requests one after the other, each with its reply.
+//! Requests one after the other, each with its reply. `office/questions` and `office/commands` of
+//! `http_cases` have the same requests.
 use crate::cases::Case;
 
-/// Questions, requests that fail a test of their heads, and an exchange that is asked again.
+/// Queries, requests whose heads fail a test, and an exchange that is retried.
 pub(crate) static QUESTIONS: [Case<'static>; 22] = [
     Case {
         at: 2800,
@@ -137,7 +138,7 @@ pub(crate) static QUESTIONS: [Case<'static>; 22] = [
     },
 ];
 
-/// A command of each kind. One that is refused is judged anew where it is asked again.
+/// A command of each kind. The office judges a refused command again when it is retried.
 pub(crate) static COMMANDS: [Case<'static>; 19] = [
     Case {
         at: 2000,

@@ -1,7 +1,8 @@
 //! The time of a run.
 use run_schedule::RunTime;
 
-// What an even clock tells, and the seconds of a run that began at 1,000.999 s while it told 50 s, and what is left of them.
+// The milliseconds of the monotonic clock, the seconds of the run, and the milliseconds to its next
+// second. The run began at 1,000.999 s, when that clock showed 50 s.
 static READ: [(u64, u64, u64); 6] = [
     (50_000, 1000, 1),
     (50_001, 1001, 1000),
@@ -11,7 +12,7 @@ static READ: [(u64, u64, u64); 6] = [
     (3_651_000, 4601, 1),
 ];
 
-// It goes on as the even clock does, and where that is read as less it stays.
+// The time of a run advances with the monotonic clock, and never goes back.
 #[test]
 fn a_run_goes_on_evenly(rt: HostRuntime) {
     let mut time = RunTime::new(1_000_999, 50_000);

@@ -1,4 +1,4 @@
-//! The texts of faults of inputs, lines and arguments.
+//! What faults of inputs, of lines and of the program's words say to a person.
 use command_io::ReadFault;
 use command_words::{DeviceFault, ListFault, WordsFault};
 use script_lines::LineFault;
@@ -6,7 +6,7 @@ use std::alloc::Global;
 use std::fmt::Display;
 use std::process::Abort;
 
-// Asserts the text of each fault. No text ends with a full stop.
+// Asserts that each fault says its text, which has no full stop.
 fn assert_texts<F: Display>(rt: &impl Abort, alloc: Global, texts: &[(F, &str)]) {
     for (fault, text) in texts {
         let said = format!(in alloc; "{fault}").expect(rt, "no memory");
@@ -52,18 +52,12 @@ const PARTS: [(ListFault, &str); 2] = [
     (ListFault::Memory, "out of memory"),
 ];
 
-// Each fault of a line, an input or a device has its text.
 #[test]
 fn faults_say_their_texts(rt: HostRuntime) {
     assert_texts(&rt, rt.alloc(), &LINES);
     assert_texts(&rt, rt.alloc(), &INPUTS);
     assert_texts(&rt, rt.alloc(), &DEVICES);
     assert_texts(&rt, rt.alloc(), &PARTS);
-}
-
-// Each fault of arguments has its text.
-#[test]
-fn faults_of_words_say_their_texts(rt: HostRuntime) {
     let wrong = String::from_str(rt.alloc(), "error: x\n").expect(&rt, "no memory");
     let help = String::from_str(rt.alloc(), "Usage: x\n").expect(&rt, "no memory");
     let texts = [

@@ -1,11 +1,11 @@
-//! Inputs of megabytes, and the output of many lines.
+//! Inputs of megabytes, and what is given out of many lines.
 use crate::replays::run;
 use crate::streams::{Kept, Slow};
 use command_io::{ExitStatus, MOST_BYTES, ReadFault, read_whole};
 use std::alloc::Global;
 use std::process::Abort;
 
-// Repeats a text.
+// A text, so many times.
 fn repeated(rt: &impl Abort, alloc: Global, count: usize, text: &str) -> String {
     let mut all = String::new(alloc);
     for _line in 0..count {
@@ -14,40 +14,17 @@ fn repeated(rt: &impl Abort, alloc: Global, count: usize, text: &str) -> String 
     all
 }
 
-// Returns `count` empty lines with a text after them.
-fn after_lines(rt: &impl Abort, alloc: Global, count: usize, text: &str) -> String {
-    let mut all = repeated(rt, alloc, count, "\n");
-    all.push_str(text).expect(rt, "no memory");
-    all
-}
-
-// Texts after one byte less than an input may have.
-static LAST_BYTES: [(&str, &str); 2] = [("x", "bad line 4194304\n"), ("x\n", "too long\n")];
-
-// An input of 4,194,304 bytes is run, and one more byte is too long.
-#[test]
-fn inputs_of_4194304_bytes_are_run(rt: HostRuntime) {
-    for (text, output) in &LAST_BYTES {
-        let all = after_lines(&rt, rt.alloc(), MOST_BYTES - 1, text);
-        let mut slow = Slow::whole(all.as_bytes());
-        let ended = run(&rt, rt.alloc(), &mut slow, Kept::whole(rt.alloc()));
-        assert!(rt; ended.output.got.as_slice() == output.as_bytes());
-        assert!(rt; ended.status == ExitStatus::Refused);
-    }
-}
-
-// Reading stops at the first byte too many.
 #[test]
 fn no_more_reads_are_made_than_bytes_fit(rt: HostRuntime) {
-    let text = after_lines(&rt, rt.alloc(), MOST_BYTES, "\n");
+    let mut text = repeated(&rt, rt.alloc(), MOST_BYTES, "\n");
+    text.push_str("\n").expect(&rt, "no memory");
     let mut slow = Slow::whole(text.as_bytes());
     let fault = read_whole(rt.alloc(), &mut slow).err();
     assert!(rt; fault == Some(ReadFault::TooLong));
     assert!(rt; slow.calls == 4_194_305);
 }
 
-// Of 2,000 answers of 10 bytes, each piece of output but the last ends with a line, and there are
-// few pieces.
+// Of 2,000 answers of 10 bytes each piece but the last ends with a line, and there are few of them.
 #[test]
 fn whole_lines_are_given_out(rt: HostRuntime) {
     let text = repeated(&rt, rt.alloc(), 2000, "poll 1\n");

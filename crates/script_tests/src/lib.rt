@@ -1,6 +1,5 @@
-//! Tests of scripts, simulators and arguments: failing streams, inputs of megabytes, what no script
-//! prints, and the command line. What a script and its output can show is a golden test of
-//! `script_cases`.
+//! Tests of scripts: streams that fail and inputs of megabytes, what no script prints, and the values of arguments. What a script
+//! and its output can show is a case in the data of `script_cases`; wrong arguments and help are tried by `tests/arguments.py`.
 #![tactic(auto)]
 
 #[cfg(test)]
@@ -10,8 +9,6 @@ mod connections;
 #[cfg(test)]
 mod fault_texts;
 #[cfg(test)]
-mod help;
-#[cfg(test)]
 mod inputs;
 #[cfg(test)]
 mod lines;
@@ -19,8 +16,6 @@ mod lines;
 mod loops;
 #[cfg(test)]
 mod numbers;
-#[cfg(test)]
-mod option_values;
 #[cfg(test)]
 mod printing;
 #[cfg(test)]
@@ -32,10 +27,6 @@ mod rows;
 #[cfg(test)]
 mod scans;
 #[cfg(test)]
-mod set_ups;
-#[cfg(test)]
 mod spelled_words;
 #[cfg(test)]
 mod streams;
-#[cfg(test)]
-mod wrong_words;

@@ -1,8 +1,11 @@
-//! Chains and plans over streams that fail.
+//! Scripts, chains and plans over streams that fail.
+use crate::replays::run;
 use crate::streams::{Kept, Slow};
 use command_io::ExitStatus;
+use script_run::Replayed;
 use std::alloc::Global;
 use std::io::ErrorKind;
+use std::process::Abort;
 use sunspec_text::{chain_text, plan_text};
 
 // The task that reads an input.
@@ -10,13 +13,28 @@ use sunspec_text::{chain_text, plan_text};
 enum Task {
     Chain,
     Plan,
+    Replay,
 }
 
 impl Task {
-    fn carry_out(self, alloc: Global, input: &mut Slow<'_>, output: &mut Kept) -> ExitStatus {
+    fn carry_out(
+        self,
+        rt: &impl Abort,
+        alloc: Global,
+        input: &mut Slow<'_>,
+        output: Kept,
+    ) -> Replayed<Kept> {
+        let mut output = output;
         match self {
-            Task::Chain => chain_text(alloc, input, output),
-            Task::Plan => plan_text(alloc, input, output),
+            Task::Chain => {
+                let status = chain_text(alloc, input, &mut output);
+                Replayed { status, output }
+            }
+            Task::Plan => {
+                let status = plan_text(alloc, input, &mut output);
+                Replayed { status, output }
+            }
+            Task::Replay => run(rt, alloc, input, output),
         }
     }
 }
@@ -64,7 +82,27 @@ const FAULTY_PRINTED: &str = "\
     row 4 fault 5\n\
     row 5 fault 4\n";
 
-static CASES: [(Task, &str, &str, ExitStatus); 8] = [
+// A device with a meter, a read of it, and its reply.
+const READING: &str = "\
+    1000 device inv 1 5 1\n\
+    1000 register main inv 3 40094 @40096\n\
+    1000 install main m1 5000 0 100000\n\
+    1898 connect inv\n\
+    1898 start inv 3 40094 3\n\
+    1900 bytes inv 000000000009010306000014500000\n";
+
+const READING_PRINTED: &str = "\
+    ok\n\
+    ok\n\
+    ok\n\
+    ok\n\
+    started 1 1 1 00000000000601039c9e0003\n\
+    poll 1 answered\n\
+    reading m1 5200 rolls 0 step 200000\n\
+    ok\n";
+
+static CASES: [(Task, &str, &str, ExitStatus); 9] = [
+    (Task::Replay, READING, READING_PRINTED, ExitStatus::Fine),
     (Task::Chain, METER, METER_PRINTED, ExitStatus::Fine),
     (Task::Chain, "", "fault 1\n", ExitStatus::Refused),
     (Task::Plan, LIST, LIST_PRINTED, ExitStatus::Fine),
@@ -97,10 +135,10 @@ fn each_failing_read_ends_it(rt: HostRuntime) {
         for kind in [ErrorKind::Interrupted, ErrorKind::BrokenPipe] {
             for failing in 1..text.len() + 2 {
                 let mut slow = Slow::of(text.as_bytes(), failing, kind);
-                let mut kept = Kept::whole(rt.alloc());
-                let ended = task.carry_out(rt.alloc(), &mut slow, &mut kept);
-                assert!(rt; ended == ExitStatus::Failed);
-                assert!(rt; kept.got.is_empty());
+                let kept = Kept::whole(rt.alloc());
+                let ended = task.carry_out(&rt, rt.alloc(), &mut slow, kept);
+                assert!(rt; ended.status == ExitStatus::Failed);
+                assert!(rt; ended.output.got.is_empty());
                 assert!(rt; slow.calls == failing);
             }
         }
@@ -111,15 +149,17 @@ fn each_failing_read_ends_it(rt: HostRuntime) {
 #[test]
 fn each_failing_write_ends_it(rt: HostRuntime) {
     for (task, text, output, status) in &CASES {
-        let mut whole = false;
-        for failing in 1..200 {
-            let mut slow = Slow::whole(text.as_bytes());
-            let mut kept = Kept::new(rt.alloc(), failing, 8192);
-            let ended = task.carry_out(rt.alloc(), &mut slow, &mut kept);
-            whole = kept.assert_written(&rt, output);
-            let wanted = if whole { *status } else { ExitStatus::Failed };
-            assert!(rt; ended == wanted);
+        for most in [1, 7, 8192] {
+            let mut whole = false;
+            for failing in 1..200 {
+                let mut slow = Slow::whole(text.as_bytes());
+                let kept = Kept::new(rt.alloc(), failing, most);
+                let ended = task.carry_out(&rt, rt.alloc(), &mut slow, kept);
+                whole = ended.output.assert_written(&rt, output);
+                let wanted = if whole { *status } else { ExitStatus::Failed };
+                assert!(rt; ended.status == wanted);
+            }
+            assert!(rt; whole);
         }
-        assert!(rt; whole);
     }
 }

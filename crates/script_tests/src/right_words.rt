@@ -1,9 +1,9 @@
-//! Arguments that spell a command, with options in any order, and the defaults.
+//! Words that spell a command: options in any order, what applies where none is given, and numbers at their limits.
 use crate::spelled_words::assert_spelled;
 use command_words::{CommandLine, command_of};
 
-/// Each command line and its command.
-static RIGHT: [(&str, &str); 40] = [
+/// Each line and its command.
+static RIGHT: [(&str, &str); 60] = [
     ("replay", r#"Replay { zone: "UTC0" }"#),
     ("replay|--zone|CET-1", r#"Replay { zone: "CET-1" }"#),
     ("loop", r#"Loop { zone: "UTC0" }"#),
@@ -13,7 +13,7 @@ static RIGHT: [(&str, &str); 40] = [
     ),
     ("plan", "Plan"),
     ("chain", "Chain"),
-    // Options may come in any order.
+    // options stand in any order
     (
         "create|--db|a b.db|--zone|UTC0",
         r#"Create { db: "a b.db", zone: "UTC0" }"#,
@@ -26,18 +26,18 @@ static RIGHT: [(&str, &str); 40] = [
         "round|--db=o.db|--device=inv|--host=meter.lan|--port=502",
         r#"Round { db: "o.db", device: "inv", host: "meter.lan", port: 502 }"#,
     ),
-    // The default host is this machine.
+    // at this host where none is given
     (
         "round|--db|o.db|--device|\u{e4} b|--port|502",
         "Round { db: \"o.db\", device: \"\u{e4} b\", host: \"127.0.0.1\", port: 502 }",
     ),
-    // A name is kept as it is written.
+    // a name stays as it stands
     (
         "report|--db|o.db|--register|Main,=1 \u{3bc}",
         "Report { db: \"o.db\", register: \"Main,=1 \u{3bc}\", form: FormWords { from: None, \
          till: None, period: None, unit: None, format: None, statement: false } }",
     ),
-    // Days are kept as they are written.
+    // days stay as they stand
     (
         "report|--db|o.db|--register|main|--from|2024-02-30|--till=|--by|year|--unit|kwh\
          |--format|json",
@@ -45,7 +45,7 @@ static RIGHT: [(&str, &str); 40] = [
          from: Some(\"2024-02-30\"), till: Some(\"\"), period: Some(Year), \
          unit: Some(KilowattHours), format: Some(Json), statement: false } }",
     ),
-    // The other values of a report's form.
+    // the other words of a form
     (
         "report|--db|o.db|--register|main|--by|day|--unit|mwh|--format|text",
         "Report { db: \"o.db\", register: \"main\", form: FormWords { from: None, till: None, \
@@ -56,19 +56,19 @@ static RIGHT: [(&str, &str); 40] = [
         "Report { db: \"o.db\", register: \"main\", form: FormWords { from: None, till: None, \
          period: Some(Month), unit: None, format: Some(Csv), statement: false } }",
     ),
-    // A statement has no periods.
+    // a statement has no periods
     (
         "report|--db|o.db|--register|main|--statement|--unit|kwh",
         "Report { db: \"o.db\", register: \"main\", form: FormWords { from: None, till: None, \
          period: None, unit: Some(KilowattHours), format: None, statement: true } }",
     ),
-    // Several files keep their order.
+    // several files keep their order
     (
         "report|--db=2026.db|--register|main|--db|o.db|--statement|--",
         "ReportFiles { files: [\"2026.db\", \"o.db\"], register: \"main\", form: FormWords { \
          from: None, till: None, period: None, unit: None, format: None, statement: true } }",
     ),
-    // The defaults are unit 1 and five seconds.
+    // unit 1 and five seconds where none are given
     (
         "scan|--port|502",
         "Scan { host: \"127.0.0.1\", port: 502, unit: 1, timeout: 5, list: false, setup: None }",
@@ -87,7 +87,7 @@ static RIGHT: [(&str, &str); 40] = [
         "stand-in|--host|::1|--port|1502|--connections|10",
         r#"StandIn { host: "::1", port: 1502, connections: 10 }"#,
     ),
-    // The default host is this machine.
+    // at this host where none is given
     (
         "stand-in|--port|1502|--connections|10",
         r#"StandIn { host: "127.0.0.1", port: 1502, connections: 10 }"#,
@@ -104,7 +104,7 @@ static RIGHT: [(&str, &str); 40] = [
         "carry|--until|4294967295|--to|n.db|--from|o.db",
         r#"Carry { from: "o.db", to: "n.db", until: Some(4294967295) }"#,
     ),
-    // `explain` itself reports that an argument is no number.
+    // `explain` reports itself that a word is no number
     (
         "explain|refused|12",
         r#"Explain { what: "refused", number: "12" }"#,
@@ -130,7 +130,7 @@ static RIGHT: [(&str, &str); 40] = [
         "audit|--db=old.db|--db|o.db",
         r#"Audit { dbs: ["old.db", "o.db"], seal: Nothing }"#,
     ),
-    // Without devices, no counter is read.
+    // no counter is read where no device is given
     (
         "enter|--db|o.db|--caller|site",
         r#"Enter { db: "o.db", caller: "site", devices: [], only_read: false }"#,
@@ -145,7 +145,7 @@ static RIGHT: [(&str, &str); 40] = [
          host: \"meter.lan\", port: 502 }, Device { name: \"b\", host: \"[::1]\", port: 1 }], \
          only_read: false }",
     ),
-    // By default `serve` uses only the names of this machine.
+    // `serve` goes by this machine's names where none is given
     (
         "serve|--db|o.db|--port|8080|--connections|7",
         r#"Serve { db: "o.db", port: 8080, connections: 7, host_names: [] }"#,
@@ -155,7 +155,7 @@ static RIGHT: [(&str, &str); 40] = [
         "Serve { db: \"o.db\", port: 8080, connections: 7, \
          host_names: [\"a.example\", \"b.example\"] }",
     ),
-    // By default `run` has no end, no new files and no limit.
+    // `run` has no end, no new files and no limit where none is given
     (
         "run|--db|o.db|--listen|8080|--every|60|--devices|inv=192.0.2.7:502",
         "Run { dbs: [\"o.db\"], listen: 8080, every: 60, devices: [Device { name: \"inv\", \
@@ -184,17 +184,165 @@ static RIGHT: [(&str, &str); 40] = [
          name: \"inv\", host: \"192.0.2.7\", port: 502 }], lasts: None, carry: Some(Month), \
          earlier: None, host_names: [], most_kept: None, verbose: false }",
     ),
+    // numbers at their limits, and lists of devices, of which 64 are the most
+    (
+        "serve|--db|x|--connections|1|--port|1",
+        "Serve { db: \"x\", port: 1, connections: 1, host_names: [] }",
+    ),
+    (
+        "serve|--db|x|--connections|1|--port|65535",
+        "Serve { db: \"x\", port: 65535, connections: 1, host_names: [] }",
+    ),
+    (
+        "serve|--db|x|--connections|1|--port|0000000080",
+        "Serve { db: \"x\", port: 80, connections: 1, host_names: [] }",
+    ),
+    (
+        "run|--db|x|--every|1|--devices|a=h:1|--listen|1",
+        "Run { dbs: [\"x\"], listen: 1, every: 1, devices: [Device { name: \"a\", host: \"h\", \
+         port: 1 }], lasts: None, carry: None, earlier: None, host_names: [], most_kept: None, \
+         verbose: false }",
+    ),
+    (
+        "run|--db|x|--every|1|--devices|a=h:1|--listen|65535",
+        "Run { dbs: [\"x\"], listen: 65535, every: 1, devices: [Device { name: \"a\", host: \
+         \"h\", port: 1 }], lasts: None, carry: None, earlier: None, host_names: [], \
+         most_kept: None, verbose: false }",
+    ),
+    (
+        "run|--db|x|--every|1|--devices|a=h:1|--listen|0000000080",
+        "Run { dbs: [\"x\"], listen: 80, every: 1, devices: [Device { name: \"a\", host: \
+         \"h\", port: 1 }], lasts: None, carry: None, earlier: None, host_names: [], \
+         most_kept: None, verbose: false }",
+    ),
+    (
+        "serve|--db|x|--port|1|--connections|1",
+        "Serve { db: \"x\", port: 1, connections: 1, host_names: [] }",
+    ),
+    (
+        "serve|--db|x|--port|1|--connections|1000000",
+        "Serve { db: \"x\", port: 1, connections: 1000000, host_names: [] }",
+    ),
+    (
+        "run|--db|x|--listen|1|--devices|a=h:1|--every|1|--for|1",
+        "Run { dbs: [\"x\"], listen: 1, every: 1, devices: [Device { name: \"a\", host: \"h\", \
+         port: 1 }], lasts: Some(1), carry: None, earlier: None, host_names: [], most_kept: \
+         None, verbose: false }",
+    ),
+    (
+        "run|--db|x|--listen|1|--devices|a=h:1|--every|86400|--for|4000000000",
+        "Run { dbs: [\"x\"], listen: 1, every: 86400, devices: [Device { name: \"a\", host: \
+         \"h\", port: 1 }], lasts: Some(4000000000), carry: None, earlier: None, host_names: \
+         [], most_kept: None, verbose: false }",
+    ),
+    (
+        "run|--db|x|--listen|1|--devices|a=h:1|--every|1|--most-kept|1",
+        "Run { dbs: [\"x\"], listen: 1, every: 1, devices: [Device { name: \"a\", host: \"h\", \
+         port: 1 }], lasts: None, carry: None, earlier: None, host_names: [], most_kept: \
+         Some(1), verbose: false }",
+    ),
+    (
+        "run|--db|x|--listen|1|--devices|a=h:1|--every|1|--most-kept|1000000",
+        "Run { dbs: [\"x\"], listen: 1, every: 1, devices: [Device { name: \"a\", host: \"h\", \
+         port: 1 }], lasts: None, carry: None, earlier: None, host_names: [], most_kept: \
+         Some(1000000), verbose: false }",
+    ),
+    (
+        "run|--db|x|--listen|1|--every|1|--devices|a=h:1",
+        "Run { dbs: [\"x\"], listen: 1, every: 1, devices: [Device { name: \"a\", host: \"h\", \
+         port: 1 }], lasts: None, carry: None, earlier: None, host_names: [], most_kept: None, \
+         verbose: false }",
+    ),
+    (
+        "run|--db|x|--listen|1|--every|1|--devices|a=h:65535,b=h:1",
+        "Run { dbs: [\"x\"], listen: 1, every: 1, devices: [Device { name: \"a\", host: \"h\", \
+         port: 65535 }, Device { name: \"b\", host: \"h\", port: 1 }], lasts: None, carry: \
+         None, earlier: None, host_names: [], most_kept: None, verbose: false }",
+    ),
+    (
+        "run|--db|x|--listen|1|--every|1|--devices|a=[::1]:502",
+        "Run { dbs: [\"x\"], listen: 1, every: 1, devices: [Device { name: \"a\", host: \
+         \"[::1]\", port: 502 }], lasts: None, carry: None, earlier: None, host_names: [], \
+         most_kept: None, verbose: false }",
+    ),
+    (
+        "run|--db|x|--listen|1|--every|1|--devices|a=::1:502",
+        "Run { dbs: [\"x\"], listen: 1, every: 1, devices: [Device { name: \"a\", host: \
+         \"::1\", port: 502 }], lasts: None, carry: None, earlier: None, host_names: [], \
+         most_kept: None, verbose: false }",
+    ),
+    (
+        "run|--db|x|--listen|1|--every|1|--devices|a=b=c:1",
+        "Run { dbs: [\"x\"], listen: 1, every: 1, devices: [Device { name: \"a\", host: \
+         \"b=c\", port: 1 }], lasts: None, carry: None, earlier: None, host_names: [], \
+         most_kept: None, verbose: false }",
+    ),
+    (
+        "run|--db|x|--listen|1|--every|1|--devices|A b=h:0000000001,a b=h:1",
+        "Run { dbs: [\"x\"], listen: 1, every: 1, devices: [Device { name: \"A b\", host: \
+         \"h\", port: 1 }, Device { name: \"a b\", host: \"h\", port: 1 }], lasts: None, \
+         carry: None, earlier: None, host_names: [], most_kept: None, verbose: false }",
+    ),
+    (
+        "run|--db|x|--listen|1|--every|1|--devices| a=h:1,a=h:1",
+        "Run { dbs: [\"x\"], listen: 1, every: 1, devices: [Device { name: \" a\", host: \
+         \"h\", port: 1 }, Device { name: \"a\", host: \"h\", port: 1 }], lasts: None, carry: \
+         None, earlier: None, host_names: [], most_kept: None, verbose: false }",
+    ),
+    (
+        "run|--db|x|--listen|1|--every|1|--devices|d1=h:1,d2=h:2,d3=h:3,d4=h:4,d5=h:5,d6=h:6,\
+         d7=h:7,d8=h:8,d9=h:9,d10=h:10,d11=h:11,d12=h:12,d13=h:13,d14=h:14,d15=h:15,d16=h:16,\
+         d17=h:17,d18=h:18,d19=h:19,d20=h:20,d21=h:21,d22=h:22,d23=h:23,d24=h:24,d25=h:25,\
+         d26=h:26,d27=h:27,d28=h:28,d29=h:29,d30=h:30,d31=h:31,d32=h:32,d33=h:33,d34=h:34,\
+         d35=h:35,d36=h:36,d37=h:37,d38=h:38,d39=h:39,d40=h:40,d41=h:41,d42=h:42,d43=h:43,\
+         d44=h:44,d45=h:45,d46=h:46,d47=h:47,d48=h:48,d49=h:49,d50=h:50,d51=h:51,d52=h:52,\
+         d53=h:53,d54=h:54,d55=h:55,d56=h:56,d57=h:57,d58=h:58,d59=h:59,d60=h:60,d61=h:61,\
+         d62=h:62,d63=h:63,d64=h:64",
+        "Run { dbs: [\"x\"], listen: 1, every: 1, devices: [Device { name: \"d1\", host: \
+         \"h\", port: 1 }, Device { name: \"d2\", host: \"h\", port: 2 }, Device { name: \
+         \"d3\", host: \"h\", port: 3 }, Device { name: \"d4\", host: \"h\", port: 4 }, Device \
+         { name: \"d5\", host: \"h\", port: 5 }, Device { name: \"d6\", host: \"h\", port: 6 \
+         }, Device { name: \"d7\", host: \"h\", port: 7 }, Device { name: \"d8\", host: \"h\", \
+         port: 8 }, Device { name: \"d9\", host: \"h\", port: 9 }, Device { name: \"d10\", \
+         host: \"h\", port: 10 }, Device { name: \"d11\", host: \"h\", port: 11 }, Device { \
+         name: \"d12\", host: \"h\", port: 12 }, Device { name: \"d13\", host: \"h\", port: 13 \
+         }, Device { name: \"d14\", host: \"h\", port: 14 }, Device { name: \"d15\", host: \
+         \"h\", port: 15 }, Device { name: \"d16\", host: \"h\", port: 16 }, Device { name: \
+         \"d17\", host: \"h\", port: 17 }, Device { name: \"d18\", host: \"h\", port: 18 }, \
+         Device { name: \"d19\", host: \"h\", port: 19 }, Device { name: \"d20\", host: \"h\", \
+         port: 20 }, Device { name: \"d21\", host: \"h\", port: 21 }, Device { name: \"d22\", \
+         host: \"h\", port: 22 }, Device { name: \"d23\", host: \"h\", port: 23 }, Device { \
+         name: \"d24\", host: \"h\", port: 24 }, Device { name: \"d25\", host: \"h\", port: 25 \
+         }, Device { name: \"d26\", host: \"h\", port: 26 }, Device { name: \"d27\", host: \
+         \"h\", port: 27 }, Device { name: \"d28\", host: \"h\", port: 28 }, Device { name: \
+         \"d29\", host: \"h\", port: 29 }, Device { name: \"d30\", host: \"h\", port: 30 }, \
+         Device { name: \"d31\", host: \"h\", port: 31 }, Device { name: \"d32\", host: \"h\", \
+         port: 32 }, Device { name: \"d33\", host: \"h\", port: 33 }, Device { name: \"d34\", \
+         host: \"h\", port: 34 }, Device { name: \"d35\", host: \"h\", port: 35 }, Device { \
+         name: \"d36\", host: \"h\", port: 36 }, Device { name: \"d37\", host: \"h\", port: 37 \
+         }, Device { name: \"d38\", host: \"h\", port: 38 }, Device { name: \"d39\", host: \
+         \"h\", port: 39 }, Device { name: \"d40\", host: \"h\", port: 40 }, Device { name: \
+         \"d41\", host: \"h\", port: 41 }, Device { name: \"d42\", host: \"h\", port: 42 }, \
+         Device { name: \"d43\", host: \"h\", port: 43 }, Device { name: \"d44\", host: \"h\", \
+         port: 44 }, Device { name: \"d45\", host: \"h\", port: 45 }, Device { name: \"d46\", \
+         host: \"h\", port: 46 }, Device { name: \"d47\", host: \"h\", port: 47 }, Device { \
+         name: \"d48\", host: \"h\", port: 48 }, Device { name: \"d49\", host: \"h\", port: 49 \
+         }, Device { name: \"d50\", host: \"h\", port: 50 }, Device { name: \"d51\", host: \
+         \"h\", port: 51 }, Device { name: \"d52\", host: \"h\", port: 52 }, Device { name: \
+         \"d53\", host: \"h\", port: 53 }, Device { name: \"d54\", host: \"h\", port: 54 }, \
+         Device { name: \"d55\", host: \"h\", port: 55 }, Device { name: \"d56\", host: \"h\", \
+         port: 56 }, Device { name: \"d57\", host: \"h\", port: 57 }, Device { name: \"d58\", \
+         host: \"h\", port: 58 }, Device { name: \"d59\", host: \"h\", port: 59 }, Device { \
+         name: \"d60\", host: \"h\", port: 60 }, Device { name: \"d61\", host: \"h\", port: 61 \
+         }, Device { name: \"d62\", host: \"h\", port: 62 }, Device { name: \"d63\", host: \
+         \"h\", port: 63 }, Device { name: \"d64\", host: \"h\", port: 64 }], lasts: None, \
+         carry: None, earlier: None, host_names: [], most_kept: None, verbose: false }",
+    ),
 ];
 
-// Each command line spells its command.
 #[test]
 fn words_spell_commands(rt: HostRuntime) {
     assert_spelled(&rt, rt.alloc(), &RIGHT);
-}
-
-// Without arguments the command is `replay`.
-#[test]
-fn no_word_is_replay(rt: HostRuntime) {
     let replay = CommandLine::Replay { zone: "UTC0" };
     assert!(rt; command_of(rt.alloc(), &[]) == Ok(replay));
 }

@@ -1,10 +1,10 @@
-//! What a command line spells: the command, the text of a fault, help or the version.
+//! Spells the words of a command line: the command, the text of a fault, help or the version.
 use command_words::{WordsFault, command_of};
 use std::alloc::Global;
 use std::process::Abort;
 
-/// Returns what a command line spells, as a text. Its arguments are between bars.
-pub(crate) fn spelled(rt: &impl Abort, alloc: Global, line: &str) -> String {
+/// Returns what a command line spells, as a text. Its words stand between bars.
+fn spelled(rt: &impl Abort, alloc: Global, line: &str) -> String {
     let words: Vec<&str> = line.split('|').collect(alloc).expect(rt, "no memory");
     let text = match command_of(alloc, &words) {
         Ok(command) => format!(in alloc; "{command:?}"),
@@ -20,13 +20,5 @@ pub(crate) fn assert_spelled(rt: &impl Abort, alloc: Global, lines: &[(&str, &st
     for (line, text) in lines {
         let found = spelled(rt, alloc, line);
         assert!(rt; found.as_str() == *text, "{line}: {found}");
-    }
-}
-
-/// Asserts that what each command line spells contains its part.
-pub(crate) fn assert_parts(rt: &impl Abort, alloc: Global, lines: &[(&str, &str)]) {
-    for (line, part) in lines {
-        let found = spelled(rt, alloc, line);
-        assert!(rt; found.as_str().contains(*part), "{line}: {found}");
     }
 }

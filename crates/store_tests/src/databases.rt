@@ -1,32 +1,28 @@
-//! Databases that are no books are handed back; none is made or opened inside a transaction.
-use crate::stores::Stores;
-use crate::tried::{Tried, in_memory};
+//! Databases that hold no office are returned. None is made or opened inside a transaction.
 use office_store::SqlBooks;
 use sqlite::{Alter, Connection};
 use std::alloc::Global;
 use std::process::Abort;
 
-/// The number of the fault where a connection is opened, and 0 for none; and the connection.
-fn opening<S: Alter + Drop>(alloc: Global, connection: Connection<S>) -> (u8, Connection<S>) {
-    match SqlBooks::open(alloc, connection) {
-        Ok(books) => (0, books.into_connection()),
-        Err(unopened) => (unopened.fault.number(), unopened.connection),
-    }
-}
-
-/// The same, where new books are made of a connection.
-fn making<S: Alter + Drop>(
+/// Makes a store in a zone, or opens one. Returns the number of the fault, or 0, and the
+/// connection.
+fn opening<S: Alter + Drop>(
     alloc: Global,
     connection: Connection<S>,
-    zone: &str,
+    zone: Option<&str>,
 ) -> (u8, Connection<S>) {
-    match SqlBooks::create(alloc, connection, zone) {
+    let opened = match zone {
+        Some(zone) => SqlBooks::create(alloc, connection, zone),
+        None => SqlBooks::open(alloc, connection),
+    };
+    match opened {
         Ok(books) => (0, books.into_connection()),
         Err(unopened) => (unopened.fault.number(), unopened.connection),
     }
 }
 
-/// What is done to a database before books are made of it in a zone, or opened, and the number of the fault.
+/// A change of the database, the zone of the store that is made then (none opens the store), and
+/// the number of the fault.
 type Step = (&'static str, Option<&'static str>, u8);
 
 static STEPS: [Step; 10] = [
@@ -42,7 +38,7 @@ static STEPS: [Step; 10] = [
     ("UPDATE meta SET version = 9", None, 1),
 ];
 
-/// The connection after a step, which has its fault.
+/// Carries out a step, which has its fault, and returns the connection.
 fn stepped<S: Alter + Drop>(
     rt: &impl Abort,
     alloc: Global,
@@ -51,22 +47,19 @@ fn stepped<S: Alter + Drop>(
 ) -> Connection<S> {
     let (change, zone, number) = *step;
     connection.execute_batch(change).expect(rt, "no batch");
-    let (fault, left) = match zone {
-        Some(zone) => making(alloc, connection, zone),
-        None => opening(alloc, connection),
-    };
+    let (fault, left) = opening(alloc, connection, zone);
     assert!(rt; fault == number, "{change}");
     left
 }
 
-pub(crate) fn each_is_handed_back<D: Stores>(rt: &impl Abort, alloc: Global, stores: &D) {
-    let mut connection = stores.open(rt, alloc);
+/// Carries out all steps over an empty database, and returns its store.
+pub(crate) fn each_is_handed_back<S: Alter + Drop>(
+    rt: &impl Abort,
+    alloc: Global,
+    mut connection: Connection<S>,
+) -> S {
     for step in &STEPS {
         connection = stepped(rt, alloc, connection, step);
     }
-}
-
-#[test]
-fn connections_are_handed_back(rt: HostRuntime) {
-    in_memory(&rt, rt.alloc(), Tried::Databases)
+    connection.into_store()
 }

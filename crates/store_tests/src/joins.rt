@@ -1,4 +1,5 @@
-//! A meter that has more energy in all files than a meter may have. No file can have so much by its rows.
+//! A meter with more energy in all files than a meter may have. The rows of a sound file never have
+//! so much.
 use energy_core::{Last, MAX_TOTAL};
 use meter_audit::Standing;
 use meter_journal::Installed;
@@ -12,7 +13,7 @@ const STAND: Last = Last {
     sf: 0,
 };
 
-/// A file whose meter has this energy.
+/// Returns a file whose meter has this energy.
 fn file_of(rt: &impl Abort, alloc: Global, file: &'static str, total: u64) -> FiledOffice<'static> {
     let meter = FiledMeter {
         file,
@@ -48,6 +49,7 @@ static TOTALS: [(u64, &[u8]); 2] = [
     ),
 ];
 
+// The energy of a meter in all files has the limit of a meter in one file.
 #[test]
 fn the_energy_of_all_files_has_a_limit(rt: HostRuntime) {
     for (total, printed) in &TOTALS {

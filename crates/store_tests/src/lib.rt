@@ -1,35 +1,39 @@
-//! Tests of the tables of the books, of the file that has them all, of what is booked and looked up in them, and of an office
-//! over them, over databases in memory. Scripts give the answers that they give over books in memory, each column of each table is set
-//! to what it can't be, and the books say so, and the machine stops at each call of a database's files.
+//! Tests of a store in tables: crashes at each call of its files, failures, and records that the
+//! tables refuse. Also tests of how commands over files end, and what they say. Scripts and checks
+//! of the program show what a text in and a text out can show.
 #![tactic(auto)]
 
 #[cfg(test)]
-mod columns;
+mod acts;
+#[cfg(test)]
+mod advice;
 #[cfg(test)]
 mod damage;
 #[cfg(test)]
-mod damaged_columns;
-#[cfg(test)]
 mod databases;
 #[cfg(test)]
-mod faults;
+mod endings;
+#[cfg(test)]
+mod failures;
+#[cfg(test)]
+mod fault_texts;
 #[cfg(test)]
 mod held_readings;
 #[cfg(test)]
 mod joins;
 #[cfg(test)]
+mod laws;
+#[cfg(test)]
 mod made;
 #[cfg(test)]
 mod new_books;
-#[cfg(test)]
-mod questions;
 #[cfg(test)]
 mod refused_facts;
 #[cfg(test)]
 mod stops;
 #[cfg(test)]
-mod stores;
-#[cfg(test)]
 mod tables;
 #[cfg(test)]
-mod tried;
+mod task_ends;
+#[cfg(test)]
+mod unwaited_lines;

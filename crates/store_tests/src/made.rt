@@ -1,5 +1,4 @@
-//! Books in a new database, and an office over books.
-use crate::stores::Stores;
+//! Builds a store in a new database, and an office over a store.
 use office_books::Books;
 use office_core::Office;
 use office_store::SqlBooks;
@@ -7,7 +6,7 @@ use sqlite::{Alter, Connection};
 use std::alloc::Global;
 use std::process::Abort;
 
-/// New books over this connection.
+/// Makes a store over this connection.
 pub(crate) fn made<S: Alter + Drop>(
     rt: &impl Abort,
     alloc: Global,
@@ -20,15 +19,7 @@ pub(crate) fn made<S: Alter + Drop>(
     }
 }
 
-/// A zone in which the clocks go forward on 2024-03-31 and back on 2024-10-27.
-const ZONE: &str = "CET-1CEST,M3.5.0,M10.5.0/3";
-
-/// New books.
-pub(crate) fn books<D: Stores>(rt: &impl Abort, alloc: Global, stores: &D) -> SqlBooks<D::Store> {
-    made(rt, alloc, stores.open(rt, alloc), ZONE)
-}
-
-/// The books of this connection.
+/// Opens the store of this connection.
 pub(crate) fn found<S: Alter + Drop>(
     rt: &impl Abort,
     alloc: Global,
@@ -40,7 +31,7 @@ pub(crate) fn found<S: Alter + Drop>(
     }
 }
 
-/// An office over books, opened at a moment.
+/// Opens an office over a store at a time.
 pub(crate) fn opened<B: Books>(rt: &impl Abort, alloc: Global, books: B, moment: u64) -> Office<B> {
     match Office::open(alloc, books, moment) {
         Ok(office) => office,

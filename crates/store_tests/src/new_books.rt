@@ -1,11 +1,11 @@
-//! What is asked of books beside their look-ups.
+//! Questions that the store itself has not.
 ghost use Rattle.std.specs.Prelude.{◌≡◌, false, IfOk};
 
 use sqlite::{Alter, Connection, Error};
 use std::alloc::Global;
 use std::process::Abort;
 
-/// That no transaction is under way.
+/// Refuses a connection with a transaction in progress.
 pub(crate) fn ready<S: Alter>(conn: &mut Connection<S>) -> Result<(), Error>
     ensures same { conn.new ≡ conn.old }
     ensures idle { IfOk result (λ _. conn.new.in_transaction ≡ false) }
@@ -17,7 +17,7 @@ pub(crate) fn ready<S: Alter>(conn: &mut Connection<S>) -> Result<(), Error>
     }
 }
 
-/// How many rows a table has.
+/// Returns how many rows a table has.
 pub(crate) fn count<S: Alter>(
     rt: &impl Abort,
     alloc: Global,

@@ -1,8 +1,6 @@
-//! Facts that can't be booked leave no row of their event.
+//! Records that the store refuses leave no row of their event.
 use crate::new_books::{count, ready};
-use crate::stores::Stores;
 use crate::tables::strict;
-use crate::tried::{Tried, in_memory};
 use energy_core::Entry;
 use mb_wire::ReadSpan;
 use meter_journal::EntryKind;
@@ -12,47 +10,36 @@ use sqlite::{Alter, Connection};
 use std::alloc::Global;
 use std::process::Abort;
 
-fn reading(at: u64, raw: u32) -> Option<Fact> {
-    Some(Fact::Entry(BookedEntry {
-        meter: Name::new(b"m1")?,
+fn reading(rt: &impl Abort, at: u64, raw: u32) -> Fact {
+    Fact::Entry(BookedEntry {
+        meter: Name::new(b"m1").expect(rt, "no name"),
         kind: EntryKind::Reading,
         entry: Entry::Step { at, raw, rolls: 0 },
-    }))
+    })
 }
 
-fn poll() -> Option<Fact> {
-    Some(Fact::Poll(Poll {
+fn poll(rt: &impl Abort) -> Fact {
+    Fact::Poll(Poll {
         number: 3,
-        device: Name::new(b"inv")?,
+        device: Name::new(b"inv").expect(rt, "no name"),
         unit: 1,
         at: 4000,
         id: 7,
-        span: ReadSpan::new(3, 40_094, 3)?,
-    }))
+        span: ReadSpan::new(3, 40_094, 3).expect(rt, "no span"),
+    })
 }
 
-/// The device is known already.
-fn known_device() -> Option<Fact> {
-    Some(Fact::Device(Device {
-        name: Name::new(b"inv")?,
+/// Returns the device that the store has already.
+pub(crate) fn known_device(rt: &impl Abort) -> Fact {
+    Fact::Device(Device {
+        name: Name::new(b"inv").expect(rt, "no name"),
         unit: 1,
-        timeout: Timeout::new(5)?,
-        window: Window::new(2)?,
-    }))
+        timeout: Timeout::new(5).expect(rt, "no timeout"),
+        window: Window::new(2).expect(rt, "no window"),
+    })
 }
 
-/// The facts of which none is missing.
-fn whole<const N: usize>(rt: &impl Abort, alloc: Global, given: [Option<Fact>; N]) -> Vec<Fact> {
-    let mut facts = Vec::new(alloc);
-    for fact in Vec::from_array(alloc, given).expect(rt, "no memory") {
-        facts
-            .push(fact.expect(rt, "no fact"))
-            .expect(rt, "no memory");
-    }
-    facts
-}
-
-/// Whether facts are booked.
+/// Whether the store books these facts.
 fn is_booked<S: Alter>(
     rt: &impl Abort,
     alloc: Global,
@@ -63,7 +50,7 @@ fn is_booked<S: Alter>(
     book_facts(alloc, conn, facts).is_ok()
 }
 
-/// The tables with the number of rows that they have before and after.
+/// Tables, and the number of their rows before and after.
 static COUNTS: [(&str, i64); 4] = [
     ("devices", 1),
     ("polls", 2),
@@ -71,12 +58,17 @@ static COUNTS: [(&str, i64); 4] = [
     ("intervals", 2),
 ];
 
-/// A poll and a reading may follow, but a known device not; nor may a counter that goes back.
-pub(crate) fn they_leave_no_row<D: Stores>(rt: &impl Abort, alloc: Global, stores: &D) {
-    let mut conn = strict(rt, alloc, stores);
-    let many = whole(rt, alloc, [poll(), reading(5000, 5300), known_device()]);
-    let back = whole(rt, alloc, [reading(5000, 5100)]);
-    let both = whole(rt, alloc, [poll(), reading(5000, 5300)]);
+/// Books a poll and a reading, which may follow the rows. A known device may not, and neither may a
+/// counter that goes back. Returns the store.
+pub(crate) fn they_leave_no_row<S: Alter + Drop>(
+    rt: &impl Abort,
+    alloc: Global,
+    connection: Connection<S>,
+) -> S {
+    let mut conn = strict(rt, alloc, connection);
+    let many = [poll(rt), reading(rt, 5000, 5300), known_device(rt)];
+    let back = [reading(rt, 5000, 5100)];
+    let both = [poll(rt), reading(rt, 5000, 5300)];
     assert!(rt; !is_booked(rt, alloc, &mut conn, &many));
     assert!(rt; !is_booked(rt, alloc, &mut conn, &back));
     assert!(rt; is_booked(rt, alloc, &mut conn, &[]));
@@ -84,9 +76,5 @@ pub(crate) fn they_leave_no_row<D: Stores>(rt: &impl Abort, alloc: Global, store
         assert!(rt; count(rt, alloc, &mut conn, rows) == Ok(*number), "{rows}");
     }
     assert!(rt; is_booked(rt, alloc, &mut conn, &both));
-}
-
-#[test]
-fn refused_facts_leave_no_row(rt: HostRuntime) {
-    in_memory(&rt, rt.alloc(), Tried::RefusedFacts)
+    conn.into_store()
 }

@@ -1,13 +1,11 @@
-//! The machine stops at each call of the two files of a database, while the file of the books is made or brought to today's
-//! version, and in each event of an office and in a request. What stands afterwards is whole: what was acknowledged, or that
-//! and what was under way.
-mod asked;
+//! The machine crashes at each call of the two files of a database. Meanwhile a file is brought to
+//! today's version, or an office makes its tables and handles events and a request. After the crash
+//! the file holds what was acknowledged, or also the change in flight, complete.
+pub(crate) mod asked;
+mod crashes;
 mod day;
-mod file_stops;
-mod files;
-mod office_stops;
-mod offices;
-mod printed;
+pub(crate) mod files;
+pub(crate) mod offices;
 mod shown;
-mod standing;
-mod work;
+pub(crate) mod standing;
+pub(crate) mod work;

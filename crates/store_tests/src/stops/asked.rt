@@ -1,4 +1,4 @@
-//! The requests that follow the script: the meter is exchanged, or its reading is voided.
+//! The requests that follow the script: an exchange of the meter, or a void of its reading.
 
 /// A request.
 #[derive(Clone, Copy, Debug)]
@@ -19,11 +19,11 @@ const VOID: &[u8] =
 const VOID_DONE: &[u8] =
     b"HTTP/1.1 200 OK\r\nContent-Type: application/json\r\nContent-Length: 15\r\nConnection: close\r\n\r\n{\"done\":\"void\"}";
 
-/// The reply where the store refused.
+/// The response if the store failed.
 pub(crate) const UNAVAILABLE: &[u8] =
     b"HTTP/1.1 503 Service Unavailable\r\nContent-Type: application/json\r\nContent-Length: 14\r\nConnection: close\r\n\r\n{\"refused\":13}";
 
-/// The bytes of a request.
+/// Returns the bytes of a request.
 pub(crate) fn request_of(asked: Asked) -> &'static [u8] {
     match asked {
         Asked::Exchange => EXCHANGE,
@@ -31,7 +31,7 @@ pub(crate) fn request_of(asked: Asked) -> &'static [u8] {
     }
 }
 
-/// The reply to it, where it is carried out.
+/// Returns the response to a request that is carried out.
 pub(crate) fn reply_of(asked: Asked) -> &'static [u8] {
     match asked {
         Asked::Exchange => EXCHANGE_DONE,

@@ -1,17 +1,18 @@
-//! The two files of a database, in memory. From one of their calls on each fails, as where the machine has stopped.
+//! The two files of a database, in memory. From one of their calls on each call fails, as if the
+//! machine had crashed.
 use sqlite::{Connection, FileStore, Files, Options};
 use sqlite_disk::{Crash, Disk, Fuse, Memory};
 use std::alloc::Global;
 use std::process::Abort;
 
-/// The file of the two at whose call the machine stops.
+/// The file at whose call the machine crashes.
 #[derive(Clone, Copy, Debug)]
 pub(crate) enum Stopping {
     Log,
     Database,
 }
 
-/// A stop after so many calls of a file. What was not synced is lost, or is there afterwards.
+/// A crash after so many calls of a file. What was not synced is lost, or is in the file.
 #[derive(Clone, Copy, Debug)]
 pub(crate) struct Stop {
     pub(crate) file: Stopping,
@@ -19,15 +20,7 @@ pub(crate) struct Stop {
     pub(crate) is_lost: bool,
 }
 
-/// Each of the files, and what is there afterwards.
-pub(crate) static STOPS: [(Stopping, bool); 4] = [
-    (Stopping::Log, true),
-    (Stopping::Log, false),
-    (Stopping::Database, true),
-    (Stopping::Database, false),
-];
-
-/// A file that has these bytes.
+/// Returns a file with these bytes, whose calls fail after so many.
 fn file(rt: &impl Abort, alloc: Global, bytes: &[u8], calls: u64) -> Fuse<Memory> {
     let mut file = Memory::new(alloc);
     file.write_at(0, bytes).expect(rt, "not written");
@@ -35,7 +28,7 @@ fn file(rt: &impl Abort, alloc: Global, bytes: &[u8], calls: u64) -> Fuse<Memory
     Fuse::new(file, calls)
 }
 
-/// A log and a database's file with these bytes, where the machine will stop.
+/// Returns a log and a database file with these bytes. The machine will crash there.
 pub(crate) fn files(
     rt: &impl Abort,
     alloc: Global,
@@ -53,7 +46,7 @@ pub(crate) fn files(
     }
 }
 
-/// A connection to files, or the files where that fails.
+/// Connects to files, or returns them if that fails.
 pub(crate) fn connected(
     alloc: Global,
     files: Files<Fuse<Memory>>,
@@ -67,12 +60,8 @@ pub(crate) fn connected(
     }
 }
 
-/// The files of a store, which is closed.
-pub(crate) fn closed(store: FileStore<Fuse<Memory>>) -> Files<Fuse<Memory>> {
-    store.close()
-}
-
-/// The files once the machine has come back. What was not synced is lost, or is there as it was written.
+/// Returns the files after the restart. What was not synced is lost, or is in the file as it was
+/// written.
 pub(crate) fn restarted(
     rt: &impl Abort,
     alloc: Global,

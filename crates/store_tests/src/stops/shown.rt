@@ -1,10 +1,10 @@
-//! What a file shows.
+//! What queries show of a file.
 use interval_core::Zone;
 use sqlite::{Alter, Connection};
 use std::process::Abort;
 use store_files::OpenFault;
 
-/// The number of the fault, and 0 for none.
+/// Returns the number of the fault, or 0.
 pub(crate) fn fault(answer: Result<Zone, OpenFault>) -> u8 {
     match answer {
         Ok(_) => 0,
@@ -12,7 +12,7 @@ pub(crate) fn fault(answer: Result<Zone, OpenFault>) -> u8 {
     }
 }
 
-/// The number that a query answers.
+/// Returns the number that a query returns.
 pub(crate) fn number<S: Alter>(rt: &impl Abort, conn: &mut Connection<S>, query: &str) -> i64 {
     conn.query_row(query, &[])
         .expect(rt, "no row")
@@ -20,9 +20,9 @@ pub(crate) fn number<S: Alter>(rt: &impl Abort, conn: &mut Connection<S>, query:
         .expect(rt, "no number")
 }
 
-/// The file shows these numbers.
+/// Asserts that each query returns its number.
 pub(crate) fn shows<S: Alter>(rt: &impl Abort, conn: &mut Connection<S>, numbers: &[(&str, i64)]) {
     for (query, shown) in numbers {
-        assert_eq!(rt; number(rt, conn, query), *shown, "{query}");
+        assert!(rt; number(rt, conn, query) == *shown, "{query}");
     }
 }

@@ -1,36 +1,90 @@
-//! What stands after a stop.
+//! What an office holds after a crash.
+use crate::made::{found, made, opened};
 use crate::stops::asked::Asked;
 use crate::stops::offices::acknowledges;
-use crate::stops::printed::opened;
-use crate::stops::shown::shows;
+use crate::stops::shown::{number, shows};
 use office_books::Books;
 use office_store::{OpenFault, SqlBooks};
 use sqlite::{Alter, Connection};
 use std::alloc::Global;
 use std::process::Abort;
-use std::str;
 
-/// What is printed once so many steps stand: none, the books, and the events of the script one by one.
-static STANDING: [&str; 8] = [
-    "",
-    "devices 0 registers 0\nrefused 1\nrefused 1\nrefused 1\n",
-    "devices 1 registers 0\nrefused 1\nrefused 1\nrefused 1\n",
-    "devices 1 registers 1\nrefused 1\nrefused 1\nrefused 1\n",
-    "devices 1 registers 1\nrefused 1\nmeter m1 last 5000 sf 0 at 1000 total 0 open\nrefused 1\n",
-    "devices 1 registers 1\nrefused 1\nmeter m1 last 5000 sf 0 at 1000 total 0 open\nrefused 1\n",
-    "devices 1 registers 1\npoll 1 lost 4\nmeter m1 last 5000 sf 0 at 1000 total 0 open\nrefused 1\n",
-    "devices 1 registers 1\npoll 1 answered\nmeter m1 last 5200 sf 0 at 1900 total 200000 open\nrefused 1\n900 177777\n1800 22223\n",
+/// Queries of an office that was opened at 5000, and what each shows in these states: no tables,
+/// new tables, after each of the six events of the script, after the exchange, and after the void.
+///
+/// The opening loses the poll that was pending.
+static STATES: [(&str, &[i64]); 17] = [
+    (
+        "SELECT count(*) FROM meta WHERE id = 1 AND version = 3 AND zone = 'UTC0'",
+        &[0, 1, 1, 1, 1, 1, 1, 1, 1, 1],
+    ),
+    (
+        "SELECT count(*) FROM devices",
+        &[0, 0, 1, 1, 1, 1, 1, 1, 1, 1],
+    ),
+    (
+        "SELECT count(*) FROM registers WHERE device = 'inv'",
+        &[0, 0, 0, 1, 1, 1, 1, 1, 1, 1],
+    ),
+    (
+        "SELECT count(*) FROM polls",
+        &[0, 0, 0, 0, 0, 0, 1, 1, 1, 1],
+    ),
+    (
+        "SELECT count(*) FROM outcomes WHERE poll = 1 AND outcome = 5 AND code = 4",
+        &[0, 0, 0, 0, 0, 0, 1, 0, 0, 0],
+    ),
+    (
+        "SELECT count(*) FROM outcomes WHERE poll = 1 AND outcome = 1 AND code = 0",
+        &[0, 0, 0, 0, 0, 0, 0, 1, 1, 1],
+    ),
+    (
+        "SELECT count(*) FROM installations WHERE meter = 'm1'",
+        &[0, 0, 0, 0, 1, 1, 1, 1, 1, 1],
+    ),
+    (
+        "SELECT count(*) FROM installations WHERE meter = 'm1' AND last_moment = 1000 AND last_raw = 5000 AND last_sf = 0 AND total = 0 AND ended = 0",
+        &[0, 0, 0, 0, 1, 1, 1, 0, 0, 1],
+    ),
+    (
+        "SELECT count(*) FROM installations WHERE meter = 'm1' AND last_moment = 1900 AND last_raw = 5200 AND last_sf = 0 AND total = 200000 AND ended = 0",
+        &[0, 0, 0, 0, 0, 0, 0, 1, 0, 0],
+    ),
+    (
+        "SELECT count(*) FROM installations WHERE meter = 'm1' AND last_moment = 2800 AND last_raw = 5300 AND last_sf = 0 AND total = 300000 AND ended = 1",
+        &[0, 0, 0, 0, 0, 0, 0, 0, 1, 0],
+    ),
+    (
+        "SELECT count(*) FROM installations WHERE meter = 'm2'",
+        &[0, 0, 0, 0, 0, 0, 0, 0, 1, 0],
+    ),
+    (
+        "SELECT count(*) FROM installations WHERE meter = 'm2' AND last_moment = 2800 AND last_raw = 0 AND last_sf = 0 AND total = 0 AND ended = 0",
+        &[0, 0, 0, 0, 0, 0, 0, 0, 1, 0],
+    ),
+    (
+        "SELECT count(*) FROM intervals",
+        &[0, 0, 0, 0, 0, 0, 0, 2, 3, 0],
+    ),
+    (
+        "SELECT count(*) FROM intervals WHERE meter = 'm1' AND start = 900 AND mwh = 177777",
+        &[0, 0, 0, 0, 0, 0, 0, 1, 1, 0],
+    ),
+    (
+        "SELECT count(*) FROM intervals WHERE meter = 'm1' AND start = 1800 AND mwh = 22223",
+        &[0, 0, 0, 0, 0, 0, 0, 1, 0, 0],
+    ),
+    (
+        "SELECT count(*) FROM intervals WHERE meter = 'm1' AND start = 1800 AND mwh = 111111",
+        &[0, 0, 0, 0, 0, 0, 0, 0, 1, 0],
+    ),
+    (
+        "SELECT count(*) FROM intervals WHERE meter = 'm1' AND start = 2700 AND mwh = 11112",
+        &[0, 0, 0, 0, 0, 0, 0, 0, 1, 0],
+    ),
 ];
 
-/// What is printed once the meter was exchanged.
-const EXCHANGED: &str =
-    "devices 1 registers 1\npoll 1 answered\nmeter m1 last 5300 sf 0 at 2800 total 300000 ended\nmeter m2 last 0 sf 0 at 2800 total 0 open\n900 177777\n1800 111111\n2700 11112\n";
-
-/// What is printed once its reading was voided.
-const VOIDED: &str =
-    "devices 1 registers 1\npoll 1 answered\nmeter m1 last 5000 sf 0 at 1000 total 0 open\nrefused 1\n";
-
-/// What queries show once the exchange was sent again, whenever it was booked.
+/// What queries show after a retry of the exchange, whenever it was recorded.
 static EXCHANGED_ROWS: [(&str, i64); 5] = [
     ("SELECT count(*) FROM installations", 2),
     (
@@ -45,7 +99,7 @@ static EXCHANGED_ROWS: [(&str, i64); 5] = [
     ("SELECT count(*) FROM replies", 1),
 ];
 
-/// The same of the void.
+/// What queries show after a retry of the void.
 static VOIDED_ROWS: [(&str, i64); 5] = [
     ("SELECT count(*) FROM voids", 1),
     (
@@ -60,17 +114,42 @@ static VOIDED_ROWS: [(&str, i64); 5] = [
     ("SELECT count(*) FROM replies", 1),
 ];
 
-/// Whether a text may be printed where so many steps were acknowledged: they stand, or one more, of which a request is the last.
-fn may_stand(asked: Asked, steps: usize, text: &str) -> bool {
-    let mut listed = STANDING.iter().skip(steps).take(2);
-    let is_last = match asked {
-        Asked::Exchange => text == EXCHANGED,
-        Asked::Void => text == VOIDED,
-    };
-    listed.any(|standing| *standing == text) || (7 <= steps && is_last)
+/// Whether each query shows the number of a state.
+fn is_in_state<S: Alter>(rt: &impl Abort, connection: &mut Connection<S>, state: usize) -> bool {
+    for (query, numbers) in &STATES {
+        let is_shown = match numbers.get(state) {
+            Some(wanted) => number(rt, connection, query) == *wanted,
+            None => false,
+        };
+        if !is_shown {
+            return false;
+        }
+    }
+    true
 }
 
-/// A request stands once.
+/// Whether the store has so many steps that were acknowledged, or also the one in flight. The last
+/// step is the request.
+fn may_stand<S: Alter>(
+    rt: &impl Abort,
+    connection: &mut Connection<S>,
+    asked: Asked,
+    steps: usize,
+) -> bool {
+    let last = match asked {
+        Asked::Exchange => 8,
+        Asked::Void => 9,
+    };
+    let next = if steps < 7 {
+        steps.saturating_add(1)
+    } else {
+        last
+    };
+    let is_acknowledged = steps < 8 && is_in_state(rt, connection, steps);
+    is_acknowledged || is_in_state(rt, connection, next)
+}
+
+/// Asserts that a request is recorded once.
 fn stands_once<S: Alter>(rt: &impl Abort, connection: &mut Connection<S>, asked: Asked) {
     match asked {
         Asked::Exchange => shows(rt, connection, &EXCHANGED_ROWS),
@@ -78,35 +157,64 @@ fn stands_once<S: Alter>(rt: &impl Abort, connection: &mut Connection<S>, asked:
     }
 }
 
-/// An office over the books, where what so many steps left is printed, or one more. A request that may stand is sent again.
-fn reopened<B: Books>(rt: &impl Abort, alloc: Global, books: B, asked: Asked, steps: usize) -> B {
-    let (mut office, text) = opened(rt, alloc, books);
-    let text = str::from_utf8(&text).expect(rt, "no UTF-8");
-    assert!(rt; may_stand(asked, steps, text), "{steps} {text}");
-    if 7 <= steps {
+/// Opens an office at 5000. Sends it a request again, if there is one, and asserts that it is
+/// acknowledged. Returns the store.
+fn reopened<B: Books>(rt: &impl Abort, alloc: Global, books: B, again: Option<Asked>) -> B {
+    let mut office = opened(rt, alloc, books, 5000);
+    if let Some(asked) = again {
         assert!(rt; acknowledges(rt, alloc, &mut office, asked, 5000));
     }
     office.into_books()
 }
 
-/// What so many steps left stands, or one more. Where none was acknowledged, there may be no books.
+/// Sends a request again. Asserts that it is recorded once, and returns the store.
+fn retried<S: Alter + Drop>(
+    rt: &impl Abort,
+    alloc: Global,
+    connection: Connection<S>,
+    asked: Asked,
+) -> S {
+    let books = reopened(rt, alloc, found(rt, alloc, connection), Some(asked));
+    let mut connection = books.into_connection();
+    stands_once(rt, &mut connection, asked);
+    connection.into_store()
+}
+
+/// Asserts that the database is empty, and that the tables can be made in it. Returns the store.
+fn remade<S: Alter + Drop>(rt: &impl Abort, alloc: Global, mut connection: Connection<S>) -> S {
+    assert!(rt; number(rt, &mut connection, "SELECT count(*) FROM sqlite_schema") == 0);
+    let books = made(rt, alloc, connection, "UTC0");
+    let mut connection = found(rt, alloc, books.into_connection()).into_connection();
+    assert!(rt; is_in_state(rt, &mut connection, 1));
+    connection.into_store()
+}
+
+/// Asserts that the steps are recorded, or one more. Where none was acknowledged, there may be no
+/// tables. Returns the store.
 pub(crate) fn stands<S: Alter + Drop>(
     rt: &impl Abort,
     alloc: Global,
     connection: Connection<S>,
     asked: Asked,
     steps: usize,
-) {
+) -> S {
     match SqlBooks::open(alloc, connection) {
         Ok(books) => {
-            let books = reopened(rt, alloc, books, asked, steps);
-            if steps < 7 {
-                return;
+            let books = reopened(rt, alloc, books, None);
+            let mut connection = books.into_connection();
+            assert!(rt;
+                may_stand(rt, &mut connection, asked, steps),
+                "{asked:?} {steps}"
+            );
+            if 7 <= steps {
+                retried(rt, alloc, connection, asked)
+            } else {
+                connection.into_store()
             }
-            stands_once(rt, &mut books.into_connection(), asked)
         }
         Err(unopened) => {
             assert!(rt; steps == 0 && unopened.fault == OpenFault::NotOurs);
+            remade(rt, alloc, unopened.connection)
         }
     }
 }

@@ -1,6 +1,7 @@
-//! Lines that are written without waiting for who reads them.
+//! Lines that are written without waiting for their reader.
 use office_running::write_without_waiting;
 
+// Such lines are complete.
 #[test]
 fn what_nobody_waits_for_is_written_whole(rt: HostRuntime) {
     let mut written = Vec::new(rt.alloc());

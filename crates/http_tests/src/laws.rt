@@ -1,0 +1,17 @@
+//! Theorems whose functions nobody else calls.
+use crate::failing_commands::NoFiles;
+use office_program::{MOST_FILE, inputs_act_once, requests_are_repeated};
+use run_http::{entries_come_after, pieces_are_whole, rows_before_stay, text_stays};
+
+// The theorems on chunks of replies, on copies of rows, and on inputs that are entered can be
+// cited.
+#[test]
+fn theorems_are_called(rt: HostRuntime) {
+    rows_before_stay();
+    entries_come_after();
+    text_stays();
+    pieces_are_whole();
+    requests_are_repeated();
+    inputs_act_once(&NoFiles);
+    assert!(rt; MOST_FILE == 65_536);
+}

@@ -1,0 +1,104 @@
+//! What the tests do over a database, and the one place that does it over files in memory. The gate
+//! pays for each place that names the type of a store.
+use crate::stops::asked::Asked;
+use crate::stops::files::{Stop, Stopping, connected, files};
+use crate::stops::offices::play;
+use crate::stops::standing::stands;
+use crate::stops::work::{bring, is_brought, prepare};
+use crate::{damage, databases, held_readings, laws, refused_facts};
+use sqlite::{Alter, Connection, Files};
+use sqlite_disk::{Fuse, Memory};
+use std::alloc::Global;
+use std::process::Abort;
+
+/// An act over a database.
+#[derive(Clone, Copy, Debug)]
+pub(crate) enum Act {
+    /// Makes a file of version 1.
+    Prepare,
+    /// Opens a file, which brings it to today's version.
+    Bring,
+    /// Plays all steps of an office.
+    Play(Asked),
+    /// Asserts what the file holds after a crash, where so many steps were acknowledged.
+    Brought(usize),
+    /// Asserts what the office holds after a crash, where so many steps were acknowledged.
+    Played(Asked, usize),
+    /// Tests an empty database.
+    Damage,
+    Databases,
+    HeldReadings,
+    Ranges,
+    RefusedFacts,
+}
+
+/// Acts over a database. Returns how many steps were acknowledged, and the store.
+fn act_over<S: Alter + Drop>(
+    rt: &impl Abort,
+    alloc: Global,
+    connection: Connection<S>,
+    act: Act,
+) -> (usize, S) {
+    match act {
+        Act::Prepare => prepare(rt, connection),
+        Act::Bring => bring(rt, connection),
+        Act::Play(asked) => play(rt, alloc, connection, asked),
+        Act::Brought(steps) => (0, is_brought(rt, connection, steps)),
+        Act::Played(asked, steps) => (0, stands(rt, alloc, connection, asked, steps)),
+        Act::Damage => (0, damage::failures_are_counted(rt, alloc, connection)),
+        Act::Databases => (0, databases::each_is_handed_back(rt, alloc, connection)),
+        Act::HeldReadings => (0, held_readings::they_are_handed_on(rt, alloc, connection)),
+        Act::Ranges => (
+            0,
+            laws::files_and_ranges_have_their_days(rt, alloc, connection),
+        ),
+        Act::RefusedFacts => (0, refused_facts::they_leave_no_row(rt, alloc, connection)),
+    }
+}
+
+/// Acts over the database in these files. Returns how many steps were acknowledged, and the files.
+pub(crate) fn act_in(
+    rt: &impl Abort,
+    alloc: Global,
+    files: Files<Fuse<Memory>>,
+    act: Act,
+) -> (usize, Files<Fuse<Memory>>) {
+    match connected(alloc, files) {
+        Ok(connection) => {
+            let (steps, store) = act_over(rt, alloc, connection, act);
+            (steps, store.close())
+        }
+        Err(files) => {
+            assert!(rt; matches!(act, Act::Bring | Act::Play(_)), "not opened");
+            (0, files)
+        }
+    }
+}
+
+/// Returns the files of an empty database, where no call fails.
+pub(crate) fn empty_files(rt: &impl Abort, alloc: Global) -> Files<Fuse<Memory>> {
+    let never = Stop {
+        file: Stopping::Log,
+        calls: u64::MAX,
+        is_lost: true,
+    };
+    files(rt, alloc, b"", b"", never)
+}
+
+/// The tests over an empty database.
+static TESTS: [Act; 5] = [
+    Act::Damage,
+    Act::Databases,
+    Act::HeldReadings,
+    Act::Ranges,
+    Act::RefusedFacts,
+];
+
+// A store counts its failures. It returns a database without an office. It returns rejected
+// readings with all fields, and the days of a range. Records that it refuses leave no row.
+#[test]
+fn stores_keep_what_they_promise(rt: HostRuntime) {
+    for act in &TESTS {
+        let (_steps, _files) = act_in(&rt, rt.alloc(), empty_files(&rt, rt.alloc()), *act);
+    }
+}

@@ -1,0 +1,71 @@
+//! The texts of faults of the tables and of their file, which no command prints, and the numbers of
+//! faults.
+use sqlite::Error;
+use std::alloc::Global;
+use std::fmt::Display;
+use std::process::Abort;
+use store_files::OpenFault;
+use store_tables::RowFault;
+use stored_files::FileFault;
+
+/// Asserts that each fault has its text, which ends without a full stop.
+fn assert_texts<F: Display>(rt: &impl Abort, alloc: Global, texts: &[(F, &str)]) {
+    for (fault, text) in texts {
+        let said = format!(in alloc; "{fault}").expect(rt, "no memory");
+        assert!(rt; said.as_str() == *text, "{text}");
+        assert!(rt; !text.ends_with('.'), "{text}");
+    }
+}
+
+const FILES: [(OpenFault, &str); 4] = [
+    (
+        OpenFault::NotOurs,
+        "the file holds other tables than those of books, or books of a version that is not known",
+    ),
+    (
+        OpenFault::Zone,
+        "the text is no POSIX time zone of at most 64 bytes, as UTC0 or CET-1CEST,M3.5.0,M10.5.0/3",
+    ),
+    (OpenFault::Store, "the database refused or failed"),
+    (OpenFault::Memory, "out of memory"),
+];
+
+const ROWS: [(RowFault, &str); 2] = [
+    (
+        RowFault::Sql(Error::QueryReturnedNoRows),
+        "the database refused or failed: query returned no rows",
+    ),
+    (
+        RowFault::Damaged,
+        "the database is damaged: a row has a value that none may have",
+    ),
+];
+
+/// Faults of a database's tables, and of a file, by their numbers.
+static OPENINGS: [(OpenFault, u8); 4] = [
+    (OpenFault::NotOurs, 1),
+    (OpenFault::Zone, 2),
+    (OpenFault::Store, 3),
+    (OpenFault::Memory, 4),
+];
+
+static CONNECTIONS: [(FileFault, u8); 5] = [
+    (FileFault::Missing, 1),
+    (FileFault::Busy, 2),
+    (FileFault::NoDatabase, 3),
+    (FileFault::Unreadable, 4),
+    (FileFault::Memory, 5),
+];
+
+// Each fault has its text and its number.
+#[test]
+fn faults_have_their_texts_and_numbers(rt: HostRuntime) {
+    assert_texts(&rt, rt.alloc(), &FILES);
+    assert_texts(&rt, rt.alloc(), &ROWS);
+    for (fault, number) in &OPENINGS {
+        assert!(rt; fault.number() == *number);
+    }
+    for (fault, number) in &CONNECTIONS {
+        assert!(rt; fault.number() == *number);
+    }
+}

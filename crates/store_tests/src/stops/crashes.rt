@@ -1,0 +1,125 @@
+//! Crashes at each call of a file.
+use crate::acts::{Act, act_in, empty_files};
+use crate::stops::asked::Asked;
+use crate::stops::files::{Stop, Stopping, files, restarted};
+use sqlite::Files;
+use sqlite_disk::{Fuse, Memory};
+use std::alloc::Global;
+use std::process::Abort;
+
+/// An act and its number of steps. A crash comes after each of these counts of acknowledged steps,
+/// and at more than so many calls of the log.
+struct Case {
+    act: Act,
+    steps: usize,
+    after: &'static [usize],
+    calls: usize,
+}
+
+// The office's first step makes the tables. The step after the first four connects the device, and
+// records nothing.
+static CASES: [Case; 3] = [
+    Case {
+        act: Act::Bring,
+        steps: 1,
+        after: &[0],
+        calls: 5,
+    },
+    Case {
+        act: Act::Play(Asked::Exchange),
+        steps: 8,
+        after: &[0, 1, 2, 3, 5, 6, 7],
+        calls: 30,
+    },
+    Case {
+        act: Act::Play(Asked::Void),
+        steps: 8,
+        after: &[0, 1, 2, 3, 5, 6, 7],
+        calls: 30,
+    },
+];
+
+/// Returns the files with which an act begins.
+fn given(rt: &impl Abort, alloc: Global, act: Act) -> Files<Fuse<Memory>> {
+    let empty = empty_files(rt, alloc);
+    match act {
+        Act::Bring => {
+            let (_steps, old) = act_in(rt, alloc, empty, Act::Prepare);
+            old
+        }
+        _ => empty,
+    }
+}
+
+/// Crashes during the act, and asserts what the files hold afterwards. Returns how many steps were
+/// acknowledged.
+fn stopped(
+    rt: &impl Abort,
+    alloc: Global,
+    given: &Files<Fuse<Memory>>,
+    act: Act,
+    stop: Stop,
+) -> usize {
+    let (log, db) = (given.log.inner().bytes(), given.db.inner().bytes());
+    let (steps, files) = act_in(rt, alloc, files(rt, alloc, log, db, stop), act);
+    let after = match act {
+        Act::Play(asked) => Act::Played(asked, steps),
+        _ => Act::Brought(steps),
+    };
+    let (_, _files) = act_in(rt, alloc, restarted(rt, alloc, files, stop.is_lost), after);
+    steps
+}
+
+/// Crashes at each call of a file, until the act makes no further call. Returns how many steps each
+/// crash left acknowledged.
+fn stop_each(
+    rt: &impl Abort,
+    alloc: Global,
+    case: &Case,
+    file: Stopping,
+    is_lost: bool,
+) -> Vec<usize> {
+    let given = given(rt, alloc, case.act);
+    let mut stops = Vec::new(alloc);
+    for calls in 0..1000 {
+        let stop = Stop {
+            file,
+            calls,
+            is_lost,
+        };
+        let steps = stopped(rt, alloc, &given, case.act, stop);
+        if steps == case.steps {
+            return stops;
+        }
+        stops.push(steps).expect(rt, "no memory");
+    }
+    panic!(rt; "it stops each time")
+}
+
+/// Whether a crash came after each of these counts of acknowledged steps.
+fn each_came_up(after: &[usize], stops: &[usize]) -> bool {
+    for steps in after {
+        if !stops.contains(steps) {
+            return false;
+        }
+    }
+    true
+}
+
+/// Crashes at each call of each file. What was not synced is lost, or is in the file.
+fn stop_all(rt: &impl Abort, alloc: Global, case: &Case) {
+    for is_lost in [true, false] {
+        let of_log = stop_each(rt, alloc, case, Stopping::Log, is_lost);
+        assert!(rt; case.calls < of_log.len() && each_came_up(case.after, &of_log));
+        let of_database = stop_each(rt, alloc, case, Stopping::Database, is_lost);
+        assert!(rt; 5 < of_database.len());
+    }
+}
+
+// A crash leaves the old file or the new one. What was acknowledged is there.
+#[test]
+fn what_was_acknowledged_stands(rt: HostRuntime) {
+    for case in &CASES {
+        stop_all(&rt, rt.alloc(), case);
+    }
+}
