@@ -208,10 +208,9 @@ same 'no copy is left' "$(ls passing)" ''
 "$program" serve --db office.db --port "$port" --connections 1 > served 2>&1 < /dev/null &
 child=$!
 children="$children $child"
-for turn in $(seq 60); do
-    "$program" report --db office.db --register main > out 2> err < /dev/null || break
-    sleep 0.5
-done
+wait_for 30 listens "$port"
+run report --db office.db --register main
+same 'a report beside one that serves' "$status" 3
 run audit --db office.db
 same 'an audit beside one that serves' "$status $(cut -d ' ' -f 1-3 out)" '0 fine: 1 meters,'
 same 'it serves on' "$(ask /meters/none)" '404 {"refused":1}'
