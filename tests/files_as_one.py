@@ -1,13 +1,12 @@
-"""files_as_one.py PROGRAM [--short]: compares reports over several files of one office with one
-file.
+"""files_as_one.py PROGRAM [--short]: compares reports over several files with one file.
 
-tests/files_as_one.sh runs it. A site has a meter with a rollover, a reset, a correction by hand and a
-voided reading, which is replaced by another meter. One file gets all of it. Three files get it in
+tests/files_as_one.sh runs it. A site has a meter with a rollover, a reset, a correction by hand and
+a voided reading, which is replaced by another meter. One file gets all of it. Three files get it in
 parts; `sunreg carry` begins the second and the third. The first carry is inside a quarter hour, the
-second on the begin of one. The program's output for the three equals that for the one, byte for byte.
-Their statement equals what Python computes from the entries. The statement of a second, small site
-equals numbers that were computed by hand. --short requests all days in each form, and every other
-range in one form, a different one for each.
+second on the begin of one. The program's output for the three equals that for the one, byte for
+byte. Their statement equals what Python computes from the entries. The statement of a second, small
+site equals numbers that were computed by hand. --short requests all days in each form, and every
+other range in one form, a different one for each.
 """
 import datetime
 import itertools

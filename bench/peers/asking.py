@@ -1,7 +1,7 @@
 """asking.py PROGRAM: measures how long a client of a running office waits while the office polls.
 
-bench/asking.sh runs it. The client sends one request after the other, each on a new connection, from
-the second round on.
+bench/asking.sh runs it. The client sends one request after the other, each on a new connection,
+from the second round on.
 """
 import os
 import statistics

@@ -1,7 +1,7 @@
 """rounds.py PROGRAM [TURNS]: measures accepted polls a second of rounds over a file.
 
-bench/round.sh runs it. The comparisons are offices in C and Python. Each office has its own file and
-devices. All must print the same, and have the same records in the end.
+bench/round.sh runs it. The comparisons are offices in C and Python. Each office has its own file
+and devices. All must print the same, and have the same records in the end.
 """
 import os
 import subprocess

@@ -1,6 +1,7 @@
 """Functions that the measurements of offices over a file share.
 
-They make files of a site and devices, measure an office's costs, and compare the records of two offices."""
+They make files of a site and devices, measure an office's costs, and compare the records of two
+offices."""
 import atexit
 import contextlib
 import os
