@@ -1,5 +1,5 @@
 #!/usr/bin/env python3
-"""functions.sh [NAME]: prints the seconds of each function in a crate's check, the dearest first.
+"""functions.sh [NAME]: prints the seconds of each function in a crate's check, the longest first.
 
 The check starts from nothing, includes the crate's tests, reads the built libraries below, and
 keeps nothing. A function's time runs from the report of the function before it to its own. So the

@@ -4,14 +4,14 @@
        office DB EVERY ROUNDS DEVICE=PORT..
 
    Each round polls the whole list of each device at 127.0.0.1, all devices at once. It begins EVERY
-   seconds after the round before (0: at once). The office writes into the tables of docs/SCHEMA.md as
-   sunreg does, with a write-ahead log and synchronous FULL: a poll before it is sent, and its outcome
-   and its readings in one transaction before the next poll starts. One round of one device prints the
-   lines of `sunreg round`; else each round of a device prints one line.
+   seconds after the round before (0: at once). The office writes into the tables of docs/SCHEMA.md
+   as sunreg does, with a write-ahead log and synchronous FULL. It writes a poll before it is sent,
+   and its outcome and its readings in one transaction before the next poll starts. One round of one
+   device prints the lines of `sunreg round`; else each round of a device prints one line.
 
-   The office reads what it needs of the tables once, at the opening, and does not check the file. It
-   handles counters of a fixed scale, and lists of counters that are too far apart for one read of two.
-   It ends if a device times out or disconnects. */
+   The office reads what it needs of the tables once, at the opening, and does not check the file.
+   It handles counters of a fixed scale, and lists of counters that are too far apart for one read of
+   two. It ends if a device times out or disconnects. */
 #include <arpa/inet.h>
 #include <netinet/in.h>
 #include <netinet/tcp.h>
@@ -201,7 +201,7 @@ static void open_file(const char *path) {
     }
 }
 
-/* ---- Booking ---- */
+/* ---- Recording ---- */
 
 /* Returns the cause for which a reading is rejected, or 0. */
 static int cause_of(const struct counter *it, int64_t now, int64_t raw) {

@@ -1,5 +1,5 @@
-/* libmodbus_client PORT UNIT: sends the requests on standard input with libmodbus, and prints a response
-   for each. */
+/* libmodbus_client PORT UNIT: sends the requests on standard input with libmodbus, and prints a
+   response for each. */
 #include <errno.h>
 #include <modbus.h>
 #include <stdint.h>

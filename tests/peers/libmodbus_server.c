@@ -1,6 +1,6 @@
-/* libmodbus_server PORT BANK: serves the registers of a file with libmodbus, one connection after the other.
-   A line of BANK is `holding ADDRESS VALUE..` or `input ADDRESS VALUE..`; all registers from 0 to 65535
-   exist. After `without holding` their function is answered as unknown. */
+/* libmodbus_server PORT BANK: serves the registers of a file with libmodbus, one connection after
+   the other. A line of BANK is `holding ADDRESS VALUE..` or `input ADDRESS VALUE..`; all registers
+   from 0 to 65535 exist. After `without holding` their function is answered as unknown. */
 #include <errno.h>
 #include <modbus.h>
 #include <stdint.h>

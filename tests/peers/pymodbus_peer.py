@@ -1,8 +1,8 @@
 """A client and a server with pymodbus, of version 2 or 3.
 
-    pymodbus_peer.py version prints its version pymodbus_peer.py client PORT UNIT sends the requests
-    on standard input, and prints the responses pymodbus_peer.py serve PORT BANK serves the
-    registers of the file BANK
+    pymodbus_peer.py version             prints its version
+    pymodbus_peer.py client PORT UNIT    sends the requests on standard input, and prints responses
+    pymodbus_peer.py serve PORT BANK     serves the registers of the file BANK
 
 After a line `without holding` in BANK, the read of holding registers is an unknown function.
 """
