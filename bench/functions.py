@@ -121,7 +121,7 @@ def main(name):
     if status or not times:
         sys.exit(f"{name} was not proved: {last}")
     took = [(at - before, it) for (before, _), (at, it) in zip(times, times[1:])]
-    print(f"{times[0][0]:7.1f}  before the first function was told")
+    print(f"{times[0][0]:7.1f}  before the first function")
     for seconds, it in sorted(took, reverse=True)[:SHOWN]:
         print(f"{seconds:7.1f}  {it}")
     print(f"{times[-1][0]:7.1f}  in all, {len(times)} functions")

@@ -83,7 +83,7 @@ def check_alike(files):
     (first, ours), *others = ((name, {meter: it[:most] for meter, it in of.items()}) for name, of in readings.items())
     for name, of in others:
         if ours != of:
-            sys.exit(f"{first} and {name} have not booked the same readings")
+            sys.exit(f"{first} and {name} have not recorded the same readings")
 
 
 def scheduled(place, room, program, window):

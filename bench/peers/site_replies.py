@@ -58,7 +58,7 @@ def main():
     program = os.path.abspath(sys.argv[1])
     machine(program)
     room = places()["tmpfs"]
-    print("| Meters | Devices that `run` polls | Bytes | The first reply | Each later one |\n|" + "---|" * 5)
+    print("| Meters | Devices that `run` polls | Bytes | The first response | Each later one |\n|" + "---|" * 5)
     for polled in (DEVICES, 1):
         db = str(room / "office.db")
         names = site(db, DEVICES, METERS, METERS, 1)

@@ -253,7 +253,7 @@ def check_same(files):
         for table in COLUMNS:
             if rows[table] != of[table]:
                 both = next((it for it in zip(rows[table], of[table]) if it[0] != it[1]), (len(rows[table]), len(of[table])))
-                sys.exit(f"{first} and {name} have not booked the same {table}: {both}")
+                sys.exit(f"{first} and {name} have not recorded the same {table}: {both}")
 
 
 def told(printed, window):
