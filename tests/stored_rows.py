@@ -291,7 +291,7 @@ INSERT INTO installations VALUES (1, 'm1', 'main', 1000000, 0, 5999, 5000, 0, 49
 INSERT INTO entries VALUES ('m1', 1, 1, 1000, 1, 0, 0, 0);
 WITH RECURSIVE it (n) AS (SELECT 2 UNION ALL SELECT n + 1 FROM it WHERE n < 5000) INSERT INTO entries SELECT 'm1', n, 3, n + 999, n, 0, 0, 0 FROM it;"""
 
-# The begin of the next file after ONE_READING, and the report about both.
+# The start of the next file after ONE_READING, and the report about both.
 ONE = "1 differences between files"
 JOINED = [
     ("a meter that goes on", begun("m1", 1900, 5200), ["joined: fine"]),

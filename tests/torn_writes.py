@@ -2,7 +2,7 @@
 """torn_writes.py PROGRAM: damages the logs of killed offices, and opens each damaged copy.
 
 An office polls a device in rounds and is killed during one. Its file and its log are copied. Then
-the log is cut (at a frame's begin, within its header, within its page, anywhere), or one bit of it
+the log is cut (at a frame's start, within its header, within its page, anywhere), or one bit of it
 is flipped. The first office's log is also changed in each byte of its header, in 300 random bytes
 of its frames, and cut at each frame.
 

@@ -2,7 +2,7 @@
    It answers function 3 on one connection after the other. Each pair of registers, the first at an
    even address, is a counter of two registers that shows 1000 and 10 for each connection. Other
    functions are answered with exception 1. The file TIMES gets a line for each connection: the
-   seconds from its begin to its end. */
+   seconds from its start to its end. */
 #include <arpa/inet.h>
 #include <netinet/in.h>
 #include <netinet/tcp.h>
