@@ -3,8 +3,8 @@
 
 Its plan uses the costs of each crate's proof and tests in bench/GATE.md. It goes by their memory,
 where the kit's own guess is up to twice as much and leaves processors idle. It goes by their
-seconds, where the kit goes by lines. Everything else is the kit's. RT_JOBS=N still makes the kit run
-N parts at once, with no plan of memory.
+seconds, where the kit goes by lines. Everything else is the kit's. RT_JOBS=N still makes the kit
+run N parts at once, with no plan of memory.
 
 --program copies the program sunreg, as LLVM built it, to FILE. The program is the one that the kit
 links or runs, which may be kept from an earlier run.

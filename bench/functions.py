@@ -1,14 +1,14 @@
 #!/usr/bin/env python3
-"""functions.sh [NAME]: prints the seconds of each function in a crate's check, the dearest first.
+"""functions.sh [NAME]: prints the seconds of each function in a crate's check, the longest first.
 
-The check starts from nothing, includes the crate's tests, reads the built libraries below, and keeps
-nothing. A function's time runs from the report of the function before it to its own. So the first
-function that needs a library's modules pays for loading them. The time before the first function has
-a line of its own: reading sources, and the libraries that a program links.
+The check starts from nothing, includes the crate's tests, reads the built libraries below, and
+keeps nothing. A function's time runs from the report of the function before it to its own. So the
+first function that needs a library's modules pays for loading them. The time before the first
+function has a line of its own: reading sources, and the libraries that a program links.
 
 Then the script prints the same times by steps, by the names of the kit's files. Lts is the borrow
-check. Tie is expensive where a function that is generic over a store is called for one type of store
-(bench/GATE.md). A step's time runs from the step before it in the same process.
+check. Tie is expensive where a function that is generic over a store is called for one type of
+store (bench/GATE.md). A step's time runs from the step before it in the same process.
 
 Without a name it runs nothing, and watches all checks that run on this machine, such as those of
 `rt ci`. When it is interrupted (Ctrl-C) or terminated, it prints their steps, including steps from
@@ -121,7 +121,7 @@ def main(name):
     if status or not times:
         sys.exit(f"{name} was not proved: {last}")
     took = [(at - before, it) for (before, _), (at, it) in zip(times, times[1:])]
-    print(f"{times[0][0]:7.1f}  before the first function was told")
+    print(f"{times[0][0]:7.1f}  before the first function")
     for seconds, it in sorted(took, reverse=True)[:SHOWN]:
         print(f"{seconds:7.1f}  {it}")
     print(f"{times[-1][0]:7.1f}  in all, {len(times)} functions")

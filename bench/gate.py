@@ -3,8 +3,8 @@
 
 It prints processor seconds and memory as a Markdown table, crate by crate. It runs `rt ci` over a
 clone of the committed tree, in a temporary folder and with a kit that has nothing kept, and watches
-its processes. With names it tries only the mutants and the tests of those crates, over the proofs of
-the crates below them. RT_JOBS=1 makes it work on one part at a time, as on a machine with other
+its processes. With names it tries only the mutants and the tests of those crates, over the proofs
+of the crates below them. RT_JOBS=1 makes it work on one part at a time, as on a machine with other
 work. The gate's output goes to standard error; the status is the gate's.
 
 --log FILE: runs nothing, and reads what bench/watch.py recorded while `rt ci` ran, here or in

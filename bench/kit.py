@@ -1,5 +1,4 @@
-"""Functions that the Python scripts share: the kit's command `rt` as a module, and a crate's costs
-in bench/GATE.md."""
+"""Functions that the Python scripts share: the kit's `rt` as a module, and costs from GATE.md."""
 import collections
 import importlib.machinery
 import importlib.util

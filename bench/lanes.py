@@ -1,5 +1,4 @@
-"""The schedule of ./sunreg-build: which crate to prove next, by how many jobs, and how long the
-rest will take.
+"""The schedule of ./sunreg-build: which crate to prove next, by how many jobs, and the time left.
 
 It goes by processors and free memory."""
 import collections

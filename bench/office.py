@@ -214,7 +214,7 @@ class Office:
     def spread(self, meter, at, step):
         """Adds the step's energy to its quarter hours.
 
-        Each quarter hour gets the energy since the step's begin, rounded down, less what was
+        Each quarter hour gets the energy since the step began, rounded down, less what was
         already added."""
         begin, given = meter.last_at, 0
         for start in range(begin - begin % QUARTER, at, QUARTER):

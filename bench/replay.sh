@@ -6,9 +6,11 @@
 # - N/4 and N/2 polls of one meter, with one line for each start and one for each response
 # - N/25 and 2N/25 such polls of 2,048 meters at 64 devices of 32 registers
 # - N/2 and N polls of these meters by rounds of 16 polls, whose responses are in one line
-# - scripts that only set the meters up All must print the same. Twice the polls should take at most
-#   2.2 times as long, and as much memory. Times are the least of three runs. Ratios are the other
-#   program's time by that of sunreg: above 1 sunreg is faster. The script needs rustc and python3.
+# - scripts that only set the meters up
+#
+# All must print the same. Twice the polls should take at most 2.2 times as long, and as much
+# memory. Times are the least of three runs. Ratios are the other program's time by that of sunreg:
+# above 1 sunreg is faster. The script needs rustc and python3.
 set -eu
 here=$(dirname "$(readlink -f "$0")")
 program=${1:-$here/../out/sunreg}

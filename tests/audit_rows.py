@@ -1,7 +1,7 @@
 """The audit of a file in Python and sqlite3, with which tests/audit.py compares the program.
 
-It is written from docs/AUDIT.md, docs/SCHEMA.md and the definitions of energy_core and meter_audit. It
-uses nothing of the program."""
+It is written from docs/AUDIT.md, docs/SCHEMA.md and the definitions of energy_core and meter_audit.
+It uses nothing of the program."""
 import collections
 
 OPENING, READING, _MANUAL, CLOSING, RESET, RESCALE = range(1, 7)

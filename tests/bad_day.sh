@@ -6,9 +6,10 @@
 # - pipes that nobody reads
 # - a clock that is set back while clients are idle, and a clock that is set ahead
 #
-# `faketime` sets the clock. As root the script installs it by apt (not with PEERS_INSTALL=no), and it
-# says so if that fails. The script takes four minutes, and ends with 'N passed, M failed'. --short
-# tests hosts, a pipe that nobody reads and a clock that is set back, in a minute and a half.
+# `faketime` sets the clock. As root the script installs it by apt (not with PEERS_INSTALL=no), and
+# it says so if that fails. The script takes four minutes, and ends with 'N passed, M failed'.
+# --short tests hosts, a pipe that nobody reads and a clock that is set back, in a minute and a
+# half.
 set -u
 here=$(dirname "$(readlink -f "$0")")
 short=

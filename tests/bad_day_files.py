@@ -1,5 +1,4 @@
-"""bad_day_files.py PROGRAM ROOM [NAME..]: see bad_day_files.sh; with names, only the checks of
-these names."""
+"""bad_day_files.py PROGRAM ROOM [NAME..]: runs all checks of bad_day_files.sh, or these."""
 import json
 import os
 import resource

@@ -1,9 +1,8 @@
-"""bad_day_readers.py PORT CLIENTS SECONDS: requests all quarter hours of the meter m1 again and
-again.
+"""bad_day_readers.py PORT CLIENTS SECONDS: requests all quarter hours of the meter m1 repeatedly.
 
-So many clients do so for so long, and read the responses. The script prints as JSON the bytes of each
-response, and its last line. It is a separate process, so that it does not delay the process that
-measures the run.
+So many clients do so for so long, and read the responses. The script prints as JSON the bytes of
+each response, and its last line. It is a separate process, so that it does not delay the process
+that measures the run.
 """
 import json
 import socket

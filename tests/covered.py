@@ -1,11 +1,10 @@
 #!/usr/bin/env python3
-"""covered.py NAME..: lists the functions and tests of crates that the borrow checker does not
-cover.
+"""covered.py NAME..: lists the functions and tests that the borrow checker does not cover.
 
-It takes a minute or two for each crate, proves nothing, and needs no built library. A check reports
-the same at its end, and the gate after an hour. The script prints a line for each such function and
-for each error of the front end. It ends with 'N passed, M failed', counted in crates; the status is 1
-if M > 0.
+It takes a minute or two for each crate, before any proof. It proves nothing, and needs no built
+library. A check reports the same at its end, and the gate after an hour. The script prints a line
+for each such function and for each error of the front end. It ends with 'N passed, M failed',
+counted in crates; the status is 1 if M > 0.
 """
 import os
 import subprocess

@@ -1,11 +1,11 @@
 #!/usr/bin/env python3
-"""damage.sh [PROGRAM]: damages the files of an office, and gives commands names and files that they must refuse.
+"""damage.sh [PROGRAM]: damages files, and gives commands names and files that they must refuse.
 
 A young office has all its records in its log. The script changes one byte of the log's header or of
-its first frame: every command refuses the file, `recover` makes a new office of the rest, and no byte
-of either file changes. Then it tests names that belong to other files, the remains of a killed carry,
-and a `create` without space. It also tests pipes, devices and files that are far too long. It ends
-with 'N passed, M failed'.
+its first frame: every command refuses the file, `recover` makes a new office of the rest, and no
+byte of either file changes. Then it tests names that belong to other files, the remains of a killed
+carry, and a `create` without space. It also tests pipes, devices and files that are far too long.
+It ends with 'N passed, M failed'.
 """
 import os
 import pathlib

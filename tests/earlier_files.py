@@ -1,9 +1,10 @@
 """earlier_files.py PROGRAM: compares a run over earlier files with a run over one file.
 
 tests/earlier_files.sh runs it. The site is that of files_as_one.py, whose three files continue each
-other. A run over the three files responds by HTTP as a run over the one file does, byte for byte, and
-reports the same meters by `/site`. A run that begins a new file by itself responds as before, if it
-reports earlier files. A run refuses files that don't join, or are damaged, before it polls anything.
+other. A run over the three files responds by HTTP as a run over the one file does, byte for byte,
+and reports the same meters by `/site`. A run that begins a new file by itself responds as before,
+if it reports earlier files. A run refuses files that don't join, or are damaged, before it polls
+anything.
 """
 import http.client
 import json

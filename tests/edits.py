@@ -5,12 +5,12 @@ It tries the mutants of the named crates, or of all. The mutants of a crate NAME
 crates/NAME/must-fail/*.edit and tests/edits/NAME/*.edit, in the form that `rt must-fail` reads. One
 check tries many of them, at most one a function, over the work that the crate's own checks kept. A
 mutant counts as refused if the check fails at the very function that it changes: at a goal of that
-function, or with an error in its own proof files. Any other mutant is tried alone before it counts as
-let through. A mutant outside the functions, such as of a constant, is tried alone. It is refused if
-any function is not proved. A mutant that cannot be applied or read fails too.
+function, or with an error in its own proof files. Any other mutant is tried alone before it counts
+as let through. A mutant outside the functions, such as of a constant, is tried alone. It is refused
+if any function is not proved. A mutant that cannot be applied or read fails too.
 
-It prints a line for each mutant that fails and for each crate, and ends with 'N passed, M failed'; the
-status is 1 if M > 0.
+It prints a line for each mutant that fails and for each crate, and ends with 'N passed, M failed';
+the status is 1 if M > 0.
 --jobs N: crates at once (2); --verbose: a line for each mutant. The words of RT_RUN precede each
 check. The crates' out/ does not change, except that missing libraries below are built, as by
 `rt check`.

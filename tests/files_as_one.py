@@ -1,13 +1,12 @@
-"""files_as_one.py PROGRAM [--short]: compares reports over several files of one office with one
-file.
+"""files_as_one.py PROGRAM [--short]: compares reports over several files with one file.
 
-tests/files_as_one.sh runs it. A site has a meter with a rollover, a reset, a correction by hand and a
-voided reading, which is replaced by another meter. One file gets all of it. Three files get it in
+tests/files_as_one.sh runs it. A site has a meter with a rollover, a reset, a correction by hand and
+a voided reading, which is replaced by another meter. One file gets all of it. Three files get it in
 parts; `sunreg carry` begins the second and the third. The first carry is inside a quarter hour, the
-second on the begin of one. The program's output for the three equals that for the one, byte for byte.
-Their statement equals what Python computes from the entries. The statement of a second, small site
-equals numbers that were computed by hand. --short requests all days in each form, and every other
-range in one form, a different one for each.
+second at the start of one. The program's output for the three equals that for the one, byte for
+byte. Their statement equals what Python computes from the entries. The statement of a second, small
+site equals numbers that were computed by hand. --short requests all days in each form, and every
+other range in one form, a different one for each.
 """
 import datetime
 import itertools
@@ -68,7 +67,7 @@ class Meter:
         return found
 
     def steps(self):
-        """Returns the steps between valid entries: their begin, their end, and their energy in
+        """Returns the steps between valid entries: their start, their end, and their energy in
         mWh."""
         last = self.entries[0]
         for it in self.entries[1:]:
@@ -129,7 +128,7 @@ def site():
     at = one[-1].moment + 1234
     one.append(Entry(CLOSING, at, one[-1].raw + 21, 0))
     two = [Entry(OPENING, at, 7, -1)] + readings(at + STEP, BEGIN + 75 * DAY, 7, 10 ** 6, -1, 4100)
-    # (at the begin of a quarter hour)
+    # (at the start of a quarter hour)
     on_time = two[-1].moment // 900 * 900 + 1800
     two.append(Entry(READING, on_time, two[-1].raw + 900, -1))
     at = on_time + 4321

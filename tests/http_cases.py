@@ -1,8 +1,8 @@
 """http_cases.py PROGRAM ROOM: plays the golden tests of crates/http_cases over files.
 
 See http_cases.sh. `serve` and `run` respond at a port. `enter` enters the lines of a script; a
-`connect`, `start` and `bytes` become a `round` at a device of this process. The clock of each process
-is set to the time of the line or the request. Not tested here:
+`connect`, `start` and `bytes` become a `round` at a device of this process. The clock of each
+process is set to the time of the line or the request. Not tested here:
 - a poll without an answer, since the next process ends it as lost
 - a line that the office rejects, for which `round` has no place
 - /status and /metrics of a run, which counts its work at a device

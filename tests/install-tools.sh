@@ -8,7 +8,6 @@
 # exits with 0: a check whose tool is missing is reported as skipped. Other scripts source this file
 # for `has`, `lacking` and `install`; they set `here` to the folder tests/ and `room` to a temporary
 # folder.
-# `here` to the folder tests/ and `room` to a scratch folder.
 
 # python_of_pymodbus: prints the Python that has pymodbus: apt's is that of /usr/bin
 python_of_pymodbus() {

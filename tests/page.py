@@ -1,4 +1,5 @@
-"""page.py [PROGRAM]: compares the page with the data, which this script computes in whole numbers.
+"""page.py [PROGRAM]: compares the page with the data, which are computed here in whole numbers.
+
 See page.sh."""
 import atexit
 import base64

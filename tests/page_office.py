@@ -1,5 +1,4 @@
-"""A mock of an office for page.py: it serves the files of web/ and the routes that the page
-requests.
+"""A mock of an office for page.py: it serves the files of web/ and the routes of the page.
 
 Its data of a year are made up but exact. The office's zone is Europe/Berlin, so that its days have
 92, 96 or 100 quarter hours."""

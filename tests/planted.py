@@ -1,11 +1,11 @@
 #!/usr/bin/env python3
-"""planted.py [--slow N] [--only NAME..] [PROGRAM]: shows that the checks of tests/program.py refuse a broken program.
+"""planted.py [--slow N] [--only NAME..] [PROGRAM]: shows that the checks refuse a broken program.
 
-It wraps the built program, out/sunreg by default, in a script that breaks one thing: a status, a
-route, the page's script, an option, a command of README.md, an audit, a backup, a carry, a help text,
-or a digit of a report. For each break it runs the check that must fail. For each of these checks it
-also runs the program in a wrapper that breaks nothing, which must pass. It ends with 'N passed,
-M failed'; the status is 1 if M > 0.
+The checks are those of tests/program.py. The script wraps the built program, out/sunreg by default,
+in a script that breaks one thing: a status, a route, the page's script, an option, a command of
+README.md, an audit, a backup, a carry, a help text, or a digit of a report. For each break it runs
+the check that must fail. For each of these checks it also runs the program in a wrapper that breaks
+nothing, which must pass. It ends with 'N passed, M failed'; the status is 1 if M > 0.
 """
 import collections
 import os

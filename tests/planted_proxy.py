@@ -1,6 +1,5 @@
 #!/usr/bin/env python3
-"""planted_proxy.py FROM TO PROGRAM run ..: runs a program that serves HTTP, and changes one text in
-its bytes.
+"""planted_proxy.py FROM TO PROGRAM run ..: runs a program, and changes one text of its HTTP.
 
 TO has the length of FROM. The program listens at another port than --listen says, and this process
 forwards the bytes of that port. tests/planted.py uses it to break a route or a file of the page. It

@@ -1,17 +1,17 @@
 #!/usr/bin/env python3
-"""program.py [--list] [--long] [--only NAME..] [--slow N] [--jobs N] [PROGRAM]: runs the checks of a built sunreg.
+"""program.py [--list] [--long] [--only NAME..] [--slow N] [--jobs N] [PROGRAM]: runs the checks.
 
-PROGRAM is out/sunreg by default. Each check runs in a temporary folder. As root each check runs in a
-separate network namespace, so no two checks use the same port. As many run at once as there are
-processors, four at most, the longest first. A check fails if its exit status is not 0, if it counts
-fewer passed things than its least count, or if it exceeds its limit. The limit ends its whole process
-group. The log of a failed check is printed. A check whose tool is missing is reported as skipped:
-tests/install-tools.sh installs the tools.
+PROGRAM is a built sunreg, out/sunreg by default. Each check runs in a temporary folder. As root
+each check runs in a separate network namespace, so no two checks use the same port. As many run at
+once as there are processors, four at most, the longest first. A check fails if its exit status is
+not 0, if it counts fewer passed things than its least count, or if it exceeds its limit. The limit
+ends its whole process group. The log of a failed check is printed. A check whose tool is missing is
+reported as skipped: tests/install-tools.sh installs the tools.
 
---list prints the table of checks. --only runs the checks of these names. --long runs the long checks
-instead, one at a time. --slow multiplies every limit, for a slow build or machine. The last line is
-'N passed, M failed', which counts checks, and names how many were skipped. The status is 1 if a check
-failed.
+--list prints the table of checks. --only runs the checks of these names. --long runs the long
+checks instead, one at a time. --slow multiplies every limit, for a slow build or machine. The last
+line is 'N passed, M failed', which counts checks, and names how many were skipped. The status is 1
+if a check failed.
 """
 import collections
 import concurrent.futures

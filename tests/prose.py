@@ -1,17 +1,18 @@
 #!/usr/bin/env python3
 """prose.py [--list KIND] [PATH..]: checks the English of pages and comments.
 
-It reads the Markdown pages and the comments of .rt, .antt, .py, .sh, .js and .c files, all of the repository or those
-under the paths. It reports:
+It reads the Markdown pages and the comments of .rt, .antt, .py, .sh, .js and .c files, all of the
+repository or those under the paths. It reports:
 
 - long: a sentence of more than 30 words
 - word: a word or a phrase that plain technical English has no use for (BANNED below)
 - wide: a line of more than 100 columns, but for tables, links and code
 - name: a function whose name contains such a word, or is a verb without an object (BANNED_NAMES)
 
-Code, tables and quoted names (`..`) are left out. prose_allowed.txt lists findings that stay, each with its reason, at
-most 40. LEFT counts the findings of older text: the check fails where there are more, and where there are fewer, so
-that the counts only go down. --list prints every finding of a kind. The last line is 'N passed, M failed'.
+Code, tables and quoted names (`..`) are left out. prose_allowed.txt lists findings that stay, each
+with its reason, at most 40. LEFT counts the findings of older text: the check fails if there are
+more, and if there are fewer, so that the counts only go down. --list prints every finding of a
+kind. The last line is 'N passed, M failed'.
 """
 import argparse
 import ast
@@ -105,7 +106,7 @@ def docstrings(text):
 
 
 def blocks_of_comments(ending, text):
-    """The comments of a source: each run of comment lines is a block, and each paragraph of a docstring of Python."""
+    """Yields the comments of a source: each run of comment lines, and each paragraph of a docstring."""
     mark = re.compile(r"(\s*)" + MARKS[ending] + r"(?:\s(.*)|)$")
     block, last = [], None
     for number, line in enumerate(text.split("\n"), 1):

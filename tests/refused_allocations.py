@@ -1,16 +1,17 @@
 #!/usr/bin/env python3
-"""refused_allocations.py LIBRARY SCRIPT REPLAY [PROGRAM..]: refuses the allocations of programs, under the preloaded LIBRARY.
+"""refused_allocations.py LIBRARY SCRIPT REPLAY [PROGRAM..]: refuses the allocations of programs.
 
-A run without refusals counts them. Then each is refused alone, and then each with all later ones. A
-run may end with status 3 ('failed' on standard error) after any complete output line. Of the rest:
+LIBRARY is preloaded. A run without refusals counts the allocations. Then each is refused alone, and
+then each with all later ones. A run may end with status 3 ('failed' on standard error) after any
+complete output line. Of the rest:
 
-REPLAY runs the lines of SCRIPT. A line with the output 'refused 14' changed nothing: every other line
-must have the output of a run in which such lines are queries. If a line of a device has that output,
-the office stops: every later line has the output 'refused 15'. One 'refused 14' with status 1 means
-that the office couldn't be opened.
+REPLAY runs the lines of SCRIPT. A line with the output 'refused 14' changed nothing: every other
+line must have the output of a run in which such lines are queries. If a line of a device has that
+output, the office stops: every later line has the output 'refused 15'. One 'refused 14' with status
+1 means that the office couldn't be opened.
 
-A PROGRAM prints 'no memory' if a call was refused memory, and retries it once. Its other lines, up to
-an end with status 3, must be those of the run without refusals.
+A PROGRAM prints 'no memory' if a call was refused memory, and retries it once. Its other lines, up
+to an end with status 3, must be those of the run without refusals.
 
 refused_in_file.py describes what the commands over a file may do.
 """

@@ -1,7 +1,7 @@
 #!/usr/bin/env python3
-"""refused_in_file.py LIBRARY PROGRAM: refuses the allocations of the commands over a file, under the preloaded LIBRARY.
+"""refused_in_file.py LIBRARY PROGRAM: refuses the allocations of the commands over a file.
 
-The commands over one file are:
+LIBRARY is preloaded. The commands over one file are:
 - `create`
 - `serve` with the requests that set up a meter
 - `round` against a device
@@ -9,15 +9,15 @@ The commands over one file are:
 - `report`
 
 A run of each without refusals counts its allocations. Then REFUSED_MOST of them (100; 0 is each),
-chosen at random, are refused, each alone. Then as many are refused with all later ones, over a copy of
-the file as it was before. A run may end with status 1 (`refused 14`) or 3 (`failed` on standard
-error). A request with the response `refused 14`, or without a complete response, changed nothing or is
-done, so that a retry is done.
+chosen at random, are refused, each alone. Then as many are refused with all later ones, over a copy
+of the file as it was before. A run may end with status 1 (`refused 14`) or 3 (`failed` on standard
+error). A request with the response `refused 14`, or without a complete response, changed nothing or
+is done, so that a retry is done.
 
-After each run the file is opened without refusals, and must be sound. Every poll has an outcome. Each
-meter's energy is its last reading less its first. Each record that was printed or acknowledged is
-there. The same command then does what it does in a run without refusals. If REFUSED_ONLY names some of
-the commands, the others run without refusals.
+After each run the file is opened without refusals, and must be sound. Every poll has an outcome.
+Each meter's energy is its last reading less its first. Each record that was printed or acknowledged
+is there. The same command then does what it does in a run without refusals. If REFUSED_ONLY names
+some of the commands, the others run without refusals.
 """
 import collections
 import concurrent.futures

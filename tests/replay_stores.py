@@ -1,10 +1,10 @@
 #!/usr/bin/env python3
 """replay_stores.py [PROGRAM]: compares the two stores of an office, in memory and in a file.
 
-It plays each script in crates/script_cases/data with `replay`, and with `replay --db` over the file that
-`create` makes for the same zone. Both must print the same bytes and exit with the same status. `audit`
-must find no differences in the file. The script ends with 'N passed, M failed'. JOBS is how many
-scripts are played at a time, 2 by default.
+It plays each script in crates/script_cases/data with `replay`, and with `replay --db` over the file
+that `create` makes for the same zone. Both must print the same bytes and exit with the same status.
+`audit` must find no differences in the file. The script ends with 'N passed, M failed'. JOBS is how
+many scripts are played at a time, 2 by default.
 """
 import concurrent.futures
 import os

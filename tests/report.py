@@ -1,8 +1,8 @@
 """report.py PROGRAM: compares reports and statements with Python, in both units and three formats.
 
-tests/report.sh runs it. The reports are on ranges of days, by periods. A file gets quarter hours over
-the end of a year, a 29 February and a clock change. The expected output is computed from the same
-quarter hours by Python's own calendar, decimals, CSV and JSON.
+tests/report.sh runs it. The reports are on ranges of days, by periods. A file gets quarter hours
+over the end of a year, a 29 February and a clock change. The expected output is computed from the
+same quarter hours by Python's own calendar, decimals, CSV and JSON.
 """
 import csv
 import datetime

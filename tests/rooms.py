@@ -1,7 +1,8 @@
 #!/usr/bin/env python3
 """rooms.py: compares the map, the tables and the counts of docs/ARCHITECTURE.md with crates.txt.
 
-It prints the differences and the counts, and ends with 'N passed, M failed'; the status is 1 if M > 0.
+It prints the differences and the counts, and ends with 'N passed, M failed'; the status is 1 if M >
+0.
 """
 import os
 import re

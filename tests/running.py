@@ -605,7 +605,7 @@ if os.path.exists("/dev/full"):
             [PROGRAM, "run", "--db", f"{ROOM}/office.db", "--listen", str(PORT), *words],
             stdout=full, stderr=subprocess.PIPE, text=True, timeout=20,
         )
-    # (the lacks of the devices are reported before)
+    # (the run reports first what the devices lack)
     same("a printing that fails", (run.returncode, "failed" in run.stderr.split("\n")), (3, True))
 
 print(f"{passed} passed, {failed} failed")

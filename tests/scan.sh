@@ -1,6 +1,7 @@
 #!/usr/bin/env bash
-# Scans stand-ins with the built program, and holds what it prints to what `chain` prints of the same words: `tests/scan.sh
-# [PROGRAM]`, out/sunreg by default, which `./sunreg-build` makes. It ends on 'N passed, M failed'.
+# scan.sh [PROGRAM]: scans simulators with the built program, and compares its output with that of
+# `chain` for the same registers. PROGRAM is out/sunreg by default, which `./sunreg-build` makes.
+# The script ends with 'N passed, M failed'.
 set -u
 here=$(dirname "$(readlink -f "$0")")
 program=${1:-${SUNREG:-$here/../out/sunreg}}
@@ -12,7 +13,7 @@ passed=0
 failed=0
 port=${SCAN_PORT:-15020}
 
-# is WHAT FOUND WANTED
+# is WHAT FOUND WANTED: compares a result with the expected one, and counts it
 is() {
     if [ "$2" = "$3" ]; then
         passed=$((passed + 1))
@@ -22,8 +23,9 @@ is() {
     fi
 }
 
-# The words of a device: the mark, full models 1, 103 and 203, and the end's ID, which is its last register. Each register of a model
-# has its offset as value, but for the scale of the counters.
+# words: prints the registers of a device: the mark, the complete models 1, 103 and 203, and the
+# end's ID, which is its last register. Each register of a model has its offset as value, except the
+# scale of the counters.
 words() {
     python3 - <<'P'
 words = {40000: 0x5375, 40001: 0x6E53, 40229: 0xFFFF}
@@ -38,19 +40,20 @@ for address in sorted(words):
 P
 }
 
-# bank TRICK..: the stand-in's lines for these words
+# bank TRICK..: prints the simulator's lines for these registers
 bank() {
     echo 'area holding 40000 230'
     words | while read -r address value; do echo "set holding $address $value"; done
     for trick in "$@"; do echo "trick $trick"; done
 }
 
-# image: the same words as `chain` reads them
+# image: prints the same registers as `chain` reads them
 image() {
     words | while read -r address value; do printf '%d %04x\n' "$address" "$value"; done
 }
 
-# scan BANK WORDS..: scans a stand-in with this bank; what it prints is in out, its status in status
+# scan BANK WORDS..: scans a simulator with this register map; its output is in out, its status in
+# status
 scan() {
     lines=$1
     shift
@@ -79,7 +82,8 @@ is 'a stream that is garbled' "$status $out $(tail -n 1 "$room/err")" "3  sunreg
 scan 'area holding 0 1'
 is 'a device without a mark' "$status $out" '1 fault 1'
 
-# The list is planned as it stands, and the lines set a device up in a script as they stand.
+# `plan` takes the printed list unchanged, and `replay` takes the printed lines, which set a device
+# up.
 scan "$(bank)" --list
 is 'the list' "$status $(printf '%s\n' "$out" | head -n 2 | tr '\n' ' ')" '0 name,function,area,address,type,scale m1.Mn,3,0,40004,string16, '
 is 'the plan of the list' "$(printf '%s\n' "$out" | "$program" plan | grep -c '^read')" 2

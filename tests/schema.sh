@@ -1,6 +1,7 @@
 #!/usr/bin/env bash
-# Makes an empty file of version 3 with the `sqlite3` program from the text in docs/SCHEMA.md: tests/schema.sh FILE [ZONE]
-# Ends with status 1 where the file is there already, where sqlite3 is not installed, or where it finds fault with the file.
+# schema.sh FILE [ZONE]: makes an empty file of version 3 with the `sqlite3` program, from the text
+# in docs/SCHEMA.md. It exits with 1 if the file exists, if sqlite3 is not installed, or if sqlite3
+# finds a fault in the file.
 set -eu
 here=$(cd "$(dirname "$0")/.." && pwd)
 file=$1

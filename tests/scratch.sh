@@ -1,12 +1,13 @@
-# Sourced by the scripts that build a program of their own over this repository's libraries.
+# Functions for the scripts that build their own program over this repository's libraries.
 
-# A folder that goes when the script ends.
+# A folder that is removed when the script ends.
 scratch="$(mktemp -d)"
 trap 'rm -rf "$scratch"' EXIT
 
-# scratch NAME 'DEP DEP..' FILE: copies the repository's crates into the folder, with one more crate, NAME, whose src/main.rt is FILE,
-# and proves, builds and runs that there; the run's output goes to standard output, and `program` is set to the built program. What
-# was built of the repository's libraries serves the copy. The words of RT_RUN are put before rt.
+# scratch NAME 'DEP DEP..' FILE: copies the repository's crates into the folder, with one more
+# crate, NAME, whose src/main.rt is FILE. It proves, builds and runs that crate there. The run's
+# output goes to standard output, and `program` is set to the built program. The copy uses the
+# repository's built libraries. The words of RT_RUN precede rt.
 scratch() {
     local root crate dep part
     root="$(git -C "$(dirname "${BASH_SOURCE[0]}")" rev-parse --show-toplevel)"
@@ -32,7 +33,8 @@ scratch() {
     scratch_rt "$1" "$scratch/crates/$1" run
 }
 
-# scratch_rt NAME FOLDER WORD..: runs rt in a folder, and shows what it wrote to standard error only where it fails.
+# scratch_rt NAME FOLDER WORD..: runs rt in a folder, and prints its standard error only if it
+# fails.
 scratch_rt() {
     (cd "$2" && ${RT_RUN:-} rt "${@:3}" < /dev/null 2> "$scratch/$1.said") || {
         tail -40 "$scratch/$1.said" >&2

@@ -1,14 +1,18 @@
 #!/usr/bin/env python3
-"""soak.py PROGRAM: polls a misbehaving device by many rounds over one file, and kills the office every few seconds.
+"""soak.py PROGRAM: polls a misbehaving device, and kills the office every few seconds.
 
-Each round has a stand-in of its own, whose counters went on a little, which lacks some registers in some rounds, and which plays tricks on some
-of its answers. Between the office and it stands a relay, which keeps every byte that it handed on of what the stand-in gave, and in some rounds
-ends both connections behind some byte. Behind each stop the office is opened again, and the books are held to that:
-an answered poll has its reply among the frames that were given, under its number, and so has one that ended with an exception, of that code;
-an answered poll's reading is booked or held, once, and no other
-reading is; each meter's energy is exactly its last reading less its first, in its total, its quarter hours and its days; and every line
-that the office printed before it was stopped is in the books. In a round where nothing went wrong each poll of a register that the stand-in
-lacks ends with an exception, and each other one is answered.
+Each round has a new simulator, whose counters have counted on. In some rounds it lacks
+registers, and it plays tricks on some of its responses. Between the office and the simulator is a
+relay, which keeps every forwarded byte of the simulator. In some rounds it closes both connections
+after some byte. After each stop the script opens the office again, and checks its records:
+- The response of an answered poll is among the relay's frames, under its number. The same holds for
+  a poll that ended with an exception, with that code.
+- The reading of an answered poll is recorded or rejected, once, and there are no other readings.
+- Each meter's energy is exactly its last reading less its first, in its total, its quarter hours
+  and its days.
+- The records have every line that the office printed before it was stopped.
+- In a round without faults each poll of a missing register ends with an exception, and each other
+  poll is answered.
 """
 import collections
 import contextlib
@@ -28,9 +32,9 @@ import time
 
 METERS = 32  # as many as a device may have
 TIMEOUT = 1  # of the device, in seconds
-APART = 125  # so many registers from one counter to the next: each is a read of its own
+APART = 125  # the registers from one counter to the next: each counter needs its own read
 TURN = 1 << 32
-OPENINGS = [TURN - 60, *(100_000_000 * number for number in range(2, METERS + 1))]  # (the first one turns over)
+OPENINGS = [TURN - 60, *(100_000_000 * number for number in range(2, METERS + 1))]  # (the first one rolls over)
 HOST = "127.0.0.1"
 KINDS = ("drop", "twice", "later", "id", "unit", "garble", "cut")
 POLLS = int(os.environ.get("SOAK_POLLS", "10000"))
@@ -52,7 +56,7 @@ def holds(what, is_so, more=""):
 
 
 def frames_in(stream):
-    """The Modbus frames of a stream, up to where it ends or is garbled."""
+    """Returns the Modbus frames of a stream, up to its end or to a garbled byte."""
     found, at = [], 0
     while at + 7 <= len(stream):
         length = int.from_bytes(stream[at + 4 : at + 6], "big")
@@ -64,14 +68,14 @@ def frames_in(stream):
 
 
 class Relay:
-    """Hands the bytes of each connection on to a port, and keeps what comes back."""
+    """Forwards the bytes of each connection to a port, and keeps the bytes that come back."""
 
     def __init__(self):
         self.listener = socket.create_server((HOST, 0))
         self.port = self.listener.getsockname()[1]
         self.to = 0
         self.given = bytearray()
-        self.ends_behind = None  # so many bytes of the stand-in's, in a round whose link drops
+        self.ends_behind = None  # the bytes of the simulator after which the link drops
         threading.Thread(target=self.run, daemon=True).start()
 
     def run(self):
@@ -82,7 +86,7 @@ class Relay:
     def relay(self, office, port, given, ends_behind):
         try:
             device = connected(port)
-        except OSError:  # (the stand-in went with a round that was stopped)
+        except OSError:  # (the simulator ended with a stopped round)
             office.close()
             return
         threading.Thread(target=hand_on, args=(office, device, bytearray()), daemon=True).start()
@@ -90,7 +94,7 @@ class Relay:
 
 
 def connected(port):
-    """A connection to a port of this machine, for which it waits a minute."""
+    """Returns a connection to a port of this machine, for which it waits a minute."""
     for _ in range(3000):
         with contextlib.suppress(ConnectionRefusedError):
             return socket.create_connection((HOST, port))
@@ -99,7 +103,7 @@ def connected(port):
 
 
 def hand_on(source, target, kept, ends_behind=None):
-    """Keeps each piece before it is handed on; ends both connections behind so many bytes."""
+    """Keeps each piece, then forwards it; closes both connections after so many bytes."""
     try:
         while piece := source.recv(4096):
             piece = piece if ends_behind is None else piece[: ends_behind - len(kept)]
@@ -129,7 +133,7 @@ class Office:
         self.file = f"{room}/office.db"
 
     def run(self, word, *words, stop_at=None):
-        """Runs a command to its end, or stops it without warning at a moment."""
+        """Runs a command to its end, or kills it at a given time."""
         command = [self.program, word, "--db", self.file, *words]
         ran = subprocess.Popen(command, stdin=subprocess.DEVNULL, stdout=subprocess.PIPE, stderr=subprocess.PIPE)
         was_stopped = False
@@ -164,7 +168,7 @@ class Office:
         holds("serve", serving.wait(60) == 0)
 
     def books(self):
-        """Rows of the tables, from a copy of the file and of its log."""
+        """Returns rows of the tables, from a copy of the file and of its log."""
         copy = f"{self.room}/copy"
         shutil.rmtree(copy, ignore_errors=True)
         os.mkdir(copy)
@@ -174,7 +178,7 @@ class Office:
         return sqlite3.connect(f"{copy}/office.db")
 
     def polls(self):
-        """How many polls were started."""
+        """Returns how many polls were started."""
         books = self.books()
         count = books.execute("SELECT count(*) FROM polls").fetchone()[0]
         books.close()
@@ -187,19 +191,20 @@ class Soak:
         self.relay = Relay()
         self.chance = random.Random(SEED)
         self.counts = list(OPENINGS)
-        self.rounds = []  # of each: the first poll, the frames that were given, the meters that were lacking, and whether all went well
+        self.rounds = []  # of each: the first poll, the given frames, the missing meters, and whether all went well
         self.lacking = set()
-        self.brought = {}  # of each answered poll: what was given as its reply
+        self.brought = {}  # of each answered poll: the frame that was its response
         self.told = collections.defaultdict(set)  # of each meter: the readings that the office printed
         self.stops = 0
         self.drops = 0
-        self.judged = 0  # so many rounds were held to what the stand-in lacked, of which so many went well
+        self.judged = 0  # the rounds that were compared with the missing registers, and those that went well
         self.judged_well = 0
         self.next_stop = 0.0
-        self.usual = 0.4  # so many seconds a round takes
+        self.usual = 0.4  # the seconds of a round
 
     def bank(self):
-        """The lines of the next stand-in: its counters went on, and some answers go wrong."""
+        """Returns the lines of the next simulator: its counters count on, and some responses
+        are wrong."""
         self.lacking = set(self.chance.sample(range(METERS), self.chance.choice((0, 0, 0, 1, 2, 5))))
         lines = [f"area holding {APART * at} {APART}" for at in range(METERS) if at not in self.lacking]
         for at in sorted(set(range(METERS)) - self.lacking):
@@ -213,7 +218,8 @@ class Soak:
         return "".join(f"{line}\n" for line in lines)
 
     def round(self, first):
-        """Polls the whole plan once, with a stand-in of its own; stops the office where its time has come."""
+        """Polls the whole plan once, with a new simulator; kills the office if its time has
+        come."""
         self.relay.to, self.relay.given = free_port(), bytearray()
         self.relay.ends_behind = self.chance.randint(1, 13 * METERS) if self.chance.random() < 0.2 else None
         words = [self.office.program, "stand-in", "--port", str(self.relay.to), "--connections", "1"]
@@ -235,13 +241,14 @@ class Soak:
             self.next_stop = time.monotonic() + self.chance.uniform(1.0, 3.0)
         else:
             self.usual = min(0.4, time.monotonic() - begun)
-            ends = {0: "ok\n", 1: "\nrefused 10\n", 3: ""}  # (1: what was left could not be asked behind a loss; 3: the link failed)
+            ends = {0: "ok\n", 1: "\nrefused 10\n", 3: ""}  # (1: the rest could not be polled after a loss; 3: the link failed)
             is_told = ended.printed.endswith(ends.get(ended.status, "none")) and (ended.status == 3) == ended.said.startswith("failed\n")
             tally_of_rounds[ended.status] += 1
             more = f"{ended.status} {ended.printed[-200:]} {ended.said} {bank[-200:]}"
             holds("a round's status", is_told and (ended.status == 0 or "trick" in bank or self.relay.ends_behind), more)
         self.drops += self.relay.ends_behind == len(self.relay.given)
-        # (a round that took as long as the device's timeout may have had late replies, on a busy machine)
+        # (a round that took as long as the device's timeout may have had late responses, on a busy
+        # machine)
         is_in_time = time.monotonic() - begun < TIMEOUT
         went_well = is_in_time and not (ended.was_stopped or "trick" in bank or self.relay.ends_behind)
         only_dropped = is_in_time and bool(self.relay.ends_behind) and not (ended.was_stopped or "trick" in bank)
@@ -249,7 +256,7 @@ class Soak:
         return ended.was_stopped
 
     def judge(self):
-        """Opens the office again, and holds the books to what the stand-ins gave."""
+        """Opens the office again, and compares its records with the simulators' responses."""
         asked = self.chance.randrange(METERS)
         days = self.office.run("report", "--register", f"r{asked}")
         audit = self.office.run("audit")
@@ -281,18 +288,19 @@ class Soak:
         return len(ends)
 
     def values(self, poll, tid):
-        """What was given as the reply to a poll."""
+        """Returns the registers in the response to a poll."""
         if poll not in self.brought:
             self.brought[poll] = {int.from_bytes(pdu[2:], "big") for pdu in self.given(poll, tid) if pdu[:2] == b"\x03\x04"}
         return self.brought[poll]
 
     def given(self, poll, tid):
-        """What was given under a poll's number in its round."""
+        """Returns the frames with a poll's number in its round."""
         given = next((it.given for it in reversed(self.rounds) if it.first <= poll), [])
         return [frame.pdu for frame in given if (frame.tid, frame.unit) == (tid, 1)]
 
     def judge_lacking(self, ends):
-        """Holds the polls of rounds that went well to what the stand-in lacked, each round once."""
+        """Compares the polls of rounds that went well with the missing registers, each round
+        once."""
         for at in range(self.judged, len(self.rounds)):
             it = self.rounds[at]
             behind = self.rounds[at + 1].first if at + 1 < len(self.rounds) else len(ends) + 1
@@ -307,7 +315,7 @@ class Soak:
         self.judged = len(self.rounds)
 
     def judge_meter(self, books, meter, replies, held):
-        """Holds a meter's entries, total and quarter hours to the replies to its polls."""
+        """Compares a meter's entries, total and quarter hours with the responses to its polls."""
         name, last, energy, wrong = f"m{meter}", OPENINGS[meter], 0, ""
         rows = books.execute("SELECT kind, raw FROM entries WHERE meter = ? ORDER BY place", [name]).fetchall()
         booked = collections.deque(raw for kind, raw in rows[1:] if kind == 2)
@@ -340,7 +348,7 @@ class Soak:
             at = int(time.time())
             was_stopped = self.round(polls + 1)
             polls = self.judge() if was_stopped else self.office.polls()
-            while int(time.time()) == at:  # (a reading of the same second is held)
+            while int(time.time()) == at:  # (a reading of the same second is rejected)
                 time.sleep(0.02)
         polls = self.judge()
         books = self.office.books()

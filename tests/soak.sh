@@ -1,7 +1,9 @@
 #!/bin/sh
-# Polls a misbehaving device round after round, kills the office with no warning every few seconds, and holds the books to what the device
-# gave: `tests/soak.sh [PROGRAM]`, out/sunreg by default, which `./sunreg-build` makes. It needs python3 and nothing else, and ends on
-# 'N passed, M failed'. It prints the seed of its choices. SOAK_SEED, SOAK_POLLS (10000) and SOAK_SECONDS (1800) set it, and the bounds.
+# soak.sh [PROGRAM]: polls a misbehaving device round after round, and kills the office every few
+# seconds. It compares the records with the device's responses. PROGRAM is out/sunreg by default,
+# which `./sunreg-build` makes. The script needs only python3, and ends with 'N passed, M failed'.
+# It prints the seed of its choices. SOAK_SEED sets it; SOAK_POLLS (10000) and SOAK_SECONDS (1800)
+# are the bounds.
 set -eu
 here=$(dirname "$(readlink -f "$0")")
 program=${1:-${SUNREG:-$here/../out/sunreg}}

@@ -1,7 +1,7 @@
 #!/usr/bin/env bash
-# Holds the files of the built program to the `sqlite3` program, and files of that program to ours:
-# `tests/sqlite3.sh [PROGRAM]`, out/sunreg by default, which `./sunreg-build` makes. It needs curl and sqlite3.
-# It ends on 'N passed, M failed'.
+# sqlite3.sh [PROGRAM]: reads the built program's files with the `sqlite3` program, and files of
+# `sqlite3` with the program. PROGRAM is out/sunreg by default, which `./sunreg-build` makes. The
+# script needs curl and sqlite3, and ends with 'N passed, M failed'.
 set -uo pipefail
 here=$(dirname "$(readlink -f "$0")")
 program=${1:-${SUNREG:-$here/../out/sunreg}}
@@ -20,7 +20,7 @@ failed=0
 port=${SQLITE3_PORT:-18571}
 device=$((port + 1))
 
-# same WHAT GOT WANTED: holds what came to what is wanted
+# same WHAT GOT WANTED: compares a result with the expected one, and counts it
 same() {
     if [ "$2" = "$3" ]; then
         passed=$((passed + 1))
@@ -37,7 +37,8 @@ serve() {
     children="$children $child"
 }
 
-# ask PATH [WORDS..]: asks the serving program, once it listens, and prints the reply's body; none where it can't serve
+# ask PATH [WORDS..]: sends a request to the serving program, once it listens, and prints the
+# response's body; none if it can't serve
 ask() {
     for turn in $(seq 200); do
         curl -s --max-time 120 "${@:2}" "http://127.0.0.1:$port$1"
@@ -46,30 +47,30 @@ ask() {
     done
 }
 
-# put PATH NUMBER BODY: asks a command
+# put PATH NUMBER BODY: sends a command
 put() {
     ask "$1" -H 'Office-Caller: desk' -H "Office-Request: $2" --data-binary "$3"
 }
 
-# round FILE RAW: a round over the device, whose counter shows so much
+# round FILE RAW: runs a round over the device, whose counter shows RAW
 round() {
     printf 'area holding 40000 100\nset holding 40095 %s\n' "$2" > bank
     "$program" stand-in --port "$device" --connections 1 < bank > stand_in 2>&1 &
     child=$!
     children="$children $child"
-    # (a reading lies seconds behind the one before)
+    # (a reading comes seconds after the one before)
     sleep "${SQLITE3_PAUSE:-2}"
     wait_for 30 listens "$device"
     "$program" round --db "$1" --device inv --port "$device" < /dev/null
     wait "$child"
 }
 
-# column NAME: a moment, as `now` where it lies within this run, so that rows can be compared
+# column NAME: prints a timestamp, as `now` if it is within this run, so that rows can be compared
 column() {
     echo "CASE WHEN $1 BETWEEN $begun AND $(date +%s) THEN 'now' ELSE $1 END"
 }
 
-# rows FILE: all rows of a file, but for the bytes of the requests
+# rows FILE: prints all rows of a file, without the bytes of the requests
 rows() {
     sqlite3 "$1" "SELECT 'meta', * FROM meta; SELECT 'device', * FROM devices; SELECT 'point', * FROM points;
 SELECT 'register', * FROM registers;
@@ -83,7 +84,7 @@ SELECT 'range', * FROM ranges ORDER BY 2; SELECT 'void', meter, place, $(column 
 SELECT 'energy', meter, sum(mwh), sum(start % 900), min(start) > $begun - 900, max(start) <= $(date +%s) FROM intervals GROUP BY meter"
 }
 
-# whole WHAT FILE: that sqlite3 finds no fault with it, and its tables are those of docs/SCHEMA.md
+# whole WHAT FILE: sqlite3 finds no fault in the file, and its tables are those of docs/SCHEMA.md
 whole() {
     same "$1: it is whole" "$(sqlite3 "$2" 'PRAGMA integrity_check; PRAGMA foreign_key_check')" ok
     same "$1: its tables" "$(sqlite3 "$2" 'SELECT type, name, tbl_name, sql FROM sqlite_schema')" "$schema"

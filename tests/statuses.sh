@@ -1,6 +1,7 @@
 #!/bin/sh
-# Runs the built program for each of its exit statuses: `tests/statuses.sh [PROGRAM]`, out/sunreg by default, which `./sunreg-build`
-# makes. It compares status, standard output and standard error, and ends on 'N passed, M failed'.
+# statuses.sh [PROGRAM]: runs the built program for each of its exit statuses. PROGRAM is out/sunreg
+# by default, which `./sunreg-build` makes. The script compares status, standard output and standard
+# error, and ends with 'N passed, M failed'.
 set -u
 here=$(dirname "$(readlink -f "$0")")
 program=${1:-${SUNREG:-$here/../out/sunreg}}
@@ -10,7 +11,8 @@ trap 'rm -rf "$room"' EXIT
 passed=0
 failed=0
 
-# is WHAT STATUS OUT ERR: holds the last run to what is wanted; of standard error its first line
+# is WHAT STATUS OUT ERR: compares the last run with what is expected; of standard error its first
+# line
 is() {
     if [ "$status" = "$2" ] && [ "$(cat "$room/out")" = "$3" ] && [ "$(head -n 1 "$room/err")" = "$4" ]; then
         passed=$((passed + 1))
@@ -20,7 +22,7 @@ is() {
     fi
 }
 
-# run TEXT WORDS..: runs the program on a text, and keeps what comes
+# run TEXT WORDS..: runs the program on a text, and keeps its output
 run() {
     text=$1
     shift
@@ -59,7 +61,7 @@ done
 
 run '' --versions
 is 'no such option' 2 '' "error: unexpected argument '--versions' found"
-# (the version and the logic of the kit stand in the sources)
+# (the sources have the version and the logic of the kit)
 version=$(sed -n 's/^ *version: "\(.*\)",$/\1/p' "$here/../crates/command_words/src/table.rt")
 logic=$(sed -n 's/^const LOGIC: &str = "\(.*\)";$/\1/p' "$here/../crates/sunreg/src/version.rt")
 run '' --version
@@ -95,7 +97,7 @@ run '' serve --db "$office" --port 65536 --connections 1
 is 'serve: a port out of range' 2 '' "error: invalid value '65536' for '--port <N>': not a number from 1 to 65535"
 run '' round --db "$office" --device d --port 1
 is 'round: no device listens' 3 '' 'failed'
-# says WHAT TEXT: holds the second line on standard error of the last run to what is wanted
+# says WHAT TEXT: compares the second line on standard error of the last run with what is expected
 says() {
     if [ "$(sed -n 2p "$room/err")" = "sunreg: $2" ]; then
         passed=$((passed + 1))
@@ -105,7 +107,7 @@ says() {
     fi
 }
 
-# How a run ends at once, each by what it says: so none is taken for another.
+# Runs that end at once, each with its own message: so none is taken for another.
 run '' run --db "$room/none.db" --listen 1 --every 1 --devices d=127.0.0.1:1 --for 1
 is 'run: no such file' 3 '' 'failed'
 says 'run: no such file' "$room/none.db: file not found; make it with sunreg create"

@@ -1,4 +1,6 @@
-"""The scripts, rows and answers of tests/stores.py. All numbers are written by hand: energies by the definitions of docs/SCRIPT.md."""
+"""The scripts, rows and responses of tests/stores.py.
+
+All numbers are written by hand: energies by the definitions of docs/SCRIPT.md."""
 ZONE = "CET-1CEST,M3.5.0,M10.5.0/3"
 TABLES = "meta devices points registers installations entries polls holds outcomes intervals replies ranges voids".split()
 LIST = "name,function,area,address,type,scale\nWh,3,0,40094,acc32,Wh_SF\nWh_SF,3,0,40096,sunssf,\nMn,4,1,40004,string16,\n"
@@ -6,12 +8,12 @@ SHORTER_LIST = "name,function,area,address,type,scale\nW,3,0,40083,int16,-1\n"
 
 
 def read(tid, at, raw, sf=0):
-    """The lines of a poll, whose response has the counter and the scale factor."""
+    """Returns the lines of a poll, whose response has the counter and the scale factor."""
     return f"{at - 1} start inv 3 40094 3\n{at} bytes inv {tid:04x}00000009010306{raw:08x}{sf & 0xffff:04x}\n"
 
 
 def begun(meter, at, raw, register="main", ceiling=100000, counter_range=100000):
-    """A device, its register and a meter there, connected."""
+    """Returns the lines of a connected device, its register and a meter there."""
     return f"""{at} device inv 1 5 2
 {at} register {register} inv 3 40094 @40096
 {at} install {register} {meter} {raw} 0 {ceiling} {counter_range}
@@ -20,12 +22,12 @@ def begun(meter, at, raw, register="main", ceiling=100000, counter_range=100000)
 
 
 def at(shift, script):
-    """The same lines, so many seconds later."""
+    """Returns the same lines, so many seconds later."""
     parted = (it.split(" ", 1) for it in script.splitlines())
     return "".join(f"{int(moment) + shift} {rest}\n" for moment, rest in parted)
 
 
-# The meter m1 reads 5200 Wh at 1900; then 5100 at another scale, which is held.
+# The meter m1 reads 5200 Wh at 1900; then 5100 at another scale, which is rejected.
 ONE_READING = f"""1000 device inv 1 5 2
 1000 list inv {LIST.encode().hex()}
 1000 register main inv 3 40094 @40096
@@ -37,7 +39,8 @@ ONE_READING = f"""1000 device inv 1 5 2
 1901 bytes inv 000100000009010306000013ec0001
 """
 CLOSED = ONE_READING + "2000 close main 5200 0\n"
-# 99,990 to 10 turns the counter over; it is set from 20 to 500 at the scale 1, and counts on to 502: 20, 10 and 20 Wh.
+# The counter rolls over from 99,990 to 10. It is set from 20 to 500 at the scale 1, and counts on
+# to 502: 20, 10 and 20 Wh.
 TURNED = begun("m1", 900, 99990) + read(0, 1800, 10) + "2700 rescale main 20 500 1\n" + read(1, 3600, 502, 1)
 # Two registers of a device, whose counters show 0 in one response.
 HELD_TWICE = begun("m1", 1000, 5000) + """1000 register roof inv 3 40094 @40096
@@ -48,7 +51,8 @@ HELD_TWICE = begun("m1", 1000, 5000) + """1000 register roof inv 3 40094 @40096
 EMPTY_LIST = LIST.splitlines()[0].encode().hex() + "0a"
 M1, ENTRIES = "installations WHERE meter = 'm1'", "entries WHERE meter = 'm1'"
 FIRST_HOUR = [("intervals WHERE meter = 'm1' AND start = 900 AND mwh = 177777", 1), ("intervals WHERE meter = 'm1' AND start = 1800 AND mwh = 22223", 1)]
-# 2800 reads 5300: after a void of 5200 its 300 Wh are of 1800 seconds, so 133333, 150000 and 16667 mWh by quarter hours.
+# A reading of 5300 at 2800. After a void of 5200 its 300 Wh are of 1800 seconds, so 133333, 150000
+# and 16667 mWh by quarter hours.
 LATER_READING = read(2, 2800, 5300)
 
 BOOKED = [
@@ -132,7 +136,8 @@ BOOKED = [
     ]),
 ]
 
-# Two devices with a register each, the points of one, out of order, a poll that was answered by an exception, and one that is pending.
+# Two devices with a register each. One has points, out of order. One poll was answered with an
+# exception, and one is pending.
 DEVICES = """INSERT INTO devices VALUES (1, 'inv', 3, 5, 1), (2, 'pv', 0, 60, 16);
 INSERT INTO registers VALUES (1, 'main', 'inv', 3, 40094, 1, 40096), (2, 'roof', 'pv', 4, 8, 0, -3);
 INSERT INTO points VALUES ('inv', 4, 'impsf', 3, 0, 40176, 'sunssf', ''), ('inv', 2, 'whsf', 3, 0, 40096, 'sunssf', '');
@@ -140,8 +145,8 @@ INSERT INTO points VALUES ('inv', 3, 'imp', 3, 0, 40168, 'acc32', 'impsf'), ('in
 INSERT INTO polls VALUES (1, 'inv', 3, 1898, 1, 3, 40094, 3), (2, 'pv', 0, 1900, 7, 4, 8, 125);
 INSERT INTO outcomes VALUES (1, 1900, 2, 11);
 INSERT INTO replies VALUES ('desk', 7, x'6162', 'exchange', 1800);"""
-# The meter m1 has a reading, one that was voided, and a closing, 200 and 100 Wh; then the meter m0 has a reading, 45 Wh. Another
-# register has the meter m3, with a reading, 200 Wh.
+# The meter m1 has a reading, a voided one, and a closing, 200 and 100 Wh. Then the meter m0 has a
+# reading, 45 Wh. Another register has the meter m3, with a reading, 200 Wh.
 METERS = """INSERT INTO devices VALUES (1, 'inv', 1, 5, 1);
 INSERT INTO registers VALUES (1, 'main', 'inv', 3, 40094, 1, 40096), (2, 'roof', 'inv', 3, 40194, 1, 40096), (3, 'spare', 'inv', 3, 40294, 0, 0);
 INSERT INTO installations VALUES (1, 'm1', 'main', 100000, 1, 2800, 5300, 0, 300000), (2, 'm0', 'main', 20000, 0, 3700, 45, 0, 45000);
@@ -153,7 +158,7 @@ INSERT INTO entries VALUES ('m1', 1, 1, 1000, 5000, 0, 0, 0), ('m1', 2, 2, 1900,
 INSERT INTO entries VALUES ('m1', 4, 4, 2800, 5300, 0, 0, 0), ('m0', 1, 1, 2800, 0, 0, 0, 0), ('m0', 2, 2, 3700, 45, 0, 0, 0);
 INSERT INTO voids VALUES ('m1', 3, 2700);
 INSERT INTO intervals VALUES ('m1', 900, 177777), ('m1', 1800, 111111), ('m1', 2700, 11112), ('m0', 2700, 40000), ('m0', 3600, 5000);"""
-# The last that a meter did is of one of six tables; the latest moment is then that of the table.
+# The last event of a meter is in one of six tables; the latest timestamp is then that of the table.
 LATEST = [
     ("installations VALUES (1, 'm1', 'main', 20000, 0, 2000, 5000, 0, 0); INSERT INTO entries VALUES ('m1', 1, 1, 2000, 5000, 0, 0, 0)", 2000),
     ("outcomes VALUES (2, 2001, 5, 4)", 2001),
@@ -165,7 +170,8 @@ LATEST = [
         "INSERT INTO entries VALUES ('m1', 1, 1, 1000, 5000, 0, 0, 0), ('m1', 2, 2, 1900, 5200, 0, 0, 0)", 2005,
     ),
 ]
-# Spans of the two devices, and whether a response has a reading of the register there: its function, its counter and its scale.
+# Spans of the two devices, and whether a response has a reading of the register: its function, its
+# counter and its scale.
 SPANS = [
     ("inv", 3, 40094, 3, True), ("inv", 3, 40093, 4, True), ("inv", 3, 40094, 2, False), ("inv", 3, 40095, 3, False), ("inv", 4, 40094, 3, False),
     ("pv", 4, 8, 2, True), ("pv", 4, 8, 1, False), ("pv", 4, 9, 2, False), ("pv", 3, 8, 2, False),
@@ -173,7 +179,9 @@ SPANS = [
 
 
 def span_lines():
-    """Polls of the spans, one after the other, whose responses are all zeros: a reading of 0 is held since it isn't accumulated."""
+    """Returns polls of the spans, one after the other, whose responses are all zeros.
+
+    A reading of 0 is rejected since it is not accumulated."""
     asked, unit_of, tids, meter_of = [], {"inv": 3, "pv": 0}, {"inv": 0, "pv": 0}, {"inv": "m1", "pv": "m2"}
     for poll, (device, function, address, count, is_read) in enumerate(SPANS, 3):
         begin, tid = 3000 + 10 * poll, tids[device]
@@ -257,7 +265,7 @@ SERVED.append(("an entry below zero", METERS + "UPDATE entries SET raw = -1 WHER
     ("/meters/m1/entries/1", (503, '{"refused":13}')), ("/meters/m0/entries/1", (200, "1 opening 2800 0 0 0 0 stands\n2 reading 3700 45 0 0 0 stands\nend 2\n")),
 ]))
 
-# What is done to a new file, and the fault of the file then: 1 it isn't ours, 2 its zone is none.
+# Changes of a new file, and the file's fault: 1 it is not an office's, 2 its zone is invalid.
 OPENED = [
     ("UPDATE meta SET version = 3", None), ("UPDATE meta SET version = 0", 1), ("UPDATE meta SET version = 1", 1), ("UPDATE meta SET version = 2", 1),
     ("UPDATE meta SET version = 9", 1), ("UPDATE meta SET version = -3", 1), ("UPDATE meta SET zone = 'x'", 2), ("UPDATE meta SET version = 9, zone = 'x'", 1),
@@ -283,7 +291,7 @@ INSERT INTO installations VALUES (1, 'm1', 'main', 1000000, 0, 5999, 5000, 0, 49
 INSERT INTO entries VALUES ('m1', 1, 1, 1000, 1, 0, 0, 0);
 WITH RECURSIVE it (n) AS (SELECT 2 UNION ALL SELECT n + 1 FROM it WHERE n < 5000) INSERT INTO entries SELECT 'm1', n, 3, n + 999, n, 0, 0, 0 FROM it;"""
 
-# How the next file begins after ONE_READING, and what is said of both.
+# The start of the next file after ONE_READING, and the report about both.
 ONE = "1 differences between files"
 JOINED = [
     ("a meter that goes on", begun("m1", 1900, 5200), ["joined: fine"]),
@@ -310,7 +318,8 @@ pending 2
 sha256 dd6a41689d1145463c6fc78f948dd36ed06792a023b4ebf07f2198a48548740f
 """
 
-# A meter reads 5200 at 1900, and is exchanged for another, which is read by hand: 300 and 45 Wh in four quarter hours.
+# A meter reads 5200 at 1900. It is replaced by another, which is read by hand: 300 and 45 Wh in
+# four quarter hours.
 DAY = """1000 device inv 1 5 1
 1000 register main inv 3 40094 @40096
 1000 install main m1 5000 0 100000
@@ -337,7 +346,7 @@ REPORTS = [
 ]
 # A file compared with itself as the one before.
 TWICE = (1, ["meter m1 is in new.db, and was closed in old.db", "meter m2 begins in new.db at 2800 0 0, stands in old.db at 3700 45 0", "2 differences between files"], "")
-# What is fed to the file into which m2 was carried at 3700, where it showed 45 Wh.
+# The lines for the file into which m2 was carried at 3700, where it showed 45 Wh.
 LATER = ["4600 manual main 60 0", "5500 exchange main 70 0 m3 0 0 100000"]
 BY_BOTH = "m1 1000 5000000 2800 5300000 300000 0 0 0 0 0\nm2 2800 0 5500 70000 70000 2 0 0 0 0\nm3 5500 0 5500 0 0 0 0 0 0 0\nend 3\n"
 BOTH = ["day.db", "next.db"]
@@ -352,7 +361,8 @@ AUDITED = [
     ("UPDATE installations SET total = 44999 WHERE meter = 'm2'", 1,
      "meter m1 interval 900 has 177778, entries give 177777\nmeter m2 total has 44999, entries give 45000\n2 differences\n"),
 ]
-# A file that goes on from the day, with a register more: m2 has 45 Wh more in two quarter hours, of which one is the last of the day.
+# A file that continues from the day, with one more register. m2 has 45 Wh more in two quarter
+# hours, of which one is the last of the day.
 NEXT = begun("m2", 3700, 45, counter_range=4294967296) + "3700 register spare inv 3 40194 @40196\n4600 manual main 90 0\n"
 NEXT_DAYS = "1970-01-01   5                   390000\nend 1\n"
 NEXT_MONTHS = "1970-01    5                   390000\nend 1\n"

@@ -1,12 +1,14 @@
 #!/usr/bin/env python3
-"""stores.py [PROGRAM]: compares an office's file with what was fed and asked, by Python's sqlite3. Ends on 'N passed, M failed'.
+"""stores.py [PROGRAM]: compares an office's file with scripts and responses, by Python's sqlite3.
 
 - Scripts: `replay --db` plays a script over a new file, which must have certain rows then.
-- Questions: sqlite3 writes rows into a new file, of which scripts and HTTP ask then.
-- Files: `create` and `report` accept or refuse databases, and bring those of earlier versions to today's.
+- Queries: sqlite3 writes rows into a new file, which scripts and HTTP then query.
+- Files: `create` and `report` accept or refuse databases, and migrate those of earlier versions.
 - Several files: `audit` compares the meters of one file with those of the file before.
 - Seals: `audit` prints the seal of certain rows, and compares later rows with it.
-All numbers are written by hand. tests/stored_rows.py has the scripts, rows and answers. PORT is where HTTP is asked, 18711 by default.
+
+All numbers are written by hand. tests/stored_rows.py has the scripts, rows and responses. PORT is
+the port of HTTP, 18711 by default. The script ends with 'N passed, M failed'.
 """
 import contextlib
 import json
@@ -35,22 +37,23 @@ counts = {"passed": 0, "failed": 0}
 
 
 def same(what, got, wanted):
-    """Counts whether something is what is wanted."""
+    """Compares a result with the expected one, and counts it."""
     counts["passed" if got == wanted else "failed"] += 1
     if got != wanted:
         print(f"{what}: {got!r}\nand not {wanted!r}")
 
 
 def run(*words, text=""):
-    """Returns the status of a command, what it printed, and what it said on standard error."""
+    """Returns the status of a command, its output, and its standard error."""
     done = subprocess.run([str(PROGRAM), *words], input=text, capture_output=True, text=True, timeout=600)
-    # (a file that sqlite3 closed has no log beside it, which the program says)
+    # (a file that sqlite3 closed has no log beside it, which the program reports)
     said = [it for it in done.stderr.splitlines() if "it had no log" not in it]
     return done.returncode, done.stdout, "\n".join(said)
 
 
 def copy_file(db, to):
-    """Copies a file alone, over whatever has the name: a log of another file there would be taken for its own."""
+    """Copies only a file, over any file of the name: a log of another file there would be taken for
+    its own."""
     for it in (to, to + "-wal", to + "-shm"):
         pathlib.Path(it).unlink(missing_ok=True)
     shutil.copy(db, to)
@@ -67,7 +70,7 @@ def rows_of(db, query):
 
 
 def create(db, zone="UTC0"):
-    """Makes a new file: a copy of the one that `create` makes for the zone."""
+    """Makes a new file: a copy of the file that `create` makes for the zone."""
     if zone not in MADE:
         made = f"made{len(MADE)}.db"
         done = run("create", "--db", made, "--zone", zone)
@@ -79,7 +82,7 @@ def create(db, zone="UTC0"):
 
 
 def replay(db, *lines):
-    """Returns what lines of a script print over a file."""
+    """Returns the output of lines of a script over a file."""
     _, printed, said = run("replay", "--db", db, text="".join(f"{it}\n" for it in lines))
     return [*printed.splitlines(), *said.splitlines()]
 
@@ -126,7 +129,7 @@ def running(*dbs):
 
 
 def get(child, target):
-    """Returns the status and the body of a reply."""
+    """Returns the status and the body of a response."""
     for _turn in range(400):
         try:
             with urllib.request.urlopen(f"http://127.0.0.1:{PORT}{target}", timeout=60) as reply:
@@ -149,7 +152,7 @@ def check_http():
 
 
 def check_many_entries():
-    """A reply has 4,096 entries at most."""
+    """A response has 4,096 entries at most."""
     holding("many.db", data.MANY)
     with running("many.db") as child:
         listed = get(child, "/meters/m1/entries/2")[1].splitlines()
@@ -159,13 +162,14 @@ def check_many_entries():
 
 
 def said_of(db):
-    """Returns the status of a report of a file, what it printed, and the second line that it said, which has the reason."""
+    """Returns the status of a report of a file, its output, and its second message, which has the
+    reason."""
     status, printed, said = run("report", "--db", db, "--register", "main")
     return status, printed, "".join(said.splitlines()[1:2])
 
 
 def refuses(what, db, reason):
-    """The file is refused for a reason, and nothing is printed of it."""
+    """The file is refused for a reason, and nothing of it is printed."""
     status, printed, said = said_of(db)
     same(what, (status, printed, reason in said or said), (3, "", True))
 
@@ -208,7 +212,8 @@ def check_opened_files():
 
 
 def joins(*dbs):
-    """Returns what an audit of several files says of how they join, and its status; each file alone is fine."""
+    """Returns the lines of an audit about how several files join, and its status; each file alone
+    is sound."""
     status, printed, said = run("audit", *(it for db in dbs for it in ("--db", db)))
     return status, [it for it in printed.splitlines() if not it.startswith(("file ", "fine: "))], said
 
@@ -302,7 +307,7 @@ def check_files():
 
 
 def check_lacks():
-    """After a round it is said what the device lacks."""
+    """After a round the program reports what the device lacks."""
     played("lacks.db", data.UNMETERED)
     for device, wanted in data.LACKS:
         with subprocess.Popen([PROGRAM, "stand-in", "--port", str(PORT + 1), "--connections", "1"], stdin=subprocess.DEVNULL) as child:
@@ -316,7 +321,8 @@ def check_lacks():
 
 
 def check_earlier_files():
-    """A run reports over the file before its own, and refuses one from which its own doesn't go on."""
+    """A run reports over the file before its own, and refuses a file that its own does not
+    continue."""
     played("day.db", data.DAY)
     played("next.db", data.NEXT)
     files = ["--db", "day.db", "--db", "next.db"]

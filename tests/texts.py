@@ -1,8 +1,10 @@
 #!/usr/bin/env python3
-"""texts.py: holds the text of all crates to what `rt ci` refuses apart from proofs, in half a minute: layout, names that mean something else, words that reach past the
-handles, files that no check reads, edits that can't be applied. `rt check` and `rt test` don't look at all of it, and `rt ci` tells it after an hour or two.
+"""texts.py: checks the text of all crates for what `rt ci` refuses apart from proofs.
 
-It prints a line for each fault, and ends on 'N passed, M failed', of the crates; the status is 1 where M > 0.
+It takes half a minute. It checks layout, names that mean something else, words that reach past the
+handles, files that no check reads, and mutants that can't be applied. `rt check` and `rt test`
+don't check all of that, and `rt ci` reports it after an hour or two. The script prints a line for
+each fault, and ends with 'N passed, M failed', counted in crates; the status is 1 if M > 0.
 """
 import os
 import re
@@ -17,7 +19,7 @@ rt = kit.load_rt()
 
 
 class Refused(Exception):
-    """What the kit would stop for."""
+    """A fault at which the kit would stop."""
 
 
 def refuse(why):
@@ -25,13 +27,13 @@ def refuse(why):
 
 
 def edits_of(crate):
-    """The edits of a crate: those of the gate, and those that are tried beside it."""
+    """Returns the mutants of a crate: those of the gate, and those that are tried beside it."""
     found = [f"{crate.folder}/must-fail", f"{ROOT}/tests/edits/{crate.name}"]
     return [f"{folder}/{it}" for folder in found if os.path.isdir(folder) for it in sorted(os.listdir(folder)) if it.endswith(".edit")]
 
 
 def faults_of(crate, crates):
-    """Yields what is refused of a crate's text."""
+    """Yields the faults of a crate's text."""
     lib = rt.rtlib
     for look in (
         lambda: lib.stop_on_links(crate.folder),

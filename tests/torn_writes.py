@@ -1,15 +1,19 @@
 #!/usr/bin/env python3
-"""torn_writes.py PROGRAM: damages the write-ahead logs of offices that were killed, and opens each damaged copy.
+"""torn_writes.py PROGRAM: damages the logs of killed offices, and opens each damaged copy.
 
-An office polls a device in rounds and is killed during one. Its file and its log are copied. Then the log is cut (at a frame's
-begin, within its header, within its page, anywhere), or one bit of it is flipped. The first office's log is also changed in each byte
-of its header, in 300 random bytes of its frames, and cut at each frame.
+An office polls a device in rounds and is killed during one. Its file and its log are copied. Then
+the log is cut (at a frame's start, within its header, within its page, anywhere), or one bit of it
+is flipped. The first office's log is also changed in each byte of its header, in 300 random bytes
+of its frames, and cut at each frame.
 
-What is expected comes from `wal_model.py`, which reads the log by its format. A log that a crash can leave opens: the copy is
-complete; its entries and polls are the first ones of the untorn copy; each meter's energy is exactly its last reading less its
-first; a poll has at most one outcome; and where the damage lies behind the last commit, nothing is missing. A log that has lost a
-commit is refused by `report`, `audit` and `backup` with status 3, and no byte of either file changes. `recover` then makes an
-office of the commits before the damage, and `audit` finds it fine.
+The expected result comes from `wal_model.py`, which reads the log by its format. A log that a crash
+can leave opens. Then the copy is complete, and its entries and polls are the first ones of the
+untorn copy. Each meter's energy is exactly its last reading less its first, and a poll has at most
+one outcome. If the damage is after the last commit, nothing is missing.
+
+`report`, `audit` and `backup` refuse a log that has lost a commit, with status 3, and no byte of
+either file changes. `recover` then makes an office of the commits before the damage, and `audit`
+accepts it.
 """
 import collections
 import os
@@ -29,12 +33,12 @@ COPIES = int(os.environ.get("TORN_COPIES", "300"))
 SEED = int(os.environ.get("TORN_SEED", time.time_ns() % 1_000_000_007))
 HEADER, FRAME = wal_model.HEADER, wal_model.FRAME
 OFFICES = 3
-LEAST, ROUNDS = 24, 100  # so many commits a log has that is damaged, after at most so many rounds
+LEAST, ROUNDS = 24, 100  # the commits that a damaged log must have, and the most rounds to make them
 FLIPS = int(os.environ.get("TORN_FLIPS", "300"))
 
 
 def rows_of(file):
-    """What the tables of a copy tell."""
+    """Returns the rows of a copy's tables."""
     books = sqlite3.connect(file)
     ask = lambda text: books.execute(text).fetchall()
     told = {
@@ -54,7 +58,8 @@ def rows_of(file):
 
 
 def energy_is_exact(rows):
-    """Whether each meter's energy is its last reading less its first, with the turns between."""
+    """Returns whether each meter's energy is its last reading less its first, with the rollovers
+    between."""
     raws = collections.defaultdict(list)
     for _, meter, _, _, _, raw, *_ in rows["entries"]:
         raws[meter].append(raw)
@@ -77,7 +82,7 @@ class Torn:
         self.cuts = {}
 
     def office(self, room):
-        """An office that was killed in a round: its file, its log, and what it printed."""
+        """Returns an office that was killed in a round: its file, its log, and its output."""
         os.mkdir(room)
         it = soak.Soak(self.program, room)
         it.office.set_up()
@@ -95,7 +100,7 @@ class Torn:
         return open(it.office.file, "rb").read(), open(f"{it.office.file}-wal", "rb").read(), it.told
 
     def write(self, name, file, log):
-        """Puts a file and its log into a folder of their own."""
+        """Puts a file and its log into a separate folder."""
         folder = f"{self.copy}/{name}"
         shutil.rmtree(folder, ignore_errors=True)
         os.makedirs(folder)
@@ -104,7 +109,8 @@ class Torn:
                 it.write(data)
 
     def opened(self, file, log):
-        """What SQLite and then the program make of a file with a log; the program has a copy of its own."""
+        """Returns what SQLite and then the program read in a file with a log; the program has a
+        separate copy."""
         for name in ("sqlite", "program"):
             self.write(name, file, log)
         rows = rows_of(f"{self.copy}/sqlite/office.db")
@@ -113,7 +119,8 @@ class Torn:
         return rows, ran, rows_of(f"{self.copy}/program/office.db")
 
     def run_over(self, *words):
-        """Runs the program over the copy, whose files it must leave as they are; None where it changed one."""
+        """Runs the program over the copy, whose files it must not change; None if it changed
+        one."""
         folder = f"{self.copy}/program"
         before = {name: open(f"{folder}/{name}", "rb").read() for name in os.listdir(folder)}
         ran = subprocess.run([self.program, *words], stdin=subprocess.DEVNULL, capture_output=True, timeout=60)
@@ -121,7 +128,8 @@ class Torn:
         return ran if before == after else None
 
     def refused(self, what, file, log, verdict):
-        """Opens a copy whose log has lost a commit: each command refuses it, and `recover` makes an office of the rest."""
+        """Opens a copy whose log has lost a commit: each command refuses it, and `recover` makes an
+        office of the rest."""
         self.write("program", file, log)
         office, new = f"{self.copy}/program/office.db", f"{self.copy}/new.db"
         for ending in ("", "-wal"):
@@ -153,14 +161,14 @@ class Torn:
         soak.holds(f"{what}: what was recovered is what the commits before the damage hold", rows == whole)
 
     def cut_behind(self, file, log, end):
-        """What SQLite reads of a file whose log ends with a commit."""
+        """Returns what SQLite reads in a file whose log ends with a commit."""
         if (end, log[:HEADER]) not in self.cuts:
             self.write("cut", file, log[:end])
             self.cuts[end, log[:HEADER]] = rows_of(f"{self.copy}/cut/office.db")
         return self.cuts[end, log[:HEADER]]
 
     def tear(self, log, frames):
-        """A way of tearing, the first byte that it takes or turns, and the log torn so."""
+        """Returns a kind of damage, the first byte that it removes or flips, and the torn log."""
         size, last = frames.size, frames.commits[-1]
         at = HEADER + size * self.chance.randrange((frames.end - HEADER) // size)
         kind = self.chance.choice(("begin", "header", "page", "random", "behind", "flip behind", "flip last", "flip any"))
@@ -173,14 +181,14 @@ class Torn:
         }
         if kind in cut:
             return kind, cut[kind], log[: cut[kind]]
-        flipped = bytearray(log + bytes(size))  # (the bytes behind the last frame are none of it)
+        flipped = bytearray(log + bytes(size))  # (the bytes after the last frame do not belong to it)
         span = {"flip behind": (last, len(flipped)), "flip last": (last - size, last), "flip any": (HEADER, len(log))}[kind]
         at = self.chance.randrange(*span)
         flipped[at] ^= 1 << self.chance.randrange(8)
         return kind, at, bytes(flipped)
 
     def judge(self, file, log, kind, at, whole, all_commits, told):
-        """Opens a damaged copy, and holds it to the whole one."""
+        """Opens a damaged copy, and compares it with the undamaged one."""
         verdict = wal_model.verdict(file, log)
         if not verdict.is_sound:
             self.judge_refused(file, log, kind, at, all_commits, verdict)
@@ -223,7 +231,8 @@ class Torn:
             self.lost += 1
 
     def try_each(self, file, log, frames, whole, told):
-        """Changes each byte of the header, and many of the frames, and cuts the log at each frame."""
+        """Changes each byte of the header, and many of the frames, and cuts the log at each
+        frame."""
         for at in range(HEADER):
             changed = bytearray(log)
             changed[at] ^= self.chance.randrange(1, 256)

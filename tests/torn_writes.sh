@@ -1,7 +1,9 @@
 #!/bin/sh
-# Tears the write-ahead log of an office that was killed, at many lengths and by single bytes, and opens each torn copy by the program and by
-# SQLite: `tests/torn_writes.sh [PROGRAM]`, out/sunreg by default, which `./sunreg-build` makes. It needs python3 and nothing else, and ends on
-# 'N passed, M failed'. It prints the seed of its choices, which TORN_SEED sets; TORN_COPIES (300) says how many copies it tears.
+# torn_writes.sh [PROGRAM]: tears the write-ahead log of a killed office, at many lengths and by
+# single bytes, and opens each torn copy with the program and with SQLite. PROGRAM is out/sunreg by
+# default, which `./sunreg-build` makes. The script needs only python3, and ends with
+# 'N passed, M failed'. It prints the seed of its choices, which TORN_SEED sets; TORN_COPIES (300)
+# is the number of torn copies.
 set -eu
 here=$(dirname "$(readlink -f "$0")")
 program=${1:-$here/../out/sunreg}

@@ -1,8 +1,13 @@
 #!/bin/sh
-# Runs ./sunreg where nothing is built, in a clone of what is committed: `tests/unbuilt.sh`. It replays the README's example, by a symbolic
-# link into a path with spaces; a script whose last line is bad, by sh; and the example from a checkout that it may not write. Each must end
-# within UNBUILT_SECONDS (90; 50 to 61 were measured) on a machine that does nothing else, and leave nothing behind. What else it does is tried with a command rt that only
-# tells how it was called, with one that is told to stop, and with none. It needs the kit and git, takes some three minutes, and ends on 'N passed, M failed'.
+# unbuilt.sh: runs ./sunreg where nothing is built, in a clone of the committed tree.
+# - It replays the README's example, by a symbolic link into a path with spaces.
+# - It replays a script whose last line is bad, by sh.
+# - It replays the example from a checkout that it may not write.
+#
+# Each must end within UNBUILT_SECONDS (90; 50 to 61 were measured) on a machine without other work,
+# and leave nothing. Its other parts are tested with a command rt that only prints how it was
+# called, with an rt that is stopped, and without one. The script needs the kit and git, takes some
+# three minutes, and ends with 'N passed, M failed'.
 set -u
 here=$(dirname "$(readlink -f "$0")")
 seconds=${UNBUILT_SECONDS:-90}
@@ -21,7 +26,7 @@ cd /
 passed=0
 failed=0
 
-# same WHAT GOT WANTED: holds what came to what is wanted
+# same WHAT GOT WANTED: compares a result with the expected one, and counts it
 same() {
     if [ "$2" = "$3" ]; then
         passed=$((passed + 1))
@@ -31,7 +36,7 @@ same() {
     fi
 }
 
-# run INPUT WORDS..: runs words with a file as standard input, and keeps what comes and how long it takes
+# run INPUT WORDS..: runs a command with a file as standard input, and keeps its output and its time
 run() {
     input=$1
     shift
@@ -41,18 +46,18 @@ run() {
     took=$(($(date +%s) - since))
 }
 
-# begins WITHIN: what it says first
+# begins WITHIN: prints the expected first message
 begins() {
     echo "sunreg: not built yet; running the unproved sources takes $1 to start. ./sunreg-build proves and builds sunreg"
 }
 
-# leaves_none WHAT: holds the temporary folder and the checkout to what they were
+# leaves_none WHAT: the temporary folder and the checkout are unchanged
 leaves_none() {
     same "$1: left in the temporary folder" "$(ls -A "$TMPDIR")" ''
     same "$1: left in the checkout" "$(git -C "$checkout" status --porcelain --ignored)" ''
 }
 
-# replays WHAT STATUS OUT: holds the last run to its status and output, and to its time
+# replays WHAT STATUS OUT: the last run had this status and output, and ended in time
 replays() {
     same "$1: status" "$status" "$2"
     same "$1: output" "$(cat "$room/out"; echo .)" "$(cat "$3"; echo .)"
@@ -62,13 +67,13 @@ replays() {
     leaves_none "$1"
 }
 
-# What it replays with is what the program does where no zone is given.
+# Its replay is that of the program if no zone is given.
 zone=$(sed -n 's/^pub const ZONE: &str = "\(.*\)";$/\1/p' "$checkout/crates/command_words/src/table.rt")
 same 'the zone' "$(grep -c -F "Zone::read(\"${zone:-none}\")" "$checkout/sunreg")" 1
 said=$(sed -n 's/^const FAILED: .* b"failed\\nsunreg: \(.*\)\\n";$/\1/p' "$checkout/sunreg")
 same 'what it says where a stream fails' "$(cat "$checkout/crates/stored_files/src/ends/failure.rt" | grep -c -F "\"${said:-none}\"")" 1
 
-# A command rt that tells where and how it was called, and ends with the status that it reads.
+# A command rt that prints where and how it was called, and exits with the status that it reads.
 mkdir "$room/telling" "$room/waiting" "$room/without"
 cat > "$room/telling/rt" <<'EOF'
 #!/bin/sh
@@ -76,7 +81,7 @@ read -r status
 echo "${PWD##*/crates/} $*"
 exit "$status"
 EOF
-# One that tells its number, and goes on.
+# A command rt that prints its process number, and then waits.
 cat > "$room/waiting/rt" <<'EOF'
 #!/bin/sh
 echo $$
@@ -84,7 +89,7 @@ exec sleep 300
 EOF
 chmod +x "$room/telling/rt" "$room/waiting/rt"
 
-# asks WHAT WITHIN WANTED WORDS..: runs it on the telling rt with each status
+# asks WHAT WITHIN WANTED WORDS..: runs it with the printing rt, with each status
 asks() {
     what=$1
     within=$2

@@ -1,7 +1,8 @@
 #!/usr/bin/env python3
-"""Tells which entries of crates.txt can go: libraries of ours that no source, definition or proof of their crate names. The status is 1 where there are any.
+"""unnamed.py: lists the entries of crates.txt that can be removed.
 
-A library that is not listed may still be used through one that is.
+These are libraries of ours that no source, definition or proof of their crate names. A library that
+is not listed may still be used through a listed one. The status is 1 if there are such entries.
 """
 import os
 import re
@@ -11,7 +12,7 @@ TOP = os.path.dirname(os.path.dirname(os.path.realpath(__file__)))
 
 
 def lists():
-    """Returns what each crate of crates.txt stands on, the toolchain's libraries too."""
+    """Returns the libraries of each crate of crates.txt, with those of the toolchain."""
     found = {}
     with open(f"{TOP}/crates.txt", encoding="utf-8") as it:
         for line in it:
@@ -22,7 +23,7 @@ def lists():
 
 
 def text_of(name):
-    """Returns all that a crate says."""
+    """Returns all text of a crate."""
     said = []
     for at, folders, files in os.walk(f"{TOP}/crates/{name}"):
         folders[:] = [it for it in folders if it != "out"]

@@ -1,7 +1,9 @@
-"""What recovery takes of a write-ahead log, and whether the log has lost a commit: SQLite's file format, section 4.
+"""A model of recovery from a write-ahead log: SQLite's file format, section 4.
 
-A model of its own for tests. A frame with the page number 0xFF000000 counts what the frames up to the commit lack: it has, in its
-first eight bytes, how many of their bytes are 0, and how far their page numbers and the size of the database lie below that number.
+It says what recovery takes of a log, and whether the log has lost a commit. The tests use it
+instead of the program. A frame with the page number 0xFF000000 counts what the frames up to the
+commit lack. Its first eight bytes say how many of their bytes are 0. They also say how far their
+page numbers and the size of the database are below that number.
 """
 import collections
 import struct
@@ -14,7 +16,7 @@ Verdict = collections.namedtuple("Verdict", "is_sound is_commit end log")
 
 
 def summed(data, order, first, second):
-    """The checksum of a log over more bytes."""
+    """Returns the checksum of a log over more bytes."""
     words = struct.unpack(f"{'>' if order == 'big' else '<'}{len(data) // 4}I", data)
     for at in range(0, len(words), 2):
         first = (first + words[at] + second) & 0xFFFFFFFF
@@ -31,13 +33,13 @@ def order_of(log):
 
 
 def is_header(log, size):
-    """Whether a log begins with a header for pages of this size."""
+    """Returns whether a log begins with a header for pages of this size."""
     known = log[:3] == b"\x37\x7f\x06" and log[3] in (0x82, 0x83) and number(log, 4) == 3007000 and number(log, 8) == size
     return known and summed(log[:24], order_of(log), 0, 0) == (number(log, 24), number(log, 28))
 
 
 def passes(log, size, at, before):
-    """Whether the frame at an offset passes SQLite's test after this checksum."""
+    """Returns whether the frame at an offset passes SQLite's test after this checksum."""
     frame = log[at : at + FRAME + size]
     if len(frame) < FRAME + size or frame[8:16] != log[16:24] or number(frame, 0) == 0:
         return False
@@ -50,7 +52,8 @@ def sums_at(log, at):
 
 
 def frames_of(log):
-    """The size of a log's frames, where its commits end, and where its last sound frame ends."""
+    """Returns the size of a log's frames, the ends of its commits, and the end of its last sound
+    frame."""
     size = number(log, 8)
     sums, commits, end, tally = sums_at(log, 24), [], HEADER, None
     while passes(log, size, end, sums):
@@ -70,7 +73,7 @@ def frames_of(log):
 
 
 def pages_of(log, file, size, frames):
-    """The pages that the commits of a log leave."""
+    """Returns the pages that the commits of a log leave."""
     pages = {n + 1: file[n * size : n * size + size] for n in range(len(file) // size)}
     count = len(file) // size
     for at in range(HEADER, frames.commits[-1] if frames.commits else HEADER, frames.size):
@@ -80,7 +83,8 @@ def pages_of(log, file, size, frames):
 
 
 def is_cut_off(log, size, taken):
-    """Whether a transaction begins behind the frames that recovery takes, so that the one before it was complete."""
+    """Returns whether a transaction begins after the frames that recovery takes, so that the one
+    before was complete."""
     is_open = log[taken + 8 : taken + 9] == log[16:17]
     for at in range(taken + FRAME + size, len(log) - FRAME - size + 1, FRAME + size):
         last = at - FRAME - size
@@ -90,7 +94,10 @@ def is_cut_off(log, size, taken):
 
 
 def verdict(file, log):
-    """Whether a log is one that a crash can leave; else whether a commit is damaged, where recovery ends, and the log with its header mended."""
+    """Returns whether a crash can leave a log.
+
+    If not, it returns whether a commit is damaged, where recovery ends, and the log with its header
+    mended."""
     if len(log) < HEADER + FRAME:
         return Verdict(True, False, HEADER, log)
     size = int.from_bytes(file[16:18], "big")
@@ -112,7 +119,7 @@ def verdict(file, log):
 
 
 def mended_header(log, size):
-    """The log with the header of which its own differs in one byte."""
+    """Returns the log with the header from which its own differs in one byte."""
     for at in range(HEADER):
         for byte in range(256):
             other = log[:at] + bytes([byte]) + log[at + 1 :]

@@ -1,13 +1,16 @@
 #!/usr/bin/env python3
-"""words.py [PROGRAM], words.py --man [PROGRAM], words.py --manual [PROGRAM]: what the program tells of itself.
+"""words.py [--man | --manual] [PROGRAM]: compares the program's texts about itself with the pages.
 
-It holds to each other, by the built program:
-- the tables of numbers in docs/SCRIPT.md, what `explain` says, and the statuses of faults in docs/HTTP.md; each number that they have is explained, and no other
-- the help texts, docs/sunreg.1 and the words that bash completes, in bash
-- each command's example, as it stands: its words are taken
-- the version, and the logic of the kit, where that is there
-- what is said to a person at a terminal who gives no word, and to no one else
-It ends on 'N passed, M failed'. With --man it holds docs/sunreg.1 to what man shows of it; with --manual it prints that page anew.
+It compares, with the built program:
+- the tables of numbers in docs/SCRIPT.md, the output of `explain`, and the statuses of faults in
+  docs/HTTP.md: each of their numbers is explained, and no other
+- the help texts, docs/sunreg.1, and the words that bash completes
+- each command's example, which the program must accept unchanged
+- the version, and the logic of the kit, if the kit is there
+- the message to a person at a terminal who gives no argument, which no other user gets
+
+It ends with 'N passed, M failed'. --man compares docs/sunreg.1 with man's output; --manual prints
+that page again.
 """
 import os
 import pathlib
@@ -45,7 +48,7 @@ def run(program, *words, **more):
 
 
 def table(head):
-    """Returns the rows of a table of docs/SCRIPT.md by their numbers, without the signs of code."""
+    """Returns the rows of a table of docs/SCRIPT.md by their numbers, without the marks of code."""
     _, rows = SCRIPT.split(f"\n| {head}", 1)
     rows = [it.strip("|").split("|", 1) for it in rows.split("\n\n")[0].splitlines()[2:]]
     numbers = {int(re.search(r"\d+", number)[0]): text.strip().replace("`", "") for number, text in rows}
@@ -117,7 +120,7 @@ def check_manual(program):
 
 
 def check_man(program):
-    """Opens the manual page in man, which reports no warning and shows each command."""
+    """Opens the manual page in man, which must report no warning and show each command."""
     page = HERE.parent / "docs/sunreg.1"
     it = subprocess.run(["man", "--warnings", "-E", "UTF-8", "-l", "-Tutf8", "-Z", page], capture_output=True, text=True, env=os.environ | {"MANROFFSEQ": "", "LC_ALL": "C.UTF-8"})
     holds("man --warnings", (it.returncode, it.stderr), (0, ""))
@@ -166,7 +169,8 @@ def check_completions(program, room):
 
 
 def check_examples(program, room):
-    """Types each example in a folder that has the files which it reads; a command that goes on is ended after a second."""
+    """Types each example in a folder with the files that it reads; a command that continues is
+    ended after a second."""
     (room / "bin").mkdir()
     (room / "bin/sunreg").symlink_to(program)
     for name, text in {"script.txt": "1 tick\n", "points.csv": "name,function,area,address,type,scale\n", "image.txt": "40000 53756e53ffff\n", "bank.txt": "area holding 0 1\n", "site.txt": "1 device inv 1 5 1\n"}.items():

@@ -1,7 +1,7 @@
 """asking.py PROGRAM: measures how long a client of a running office waits while the office polls.
 
-bench/asking.sh runs it. The client sends one request after the other, each on a new connection, from
-the second round on.
+bench/asking.sh runs it. The client sends one request after the other, each on a new connection,
+from the second round on.
 """
 import os
 import statistics
@@ -45,7 +45,7 @@ def waits(program, room):
         text = urllib.request.urlopen(f"http://127.0.0.1:{port}/{QUESTION}").read()
         took.append(1000 * (time.monotonic() - began))
         if not text.rstrip().split(b"\n")[-1].startswith(b"end "):
-            sys.exit(f"asking.py: {text!r} is no reply")
+            sys.exit(f"asking.py: {text!r} is no complete response")
         time.sleep(PAUSE)
     return sorted(took)
 

@@ -196,9 +196,9 @@ def measure_run(program, files, first, months, lines, energy):
         print(f"| {what} | {begun:.1f} s | {holds:.1f} MB | {most:.1f} MB |" + "".join(f" {took:.2f} ms |" for took, _ in replies), flush=True)
     alone, over = told
     if over[0].splitlines()[:-1] != lines or over[1] != alone[1] or over[1].splitlines()[-1] != "end 28":
-        sys.exit(f"chain.py: a run over all files tells other months or days: {over[0].splitlines()[:3]}")
+        sys.exit(f"chain.py: a run over all files reports other months or days: {over[0].splitlines()[:3]}")
     if f'"total":"{energy}"' not in over[2]:
-        sys.exit(f"chain.py: /site over all files tells {over[2]}")
+        sys.exit(f"chain.py: /site over all files reports {over[2]}")
 
 
 def measure_chain(program, first, months, room):
@@ -210,7 +210,7 @@ def measure_chain(program, first, months, room):
         sys.exit(f"chain.py: the report over all files has other lines than those of each: {lines[:3]}")
     energy = sum(int(line.split()[2]) for line in lines)
     if energy != 1000 * STEP * count:
-        sys.exit(f"chain.py: the report over all files tells {energy} mWh")
+        sys.exit(f"chain.py: the report over all files has {energy} mWh")
     each_alone = sum(it for it, _ in alone)
     print(f"one meter, {months} files of {size / 1e6 / months:.2f} MB: carried in {told(carrying)} together, of the processor")
     print(f"a report by months over all of them takes {told(cost)} of the processor; reports on each alone {told(each_alone)}, so it takes {1000 * (cost - each_alone):+.0f} ms beside its openings")

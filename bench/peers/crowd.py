@@ -1,10 +1,10 @@
-"""crowd.py PROGRAM [SECONDS]: measures how late rounds are, and how long a quiet client waits,
-while a crowd requests months and reads nothing.
+"""crowd.py PROGRAM [SECONDS]: measures rounds and a quiet client while a crowd reads nothing.
 
 bench/crowd.sh runs it. The office has one device with a year of quarter hours, and polls it every
 second. Each client of the crowd connects, requests all months of the register, and reads no byte;
-when it is dropped it connects again. Another client requests /status twice a second. The same run
-without a crowd comes first, so that both have the same machine.
+when it is dropped it connects again. A quiet client requests /status twice a second. The script
+measures how late the rounds are, and how long the quiet client waits. The same run without a crowd
+comes first, so that both have the same machine.
 """
 import os
 import select

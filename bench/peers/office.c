@@ -1,12 +1,17 @@
-/* A plain office in C over libsqlite3, with no proof, beside which bench/round.sh, store.sh and calls.sh measure sunreg:
+/* A plain office in C over libsqlite3, without proof. bench/round.sh, store.sh and calls.sh measure
+   sunreg beside it:
 
        office DB EVERY ROUNDS DEVICE=PORT..
 
-   Each round polls the whole list of each device at 127.0.0.1, all devices at once, and begins EVERY seconds after the one before (0: at once).
-   It books into the tables of docs/SCHEMA.md as sunreg does: a poll before it is sent, its outcome and its readings in one transaction before the
-   next poll is started, with a write-ahead log and synchronous FULL. One round of one device prints the lines of `sunreg round`, else each round
-   of a device one line. What it needs of the tables is read once, at the opening; it doesn't check the file. It knows counters of a fixed scale, and
-   lists of counters that lie too far apart for one read of two. A device that is silent for its timeout, or goes, ends it. */
+   Each round polls the whole list of each device at 127.0.0.1, all devices at once. It begins EVERY
+   seconds after the round before (0: at once). The office writes into the tables of docs/SCHEMA.md
+   as sunreg does, with a write-ahead log and synchronous FULL. It writes a poll before it is sent,
+   and its outcome and its readings in one transaction before the next poll starts. One round of one
+   device prints the lines of `sunreg round`; else each round of a device prints one line.
+
+   The office reads what it needs of the tables once, at the opening, and does not check the file.
+   It handles counters of a fixed scale, and lists of counters that are too far apart for one read of
+   two. It ends if a device times out or disconnects. */
 #include <arpa/inet.h>
 #include <netinet/in.h>
 #include <netinet/tcp.h>
@@ -196,7 +201,7 @@ static void open_file(const char *path) {
     }
 }
 
-/* ---- Booking ---- */
+/* ---- Recording ---- */
 
 /* Returns the cause for which a reading is rejected, or 0. */
 static int cause_of(const struct counter *it, int64_t now, int64_t raw) {

@@ -184,7 +184,7 @@ impl Meter {
         let _ = writeln!(told, "reading {} {raw} rolls {rolls} step {step}", self.name);
     }
 
-    /// Gives each quarter hour the energy since the step's begin, rounded down, less what was
+    /// Gives each quarter hour the energy since the step began, rounded down, less what was
     /// already given.
     fn spread(&mut self, till: u64, step: u64) {
         let (begin, mut given) = (self.last.at, 0);

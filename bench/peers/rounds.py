@@ -1,7 +1,7 @@
 """rounds.py PROGRAM [TURNS]: measures accepted polls a second of rounds over a file.
 
-bench/round.sh runs it. The comparisons are offices in C and Python. Each office has its own file and
-devices. All must print the same, and have the same records in the end.
+bench/round.sh runs it. The comparisons are offices in C and Python. Each office has its own file
+and devices. All must print the same, and have the same records in the end.
 """
 import os
 import subprocess
@@ -83,7 +83,7 @@ def check_alike(files):
     (first, ours), *others = ((name, {meter: it[:most] for meter, it in of.items()}) for name, of in readings.items())
     for name, of in others:
         if ours != of:
-            sys.exit(f"{first} and {name} have not booked the same readings")
+            sys.exit(f"{first} and {name} have not recorded the same readings")
 
 
 def scheduled(place, room, program, window):

@@ -1,8 +1,7 @@
-"""site_replies.py PROGRAM: measures how long a running office takes to list its registers and
-meters.
+"""site_replies.py PROGRAM: measures how long an office takes to list its registers and meters.
 
-bench/site.sh runs it. It also measures the lists of each register's meters. The devices do not exist,
-so the office does nothing else meanwhile. The processor time is that of the process.
+bench/site.sh runs it. It also measures the lists of each register's meters. The devices do not
+exist, so the office does nothing else meanwhile. The processor time is that of the process.
 """
 import os
 import pathlib
@@ -59,7 +58,7 @@ def main():
     program = os.path.abspath(sys.argv[1])
     machine(program)
     room = places()["tmpfs"]
-    print("| Meters | Devices that `run` polls | Bytes | The first reply | Each later one |\n|" + "---|" * 5)
+    print("| Meters | Devices that `run` polls | Bytes | The first response | Each later one |\n|" + "---|" * 5)
     for polled in (DEVICES, 1):
         db = str(room / "office.db")
         names = site(db, DEVICES, METERS, METERS, 1)

@@ -1,6 +1,7 @@
 """Functions that the measurements of offices over a file share.
 
-They make files of a site and devices, measure an office's costs, and compare the records of two offices."""
+They make files of a site and devices, measure an office's costs, and compare the records of two
+offices."""
 import atexit
 import contextlib
 import os
@@ -252,7 +253,7 @@ def check_same(files):
         for table in COLUMNS:
             if rows[table] != of[table]:
                 both = next((it for it in zip(rows[table], of[table]) if it[0] != it[1]), (len(rows[table]), len(of[table])))
-                sys.exit(f"{first} and {name} have not booked the same {table}: {both}")
+                sys.exit(f"{first} and {name} have not recorded the same {table}: {both}")
 
 
 def told(printed, window):

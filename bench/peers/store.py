@@ -71,7 +71,7 @@ def compare(place, room, words, row, rows, turns):
     check_same(files)
     entries = int(query(first, "SELECT count(*) FROM entries WHERE raw >= 1000")[0])
     if entries != meters * turns:
-        sys.exit(f"store.py: {entries} readings were booked, not {meters * turns}")
+        sys.exit(f"store.py: {entries} readings were recorded, not {meters * turns}")
     stood = {name: statistics.median(map(float, it.read_text().split())) for name, it in times.items()}
     _, cost, opened = medians(runs["sunreg"])
     mine, size = stood["sunreg"], os.path.getsize(first)

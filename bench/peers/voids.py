@@ -1,9 +1,9 @@
 """voids.py PROGRAM: measures how long a running office takes to void a reading.
 
-bench/voids.sh runs it. It voids readings of the first tenth of the meter's entries, of the middle and
-of the end; no two of them are neighbours. The processor time is that of the process, for the whole
-request; the median counts. Afterwards it compares the interval rows with those that the remaining
-entries give.
+bench/voids.sh runs it. It voids readings of the first tenth of the meter's entries, of the middle
+and of the end; no two of them are neighbours. The processor time is that of the process, for the
+whole request; the median counts. Afterwards it compares the interval rows with those that the
+remaining entries give.
 """
 import json
 import os

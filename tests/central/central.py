@@ -1,4 +1,6 @@
-"""central.py ROOM PROGRAM POSTGRES: see tests/central.sh. PROGRAM is the built program or '', POSTGRES the folder of PostgreSQL's programs or ''."""
+"""central.py ROOM PROGRAM POSTGRES: runs the checks of tests/central.sh.
+
+PROGRAM is the built program or '', POSTGRES the folder of PostgreSQL's programs or ''."""
 import atexit
 import base64
 import contextlib
@@ -53,7 +55,7 @@ signal.signal(signal.SIGTERM, lambda *_: sys.exit(143))
 
 
 def holds(what, is_so, got=""):
-    """Counts whether something holds."""
+    """Counts whether a condition holds."""
     global passed, failed
     if is_so:
         passed += 1
@@ -77,7 +79,7 @@ def get(url):
 
 
 class Shard:
-    """A server of ClickHouse with files of its own."""
+    """A server of ClickHouse with its own files."""
 
     def __init__(self, name, ports, cluster):
         self.http, self.tcp, peers = ports
@@ -159,7 +161,7 @@ class Shards:
         return self.one.lines(query)
 
     def collect(self, list_file, *words, engine=None):
-        """The status of a copy, and what it says."""
+        """Returns the status of a copy, and its output."""
         done = subprocess.run([*self.words(list_file, engine), *words], capture_output=True, text=True, timeout=3600)
         return done.returncode, done.stdout.splitlines(), done.stderr.splitlines()
 
@@ -167,7 +169,7 @@ class Shards:
         return [str(CENTRAL / "collect"), "--engine", f"http://127.0.0.1:{(engine or self.one).http}", list_file]
 
     def energy(self):
-        """All rows and days, as the views over all shards have them."""
+        """Returns all rows and days, as the views over all shards have them."""
         rows = set(self.lines("SELECT site, meter, start, mwh FROM energy.meter_quarters"))
         return rows, set(self.lines("SELECT site, register, day, quarters, mwh FROM energy.register_days"))
 
@@ -177,7 +179,7 @@ class Shards:
 
 
 def energy_of(sites):
-    """The same of the offices themselves: their URL, and the meters and registers that each has."""
+    """Returns all rows and days of the offices, by their URLs, meters and registers."""
     rows, days = set(), set()
     for site, (url, meters, registers) in sites.items():
         for meter in meters:
@@ -191,7 +193,8 @@ def energy_of(sites):
 
 
 def compare(what, shards, sites, but=()):
-    """Holds what was copied to what the offices have, row by row; but for these pairs of a site and its meter or register."""
+    """Compares the copy with the offices, row by row, except for these pairs of a site and its
+    meter or register."""
     for name, got, wanted in zip(("rows", "days"), shards.energy(), energy_of(sites)):
         got, wanted = ({row for row in some if tuple(row.split("\t")[:2]) not in but} for some in (got, wanted))
         differ = sorted(got ^ wanted)[:6]
@@ -228,7 +231,7 @@ def filled(office, quarters):
 
 
 def copies_what_changed(shards):
-    """What a copy takes, of each thing that may happen at an office."""
+    """Copies after each kind of event at an office."""
     mocks = Mocks(["north", "south", "west.1"])
     for office in mocks.offices.values():
         filled(office, 200)
@@ -247,7 +250,7 @@ def copies_what_changed(shards):
     north.meters["main-1"].read(NOVEMBER + 900 * 200, 77)
     same("a reading more", copy(), (0, ["north 1 meters 1 rows 1 days", "3 sites 0 failed 1 meters 1 rows 1 days"], []))
     compare("a reading more", shards, mocks.sites())
-    # a void of the last reading: its row is no more, and that of a day's last row neither is the day
+    # a void of the last reading removes its row, and if that is a day's last row, also the day
     meter = north.add("new-1", "new", NOVEMBER)
     meter.read(NOVEMBER + 86400 - 900, 5)
     meter.read(NOVEMBER + 86400, 6)
@@ -260,7 +263,8 @@ def copies_what_changed(shards):
     meter.read(NOVEMBER + 86400, 9)
     copy()
     compare("a row that comes again", shards, mocks.sites())
-    # a void between two readings, which spreads the same energy anew: the office's /site tells the same as before
+    # a void between two readings, which distributes the same energy again: the office's /site
+    # reports the same as before
     rows = south.meters["roof-1"].rows
     moved = rows.pop(NOVEMBER + 900 * 40)
     rows[NOVEMBER + 900 * 41] += moved
@@ -273,7 +277,8 @@ def copies_what_changed(shards):
     south.meters["roof-1"].read(NOVEMBER + 900 * 200, 0)
     same("and with the next reading", copy()[1], ["south 1 meters 3 rows 1 days", "3 sites 0 failed 1 meters 3 rows 1 days"])
     compare("a void between two readings, and a reading", shards, mocks.sites())
-    # an exchange: /site tells the latest meter, which is new here, so the office is asked for all of that register
+    # a replaced meter: /site reports the latest meter, which is new here, so collect requests all
+    # meters of that register
     south.meters["main-1"].read(NOVEMBER + 900 * 200, 40)
     south.meters["main-1"].ended = True
     south.add("main-2", "main", NOVEMBER + 900 * 201).read(NOVEMBER + 900 * 201, 50)
@@ -290,12 +295,12 @@ def copies_what_changed(shards):
     same("and nobody asks for the others", lists_of(south), [])
     same("nothing differs", shards.lines("SELECT * FROM energy.differences"), [])
     takes_all_meters(shards, mocks, copy)
-    # an office without /site, as `sunreg serve`
+    # an office without /site, such as `sunreg serve`
     north.has_site = False
     north.meters["roof-1"].read(NOVEMBER + 900 * 200, 8)
     same("an office without /site, of known meters", copy()[1], ["north 1 meters 1 rows 1 days", "3 sites 0 failed 1 meters 1 rows 1 days"])
     compare("an office without /site", shards, mocks.sites())
-    # an office that goes on between two questions
+    # an office that changes between two requests
     north.has_site = True
     before = north.reply
     north.meters["main-1"].read(NOVEMBER + 900 * 201, 1)
@@ -315,7 +320,7 @@ def copies_what_changed(shards):
     north.reply = before
     copy()
     compare("an office that never stood still", shards, mocks.sites())
-    # merged or not, the views tell the same
+    # merged or not, the views have the same rows
     for shard in shards.all:
         for table in ("intervals_here", "days_here", "meters_here"):
             shard.ask(f"OPTIMIZE TABLE energy.{table} FINAL")
@@ -326,19 +331,20 @@ def copies_what_changed(shards):
 
 
 def lists_of(office):
-    """The registers whose meters an office was asked for, as often as that was."""
+    """Returns the registers whose meters were requested, each as often as it was requested."""
     return [it for it in office.asked if it.endswith("/meters")]
 
 
 def exchanged(office, names, start):
-    """A register's meters are exchanged one after another, each with a reading of the quarter hour from a moment on."""
+    """Replaces a register's meter several times; each meter has a reading of the quarter hour from
+    a time on."""
     for place, name in enumerate(names):
         office.of("main")[-1].ended = True
         office.add(name, "main", start + 900 * place).read(start + 900 * place, 60 + place)
 
 
 def takes_all_meters(shards, mocks, copy):
-    """Exchanged meters that /site never told are copied, and nobody has to name them."""
+    """Replaced meters that /site never reported are copied, and need not be named."""
     south, nothing = mocks.offices["south"], ["3 sites 0 failed 0 meters 0 rows 0 days"]
     exchanged(south, ["main-3", "main-4"], NOVEMBER + 900 * 203)
     south.asked.clear()
@@ -346,7 +352,7 @@ def takes_all_meters(shards, mocks, copy):
     compare("two exchanges between two copies", shards, mocks.sites())
     same("the meters are asked for once", lists_of(south), ["/registers/main/meters"])
     same("and nothing differs", shards.lines("SELECT * FROM energy.differences"), [])
-    # a meter and its register both end before anybody copies them
+    # a meter and its register both end before any copy
     south.add("late-1", "late", NOVEMBER).read(NOVEMBER, 5)
     south.meters["late-1"].ended = True
     south.add("late-2", "late", NOVEMBER + 900).read(NOVEMBER + 900, 6)
@@ -354,7 +360,7 @@ def takes_all_meters(shards, mocks, copy):
     same("a register of closed meters", copy()[1], ["south 2 meters 2 rows 1 days", "3 sites 0 failed 2 meters 2 rows 1 days"])
     compare("a register of closed meters", shards, mocks.sites())
     same("is as it was", copy()[1], nothing)
-    # a void of a closed meter takes energy away: its register's next reading shows it
+    # a void of a closed meter removes energy: its register's next reading shows it
     row = south.meters["main-3"].rows
     row[NOVEMBER + 900 * 203] -= 9
     same("a void of a closed meter isn't told", copy()[1], nothing)
@@ -369,7 +375,7 @@ def takes_all_meters(shards, mocks, copy):
     south.asked.clear()
     copy("--whole", "south")
     same("then each register's meters are asked for once", lists_of(south), [f"/registers/{it}/meters" for it in ("main", "roof", "late")])
-    # an office that tells the latest meters alone, and then, by a later program, all of them
+    # an office that reports only the latest meters, and then, by a later program, all of them
     south.has_lists = False
     exchanged(south, ["main-5", "main-6"], NOVEMBER + 900 * 206)
     copy()
@@ -391,7 +397,7 @@ def takes_all_meters(shards, mocks, copy):
 
 
 def sums(shards, mocks):
-    """The views by day and month, and the bill, against sums of Python's own."""
+    """The views by day and month, and the bill, equal Python's own sums."""
     registers, of_site = {}, {}
     for site, office in mocks.offices.items():
         for meter in office.meters.values():
@@ -425,13 +431,14 @@ def sums(shards, mocks):
 
 
 def plain(line):
-    """A line of a bill, whose number of kWh may have lost zeros at its end."""
+    """Returns a line of a bill without zeros at the end of its kWh."""
     *words, kwh = line.split("\t")
     return [*words, decimal.Decimal(kwh)]
 
 
 def reads_a_part(shards):
-    """Of a meter that goes far back its last rows are asked for, and all of them where these don't show what happened."""
+    """Of a meter with a long history, only the last rows are requested, and all if the last rows do
+    not show what happened."""
     mocks = Mocks(["west"])
     office = mocks.offices["west"]
     filled(office, 60 * 96)
@@ -452,7 +459,7 @@ def reads_a_part(shards):
     meter.read(end, 7)
     copied("a reading behind two months", "west 1 meters 1 rows 1 days", [of_part])
     compare("a reading behind two months", shards, mocks.sites())
-    # the last readings are voided: the office tells an earlier entry than at the last copy
+    # the last readings are voided: the office reports an earlier entry than at the last copy
     for start in (end, end - 900):
         meter.last -= rows.pop(start)
     meter.at = end - 900
@@ -487,7 +494,9 @@ def reads_a_part(shards):
 
 
 def keeps_files_before(shards):
-    """An office that goes on in a new file, as `carry` makes it: what was copied of the one before stays, and the new one is copied under another name."""
+    """An office continues in a new file, as `carry` makes it.
+
+    The copy of the earlier file stays, and the new one is copied under another name."""
     mocks = Mocks(["east"])
     office = mocks.offices["east"]
     filled(office, 300)
@@ -498,7 +507,8 @@ def keeps_files_before(shards):
     kept, end = shards.energy(), office.meters["main-1"].at
 
     def begun(at, quarters):
-        """A new file, of meters that were carried at a moment, and as many quarter hours since."""
+        """Returns a new file, of meters that were carried at a time, and as many quarter hours
+        since."""
         mocks.offices["east"] = new = mock.Office()
         for register in ("main", "roof"):
             meter = new.add(f"{register}-1", register, at)
@@ -525,7 +535,10 @@ def keeps_files_before(shards):
 
 
 def copies_the_current_file(shards):
-    """A run that tells energy over earlier files, too: of its meters that is copied which the current file has, and of a meter that earlier ones alone have nothing."""
+    """A run reports energy over earlier files, too.
+
+    The copy of its meters is that of the current file, and a meter only of earlier files is not
+    copied."""
     mocks = Mocks(["over"])
     office = mocks.offices["over"]
     filled(office, 96)
@@ -542,7 +555,8 @@ def copies_the_current_file(shards):
 
 
 def tells_faults(shards, mocks):
-    """Sites that don't answer as an office does: they are named, nothing of them is taken, and the others are copied."""
+    """Sites whose responses are not an office's are named, nothing of them is copied, and the
+    others are."""
     north, south = mocks.offices["north"], mocks.offices["south"]
     kept = shards.energy()
     sites = write_list("three", {name: (mocks.url(name), []) for name in mocks.offices})
@@ -603,7 +617,7 @@ def tells_faults(shards, mocks):
     same("which is told too", shards.lines("SELECT site FROM energy.visits WHERE fault = '' AND answered_at = asked_at ORDER BY site"), ["fresh", "north", "south", "west.1"][1:])
     compare("after all that", shards, mocks.sites())
 
-    # words and files
+    # arguments and files
     for what, text, wanted in (
         ("a line without URL", "north\n", "line 1 is no NAME URL [METER..]"),
         ("a name that is none", "nor'th http://127.0.0.1\n", "line 1 is no NAME URL [METER..]"),
@@ -631,7 +645,7 @@ def tells_faults(shards, mocks):
     same("two at once", shards.collect(sites), (3, [], [f"collect: {sites}: another collect has it"]))
     same("the first goes on", first.wait(), 0)
     north.reply = before
-    # without a shard nothing is taken, whichever is asked
+    # without a shard nothing is copied, through each shard
     if len(shards.all) > 1:
         north.meters["main-1"].read(north.meters["main-1"].at, 11)
         south.meters["roof-1"].read(south.meters["roof-1"].at, 12)
@@ -648,7 +662,7 @@ def tells_faults(shards, mocks):
 
 
 def tls(shards, mocks):
-    """An office behind a proxy with TLS that wants a user and a password."""
+    """An office behind a proxy with TLS that requires a user and a password."""
     key, cert = f"{ROOM}/key.pem", f"{ROOM}/cert.pem"
     subprocess.run(
         ["openssl", "req", "-x509", "-newkey", "ec", "-pkeyopt", "ec_paramgen_curve:P-256", "-nodes", "-days", "1", "-subj", "/CN=localhost",
@@ -678,7 +692,7 @@ def tls(shards, mocks):
 
 
 def reads_golden_texts():
-    """The texts of rows and days that the program's own golden cases must print are texts that collect takes."""
+    """collect accepts the texts of rows and days that the program's own golden tests expect."""
     loader = importlib.machinery.SourceFileLoader("collect", str(CENTRAL / "collect"))
     collect = importlib.util.module_from_spec(importlib.util.spec_from_loader("collect", loader))
     loader.exec_module(collect)
@@ -699,7 +713,8 @@ def reads_golden_texts():
 
 
 class Between(http.server.BaseHTTPRequestHandler):
-    """Stands between collect and ClickHouse, and fails one request: it never arrives, or is carried out and not answered."""
+    """A proxy between collect and ClickHouse that fails one request: it never arrives, or its
+    response is lost."""
 
     def do_POST(self):
         body, server = self.rfile.read(int(self.headers["Content-Length"])), self.server
@@ -717,7 +732,9 @@ class Between(http.server.BaseHTTPRequestHandler):
 
 
 def fails_at_each_call(shards):
-    """Each request to ClickHouse fails in turn, in a first copy and in a later one; the next copy makes up for it, though nothing goes on at the sites."""
+    """Each request to ClickHouse fails in turn, in a first copy and in a later one.
+
+    The next copy is complete, without a change at the sites."""
     server = http.server.ThreadingHTTPServer(("127.0.0.1", 0), Between)
     server.engine, server.http = shards.one.http, server.server_port
     threading.Thread(target=server.serve_forever, daemon=True).start()
@@ -756,13 +773,15 @@ def fails_at_each_call(shards):
     server.shutdown()
 
 
-# Registers of the built program's offices beside main and aux, and the devices at which they are.
+# Registers of the built program's offices beside main and aux, and their devices.
 FLATS = [(f"flat{place}", "inv" if place <= 30 else "roof") for place in range(1, 48)]
 
 
 class ProgramOffice:
-    """An office in a file, of the built program: fifty meters, with some days of readings that were written into the file, then polls of two devices. A file that
-    is_old is of version 1, which the program brings to its own."""
+    """An office in a file, of the built program, with fifty meters.
+
+    Some days of readings are written into the file, and then two devices are polled. With is_old
+    the file is of version 1, which the program migrates."""
 
     def __init__(self, name, device, dice, is_old):
         self.file, self.device, self.dice, self.port = f"{ROOM}/{name}.db", device, dice, free_port()
@@ -792,7 +811,7 @@ class ProgramOffice:
         base.close()
 
     def meter(self, base, place, name, register, first, hours, ended):
-        """A meter that was read each hour."""
+        """Adds a meter that was read each hour."""
         raw, rows = 5000, []
         base.execute("INSERT INTO installations VALUES (?, ?, ?, 10000000, ?, 0, 0, 0, 0)", (place, name, register, ended))
         base.execute("INSERT INTO ranges VALUES (?, 4294967296)", (name,))
@@ -822,7 +841,7 @@ class ProgramOffice:
         return f"http://127.0.0.1:{self.port}"
 
     def post(self, target, body):
-        """The kind of what was done, or the number of the refusal."""
+        """Returns the kind of the response, or the number of the refusal."""
         self.number += 1
         headers = {"Office-Caller": "desk", "Office-Request": str(self.number)}
         request = urllib.request.Request(self.url() + target, data=json.dumps(body).encode(), headers=headers)
@@ -833,7 +852,7 @@ class ProgramOffice:
             return json.loads(fault.read()).get("refused", fault.code)
 
     def settle(self):
-        """Waits for a reading of each open meter, which shows what was voided before it."""
+        """Waits for a reading of each open meter, which shows earlier voids."""
         since, until = int(time.time()) + 1, time.time() + 60
         while time.time() < until:
             told = [json.loads(get(f"{self.url()}/meters/{meter}")) for meter in self.meters]
@@ -843,7 +862,7 @@ class ProgramOffice:
         holds("each open meter is read", False, told)
 
     def change(self):
-        """Something that a person does."""
+        """Sends a random command of a person."""
         what = self.dice.random()
         if what < 0.02:
             return self.upgrade()
@@ -865,7 +884,7 @@ class ProgramOffice:
 
 
     def upgrade(self):
-        """The program is ended, and another one begins with its file, as for a new version."""
+        """Ends the program, and starts another one with its file, as for a new version."""
         self.child.terminate()
         self.child.wait()
         CHILDREN.remove(self.child)
@@ -875,7 +894,7 @@ class ProgramOffice:
 
 
 class Device:
-    """A device that answers each read with counters that go on."""
+    """A device that answers each read with counters that count on."""
 
     def __init__(self):
         self.raw, self.streams = 1_000_000, []
@@ -936,14 +955,16 @@ class MockOffice:
         return "exchange"
 
     def settle(self):
-        """A last reading of each open meter, which shows what was voided before it."""
+        """Adds a last reading of each open meter, which shows earlier voids."""
         for meter in self.office.meters.values():
             if not meter.ended:
                 meter.read(meter.at - meter.at % 900, 1)
 
 
 def survives_kills(shards, name, made, stop):
-    """Offices go on, by `made`; collect and the shards are killed at random; in the end all that the offices have is there, and nothing else."""
+    """Offices change, by `made`, while collect and the shards are killed at random.
+
+    In the end the copy has all rows of the offices, and no others."""
     dice, counts, going = random.Random(SEED + 1), {}, True
     offices = list(made.items())
 
@@ -1001,7 +1022,7 @@ def survives_kills(shards, name, made, stop):
 
 
 def office_meters(office):
-    """The meters of an office, and the register of each."""
+    """Returns the meters of an office, and the register of each."""
     if isinstance(office, MockOffice):
         return {name: meter.register for name, meter in office.office.meters.items()}
     return {name: json.loads(get(f"{office.url()}/meters/{name}"))["register"] for name in office.meters}
@@ -1040,7 +1061,7 @@ def drop_all(shards):
 
 
 def measures(counts):
-    """Many offices: how long a copy takes, what it weighs, and how long a month's bill takes."""
+    """Measures many offices: the time of a copy, its size, and the time of a month's bill."""
     port, quarters = free_port(), 2880
     words = [sys.executable, str(HERE / "offices.py"), str(port), str(SITES), str(METERS), str(NOVEMBER), str(quarters)]
     mocked = subprocess.Popen(words, stdout=subprocess.PIPE, text=True)
@@ -1078,7 +1099,7 @@ def measures(counts):
 
 
 def timed(call, turns=3):
-    """How long the best of so many calls takes, and what it gives."""
+    """Returns the time of the best of so many calls, and its result."""
     best = None
     for _turn in range(turns):
         begun = time.time()
@@ -1088,7 +1109,7 @@ def timed(call, turns=3):
 
 
 def by_postgres(mocks):
-    """The same lines into PostgreSQL, by central/postgres.sql."""
+    """Copies the same lines into PostgreSQL, with central/postgres.sql."""
     if not POSTGRES:
         return
     room, port = f"{ROOM}/postgres", free_port()

@@ -1,7 +1,9 @@
-"""Offices that aren't there: the routes of `sunreg run` that `central/collect` asks, by HTTP on one port, an office of the name NAME under /NAME.
+"""offices.py PORT SITES METERS START QUARTERS: serves mock offices for `central/collect`.
 
-`offices.py PORT SITES METERS START QUARTERS` serves so many offices s1, s2, .. of so many meters, each with so many quarter hours from the
-moment START on, until it is killed. tests/central.py has offices of its own, which it changes while they are asked.
+It serves the routes of `sunreg run` that collect requests, on one port; an office NAME is under
+/NAME. The offices s1, s2, .. have so many meters, each with so many quarter hours from the time
+START on, until the script is killed. tests/central.py has its own offices, which it changes while
+they respond.
 """
 import functools
 import http.server
@@ -18,7 +20,8 @@ def intervals_text(rows):
 
 
 def days_text(meters):
-    """The days, in UTC, of the rows of a register's meters; a quarter hour that two of them share counts once."""
+    """Returns the days, in UTC, of the rows of a register's meters; a quarter hour of two meters
+    counts once."""
     days = {}
     for rows in meters:
         for start, mwh in rows.items():
@@ -34,7 +37,7 @@ class Meter:
         self.name, self.register, self.opened, self.at, self.last, self.ended, self.rows = name, register, at, at, 0, False, {}
 
     def read(self, start, mwh):
-        """A reading at the end of a quarter hour."""
+        """Adds a reading at the end of a quarter hour."""
         self.at, self.last = start + 900, self.last + mwh
         self.rows[start] = mwh
 
@@ -45,17 +48,18 @@ class Meter:
         }
 
     def line(self):
-        """Its line among those of its register."""
+        """Returns the meter's line among those of its register."""
         total = sum(self.rows.values())
         return f"{self.name} {self.opened} {self.at} {self.last % (1 << 32)} -3 {total} {'ended' if self.ended else 'open'}\n"
 
 
 class Office:
-    """An office whose meters are as they were made."""
+    """An office whose meters do not change by themselves."""
 
     def __init__(self):
         self.meters, self.has_site, self.has_lists, self.has_parts, self.asked = {}, True, True, True, []
-        # (the energy that earlier files have of its meters, and what `/site` tells of those that they alone have)
+        # (the energy of its meters in earlier files, and the report of `/site` about meters only of
+        # those)
         self.earlier, self.only_earlier = {}, []
 
     def add(self, name, register, at):
@@ -66,14 +70,14 @@ class Office:
         return [meter for meter in self.meters.values() if meter.register == register]
 
     def over_files(self, meter):
-        """What `/site` tells of a meter."""
+        """Returns the report of `/site` about a meter."""
         told = {"device": "inv", **meter.told()}
         if meter.name in self.earlier:
             told |= {"total": str(int(told["total"]) + self.earlier[meter.name]), "earlier": str(self.earlier[meter.name])}
         return told
 
     def reply(self, target):
-        """The status and the text of a reply."""
+        """Returns the status and the text of a response."""
         self.asked.append(target)
         if target == "/site" and self.has_site:
             latest = {meter.register: self.over_files(meter) for meter in self.meters.values()}
@@ -94,7 +98,8 @@ class Office:
 
 
 class Alike:
-    """One of many offices, with a meter at each of its registers, whose rows it shares with others of its kind."""
+    """One of many offices, with a meter at each of its registers, whose rows it shares with others
+    of its kind."""
 
     def __init__(self, place, meters, start, quarters):
         self.place, self.meters, self.start, self.quarters = place, meters, start, quarters
@@ -121,7 +126,9 @@ class Alike:
 
 @functools.cache
 def texts_of_kind(kind, start, quarters):
-    """The interval rows, the days and the total of a meter: some power by day and none by night, which is never twice the same."""
+    """Returns the interval rows, the days and the total of a meter.
+
+    It has some power by day and none by night, never twice the same."""
     rows = {}
     for k in range(quarters):
         of_day = (start + 900 * k) % DAY // 900
@@ -138,7 +145,7 @@ class Server(http.server.ThreadingHTTPServer):
         self.offices = offices
 
     def handle_error(self, request, client_address):
-        """A client that was killed is no fault."""
+        """Ignores a client that was killed."""
 
 
 class Handler(http.server.BaseHTTPRequestHandler):

@@ -1,7 +1,9 @@
-"""office.py create --db FILE --zone ZONE | run --db FILE --listen PORT .. | help run: stands in for the program where that isn't built, to try what is put around it.
+"""office.py create --db FILE --zone ZONE | run --db FILE --listen PORT .. | help run: a mock.
 
-It polls nothing and books nothing. It makes a file with the office's tables, and answers by HTTP as docs/HTTP.md says, what it answers being always the same: its metrics and
-status are those of the proved tests. What came is written to the file that OFFICE_CAME names, a line of JSON a request.
+It replaces a program that is not built, to test its deployment. It polls nothing and records
+nothing. It makes a file with the office's tables, and responds by HTTP as docs/HTTP.md says, always
+with the same responses: its metrics and status are those of the proved tests. It writes its
+requests to the file that OFFICE_CAME names, a line of JSON each.
 """
 import http.server
 import json
@@ -16,14 +18,14 @@ HOSTS = re.compile(r"(127\.0\.0\.1|localhost|\[::1\])(:[0-9]+)?", re.IGNORECASE)
 
 
 def told(name):
-    """A text that the proved tests of the status and the metrics expect."""
+    """Returns a text that the proved tests of the status and the metrics expect."""
     source = (ROOT / "crates/office_tests/src/status.rt").read_text()
     text = re.search(rf'const {name}: &str =\s+"((?:[^"\\]|\\.)*)"', source)[1]
     return text.replace("\\n", "\n").replace('\\"', '"')
 
 
 def kind_of(target):
-    """What a command that was carried out is called."""
+    """Returns the kind in the response to a command."""
     return {"/devices": "device", "/registers": "register"}.get(target, target.rsplit("/", 1)[-1])
 
 
@@ -86,7 +88,8 @@ class Handler(http.server.BaseHTTPRequestHandler):
 
 
 def create(db, zone, **_):
-    """Makes the tables of docs/SCHEMA.md, which stay in the log for now, as the program leaves them."""
+    """Makes the tables of docs/SCHEMA.md, which stay in the log for now, as the program leaves
+    them."""
     if os.path.exists(db):
         sys.exit(3)
     file = sqlite3.connect(db, isolation_level=None)

@@ -1,7 +1,9 @@
-# Sourced by the scripts that try the program beside programs of others: `here` is the folder tests/, and `room` a scratch folder.
+# Functions for the scripts that run the program beside other programs. `here` is the folder tests/,
+# and `room` a temporary folder.
 . "$here/install-tools.sh"
 
-# compiled NAME: compiles a peer that stands on libmodbus, and prints its path; nothing where that can't be had
+# compiled NAME: compiles a program over libmodbus, and prints its path; prints nothing if that
+# fails
 compiled() {
     has cc && has libmodbus || return 0
     if cc -O2 $(flags --cflags) -o "$room/$1" "$here/peers/$1.c" $(flags --libs) 2> "$room/said"; then

@@ -1,4 +1,5 @@
-/* Carries out the requests on standard input by libmodbus, and prints an answer for each: libmodbus_client PORT UNIT */
+/* libmodbus_client PORT UNIT: sends the requests on standard input with libmodbus, and prints a
+   response for each. */
 #include <errno.h>
 #include <modbus.h>
 #include <stdint.h>
@@ -10,7 +11,7 @@ enum { MOST = 2000 };
 
 static int values[MOST + 2];
 
-/* The numbers behind the first word of a line; it answers how many. */
+/* Parses the numbers after the first word of a line, and returns how many. */
 static int numbers(char *rest) {
     int count = 0;
     for (char *it = strtok(rest, " \n"); it && count < MOST + 2; it = strtok(NULL, " \n"))

@@ -1,6 +1,6 @@
-/* Serves the registers that a file tells, by libmodbus, one connection after the other: libmodbus_server PORT BANK
-   A line of BANK is `holding ADDRESS VALUE..` or `input ADDRESS VALUE..`; all registers from 0 to 65535 are there. After `without holding`
-   their function is answered as one that is unknown. */
+/* libmodbus_server PORT BANK: serves the registers of a file with libmodbus, one connection after
+   the other. A line of BANK is `holding ADDRESS VALUE..` or `input ADDRESS VALUE..`; all registers
+   from 0 to 65535 exist. After `without holding` their function is answered as unknown. */
 #include <errno.h>
 #include <modbus.h>
 #include <stdint.h>

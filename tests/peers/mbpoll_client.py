@@ -1,6 +1,6 @@
-"""Carries out the requests on standard input by the program mbpoll, one call each, and prints an answer for each:
+"""mbpoll_client.py PORT UNIT: sends the requests on standard input with the program mbpoll.
 
-    mbpoll_client.py PORT UNIT
+It makes one call for each, and prints a response for each.
 """
 import re
 import subprocess

@@ -1,10 +1,10 @@
-"""A plain Modbus TCP client and server of Python's standard library, written from the public specification.
+"""A plain Modbus TCP client and server of Python's standard library, from the public specification.
 
-    modbus.py client PORT UNIT             carries out the requests on standard input, and prints an answer for each
-    modbus.py serve PORT BANK [SECONDS]    serves the registers that the file BANK tells, waiting so long before each answer
+    modbus.py client PORT UNIT             sends the requests on standard input, prints responses
+    modbus.py serve PORT BANK [SECONDS]    serves the registers of BANK, SECONDS after a request
 
-tests/peers/requests.txt has the requests and answers; a line of BANK is `holding ADDRESS VALUE..` or `input ADDRESS VALUE..`, or
-`without holding`: then its function is unknown.
+tests/peers/requests.txt has the requests and responses. A line of BANK is `holding ADDRESS VALUE..`
+or `input ADDRESS VALUE..`, or `without holding`: then its function is unknown.
 """
 import socket
 import struct
@@ -19,7 +19,7 @@ MOST = {1: 2000, 2: 2000, 3: 125, 4: 125, 15: 1968, 16: 123}
 
 
 def bytes_of_bits(bits):
-    """The bits in bytes, the first in the lowest bit of the first byte."""
+    """Returns bits as bytes, the first in the lowest bit of the first byte."""
     return bytes(sum(bit << at for at, bit in enumerate(bits[first:first + 8])) for first in range(0, len(bits), 8))
 
 
@@ -36,7 +36,7 @@ def frame(tid, unit, pdu):
 
 
 def exactly(stream, count):
-    """So many bytes of a stream, or fewer where it ends."""
+    """Reads so many bytes of a stream, or fewer if it ends."""
     got = b""
     while len(got) < count:
         more = stream.recv(count - len(got))
@@ -47,7 +47,8 @@ def exactly(stream, count):
 
 
 def take_frame(stream):
-    """The transaction identifier, the unit and the PDU of the next frame, or None where the stream ends."""
+    """Reads the transaction identifier, the unit and the PDU of the next frame, or None if the
+    stream ends."""
     head = exactly(stream, 7)
     if len(head) < 7:
         return None
@@ -59,7 +60,7 @@ def take_frame(stream):
 
 
 def pdu_of(words):
-    """The PDU of a request in words."""
+    """Returns the PDU of a request in words."""
     kind, *rest = words
     if kind == "raw":
         return bytes.fromhex("".join(rest))
@@ -78,7 +79,7 @@ def pdu_of(words):
 
 
 def answer_of(words, sent, pdu):
-    """What a reply to a request says, in words."""
+    """Returns a response to a request, in words."""
     kind = words[0]
     if kind == "raw":
         return pdu.hex()

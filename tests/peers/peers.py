@@ -1,7 +1,8 @@
-"""Tries the built program on programs of others: peers.py PROGRAM [PEER..]
+"""peers.py PROGRAM [PEER..]: tests the built program with other programs.
 
-PEER is the path of a compiled libmodbus_client or libmodbus_server, or `mbpoll` or `pymodbus`. A plain client and server of Python's
-standard library, curl and sqlite3 are always tried. tests/peers.sh calls it.
+tests/peers.sh runs it. PEER is the path of a compiled libmodbus_client or libmodbus_server, or
+`mbpoll` or `pymodbus`. A plain client and server of Python's standard library, curl and sqlite3 are
+always tested.
 """
 import json
 import os
@@ -33,7 +34,10 @@ def same(what, got, wanted):
 
 
 def clients():
-    """The clients that are here, with the kinds of requests that they can't send, and whether each request has its own connection."""
+    """Returns the installed clients.
+
+    Each has the kinds of requests that it can't send, and whether each request has its own
+    connection."""
     plain = [PYTHON, str(HERE / "modbus.py"), "client"]
     found = [("the plain client", plain, (), False)]
     if "libmodbus_client" in GIVEN:
@@ -67,12 +71,13 @@ def stand_in(connections, text=None):
 
 
 def said_in(text):
-    """What was said, but that a log lacks: sqlite3 removes that of a file which it closes."""
+    """Returns the messages without that about a missing log: sqlite3 removes the log of a file that
+    it closes."""
     return "".join(line for line in text.splitlines(keepends=True) if "it had no log" not in line)
 
 
 def has_ended(what, child):
-    """Holds a child to its own end with status 0 and nothing said."""
+    """A child ended by itself with status 0 and without messages."""
     try:
         status = child.wait(20)
     except Exception:
@@ -92,7 +97,7 @@ def try_client(name, words, unsent, each_alone):
 
 
 def received(stream):
-    """All bytes up to the end of a stream, or up to two seconds of silence."""
+    """Returns all bytes up to the end of a stream, or until nothing comes for two seconds."""
     stream.settimeout(2)
     got = b""
     try:
@@ -106,7 +111,8 @@ def received(stream):
 
 
 def try_frames():
-    """Frames in pieces, many at once, of another protocol and garbled; each case has a connection of its own."""
+    """Frames in pieces, many at once, of another protocol and garbled; each case has its own
+    connection."""
     read = modbus.frame(1, 17, bytes.fromhex("03006b0003"))
     reply = bytes.fromhex("000100000009110306022b00000064")
     foreign = bytes.fromhex("00010001000611 03006b0003")
@@ -142,7 +148,7 @@ def try_frames():
 
 
 class Desk:
-    """A serving office, which curl asks."""
+    """A serving office, to which curl sends requests."""
 
     def __init__(self, db, connections):
         self.port = free_port()
@@ -150,20 +156,21 @@ class Desk:
         self.child = start(words, self.port, stdout=open(ROOM / "said", "w"), stderr=open(ROOM / "said", "a"))
 
     def ask(self, path, *words):
-        """The status and the body of a reply."""
+        """Returns the status and the body of a response."""
         (ROOM / "body").write_text("")
         done = run("curl", "-s", "-o", "body", "-w", "%{http_code}", "--max-time", "30", *words, f"http://127.0.0.1:{self.port}{path}")
         return f"{done.stdout} {(ROOM / 'body').read_text()}"
 
     def put(self, path, number, body, *words):
-        """A command of the caller desk."""
+        """Sends a command of the caller desk."""
         text = body if isinstance(body, str) else json.dumps(body)
         (ROOM / "asked").write_text(text)
         return self.ask(path, "-H", "Office-Caller: desk", "-H", f"Office-Request: {number}", "--data-binary", "@asked", *words)
 
 
 def set_up():
-    """The commands that set up the plant: a device with a list, and three registers with a meter each."""
+    """Returns the commands that set up the plant: a device with a list, and three registers with a
+    meter each."""
     return [
         ("/devices", {"name": "inv", "unit": UNIT, "timeout": 5, "window": 2}, "device"),
         ("/devices/inv/list", LIST, "list"),
@@ -177,7 +184,7 @@ def set_up():
 
 
 def corrections():
-    """One command after the other over a register of its own, each a second behind the last."""
+    """Sends one command after the other over a separate register, each a second after the last."""
     return [
         ("/registers", {"name": "spare", "device": "inv", "function": 3, "address": 40500, "fixed": 0}, "register"),
         ("/registers/spare/install", {"meter": "s1", "raw": 100, "sf": 0, "ceiling": 1000}, "install"),
@@ -196,7 +203,9 @@ BARE = ["-X", "POST", *HEADERS]
 
 
 def faults():
-    """Requests that are answered with a fault: what, the path, curl's words, and the reply. None changes anything."""
+    """Returns requests that are faults: a name, the path, curl's arguments, and the response.
+
+    None of them changes anything."""
     body = json.dumps(ONE)
     sent = ["--data-binary", body]
     return [
@@ -240,7 +249,7 @@ def without_moments(text):
 
 
 def try_routes(db):
-    """Every route, by curl; the plant is set up by it."""
+    """Every route, by curl; the routes set up the plant."""
     (ROOM / "big").write_text("x" * 65537)
     setting, correcting, wrong = set_up(), corrections(), faults()
     desk = Desk(db, len(setting) + len(correcting) + len(wrong) + 5)
@@ -261,7 +270,7 @@ def try_routes(db):
 
 
 def try_answers(db, rounds):
-    """What the questions answer behind the rounds, and the void of a meter's last reading."""
+    """The responses to queries after the rounds, and the void of a meter's last reading."""
     polls = rounds - 1
     desk = Desk(db, 7)
     wanted = meter_told("m1", "main", 5200 + 100 * polls, 0, 200000 + 100000 * polls, False)
@@ -283,7 +292,9 @@ def try_answers(db, rounds):
 
 
 def plant(turn):
-    """What the device of the plant shows in a round, from 0 on: 100 Wh more at each register of main, 10 at the others."""
+    """Returns the registers of the plant's device in a round, from 0 on.
+
+    Each register of main has 100 Wh more, and each of the others 10 Wh."""
     main, far, low = 5200 + 100 * turn, (65636 + 10 * turn) % 65536, 1000 + 10 * turn
     path = ROOM / f"plant{turn}"
     path.write_text(f"holding 40094 0 {main} 0\nholding 40300 0 {far}\ninput 30000 0 {low}\n")
@@ -329,7 +340,9 @@ KNOWN = {1: 66, 101: 50, 103: 50, 203: 105}
 
 
 def shown_by(base, models, end=0xFFFF):
-    """The words of a chain of models, each with its length; each register of a model has its offset as value, but for its scales. Long models have none."""
+    """Returns the registers of a chain of models, each with its length.
+
+    Each register of a model has its offset as value, except its scales. Long models have none."""
     words, address = {base: 0x5375, base + 1: 0x6E53}, base + 2
     for model, length in models:
         if model in KNOWN or length < 1000:
@@ -341,7 +354,7 @@ def shown_by(base, models, end=0xFFFF):
 
 
 def headlines(base, models):
-    """What is printed of the chain itself, without the points of its models."""
+    """Returns the output about the chain itself, without the points of its models."""
     lines, address = [f"base {base}"], base + 2
     for model, length in models:
         lines.append(f"model {address} {model} {length}")
@@ -350,7 +363,9 @@ def headlines(base, models):
 
 
 def scan_device(words, bank, *more):
-    """What a scan prints of a server of these registers, by words; None stands for a server that knows no function 3."""
+    """Returns the output of a scan of a server of these registers.
+
+    None means a server that does not know function 3."""
     path = ROOM / "chain"
     path.write_text("without holding\n" if bank is None else "".join(f"holding {address} {word}\n" for address, word in sorted(bank.items())))
     port, child = device(words, str(path))
@@ -360,13 +375,14 @@ def scan_device(words, bank, *more):
 
 
 def chain_of(bank):
-    """What `chain` prints of these words."""
+    """Returns the output of `chain` for these registers."""
     done = run(PROGRAM, "chain", text="".join(f"{address} {word:04x}\n" for address, word in sorted(bank.items())))
     return done.returncode, done.stdout
 
 
 def try_scan(name, words):
-    """Chains of models that are known, unknown and long, as `chain` prints them of the same words."""
+    """A scan prints known, unknown and long models as `chain` prints them for the same
+    registers."""
     plant = [(1, 66), (103, 50), (203, 105)]
     chains = [
         ("models 1, 103 and 203", 40000, plant),
@@ -396,7 +412,9 @@ def try_scan(name, words):
 
 
 def try_setup(name, words):
-    """The first hour of a site over a server: what a scan prints to set it up is entered, also a second time, and a round books by it."""
+    """The first hour of a site over a server.
+
+    The output of a scan is entered, also a second time, and a round records with it."""
     db = str(ROOM / f"site{len(CHILDREN)}.db")
     bank = shown_by(40000, [(1, 66), (64001, 7), (103, 50), (203, 105)])
     status, printed, said = scan_device(words, bank, "--setup", "inv")
@@ -482,7 +500,8 @@ def energy_adds_up(db, when):
 
 
 def try_kills(db, rounds):
-    """Rounds over a slow device, each killed in a moment of its own; then the file is whole, and the office opens."""
+    """Rounds over a slow device, each killed at another time; then the file is sound, and the
+    office opens."""
     server = servers()[0][1]
     for kill in range(8):
         time.sleep(1.1)
@@ -523,7 +542,7 @@ def try_kills(db, rounds):
 
 
 def carried_out(trial, *words):
-    """Carries out a trial; one that breaks off has failed."""
+    """Runs a trial; a trial that breaks off has failed."""
     try:
         trial(*words)
     except Exception as why:

@@ -1,8 +1,9 @@
-"""A round as a plain Python program does it, over the same tables, with no proof: plain_office.py DB DEVICE PORT
+"""plain_office.py DB DEVICE PORT: runs a round as a plain Python program does it, without proof.
 
-bench/round.sh times the program beside it. It keeps the same promises: a poll is booked before it is sent, and its outcome and readings
-in one transaction before the next is started; the log is written through at each (synchronous FULL). It knows registers of a fixed
-scale, and lists of counters that lie too far apart for one read of two.
+It uses the same tables. bench/round.sh times the program beside it. It gives the same guarantees: a
+poll is recorded before it is sent, and its outcome and readings are recorded in one transaction
+before the next one starts. The log is synced each time (synchronous FULL). It handles registers of
+a fixed scale, and lists of counters that are too far apart for one read of two.
 """
 import socket
 import sqlite3
@@ -16,7 +17,7 @@ MOST_TOTAL = 4 * 10**18
 
 
 def shares(start, till, energy):
-    """The quarter hours of a step and their energy, which add up to it."""
+    """Returns the quarter hours of a step and their energy, which add up to the step's."""
     first = start // QUARTER * QUARTER
     told = 0
     for at in range(first, till, QUARTER):
@@ -26,7 +27,7 @@ def shares(start, till, energy):
 
 
 def cause_of(meter, turn, moment, raw):
-    """Why a reading is held, or 0."""
+    """Returns the cause for which a reading is rejected, or 0."""
     _, ceiling, last_at, last, sf, total = meter
     unit, gone = 10 ** (sf + 3), (raw - last) % turn
     if raw == 0:
@@ -70,7 +71,7 @@ class Office:
         return self.db.execute(query, values).fetchone()
 
     def start(self, reads, first):
-        """Books polls of reads, and answers their frames."""
+        """Records polls of reads, and returns their frames."""
         frames, now = b"", int(time.time())
         self.db.execute("BEGIN")
         for tid, (function, address) in enumerate(reads, first):
@@ -84,7 +85,7 @@ class Office:
         return frames
 
     def settle(self, frames):
-        """Books the outcomes of polls, and their readings."""
+        """Records the outcomes of polls, and their readings."""
         now, told = int(time.time()), []
         self.db.execute("BEGIN")
         for tid, unit, pdu in frames:
@@ -125,7 +126,7 @@ class Office:
 
 
 def whole_frames(stream):
-    """The frames that have come whole, and the rest."""
+    """Returns the complete frames, and the rest."""
     frames = []
     while len(stream) >= 6 and len(stream) >= 6 + (length := int.from_bytes(stream[4:6], "big")):
         frames.append((int.from_bytes(stream[:2], "big"), stream[6], stream[7:6 + length]))

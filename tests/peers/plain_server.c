@@ -1,7 +1,8 @@
-/* A plain Modbus TCP server, for the benchmarks: plain_server PORT [TIMES]
-   It answers function 3 on one connection after the other. Each pair of registers, the first at an even address, is a counter of two
-   registers that shows 1000 and 10 for each connection. Other functions are answered by exception 1.
-   Into the file TIMES goes a line for each connection: the seconds from its begin to its end. */
+/* plain_server PORT [TIMES]: a plain Modbus TCP server, for the benchmarks.
+   It answers function 3 on one connection after the other. Each pair of registers, the first at an
+   even address, is a counter of two registers that shows 1000 and 10 for each connection. Other
+   functions are answered with exception 1. The file TIMES gets a line for each connection: the
+   seconds from its start to its end. */
 #include <arpa/inet.h>
 #include <netinet/in.h>
 #include <netinet/tcp.h>
@@ -15,7 +16,7 @@
 
 enum { ROOM = 8192, MOST = 125 };
 
-/* The answer to a frame with this head and PDU; it answers its length. */
+/* Writes the response to a frame with this head and PDU, and returns its length. */
 static size_t answer(const uint8_t *frame, uint8_t *out, uint32_t counter) {
     unsigned address = frame[8] << 8 | frame[9], count = frame[10] << 8 | frame[11];
     size_t pdu = 2;

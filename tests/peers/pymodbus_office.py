@@ -1,6 +1,7 @@
-"""A round as a Python program does it by pymodbus, over the same tables: pymodbus_office.py DB DEVICE PORT
+"""pymodbus_office.py DB DEVICE PORT: runs a round as a Python program does it with pymodbus.
 
-It books as plain_office.py does; its synchronous client sends one request at a time.
+It uses the same tables and records as plain_office.py does. Its synchronous client sends one
+request at a time.
 """
 import sys
 
@@ -11,7 +12,7 @@ KINDS = {3: "read-holding", 4: "read-input"}
 
 
 def pdu_of(function, reply):
-    """The PDU of a reply, as plain_office.py settles it."""
+    """Returns the PDU of a response, as plain_office.py settles it."""
     if reply.isError():
         return bytes([function | 0x80, reply.exception_code])
     words = b"".join(it.to_bytes(2, "big") for it in reply.registers)

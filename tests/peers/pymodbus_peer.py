@@ -1,8 +1,10 @@
-"""A client and a server by pymodbus, of version 2 or 3.
+"""A client and a server with pymodbus, of version 2 or 3.
 
     pymodbus_peer.py version             prints its version
-    pymodbus_peer.py client PORT UNIT    carries out the requests on standard input, and prints an answer for each
-    pymodbus_peer.py serve PORT BANK     serves the registers that the file BANK tells; after a line `without holding` reading them is no function
+    pymodbus_peer.py client PORT UNIT    sends the requests on standard input, and prints responses
+    pymodbus_peer.py serve PORT BANK     serves the registers of the file BANK
+
+After a line `without holding` in BANK, the read of holding registers is an unknown function.
 """
 import inspect
 import sys
@@ -29,7 +31,7 @@ WRITES = {
 
 
 def unit_word(client):
-    """The name that this version has for the unit."""
+    """Returns this version's name for the unit."""
     has = inspect.signature(client.read_coils).parameters
     return next((it for it in ("device_id", "slave", "unit") if it in has), "unit")
 
@@ -71,7 +73,7 @@ def ask(port, unit):
 
 
 def forget_holding():
-    """Takes the read of holding registers out of the functions that a server knows."""
+    """Removes the read of holding registers from the functions of a server."""
     from pymodbus import factory
 
     taught = factory.ServerDecoder.__init__

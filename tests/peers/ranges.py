@@ -1,6 +1,7 @@
-"""What a running office answers of one day out of one year and out of ten, beside the program sqlite3: ranges.py PROGRAM
+"""ranges.py PROGRAM: times an office's responses about one day, out of one year and out of ten.
 
-bench/ranges.sh calls it. The least of five answers counts. What is answered of quarter hours is what sqlite3 finds.
+bench/ranges.sh runs it. The comparison is the program sqlite3, which must find the same quarter
+hours. The least of five responses counts.
 """
 import os
 import subprocess
@@ -12,12 +13,15 @@ from report import DAY, answers, check, office, plainly
 from room import ROOM, free_port, start, stop
 
 YEARS = (1, 10)
-# (so that ten years lie behind the clock)
+# (so that ten years are before the clock)
 report.BEGIN = 1420070400
 
 
 def asked(program, years):
-    """The seconds that answers of the last day but one take out of so many years: its quarter hours, its entry and its sum; and what sqlite3 takes for the first."""
+    """Returns the seconds of responses about the last day but one: its quarter hours, its entry and
+    its sum.
+
+    The history has so many years. The last value is the time of sqlite3 for the quarter hours."""
     db = str(ROOM / f"{years}.db")
     office(db, 365 * years)
     begin = report.BEGIN + DAY * (365 * years - 2)

@@ -1,5 +1,6 @@
-/* One client that reads registers again and again, for the benchmarks: reads PORT READS WORDS
-   It prints how many reads a second were answered. It asks by libmodbus where it is compiled with -DLIBMODBUS, else by plain sockets. */
+/* reads PORT READS WORDS: reads registers again and again as one client, for the benchmarks. It
+   prints how many reads a second were answered. Compiled with -DLIBMODBUS it uses libmodbus, else
+   plain sockets. */
 #include <stdint.h>
 #include <stdio.h>
 #include <stdlib.h>

@@ -1,7 +1,8 @@
-"""A register's energy by days and by quarter hours over years, beside the program sqlite3: report.py PROGRAM [YEARS]
+"""report.py PROGRAM [YEARS]: times a register's energy by days and by quarter hours over years.
 
-bench/report.sh calls it. Both print the same; the least of five runs counts. The program reads the whole file before the first
-answer; what that takes is told by how long it is until `serve` listens.
+bench/report.sh runs it. The comparison is the program sqlite3, which must print the same; the least
+of five runs counts. The program reads the whole file before the first response: the time until
+`serve` listens is the time of that.
 """
 import os
 import socket
@@ -21,12 +22,12 @@ ROWS = "SELECT start || ' ' || mwh FROM intervals WHERE meter = 'm1' ORDER BY st
 
 
 def quarter(day):
-    """The energy of each quarter hour of a day, in mWh."""
+    """Returns the energy of each quarter hour of a day, in mWh."""
     return 1000 * (200 + day % 50)
 
 
 def office(db, days):
-    """A file of one meter that was read once a day."""
+    """Makes a file of one meter that was read once a day."""
     entries, rows, raw = [f"('m1', 1, 1, {BEGIN}, 0, 0, 0, 0)"], [], 0
     for day in range(days):
         raw += 96 * quarter(day) // 1000
@@ -46,7 +47,7 @@ def office(db, days):
 
 
 def measured(words):
-    """What a program prints, and the seconds that it takes, by the clock and of the processor."""
+    """Returns the output of a program, and its seconds, by the clock and of the processor."""
     start = time.monotonic()
     with open(ROOM / "printed", "wb") as out:
         child = subprocess.Popen(words, stdin=subprocess.DEVNULL, stdout=out, env={**os.environ, "TZ": ZONE})
@@ -59,7 +60,7 @@ def measured(words):
 
 
 def answers(port, target):
-    """The least seconds of some answers of HTTP, and the last of them."""
+    """Returns the least seconds of some HTTP responses, and the last response."""
     took = []
     for _ in range(TURNS):
         begin = time.monotonic()
@@ -71,7 +72,8 @@ def answers(port, target):
 
 
 def plainly(db, query):
-    """The least seconds that the program sqlite3 takes by the clock, of the processor, and what it prints."""
+    """Returns the least seconds of the program sqlite3 by the clock, of the processor, and its
+    output."""
     runs = [measured(["sqlite3", db, query]) for _ in range(TURNS)]
     return min(it[1] for it in runs), min(it[2] for it in runs), runs[0][0]
 

@@ -1,4 +1,6 @@
-"""What tests/peers.sh and the benchmarks beside peers need to run a program: a folder, ports, children that end with the script."""
+"""Functions that tests/peers.sh and the benchmarks share to run a program.
+
+They give a folder, ports, and children that end with the script."""
 import atexit
 import pathlib
 import shutil
@@ -33,7 +35,7 @@ def free_port():
 
 
 def is_listening(port):
-    """Whether a program of this machine listens on the port; no connection is made."""
+    """Returns whether a program of this machine listens on the port, without a connection."""
     rows = pathlib.Path("/proc/net/tcp").read_text().splitlines()[1:]
     return any(row.split()[1].endswith(f":{port:04X}") and row.split()[3] == "0A" for row in rows)
 
@@ -64,6 +66,6 @@ def run(*words, text="", limit=120):
 
 
 def sql(db, query):
-    """The rows that the program sqlite3 prints for a query, or what it says is wrong."""
+    """Returns the rows that the program sqlite3 prints for a query, or its error."""
     done = run("sqlite3", "-bail", db, query)
     return done.stdout.splitlines() if done.returncode == 0 else [done.stderr.strip()]

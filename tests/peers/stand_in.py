@@ -1,6 +1,7 @@
-"""Reads a second of the stand-in, beside another server: stand_in.py PROGRAM CLIENT SERVER [READS]
+"""stand_in.py PROGRAM CLIENT SERVER [READS]: times reads of the simulator beside another server.
 
-bench/stand_in.sh calls it. Both serve the same registers to the same client, in turns; the best of five runs counts.
+bench/stand_in.sh runs it. Both serve the same registers to the same client, in turns; the best of
+five runs counts.
 """
 import os
 import signal
@@ -12,7 +13,7 @@ TURNS = 5
 
 
 def spent(child):
-    """Ends a child, and tells the seconds that it spent on a processor."""
+    """Ends a child, and returns its processor seconds."""
     os.kill(child.pid, signal.SIGKILL)
     _, _, usage = os.wait4(child.pid, 0)
     child.returncode = 0
