@@ -37,9 +37,9 @@ use Rattle.office_program.specs.Texts.Passing.{Lasts}
 use Rattle.run_status.specs.Advice.Lacks.{LooksUp}
 use Rattle.office_running.specs.Runs.{AreAt, BooksRun, Goes, IsOfRound, ReadsClock, RunsOn, Step, Fed, Asks, TakesTurns, TurnsFrom, history_with, latest_of, steps_of, with_step}
 
--- ---- At one moment
+-- ---- at one time
 
--- nothing came
+-- Nothing happened.
 pub goes_none : {B : Type 0} (names : List (List ℕ)) (at : ℕ) (ledger : B → Ledger) (office : Office B) → Goes names at ledger office office
 goes_none names at ledger office = record {
   stands = λ past stands clean. record { steps = []; each = tt; stands = stands };
@@ -56,7 +56,7 @@ each_of_both : {names : List (List ℕ)} (at : ℕ) (later earlier : List (Step 
 each_of_both at [] earlier a b = b
 each_of_both at (one ∷ later) earlier a b = (a.0, each_of_both at later earlier a.1 b)
 
--- What comes comes one after the other.
+-- Consecutive steps.
 pub goes_both : {B : Type 0} (names : List (List ℕ)) (at : ℕ) (ledger : B → Ledger) (a b c : Office B) → Goes names at ledger a b → Goes names at ledger b c
     → Goes names at ledger a c
 goes_both names at ledger a b c first next = record {
@@ -84,7 +84,7 @@ after_events : (names : List (List ℕ)) (past : History) (fed : List Answered) 
 after_events names past [] = refl
 after_events names past (one ∷ earlier) = ap (λ h. with_answer h one.at one.event one.result) (after_events names past earlier)
 
--- what a round wishes is of a round
+-- The action of a round is an event of a round.
 abbrev WishesOfRound : Option Event → Type 0
 WishesOfRound None = Unit {0}
 WishesOfRound (Some e) = IsOfRound e
@@ -184,7 +184,7 @@ goes_fed names ledger at e answer old new feeds ends is = record {
   zone = ends.zone;
 }
 
--- ---- What peers ask
+-- ---- the requests of clients
 
 abbrev of_connections : (names : List (List ℕ)) → List (Connection names) → List (Step names)
 of_connections names [] = []
@@ -225,7 +225,7 @@ no_turns names ledger first begun office = record {
   zone = refl;
 }
 
--- The clock is read, and what comes then comes at the latest moment that it has told.
+-- The clock is read, and the next steps have the latest time that it has returned.
 one_turn : {B : Type 0} (names : List (List ℕ)) (ledger : B → Ledger) (first before latest : ℕ) (begun between now : Option (List ℕ)) (a b c : Office B)
     → TakesTurns names ledger first before begun between a b → ReadsClock before latest between now → Goes names latest ledger b c
     → TakesTurns names ledger first latest begun now a c
@@ -246,7 +246,7 @@ one_turn names ledger first before latest begun between now a b c turns reads go
   zone = goes.zone ∙ turns.zone;
 }
 
--- Turns were taken, and the clock was read since, for the next.
+-- Turns were taken, and the clock was read since for the next turn.
 pub record Begins {B : Type 0} (names : List (List ℕ)) (ledger : B → Ledger) (first latest : ℕ) (begun now : Option (List ℕ)) (old new : Office B) : Type 0 where
   pub before : ℕ
   pub between : Option (List ℕ)
@@ -262,7 +262,7 @@ first_begins names ledger first latest begun now office reads = record {
   reads = reads;
 }
 
--- what comes before the clock is read again comes at its latest moment
+-- The steps before the next reading of the clock have its latest time.
 pub turn_ends : {B : Type 0} (names : List (List ℕ)) (ledger : B → Ledger) (first latest at : ℕ) (begun now : Option (List ℕ)) (a b c : Office B)
     → at ≡ latest → Begins names ledger first latest begun now a b → Goes names at ledger b c → TakesTurns names ledger first latest begun now a c
 turn_ends names ledger first latest at begun now a b c same begins goes =
@@ -279,7 +279,7 @@ next_begins names ledger first latest later at begun now after a b c d same begi
   reads = reads;
 }
 
--- a question before them changes nothing
+-- A query before the turns changes nothing.
 pub turns_after_asking : {B T : Type 0} (names : List (List ℕ)) (ledger : B → Ledger) (first : ℕ) (begun now : Option (List ℕ)) (a b c : Office B)
     (answer : Result T Refusal) → OnlyAsks ledger a b answer → TurnsFrom names ledger first begun now b c → TurnsFrom names ledger first begun now a c
 turns_after_asking names ledger first begun now a b c answer asks goes = record {
@@ -291,9 +291,9 @@ turns_after_asking names ledger first begun now a b c answer asks goes = record 
   };
 }
 
--- ---- A run
+-- ---- a run
 
--- Books that are only read stand as they did.
+-- A store that is only read is unchanged.
 pub reads_stand : (old new : Ledger) (past : History) → KeepsFacts old new → BooksStand old past → BooksStand new past
 reads_stand old new past keeps stands = record {
   is_past = stands.is_past;
@@ -328,14 +328,14 @@ ran_opened {B = B} names ledger past begun opened now office new books is opens 
       stand = so.stands.books;
     }))
 
--- Books that are only looked up in stand as they did, and last.
+-- A store that is only queried is unchanged, and lasts.
 pub looked_stand : (a b c : Ledger) (past : History) → LooksUp b c → (BooksStand a past → BooksStand b past) → BooksStand a past → BooksStand c past
 looked_stand a b c past looks before stands = reads_stand b c past looks.keeps (before stands)
 
 pub looked_last : (a b c : Ledger) → LooksUp b c → Lasts a b → Lasts a c
 looked_last a b c looks first = record { clean = λ clean. first.clean (looks.clean clean); zone = looks.zone ∙ first.zone }
 
--- A wrong answer that was taken as true stays one.
+-- A wrong result that was taken as true stays recorded.
 pub lasts_both : (a b c : Ledger) → Lasts a b → Lasts b c → Lasts a c
 lasts_both a b c first next = record { clean = λ clean. first.clean (next.clean clean); zone = next.zone ∙ first.zone }
 

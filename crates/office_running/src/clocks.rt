@@ -1,4 +1,5 @@
-//! The two clocks of a run: by one it waits, and the other tells at which moments things come.
+//! The two clocks of a run: the monotonic clock by which it waits, and the clock that gives the
+//! times of events.
 ghost use Rattle.std.specs.Prelude.{◌≡◌};
 ghost use Rattle.office_running.specs.Runs.{ReadsClock};
 
@@ -8,7 +9,7 @@ use run_schedule::{RunTime, SteadyClock};
 use socket_link::Clock;
 use std::time::{SystemTime, UNIX_EPOCH};
 
-// How many milliseconds of the second have passed, by the clock of the moments.
+// Returns how many milliseconds of the current second have passed, by the clock that gives times.
 fn part_of_second<R: std::rt::Clock>(rt: &R) -> u64 {
     let Ok(now) = SystemTime::now(rt) else {
         return 0;
@@ -19,8 +20,9 @@ fn part_of_second<R: std::rt::Clock>(rt: &R) -> u64 {
     }
 }
 
-/// The time of a run that begins at a moment. It is a millisecond late, since both clocks are told in whole ones: so no second
-/// of the run begins before the clock tells that moment, at which what begins then would have next to no time.
+/// Returns the time of a run that begins now. The time is a millisecond late, since both clocks
+/// return whole milliseconds. No second of the run therefore begins before the clock returns its
+/// time: otherwise an event at its beginning would have almost no time.
 pub(crate) fn time_from<R: std::rt::Clock>(rt: &R, moment: u64) -> RunTime {
     let base = moment
         .saturating_mul(1000)
@@ -29,14 +31,14 @@ pub(crate) fn time_from<R: std::rt::Clock>(rt: &R, moment: u64) -> RunTime {
     RunTime::new(base, even_milliseconds(rt))
 }
 
-/// How many milliseconds are left of the second that goes on.
+/// Returns how many milliseconds are left of the current second.
 pub(crate) fn to_next_second<R: std::rt::Clock>(rt: &R, time: &mut RunTime) -> u64 {
     time.read(even_milliseconds(rt));
     time.to_next_second()
 }
 
-/// The moment of what comes now: the clock's, or the latest where the clock stands before it. A clock that is set back is told
-/// once, and one that goes ahead by more than a minute.
+/// Returns the time for the next events: the clock's, or the latest time if the clock is before it.
+/// Reports once that the clock was set back, and that it went ahead by more than a minute.
 pub(crate) fn read_clock<C: Clock>(
     steady: &mut SteadyClock,
     clock: &mut C,
@@ -57,7 +59,7 @@ pub(crate) fn read_clock<C: Clock>(
     reading.moment
 }
 
-/// The time of the run now.
+/// Returns the time of the run now, in seconds.
 pub(crate) fn read_time<R: std::rt::Clock>(rt: &R, time: &mut RunTime) -> u64 {
     time.read(even_milliseconds(rt));
     time.seconds()

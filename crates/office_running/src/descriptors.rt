@@ -4,18 +4,19 @@ use run_schedule::{MOST_PEERS, clients_for, needed_limit, wanted_descriptors};
 use std::alloc::{AllocError, Global};
 use std::net::Net;
 
-/// The recommended limit of descriptors is enough for at least this many devices.
+/// The recommended limit of descriptors suffices for at least this many devices.
 const MOST_DEVICES: usize = 64;
 
-/// The number of clients that a run accepts at once where it may open few descriptors.
+/// The number of clients that a run accepts at once if it may open few descriptors.
 #[derive(Clone, Copy)]
 pub(crate) struct FewClients {
     pub(crate) clients: usize,
-    /// The limit of descriptors with which it would accept a client in each slot.
+    /// The limit of descriptors that would allow a client in each slot.
     pub(crate) limit: usize,
 }
 
-// Counts the descriptors that the process may still open, up to `most`: it opens them, and closes them again.
+// Counts the descriptors that the process may still open, up to `most`: opens them, and closes them
+// again.
 fn count_descriptors<R: Net>(rt: &R, alloc: Global, most: usize) -> Result<usize, AllocError> {
     let mut opened = Vec::new(alloc);
     for _descriptor in 0..most {
@@ -27,8 +28,9 @@ fn count_descriptors<R: Net>(rt: &R, alloc: Global, most: usize) -> Result<usize
     Ok(opened.len())
 }
 
-/// Returns how many clients a run with this number of devices accepts at once, and the recommended limit where that leaves slots empty.
-/// Call it when everything but devices and clients is open.
+/// Returns how many clients a run with this number of devices accepts at once. If that leaves slots
+/// empty, also returns the recommended limit. Call this when everything but devices and clients is
+/// open.
 pub(crate) fn find_clients<R: Net>(
     rt: &R,
     alloc: Global,

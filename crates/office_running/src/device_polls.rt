@@ -1,4 +1,4 @@
-//! The devices of a run.
+//! The devices of a run, and their rounds.
 ghost use Rattle.std.specs.Prelude.{ℕ, List};
 ghost use Rattle.office_running.specs.Runs.{Goes};
 
@@ -16,11 +16,12 @@ use run_schedule::Phase;
 use std::alloc::{AllocError, Global};
 use std::net::Net;
 
-/// How many pieces of a device's bytes are taken at most before the moment goes on: more than it has replies on their way.
+/// The most pieces of a device's bytes that are read before the time advances: more than its
+/// pending responses have.
 const MOST_PIECES: u32 = 64;
 
-// What bytes brought is told to the rounds. That of the device takes the answer, unless it wishes to start reads, of which this
-// is no answer.
+// Passes what the office did with a device's bytes to the rounds. The device's round gets the
+// answer, unless it is about to start reads: the answer is not to those.
 fn tell_rounds(
     rounds: &mut [Round],
     place: usize,
@@ -35,7 +36,7 @@ fn tell_rounds(
     }
 }
 
-/// The devices: the connection to each, and how far its round has come.
+/// The devices: the connection to each, and the state of its round.
 #[derive(Drop)]
 pub(crate) struct Polling {
     every: u64,
@@ -44,7 +45,7 @@ pub(crate) struct Polling {
 }
 
 impl Polling {
-    /// Each device rests until the first multiple of `every` after now.
+    /// Creates the devices. Each rests until the first multiple of `every` after now.
     pub(crate) fn new(
         alloc: Global,
         sites: &[Site],
@@ -64,24 +65,24 @@ impl Polling {
         })
     }
 
-    /// How many devices there are.
+    /// Returns the number of devices.
     pub(crate) fn count(&self) -> usize {
         self.slots.len()
     }
 
-    /// Something may have come from the device of a place.
+    /// Marks the device in a slot as ready: it may have sent something.
     pub(crate) fn mark(&mut self, place: usize) {
         if place < self.slots.len() {
             self.slots[place].ready = true;
         }
     }
 
-    /// Whether something may have come that was not looked at.
+    /// Returns whether a device is ready.
     pub(crate) fn is_ready(&self) -> bool {
         self.slots.iter().any(|slot| slot.ready)
     }
 
-    // The connection of a place could not be made.
+    // Records that the connection in a slot failed, and reports it.
     fn fail(&mut self, place: usize, voice: &mut Voice, now: Now) {
         if place < self.slots.len() {
             let every = self.every;
@@ -94,7 +95,7 @@ impl Polling {
         }
     }
 
-    // Begins the connection of a place, where it is due.
+    // Begins the connection in a slot, if it is due.
     fn begin<R: Net>(
         &mut self,
         rt: &R,
@@ -127,7 +128,7 @@ impl Polling {
         }
     }
 
-    // Tells how the round of a place ended, and closes its connection.
+    // Reports how the round in a slot ended, and closes its connection.
     fn finish(&mut self, place: usize, voice: &mut Voice, now: Now) {
         if place < self.slots.len() && place < self.rounds.len() {
             let sum = self.rounds[place].sum;
@@ -139,7 +140,7 @@ impl Polling {
         }
     }
 
-    // Sends what is to be sent to a device, or closes its connection where its round is over.
+    // Sends the pending frames to a device, or closes its connection if its round is over.
     fn settle(&mut self, place: usize, voice: &mut Voice, now: Now) {
         if place < self.slots.len() && place < self.rounds.len() {
             if self.slots[place].timing.phase != Phase::Polling {
@@ -160,7 +161,7 @@ impl Polling {
         }
     }
 
-    /// Feeds what happens to the office, and what the rounds of the devices wish then.
+    /// Processes one device event, and then the queued actions of each round.
     pub(crate) fn feed<B: Books>(
         &mut self,
         device_event: DeviceEvent,
@@ -175,7 +176,7 @@ impl Polling {
         self.settle_all(voice, now);
     }
 
-    // What is seen at the connection of a place that is being made.
+    // Handles what a new connection in a slot shows. Returns the event for the office, if any.
     fn joined(
         &mut self,
         place: usize,
@@ -199,7 +200,7 @@ impl Polling {
         }
     }
 
-    // What a look at the connection of a place sees, as it happens to the office.
+    // Looks at the connection in a slot. Returns the event for the office, if any.
     fn look(&mut self, place: usize, voice: &mut Voice, now: Now) -> Option<DeviceEvent> {
         if place >= self.slots.len() {
             return None;
@@ -217,7 +218,7 @@ impl Polling {
         }
     }
 
-    // What the device of a place does that takes too long.
+    // Handles a device that has exceeded its time. Returns the event for the office, if any.
     fn expire(&mut self, place: usize, voice: &mut Voice, now: Now) -> Option<DeviceEvent> {
         if place < self.slots.len() && self.slots[place].timing.phase == Phase::Connecting {
             self.fail(place, voice, now);
@@ -226,7 +227,7 @@ impl Polling {
         Some(DeviceEvent::Closed(place, Closing::Failed))
     }
 
-    // What happens at a place.
+    // Polls the device in a slot for its next event.
     fn device_event(&mut self, place: usize, voice: &mut Voice, now: Now) -> Option<DeviceEvent> {
         if place >= self.slots.len() {
             return None;
@@ -240,7 +241,8 @@ impl Polling {
         None
     }
 
-    // The name of the device of a place whose replies are waited for, also where its round wishes to start more reads.
+    // Returns the name of the device in a slot, if it has pending responses or its round is about
+    // to start more reads.
     fn waiting_at(&self, place: usize) -> Option<Option<Name>> {
         if place >= self.rounds.len() {
             return None;
@@ -251,14 +253,15 @@ impl Polling {
         }
     }
 
-    /// A device of which replies are waited for is to be looked at, whether or not the system has told that something came.
+    /// Marks a device with pending responses as ready, whether or not the system reported anything.
     pub(crate) fn mark_waiting(&mut self, place: usize) {
         if self.waiting_at(place).is_some() {
             self.mark(place);
         }
     }
 
-    // What came of a device whose replies are waited for, a piece at most, and its name.
+    // Reads at most one piece from a device with pending responses. Returns the device's name and
+    // the bytes.
     fn listen(&mut self, place: usize) -> Option<(Option<Name>, Vec<u8>)> {
         let device = self.waiting_at(place)?;
         if place >= self.slots.len() {
@@ -268,8 +271,8 @@ impl Polling {
         Some((device, bytes))
     }
 
-    // Feeds what came of a device alone. What its round wishes then is for the next turn, since a read that is started at a
-    // moment that has passed would be waited for less long.
+    // Feeds the bytes of one device only. The next actions of its round wait for the next turn,
+    // since a read that started at a past time would have a shorter timeout.
     fn hear<B: Books>(
         &mut self,
         place: usize,
@@ -296,7 +299,7 @@ impl Polling {
         );
     }
 
-    // Feeds what came of a device of which replies are waited for, a piece at most. It answers whether nothing did.
+    // Feeds at most one piece from a device with pending responses. Returns whether there was none.
     #[tactic(auto, using(crate::proofs::Going::goes_none))]
     fn hear_piece<B: Books>(
         &mut self,
@@ -317,7 +320,7 @@ impl Polling {
         }
     }
 
-    /// Feeds what has come of a device of which replies are waited for, before the moment goes on.
+    /// Feeds what a device with pending responses has sent, before the time advances.
     pub(crate) fn hear_device<B: Books>(
         &mut self,
         place: usize,
@@ -336,7 +339,8 @@ impl Polling {
         }
     }
 
-    /// Feeds what happens at a place, a piece of bytes at most. It answers whether anything did.
+    /// Feeds the next event in a slot, with at most one piece of bytes. Returns whether there was
+    /// one.
     #[tactic(auto, using(crate::proofs::Going::goes_none, crate::proofs::Going::goes_both))]
     pub(crate) fn attend<B: Books>(
         &mut self,

@@ -12,37 +12,37 @@ use std::alloc::Global;
 use std::io::Read;
 use std::net::Net;
 
-/// What a look at a connection came to.
+/// What a look at a connection showed.
 #[derive(Drop)]
 pub(crate) enum Seen {
-    /// Nothing for now.
+    /// Nothing yet.
     Nothing,
-    /// The connection stands now.
+    /// The connection is established.
     Stands,
-    /// Bytes came.
+    /// Bytes arrived.
     Bytes(Vec<u8>),
-    /// The device has closed it.
+    /// The device closed the connection.
     Closed,
-    /// It failed.
+    /// The connection failed.
     Failed,
 }
 
-/// A device: the connection to it, what is still to be sent, and when it is looked at.
+/// A device: its connection, its unsent bytes, and the timing of its rounds.
 #[derive(Drop)]
 pub(crate) struct Slot {
     pub(crate) site: Site,
     pub(crate) timing: Timing,
-    /// Whether something may have come that was not looked at.
+    /// Whether the device may have sent something that was not read yet.
     pub(crate) ready: bool,
     pub(crate) standing: Standing,
     alloc: Global,
     stream: Option<TcpStream>,
     unsent: Outbox,
-    /// How it has ended, where that was seen and is not told yet.
+    /// How the connection ended, if that was seen and is not reported yet.
     ended: Option<Closing>,
 }
 
-// Whether a connection that was begun stands: None where it does not stand yet.
+// Returns whether a new connection is established, or `None` if it is still pending.
 fn stands(stream: &TcpStream) -> Option<bool> {
     match stream.take_error() {
         Ok(None) => {}
@@ -54,7 +54,7 @@ fn stands(stream: &TcpStream) -> Option<bool> {
     Some(true)
 }
 
-// A time between rounds that is in its range.
+// Limits the time between rounds to its range.
 fn spacing(every: u64) -> u64
     ensures some { 0 < result }
     ensures few { result ≤ 86400 }
@@ -62,7 +62,7 @@ fn spacing(every: u64) -> u64
     every.max(1).min(MOST_EVERY)
 }
 
-// A time that one between rounds can be added to.
+// Limits a time so that the time between rounds can be added to it.
 fn bounded(time: u64) -> u64
     ensures { result ≤ 2 ^ 62 }
 {
@@ -70,7 +70,7 @@ fn bounded(time: u64) -> u64
 }
 
 impl Slot {
-    /// A device that rests until the first multiple of `every` after now.
+    /// Creates a device that rests until the first multiple of `every` after now.
     pub(crate) fn new(alloc: Global, site: Site, every: u64, now: u64) -> Slot {
         Slot {
             site,
@@ -84,7 +84,7 @@ impl Slot {
         }
     }
 
-    // Begins a connection. It answers whether it could.
+    // Begins a connection. Returns whether that succeeded.
     fn connect<R: Net>(&mut self, rt: &R, registry: &Registry, token: Token) -> bool {
         let Ok(mut stream) = TcpStream::connect(rt, self.site.addr) else {
             return false;
@@ -98,7 +98,7 @@ impl Slot {
         true
     }
 
-    /// Begins a connection. It answers whether it could.
+    /// Begins a connection, and its timing. Returns whether that succeeded.
     pub(crate) fn begin<R: Net>(
         &mut self,
         rt: &R,
@@ -120,19 +120,19 @@ impl Slot {
         self.ready = false;
     }
 
-    /// The round is over: the connection is closed, and the device rests until it is due.
+    /// Ends a round: closes the connection, and lets the device rest until it is due.
     pub(crate) fn rest(&mut self, every: u64, time: u64) {
         self.close();
         self.timing.rest(spacing(every), bounded(time));
     }
 
-    /// The connection could not be made: the device is tried again after a pause that grows.
+    /// Handles a failed connection: the device is tried again after a pause that grows.
     pub(crate) fn fail(&mut self, every: u64, time: u64) {
         self.close();
         self.timing.fail(spacing(every), bounded(time));
     }
 
-    // Looks whether the connection stands.
+    // Looks whether the connection is established.
     fn connection(&self) -> Seen {
         match &self.stream {
             Some(stream) => match stands(stream) {
@@ -144,7 +144,7 @@ impl Slot {
         }
     }
 
-    // A piece of what came.
+    // Copies bytes that arrived.
     fn piece(&self, bytes: &[u8]) -> Seen {
         match bytes.to_vec(self.alloc) {
             Ok(bytes) => Seen::Bytes(bytes),
@@ -152,7 +152,7 @@ impl Slot {
         }
     }
 
-    // Takes what came, a piece at most.
+    // Reads what arrived, at most one piece.
     fn take(&self) -> Seen {
         let mut room = [0u8; 260];
         let got = match &self.stream {
@@ -175,7 +175,7 @@ impl Slot {
         }
     }
 
-    // Sends what is to be sent, as far as the socket takes it. It answers whether the connection works.
+    // Sends unsent bytes, as far as the socket accepts them. Returns whether the connection works.
     fn send(&mut self) -> bool {
         match &self.stream {
             Some(stream) => self.unsent.write_all(stream) != Went::Over,
@@ -183,7 +183,7 @@ impl Slot {
         }
     }
 
-    /// Sends frames after what is to be sent. Where that fails, the next look tells.
+    /// Sends frames after the unsent bytes. If that fails, the next look reports it.
     pub(crate) fn send_more(&mut self, frames: &[u8]) {
         let done = self.unsent.put(frames);
         if done.is_err() || !self.send() {
@@ -191,7 +191,7 @@ impl Slot {
         }
     }
 
-    // What a look at the connection sees.
+    // Returns what a look at the connection shows.
     fn see(&mut self) -> Seen {
         match self.ended {
             Some(Closing::Gone) => return Seen::Closed,
@@ -211,14 +211,16 @@ impl Slot {
         }
     }
 
-    /// Looks at the connection, of which more is to be seen unless nothing was.
+    /// Looks at the connection. It stays ready if the look showed bytes or an established
+    /// connection.
     pub(crate) fn look(&mut self) -> Seen {
         let seen = self.see();
         self.ready = matches!(seen, Seen::Stands | Seen::Bytes(_));
         seen
     }
 
-    /// Takes what came of a device that is polled, a piece at most. An end of the connection is seen by the next look.
+    /// Reads at most one piece from a device that is being polled. The next look reports the end of
+    /// the connection.
     pub(crate) fn listen(&mut self) -> Option<Vec<u8>> {
         if !self.ready || self.timing.phase != Phase::Polling {
             return None;

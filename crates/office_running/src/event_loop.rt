@@ -1,4 +1,4 @@
-//! The loop of a run: clock, tick, devices, peers, lines, and the wait for sockets.
+//! The loop of a run: clock, timer event, devices, clients, output, and the wait for sockets.
 ghost use Rattle.std.specs.Prelude.{◌≡◌, ℕ, List};
 ghost use Rattle.http_request.specs.Hosts.{texts};
 ghost use Rattle.office_running.specs.Runs.{Goes, ReadsClock, RunsOn, TakesTurns, TurnsFrom};
@@ -33,10 +33,10 @@ use std::time::Duration;
 /// The token of the first device.
 const FIRST_DEVICE: usize = PORT_TOKEN + 1;
 
-/// After how many milliseconds it is tried again to accept a connection.
+/// The milliseconds until accepting a connection is tried again.
 const RETRY: u64 = 100;
 
-// When a run ends: by its time, or by the clock that tells the moments.
+// The end of a run: by its own time, or by the clock that gives the times of events.
 #[derive(Clone, Copy)]
 struct End {
     time: u64,
@@ -49,26 +49,27 @@ impl End {
     }
 }
 
-/// The process: its sockets, and what is told of it.
+/// The process: its sockets, and its output.
 #[derive(Drop)]
 struct Running {
     poll: Poll,
     polling: Polling,
     port: HttpPort,
     voice: Voice,
-    /// The lines of what happens, and what is said to people.
+    /// The lines of events, and the messages to people.
     lines: Outlet,
     sayings: Outlet,
     files: FileWatch,
-    /// Since when a file of the office is gone, by the time of the run.
+    /// The time of the run at which a file of the office was found missing.
     lost_at: Option<u64>,
     /// The time of this turn.
     time: u64,
-    /// Whether it has a tick: a second has passed since the turn before, or the clock tells a later moment.
+    /// Whether this turn has a timer event: a second has passed since the turn before, or the clock
+    /// returned a later time.
     ticks: bool,
 }
 
-// The voice of some devices.
+// Creates the voice for these devices, and reports what they lack.
 fn voice_of(
     alloc: Global,
     sites: &[Site],
@@ -84,7 +85,7 @@ fn voice_of(
     Ok(voice)
 }
 
-// The descriptor of output, and that of errors.
+// Returns the descriptors of standard output and standard error.
 fn descriptors_of(settings: &Settings<'_>) -> (Option<RawFd>, Option<RawFd>) {
     match settings.descriptors {
         Some(descriptors) => (Some(descriptors.output), Some(descriptors.errors)),
@@ -92,7 +93,7 @@ fn descriptors_of(settings: &Settings<'_>) -> (Option<RawFd>, Option<RawFd>) {
     }
 }
 
-// Opens a port, and has the registry tell when a connection waits there.
+// Opens a port, and registers it for new connections.
 fn listen<R: Net>(rt: &R, registry: &Registry, addr: SocketAddr) -> Result<TcpListener, RunFault> {
     let Ok(mut listener) = TcpListener::bind(rt, addr) else {
         return Err(RunFault::Port);
@@ -103,7 +104,8 @@ fn listen<R: Net>(rt: &R, registry: &Registry, addr: SocketAddr) -> Result<TcpLi
     }
 }
 
-// The port of a listener, which accepts so many clients at once, with room to keep as much of what is asked as the settings leave.
+// Creates the HTTP port over a listener. It accepts this many clients at once, and keeps as many
+// requests as the settings leave room for.
 fn port_of(
     alloc: Global,
     listener: TcpListener,
@@ -151,7 +153,8 @@ impl Running {
         })
     }
 
-    // Prints what is to be told, as far as nobody has to be waited for. What can't be said to people isn't told to anybody.
+    // Prints the pending lines and messages without waiting for a reader. Errors while writing to
+    // standard error are ignored.
     fn print<W: Write, E: Write>(
         &mut self,
         now: Now,
@@ -170,7 +173,7 @@ impl Running {
         }
     }
 
-    // Looks at the files of the office, and says which one is gone. From then on no command is acted on.
+    // Looks for a missing file of the office, and reports it. From then on no command is executed.
     fn find_loss<R: Files>(&mut self, rt: &R) {
         if let Some(lost) = self.files.look(rt) {
             self.voice.say_lost(self.files.path(lost.index), lost.loss);
@@ -183,8 +186,8 @@ impl Running {
         }
     }
 
-    // Looks whether the files of the office are still there. Where one is gone the run ends a second later, or two: clients that have
-    // just connected are answered meanwhile.
+    // Checks that the files of the office are still there. If one is missing, the run ends a second
+    // or two later, so that clients that have just connected still get a response.
     fn look_at_files<R: Files>(&mut self, rt: &R) {
         match self.lost_at {
             Some(time) => {
@@ -196,13 +199,13 @@ impl Running {
         }
     }
 
-    // What is to be done once a second, but for the office.
+    // Does the once-a-second work that does not involve the office.
     fn begin_second<R: Net>(&mut self, rt: &R, now: Now) {
         self.port.sweep(now.time);
         self.polling.begin_all(rt, self.poll.registry(), FIRST_DEVICE, &mut self.voice, now);
     }
 
-    // A second has passed, unless none has.
+    // Does the once-a-second work, if it is due.
     #[tactic(auto, using(crate::proofs::Going::goes_none, crate::proofs::Going::goes_both))]
     fn tick<R: Net, B: Books>(&mut self, rt: &R, office: &mut Office<B>, now: Now)
         ensures { (names : List (List ℕ))
@@ -216,7 +219,7 @@ impl Running {
         }
     }
 
-    // Goes on with each connection, also with those that are new.
+    // Attends to each client connection, also new ones.
     fn attend_peers<R: std::rt::Clock + Files, B: Books>(
         &mut self,
         rt: &R,
@@ -241,15 +244,15 @@ impl Running {
         }
     }
 
-    // Has no reply given again, where a device was fed to the office: that may have recorded something.
+    // Forgets cached responses after a device event, which may have recorded something.
     fn note_fed(&mut self, has_fed: bool) {
         if has_fed {
             self.port.forget_replies();
         }
     }
 
-    // Goes on with the device of a place, and where something had come of it, with the peers that have asked meanwhile: they
-    // wait for what one device brought, and not for all.
+    // Attends to the device in a slot. If it had an event, also attends to the clients, so that
+    // they wait for one device's event only.
     fn attend_device<R: std::rt::Clock + Files, B: Books>(
         &mut self,
         rt: &R,
@@ -269,7 +272,7 @@ impl Running {
         }
     }
 
-    // Goes on with each device.
+    // Attends to each device.
     fn attend_devices<R: std::rt::Clock + Files, B: Books>(
         &mut self,
         rt: &R,
@@ -286,7 +289,7 @@ impl Running {
         }
     }
 
-    // Goes on with all.
+    // Attends to all connections.
     fn go_on<R: Net + std::rt::Clock + Files, B: Books>(
         &mut self,
         rt: &R,
@@ -304,7 +307,7 @@ impl Running {
         self.attend_peers(rt, names, earlier, office, now);
     }
 
-    // Ends the rounds that go on.
+    // Ends the rounds in progress.
     fn end_rounds<B: Books>(&mut self, office: &mut Office<B>, now: Now)
         ensures { (names : List (List ℕ))
             → Goes names now.moment B.ledger office.old office.new }
@@ -319,7 +322,8 @@ impl Running {
         }
     }
 
-    // Goes on with all, and ends the rounds where the time is up. It answers whether it is.
+    // Attends to all connections, and ends the rounds if the run's time is up. Returns whether it
+    // is.
     fn act<R: Net + std::rt::Clock + Files, B: Books>(
         &mut self,
         rt: &R,
@@ -340,7 +344,8 @@ impl Running {
         true
     }
 
-    // How many milliseconds to wait for the sockets: none where a second has passed in this turn.
+    // Returns how many milliseconds to wait for the sockets: none if a second has passed in this
+    // turn.
     fn patience<R: std::rt::Clock>(&self, rt: &R, time: &mut RunTime) -> u64 {
         if self.polling.is_ready() || self.port.is_ready() {
             return 0;
@@ -356,7 +361,7 @@ impl Running {
         }
     }
 
-    // Waits so many milliseconds at most until a socket is ready, and takes note of those that are.
+    // Waits at most this long until a socket is ready, and marks those that are.
     fn look(&mut self, events: &mut Events<Global>, milliseconds: u64) -> Result<(), RunFault> {
         match self
             .poll
@@ -388,7 +393,7 @@ impl Running {
         self.look(events, milliseconds)
     }
 
-    // Prints what is to be told, and waits unless the time is up.
+    // Prints the pending output, and waits unless the run's time is up.
     fn rest<R: std::rt::Clock + Files, W: Write, E: Write>(
         &mut self,
         rt: &R,
@@ -410,7 +415,7 @@ impl Running {
         self.wait(rt, time, events)
     }
 
-    // Feeds what has come of devices. Each of which replies are waited for is read.
+    // Feeds what devices have sent. Reads from each device with pending responses.
     fn hear_devices<B: Books>(&mut self, office: &mut Office<B>, now: Now)
         ensures { (names : List (List ℕ))
             → Goes names now.moment B.ledger office.old office.new }
@@ -422,7 +427,7 @@ impl Running {
         }
     }
 
-    // One turn of the loop. It answers whether the time is up.
+    // Takes one turn of the loop. Returns whether the run's time is up.
     fn turn<R: Net + std::rt::Clock + Files, B: Books, W: Write, E: Write>(
         &mut self,
         rt: &R,
@@ -444,8 +449,11 @@ impl Running {
         Ok(is_over)
     }
 
-    // The moment of the next turn. Where that has a tick, what has come of devices is fed before, at the moment of the turn that
-    // ends. The clocks are read first: so what had come before a deadline is no silence, wherever the process was held up.
+    // Returns the time of the next turn. If that turn has a timer event, first feeds what devices
+    // have sent, at the time of the turn that ends.
+    //
+    // The clocks are read first. A response that arrived before its deadline is therefore never a
+    // timeout, even if the process was delayed.
     #[tactic(auto, using(crate::proofs::Going::goes_none))]
     fn end_turn<R: std::rt::Clock, B: Books, C: Clock>(
         &mut self,
@@ -471,7 +479,7 @@ impl Running {
         moment
     }
 
-    // Turns until the time is up.
+    // Takes turns until the run's time is up.
     fn turns<R: Net + std::rt::Clock + Files, B: Books, C: Clock, W: Write, E: Write>(
         &mut self,
         rt: &R,
@@ -507,7 +515,7 @@ impl Running {
     }
 }
 
-// When a run ends that begins now.
+// Returns the end of a run that begins now.
 fn end_of(settings: &Settings<'_>, now: u64) -> End {
     End {
         time: match settings.lasts {
@@ -518,7 +526,7 @@ fn end_of(settings: &Settings<'_>, now: u64) -> End {
     }
 }
 
-// Opens the port of an open office, and tells what was left in its books, and that it listens.
+// Opens the port of an open office. Reports what its store had pending, and the port.
 fn open<R: Net + Files, W: Write>(
     rt: &R,
     alloc: Global,
@@ -541,7 +549,7 @@ fn open<R: Net + Files, W: Write>(
     }
 }
 
-// The same from a moment on, and then turns until the time is up.
+// Opens the port, and takes turns from a time on until the run's time is up.
 fn run_from<R: Net + std::rt::Clock + Files, B: Books, C: Clock, W: Write, E: Write>(
     rt: &R,
     alloc: Global,
@@ -585,8 +593,11 @@ fn run_from<R: Net + std::rt::Clock + Files, B: Books, C: Clock, W: Write, E: Wr
     )
 }
 
-/// Tells what was left in the books of an open office, polls its devices and answers HTTP, until the time is up. What the page asks first is
-/// asked once before: where books keep what look-ups answered, no device waits for that later.
+/// Reports what the store of an open office had pending, polls its devices and serves HTTP, until
+/// the run's time is up.
+///
+/// The first query of the web page is made once at the beginning. A store that caches lookups then
+/// answers it from the cache, so no device waits for it later.
 pub(crate) fn run_open<R: Net + std::rt::Clock + Files, B: Books, C: Clock, W: Write, E: Write>(
     rt: &R,
     alloc: Global,

@@ -1,24 +1,25 @@
-//! Why a run ended.
+//! Why a run ended early.
 use command_io::ExitStatus;
 use std::alloc::AllocError;
 use std::error::Error;
 use std::fmt;
 use std::fmt::{Display, Formatter};
 
-/// Why a run ended before its time.
+/// Why a run ended early.
 #[derive(Clone, Copy, Debug, PartialEq, Eq)]
 pub enum RunFault {
-    /// The office was not opened, as was printed, and the command ends so.
+    /// The office was not opened. The reason was printed, and the command ends with this status.
     Unopened(ExitStatus),
-    /// The port can't be listened on.
+    /// The port cannot be opened.
     Port,
-    /// The system can't tell which sockets are ready.
+    /// The system cannot report which sockets are ready.
     Sockets,
-    /// A printing failed.
+    /// Printing failed.
     Output,
-    /// The office has stopped, since its store or memory failed while it settled a device's event.
+    /// The office has stopped: its store failed, or memory ran out, while it settled a device's
+    /// event.
     Stopped,
-    /// Memory ran out.
+    /// Out of memory.
     Memory,
 }
 

@@ -1,4 +1,4 @@
-//! The files that the office has open, and whether their paths still lead to them.
+//! Watches the files that the office has open: whether their paths still lead to them.
 use http_peers::RunSystem;
 use run_schedule::{FileLoss, FileMark, file_loss};
 use std::alloc::{AllocError, Global};
@@ -8,7 +8,7 @@ use std::os::unix::fs::MetadataExt;
 use std::rt::Files;
 use std::time::Duration;
 
-/// A file that the office has open, with its mark at the last look.
+/// A file that the office has open, with its identity at the last look.
 #[derive(Drop)]
 struct WatchedFile {
     path: String,
@@ -21,14 +21,15 @@ pub(crate) struct FileWatch {
     files: Vec<WatchedFile>,
 }
 
-/// A file that is lost: its index, and how.
+/// A lost file: its index, and how it was lost.
 #[derive(Clone, Copy)]
 pub(crate) struct LostFile {
     pub(crate) index: usize,
     pub(crate) loss: FileLoss,
 }
 
-// The mark of the file at a path: `None` where there is no file, and an error where the system can't look.
+// Returns the identity of the file at a path, or `None` if there is no file. Fails if the system
+// cannot look.
 fn mark_at<R: Files>(rt: &R, path: &str) -> io::Result<Option<FileMark>> {
     match fs::metadata(rt, path) {
         Ok(found) => Ok(Some(FileMark {
@@ -44,7 +45,8 @@ fn mark_at<R: Files>(rt: &R, path: &str) -> io::Result<Option<FileMark>> {
     }
 }
 
-// The mark of an open file. Where the path doesn't lead to a file now, the mark differs from that of each file found there later.
+// Returns the identity of an open file. If the path leads to no file now, the identity differs from
+// that of each file found there later.
 fn first_mark<R: Files>(rt: &R, path: &str) -> FileMark {
     match mark_at(rt, path) {
         Ok(Some(mark)) => mark,
@@ -64,7 +66,8 @@ impl WatchedFile {
         })
     }
 
-    // How the file at the path differs now; `None` where it doesn't, or where the system can't look.
+    // Returns how the file at the path was lost, or `None` if it was not, or if the system cannot
+    // look.
     fn loss<R: Files>(&self, rt: &R) -> Option<FileLoss> {
         match mark_at(rt, self.path.as_str()) {
             Ok(found) => file_loss(self.mark, found),
@@ -72,7 +75,7 @@ impl WatchedFile {
         }
     }
 
-    // Like `loss`, and keeps the new mark of a file that is still there.
+    // Like `loss`, but stores the new identity of a file that is still there.
     fn look<R: Files>(&mut self, rt: &R) -> Option<FileLoss> {
         let found = match mark_at(rt, self.path.as_str()) {
             Ok(found) => found,
@@ -87,7 +90,7 @@ impl WatchedFile {
 }
 
 impl FileWatch {
-    /// Marks the files at these paths, which the office has open.
+    /// Begins to watch the files at these paths, which the office has open.
     pub(crate) fn open<R: Files>(
         rt: &R,
         alloc: Global,
@@ -112,7 +115,7 @@ impl FileWatch {
         None
     }
 
-    /// The path of a file.
+    /// Returns the path of a file.
     pub(crate) fn path(&self, index: usize) -> &str {
         match self.files.get(index) {
             Some(file) => file.path.as_str(),
@@ -120,7 +123,7 @@ impl FileWatch {
         }
     }
 
-    /// Whether a file is lost.
+    /// Returns whether any file is lost.
     pub(crate) fn is_lost<R: Files>(&self, rt: &R) -> bool {
         self.files.iter().any(|file| file.loss(rt).is_some())
     }

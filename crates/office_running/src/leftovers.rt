@@ -1,4 +1,4 @@
-//! What books tell before they are opened.
+//! What a store has pending before an office opens it.
 ghost use Rattle.std.specs.Prelude.{◌≡◌, false, nat_lt, IfSome};
 ghost use Rattle.office_core.specs.Leaving.{BooksStand};
 ghost use Rattle.office_rules.specs.History.{History};
@@ -10,16 +10,16 @@ use office_books::Books;
 use socket_link::Clock;
 use std::io::Write;
 
-/// What was left in books.
+/// What a store has pending.
 #[derive(Clone, Copy, Debug, PartialEq, Eq)]
 pub(crate) struct Left {
-    /// Up to which moment they go, in seconds since 1970-01-01 UTC.
+    /// The time of the latest record, in seconds since 1970-01-01 UTC.
     pub(crate) latest: u64,
-    /// How many polls wait in them.
+    /// The number of pending polls.
     pub(crate) waiting: usize,
 }
 
-/// What was left in books; none where they failed.
+/// Returns what a store has pending, or `None` if the store fails.
 pub(crate) fn left_in<B: Books>(books: &mut B) -> Option<Left>
     ensures stands { (past : History) → BooksStand (B.ledger books.old) past
         → BooksStand (B.ledger books.new) past }
@@ -39,7 +39,7 @@ pub(crate) fn left_in<B: Books>(books: &mut B) -> Option<Left>
     }
 }
 
-/// Prints it.
+/// Prints what a store has pending.
 pub(crate) fn print_left<W: Write>(left: Option<Left>, output: &mut W) -> Result<(), RunFault> {
     let Some(left) = left else {
         return Ok(());
@@ -51,8 +51,8 @@ pub(crate) fn print_left<W: Write>(left: Option<Left>, output: &mut W) -> Result
     }
 }
 
-/// Reports that an office may not be opened since its latest record is later than the clock: both timestamps, and what can be done.
-/// Returns whether the record is later; if not, it reports nothing.
+/// Reports that an office cannot be opened since its latest record is later than the clock: both
+/// times, and what can be done. Returns whether the record is later; if not, it reports nothing.
 pub fn say_ahead<E: Write>(latest: u64, now: u64, errors: &mut E) -> bool
     ensures ahead { result ≡ nat_lt now latest }
     ensures silent { result ≡ false → errors.new ≡ errors.old }
@@ -67,7 +67,7 @@ pub fn say_ahead<E: Write>(latest: u64, now: u64, errors: &mut E) -> bool
     is_ahead
 }
 
-/// Reports that an office may not be opened since its latest record is later than the clock.
+/// Reports that an office cannot be opened since its latest record is later than the clock.
 pub(crate) fn say_unopened<C: Clock, E: Write>(left: Option<Left>, clock: &mut C, errors: &mut E) {
     let Some(left) = left else {
         return;

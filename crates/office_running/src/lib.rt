@@ -1,4 +1,4 @@
-//! One thread that polls devices on a schedule and answers HTTP on a port, over one open office.
+//! Polls devices on a schedule and serves HTTP on a port, in one thread over one open office.
 #![tactic(auto)]
 
 mod clocks;

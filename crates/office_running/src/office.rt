@@ -1,4 +1,4 @@
-//! A run over books.
+//! A run over a store.
 ghost use Rattle.http_request.specs.Hosts.{texts};
 ghost use Rattle.office_core.specs.Leaving.{BooksStand};
 ghost use Rattle.office_rules.specs.History.{History};
@@ -18,18 +18,23 @@ use std::io::Write;
 use std::net::Net;
 use std::rt::Files;
 
-/// The books that a run hands back, and how it ended.
+/// The store that a run returns, and how the run ended.
 #[derive(Drop)]
 pub struct Ran<B> {
     pub books: B,
     pub end: Result<(), RunFault>,
 }
 
-/// Opens an office over books, polls its devices on a schedule and answers HTTP on a port, until the time is up, or the moment
-/// has come at which it ends. It prints up to which moment the books go and how many polls are lost, and `listening PORT` once
-/// the port is open; then a line an event, as far as these can be written without waiting for a reader: others are dropped and counted. On errors it says once
-/// what a device lacks, and what each refusal and each held reading means. A clock that is set back is told once, and what comes
-/// then comes at the latest moment. All that the office is fed comes at moments of the clock, in seconds since 1970-01-01 UTC.
+/// Opens an office over a store, polls its devices on a schedule, and serves HTTP on a port. The
+/// run ends when its time is up or its end time has come.
+///
+/// Prints the time of the latest record and the number of lost polls, and `listening PORT` when the
+/// port is open. Then prints a line for each event. Lines that cannot be written without waiting
+/// for a reader are dropped and counted. Reports on `errors`, once each, what a device lacks, and
+/// what each refusal and each rejected reading means.
+///
+/// If the clock is set back, the run reports that once, and later events have the latest time. All
+/// events of the office have times of the clock, in seconds since 1970-01-01 UTC.
 pub fn run_office<R: Net + std::rt::Clock + Files, B: Books, C: Clock, W: Write, E: Write>(
     rt: &R,
     alloc: Global,

@@ -1,4 +1,4 @@
-//! What a run prints, and whether that can be written without waiting for its reader.
+//! The output of a run, written without waiting for its reader.
 use mio::unix::SourceFd;
 use mio::{Events, Interest, Poll, Token};
 use run_status::LineQueue;
@@ -8,13 +8,14 @@ use std::net::Net;
 use std::os::fd::RawFd;
 use std::time::Duration;
 
-/// How many bytes are written at once where a reader may make that wait: less than any pipe or terminal takes that is writable.
+/// The bytes of one write to an output whose reader may block it. Any pipe or terminal that is
+/// writable accepts them.
 const PIECE: usize = 512;
 
-/// How many pieces are written in a turn.
+/// The most writes of one turn.
 const MOST_PIECES: u32 = 128;
 
-// Tells whether a descriptor can be written without waiting.
+// Determines whether a descriptor can be written without waiting.
 #[derive(Drop)]
 struct Gauge {
     poll: Poll,
@@ -23,7 +24,8 @@ struct Gauge {
 }
 
 impl Gauge {
-    // None where the system can't tell it, as of a file: a write there waits for no reader.
+    // Returns `None` if the system cannot determine it, as for a file: a write to a file waits for
+    // no reader.
     fn open<R: Net>(rt: &R, alloc: Global, descriptor: RawFd) -> Option<Gauge> {
         let Ok(poll) = Poll::new(rt) else {
             return None;
@@ -44,7 +46,8 @@ impl Gauge {
         })
     }
 
-    // Whether it can be written now. To register it again has the system look at it now.
+    // Returns whether the descriptor can be written now. Registering it again makes the system look
+    // at it now.
     fn is_writable(&mut self) -> bool {
         let registered = self.poll.registry().reregister(
             &mut SourceFd(&self.descriptor),
@@ -64,7 +67,8 @@ impl Gauge {
     }
 }
 
-/// Lines that are written as far as that doesn't wait. What isn't read waits in a queue, and is dropped where that is full.
+/// Lines that are written without waiting. Unread lines wait in a queue, and are dropped when the
+/// queue is full.
 #[derive(Drop)]
 pub(crate) struct Outlet {
     queue: LineQueue,
@@ -72,7 +76,7 @@ pub(crate) struct Outlet {
 }
 
 impl Outlet {
-    /// Without a descriptor a write never waits.
+    /// Opens an output. Without a descriptor, a write never waits.
     pub(crate) fn open<R: Net>(rt: &R, alloc: Global, descriptor: Option<RawFd>) -> Outlet {
         Outlet {
             queue: LineQueue::new(alloc),
@@ -83,7 +87,7 @@ impl Outlet {
         }
     }
 
-    /// Puts lines of a moment.
+    /// Queues lines with this time.
     pub(crate) fn put(&mut self, at: u64, lines: &[u8]) {
         self.queue.tell_dropped(at);
         if !lines.is_empty() {
@@ -91,7 +95,7 @@ impl Outlet {
         }
     }
 
-    // How many bytes can be written now.
+    // Returns how many bytes can be written now.
     fn room(&mut self) -> usize {
         let waiting = self.queue.waiting().len();
         if waiting == 0 {
@@ -109,7 +113,7 @@ impl Outlet {
         }
     }
 
-    // Writes so many bytes, and gives them out.
+    // Writes and flushes this many bytes.
     fn write_piece<W: Write>(&mut self, count: usize, output: &mut W) -> io::Result<()> {
         let waiting = self.queue.waiting();
         let piece = waiting.get(..count).unwrap_or(waiting);
@@ -119,8 +123,8 @@ impl Outlet {
         Ok(())
     }
 
-    /// Writes the queued lines as far as the reader takes them now. Where the reader has ended, the lines stay queued, as with a full
-    /// pipe.
+    /// Writes the queued lines, as far as the reader accepts them now. If the reader has closed its
+    /// end, the lines stay queued, as with a full pipe.
     pub(crate) fn write<W: Write>(&mut self, output: &mut W) -> io::Result<()> {
         for _piece in 0..MOST_PIECES {
             let count = self.room();
@@ -137,7 +141,7 @@ impl Outlet {
     }
 }
 
-/// Writes lines as far as nobody has to be waited for who reads what stands behind a descriptor. What can't be written now is dropped.
+/// Writes lines without waiting for the reader of a descriptor. Drops what cannot be written now.
 pub fn write_without_waiting<R: Net, W: Write>(
     rt: &R,
     alloc: Global,

@@ -1,46 +1,48 @@
-//! How a process runs.
+//! The settings of a run.
 use carried_books::EarlierRegister;
 use office_events::Name;
 use std::net::SocketAddr;
 use std::os::fd::RawFd;
 
-/// A device that is polled: its name in the office, which is `None` where no device can have it, and where it is.
+/// A device to poll: its name in the office and its address. The name is `None` if it is no valid
+/// name.
 #[derive(Clone, Copy)]
 pub struct Site {
     pub name: Option<Name>,
     pub addr: SocketAddr,
 }
 
-/// The descriptors behind output and errors.
+/// The descriptors of standard output and standard error.
 #[derive(Clone, Copy)]
 pub struct Descriptors {
     pub output: RawFd,
     pub errors: RawFd,
 }
 
-/// How a process runs. Times are in seconds.
+/// The settings of a run. Times are in seconds.
 #[derive(Clone, Copy)]
 pub struct Settings<'n> {
-    /// Where HTTP is answered.
+    /// The address on which HTTP is served.
     pub listen: SocketAddr,
-    /// From one round of a device to its next, 1 to 86,400; what lies outside is taken as the nearest of these.
+    /// The time between rounds of a device, 1 to 86,400. A value outside is limited to this range.
     pub every: u64,
-    /// How long the process runs; without an end where that is `None`.
+    /// How long the process runs; without an end if `None`.
     pub lasts: Option<u64>,
-    /// The moment of the clock at which the process ends too, in seconds since 1970-01-01 UTC; none where that is `None`.
+    /// A time of the clock at which the process ends too, in seconds since 1970-01-01 UTC.
     pub ends: Option<u64>,
-    /// By which names HTTP may be asked, besides those of this machine alone.
+    /// The names by which an HTTP request may name the host, beside those of this machine.
     pub host_names: &'n [&'n str],
-    /// How many bytes of requests were kept in the books when they were opened, and how many may be at most: a command for which
-    /// no room is left is answered 503. Without a limit where that is `None`.
+    /// The bytes of requests that the store kept when it was opened, and their limit. A command
+    /// that exceeds the limit gets status 503. `None` is no limit.
     pub kept: u64,
     pub most_kept: Option<u64>,
-    /// What earlier files of the office tell of its registers, over which energy is told, too; none where it isn't.
+    /// What earlier files of the office report of its registers. Their energy is reported too.
     pub earlier: &'n [EarlierRegister],
-    /// The paths of the files that the store has open. The run looks at them until it ends.
+    /// The paths of the files that the store has open. The run watches them until it ends.
     pub files: &'n [&'n str],
     /// Whether each poll has a line.
     pub verbose: bool,
-    /// The descriptors behind output and errors, so that neither is waited for; `None` where they never make a write wait.
+    /// The descriptors of output and errors, so that a write never waits for a reader; `None` if a
+    /// write never waits.
     pub descriptors: Option<Descriptors>,
 }

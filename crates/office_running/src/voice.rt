@@ -1,4 +1,4 @@
-//! What is kept and told of what the office is fed.
+//! What a run reports and remembers of the events of its office.
 use crate::descriptors::FewClients;
 use crate::leftovers::Left;
 use office_events::{Answer, Event, Name, Note, Observer, Refusal};
@@ -13,20 +13,20 @@ use script_text::write_note;
 use std::alloc::{AllocError, Global};
 use std::{io, mem};
 
-/// How a device has stood when it was polled last.
+/// The state of a device at its last poll.
 #[derive(Clone, Copy, Debug, PartialEq, Eq)]
 pub(crate) enum Standing {
     Unknown,
-    /// It answered.
+    /// A poll was answered.
     Answers,
-    /// It was connected, and none of its polls was answered.
+    /// The device was connected, and none of its polls was answered.
     Silent,
-    /// It was not connected.
+    /// The device was not connected.
     Unreachable,
 }
 
-/// Who is shown what the office is fed: a monitor, the lines that are to be printed, and what is to be said to people. A line for
-/// which there was no memory is left out, or is cut off.
+/// The observer of an office: keeps the figures of `/status`, the lines to print, and the messages
+/// to people. A line is omitted, or cut off, if memory runs out.
 #[derive(Drop)]
 pub(crate) struct Voice {
     pub(crate) monitor: RunMonitor,
@@ -40,11 +40,11 @@ pub(crate) struct Voice {
     lines: Vec<u8>,
     said: Vec<u8>,
     told: Told,
-    /// Whether it was said that no more commands are taken.
+    /// Whether the run has reported that it accepts no more commands.
     is_full: bool,
 }
 
-// How a device stands after a round whose polls ended so.
+// Returns the state of a device after a round with these outcomes.
 fn standing_by(sum: Sum) -> Standing {
     if sum.answered > 0 {
         Standing::Answers
@@ -66,7 +66,7 @@ fn word_of(standing: Standing) -> &'static [u8] {
     }
 }
 
-// How a file of the office was lost. The text follows the file's path.
+// Returns how a file of the office was lost. The text follows the file's path.
 fn how_lost(loss: FileLoss) -> &'static [u8] {
     match loss {
         FileLoss::Missing => b"removed or renamed while in use",
@@ -75,7 +75,7 @@ fn how_lost(loss: FileLoss) -> &'static [u8] {
     }
 }
 
-// Whether each round has such an event.
+// Returns whether every round has such an event.
 fn is_usual(event: &Event, answer: Result<Answer, Refusal>) -> bool {
     match event {
         Event::Connected(_) => answer.is_ok(),
@@ -84,7 +84,7 @@ fn is_usual(event: &Event, answer: Result<Answer, Refusal>) -> bool {
     }
 }
 
-// Puts a poll that ended, or a reading that was accepted.
+// Writes a poll that ended, or a reading that was accepted.
 fn put_poll(text: &mut Vec<u8>, at: u64, name: &Option<Name>, note: &Note) -> io::Result<()> {
     if matches!(note, Note::Held { .. }) {
         return Ok(());
@@ -115,7 +115,7 @@ impl Voice {
         })
     }
 
-    // Says what a device lacks; its refusals for that say no more.
+    // Reports what a device lacks. Refusals for the same reason are not reported again.
     fn say_lack(&mut self, lack: &DeviceLack) {
         let _done = put_lack(&mut self.said, lack);
         let topic = match lack.lack {
@@ -130,7 +130,7 @@ impl Voice {
         });
     }
 
-    /// Says what the devices lack.
+    /// Reports what the devices lack.
     pub(crate) fn say_lacks(&mut self) {
         for place in 0..self.lacks.len() {
             if place < self.lacks.len() {
@@ -140,7 +140,7 @@ impl Voice {
         }
     }
 
-    // The name of the device of a place.
+    // Returns the name of the device in a slot.
     fn name(&self, place: Option<usize>) -> Option<Name> {
         let place = place?;
         if place < self.names.len() {
@@ -149,17 +149,17 @@ impl Voice {
         None
     }
 
-    /// Takes the lines that are to be printed.
+    /// Returns the lines to print, and clears them.
     pub(crate) fn take_lines(&mut self) -> Vec<u8> {
         mem::replace(&mut self.lines, Vec::new(self.alloc))
     }
 
-    /// Takes what is to be said to people.
+    /// Returns the messages to people, and clears them.
     pub(crate) fn take_said(&mut self) -> Vec<u8> {
         mem::replace(&mut self.said, Vec::new(self.alloc))
     }
 
-    /// Tells what was left in the books, and at which port HTTP is answered.
+    /// Reports what the store had pending, and the port of HTTP.
     pub(crate) fn tell_opened(&mut self, left: Option<Left>, port: u16) {
         if let Some(left) = left {
             let _done = put_number(&mut self.lines, b"books to ", left.latest);
@@ -170,7 +170,7 @@ impl Voice {
         let _done = put(&mut self.lines, b"\n");
     }
 
-    /// Tells that the clock stands so many seconds before the latest moment.
+    /// Reports that the clock is this many seconds before the latest time.
     pub(crate) fn tell_set_back(&mut self, moment: u64, seconds: u64) {
         let _done = put_number(&mut self.lines, b"", moment);
         let _done = put_number(&mut self.lines, b" clock set back ", seconds);
@@ -185,7 +185,8 @@ impl Voice {
         let _done = put(&mut self.said, b"\n");
     }
 
-    /// Tells that the clock has gone from one moment to another, further than a run lets pass between two looks at it.
+    /// Reports that the clock went from one time to another, further than a run allows between two
+    /// readings.
     pub(crate) fn tell_ahead(&mut self, before: u64, moment: u64) {
         let _done = put_number(&mut self.said, b"sunreg: the clock jumped from ", before);
         let _done = put_number(&mut self.said, b" to ", moment);
@@ -195,7 +196,7 @@ impl Voice {
         );
     }
 
-    /// Says once that a command was refused since what is kept has no room for it.
+    /// Reports once that a command was refused since the limit of kept requests is reached.
     pub(crate) fn say_full(&mut self) {
         if !self.is_full {
             self.is_full = true;
@@ -221,7 +222,8 @@ impl Voice {
         let _done = put(&mut self.said, b"\n");
     }
 
-    /// Reports that a file of the office is gone. A control byte of its path is written as `?`, so that the report is one line.
+    /// Reports that a file of the office is missing. Control bytes of its path are written as `?`,
+    /// so that the report is one line.
     pub(crate) fn say_lost(&mut self, path: &str, loss: FileLoss) {
         let _done = put(&mut self.said, b"sunreg: ");
         for byte in path.as_bytes() {
@@ -240,7 +242,8 @@ impl Voice {
         );
     }
 
-    /// Reports that a file of the office was gone when a command was to be acknowledged, and is there again.
+    /// Reports that a file of the office was missing when a command was to be acknowledged, and is
+    /// there again.
     pub(crate) fn say_gone(&mut self) {
         let _done = put(
             &mut self.said,
@@ -248,7 +251,7 @@ impl Voice {
         );
     }
 
-    /// Tells how a device stands, where that was otherwise before.
+    /// Reports the state of a device, if it changed.
     pub(crate) fn tell_standing(
         &mut self,
         at: u64,
@@ -262,7 +265,7 @@ impl Voice {
         }
     }
 
-    /// Tells how the polls of a round ended, and how the device stands after it.
+    /// Reports how the polls of a round ended. Returns the state of the device after it.
     pub(crate) fn tell_round(
         &mut self,
         at: u64,
@@ -286,7 +289,7 @@ impl Voice {
         now
     }
 
-    // Tells the polls that ended.
+    // Reports the polls that ended.
     fn tell_polls(&mut self, at: u64, name: &Option<Name>, notes: &[Note]) {
         for note in notes {
             let _done = put_poll(&mut self.lines, at, name, note);
@@ -294,7 +297,7 @@ impl Voice {
     }
 }
 
-// Whether an event is the connection of a device.
+// Returns whether an event is a device's connection or part of its round.
 fn topic_of(event: &Event) -> Topic {
     match event {
         Event::Connected(_) => Topic::Connection,
@@ -303,7 +306,7 @@ fn topic_of(event: &Event) -> Topic {
 }
 
 impl Voice {
-    // Says why an event of a device was refused, unless that was said last of it.
+    // Reports why an event of a device was refused, unless that was its last report.
     fn say_refusal(&mut self, device: &Option<Name>, event: &Event, why: Refusal) {
         let is_new = self.told.tell(ToldNumber {
             topic: topic_of(event),
@@ -315,7 +318,8 @@ impl Voice {
         }
     }
 
-    // All is well with a device that is connected, or whose reads were started.
+    // Handles the answer to a device event. A connection or started reads clear earlier reports
+    // about the device.
     fn say_answer(
         &mut self,
         device: &Option<Name>,
@@ -333,7 +337,7 @@ impl Voice {
         }
     }
 
-    // Says why a reading of a meter was held, unless that was said last of it.
+    // Reports why a reading of a meter was rejected, unless that was its last report.
     fn say_note(&mut self, note: &Note) {
         match note {
             Note::Outcome { .. } => {}
@@ -351,7 +355,7 @@ impl Voice {
         }
     }
 
-    // Says what people are to be told of an event.
+    // Reports an event to people.
     fn say(
         &mut self,
         device: &Option<Name>,

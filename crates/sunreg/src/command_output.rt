@@ -1,10 +1,12 @@
-//! Where a command over an office prints.
+//! The output of a command over an office.
 use command_io::Buffered;
 use std::alloc::Global;
 use std::io::{self, LineWriter, Write};
 
-/// A writer that gives out what it is given in pieces of some 8 KiB, or each line at its end; then it may keep it too. It is one type, so that what is done over an
-/// office in a file is compiled once, and not for each way of printing.
+/// A writer that writes in pieces of some 8 KiB, or by lines. By lines it may also keep a copy.
+///
+/// It is one type, so that the commands over an office's file are compiled once, and not for each
+/// way of printing.
 #[derive(Drop)]
 pub(crate) enum CommandOutput<W: Write + Drop> {
     Pieces(Buffered<W>),
@@ -21,12 +23,12 @@ impl<W: Write + Drop> CommandOutput<W> {
         Ok(CommandOutput::Lines(LineWriter::new(alloc, output)?))
     }
 
-    /// By lines, and all that was given out is kept, as far as there is memory.
+    /// Creates a writer by lines that keeps a copy of its output, as far as memory allows.
     pub(crate) fn keeping(alloc: Global, output: W) -> io::Result<CommandOutput<W>> {
         Ok(CommandOutput::Kept(LineWriter::new(alloc, output)?, Vec::new(alloc)))
     }
 
-    /// What was kept.
+    /// Returns the copy of the output.
     pub(crate) fn kept(&self) -> &[u8] {
         match self {
             CommandOutput::Pieces(_) | CommandOutput::Lines(_) => &[],

@@ -1,4 +1,4 @@
-//! The commands, over the streams and sockets of the process.
+//! The commands, over the process's streams and sockets.
 use crate::completions::completions;
 use crate::ended;
 use crate::entering::enter;
@@ -27,13 +27,14 @@ use stored_files::{Ending, Failure, ending_of};
 use stored_office::{Task, ending_of_done};
 use sunspec_text::{chain_text, plan_text};
 
-/// Carries a command out, says how it ended, and answers the exit status. It is the one call that says which files are meant.
+/// Executes a command, reports how it ended, and returns the exit status. Only this call names the
+/// files of the system.
 pub(crate) fn carry_out(rt: &HostRuntime, line: &CommandLine<'_>) -> ExitCode {
     let files = Surroundings::of(rt, line);
     carry_out_over(rt, &files, line)
 }
 
-// Carries it out over an office's files.
+// Executes a command over an office's files.
 fn carry_out_over<D: OfficeFiles + NamedFiles>(
     rt: &HostRuntime,
     files: &D,
@@ -195,7 +196,7 @@ fn stand_in<'a>(rt: &HostRuntime, host: &'a str, port: u16, connections: u32) ->
     }
 }
 
-// The status of a command once all that it printed was given out.
+// Returns the status of a command, after its output is flushed.
 fn flushed<W: Write>(status: ExitStatus, output: &mut Buffered<W>) -> ExitStatus {
     match output.flush() {
         Ok(()) => status,

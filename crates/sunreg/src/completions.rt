@@ -1,4 +1,4 @@
-//! What bash completes the words of a command line by, made of the table of commands.
+//! The completions of the command line for bash, generated from the table of commands.
 use command_io::Buffered;
 use command_words::{CommandText, OptionText, ProgramText, Value, program};
 use std::io::{self, Write};
@@ -19,7 +19,7 @@ const TAIL: &str = "\
 complete -F _sunreg sunreg
 ";
 
-// What the help shows for an option's value, where it has one.
+// Returns the name that the help shows for an option's value, if it has one.
 fn value_of<'a>(value: Value<'a>) -> Option<&'a str> {
     match value {
         Value::Required(shown)
@@ -41,14 +41,14 @@ fn write_names<W: Write>(commands: &[CommandText<'_>], output: &mut W) -> io::Re
     Ok(())
 }
 
-// The names of all commands, and help.
+// Writes the names of all commands, and `help`.
 fn write_all_names<W: Write>(program: &ProgramText<'_>, output: &mut W) -> io::Result<()> {
     write_names(program.commands, output)?;
     write_names(program.later, output)?;
     output.write_all(b"help")
 }
 
-// The words that may stand after a command's option.
+// Writes the words that may follow a command's option.
 fn write_chosen<W: Write>(
     command: &str,
     option: &str,
@@ -60,8 +60,8 @@ fn write_chosen<W: Write>(
     output.write_all(b"' ;;\n")
 }
 
-// Where a command's option stands before the word that is completed: its value is one of some words, is a file, or is not
-// known here.
+// Writes what may follow a command's option: one of some words, a file, or a value that is unknown
+// here.
 fn write_value<W: Write>(command: &str, option: &OptionText<'_>, output: &mut W) -> io::Result<()> {
     if let Value::Chosen { choices, .. } = option.value {
         return write_chosen(command, option.name, choices, output);
@@ -117,7 +117,7 @@ fn write_options<W: Write>(commands: &[CommandText<'_>], output: &mut W) -> io::
     Ok(())
 }
 
-// For each command, what stands after its options.
+// Writes for each command what may follow its options.
 fn write_all_values<W: Write>(program: &ProgramText<'_>, output: &mut W) -> io::Result<()> {
     output.write_all(b"    *) case ${COMP_WORDS[1]}\" \"${COMP_WORDS[COMP_CWORD - 1]} in\n")?;
     write_values(program.commands, output)?;
@@ -125,7 +125,7 @@ fn write_all_values<W: Write>(program: &ProgramText<'_>, output: &mut W) -> io::
     output.write_all(b"    *) case ${COMP_WORDS[1]} in\n")
 }
 
-// For each command, its options and the words that may stand after it.
+// Writes for each command its options, and the words that may follow the command.
 fn write_all_options<W: Write>(program: &ProgramText<'_>, output: &mut W) -> io::Result<()> {
     write_options(program.commands, output)?;
     write_options(program.later, output)?;
@@ -145,7 +145,7 @@ fn write_script<W: Write>(program: &ProgramText<'_>, output: &mut W) -> io::Resu
     output.write_all(TAIL.as_bytes())
 }
 
-/// Prints it.
+/// Prints the completions.
 pub(crate) fn completions(rt: &HostRuntime) -> Ending<'static> {
     let mut output = Buffered::new(io::writer(rt));
     let written = write_script(&program(), &mut output);

@@ -12,22 +12,22 @@ use std::fmt::{Display, Formatter};
 use std::str::from_utf8;
 use stored_files::Failure;
 
-/// Why it isn't known what a counter shows.
+/// Why a counter could not be read.
 #[derive(Clone, Copy, Debug, Drop)]
 pub(crate) enum Unread<'a> {
-    /// It isn't told where its device is.
+    /// The address of the device was not given.
     Nowhere {
         device: Name,
     },
-    /// Its device was not connected.
+    /// The device was not connected.
     Unconnected(Failure<'a>),
-    /// The read was broken off.
+    /// The read failed.
     Broken {
         host: &'a str,
         port: u16,
         fault: ScanFault,
     },
-    /// Its device doesn't tell it.
+    /// The device did not return the counter.
     Untold {
         host: &'a str,
         port: u16,
@@ -57,7 +57,7 @@ impl<'a> Display for Unread<'a> {
     }
 }
 
-// Where a device is, by what was told of it.
+// Returns the given address of a device.
 fn place_of<'a>(places: &[Device<'a>], name: &Name) -> Option<Device<'a>> {
     for place in places {
         if place.name.as_bytes() == name.as_bytes() {
@@ -74,7 +74,8 @@ fn scale_of(source: ScaleSource) -> CounterScale {
     }
 }
 
-// Reads a counter over a link that was just made. A read that is tried twice has the time of two replies.
+// Reads a counter over a new link. The read may be tried twice, so it has the time of two
+// responses.
 fn shown_within<'a, L: Link>(
     rt: &HostRuntime,
     place: Device<'a>,
@@ -108,7 +109,8 @@ fn shown_within<'a, L: Link>(
     }
 }
 
-/// What the counter of a register shows now, read at the first address of its device's host that answers.
+/// Returns what the counter of a register shows now, read at the first address of its device's host
+/// that responds.
 pub(crate) fn shown_at<'a>(
     rt: &HostRuntime,
     places: &[Device<'a>],

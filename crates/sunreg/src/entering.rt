@@ -1,4 +1,4 @@
-//! Entering lines of standard input into an office in a file.
+//! Enters lines of standard input into an office's file.
 use crate::counters::shown_at;
 use crate::offices::{OWN_HOST, over_office};
 use crate::surroundings::Surroundings;
@@ -14,13 +14,14 @@ use std::str::from_utf8;
 use stored_files::{Databases, Ending, Failure, Named, ending_of};
 use stored_office::{Task, ending_of_done};
 
-// Says why a file, or the counter of a register, that a line names isn't read.
+// Reports why a file, or the counter of a register, that a line names cannot be read.
 fn say_unread<D: Display>(rt: &HostRuntime, name: &str, why: &D) {
     let mut errors = Escaped::new(rt.stderr());
     let _said = write!(errors, "sunreg: {}: {why}\n", Named(name));
 }
 
-// The bytes of a regular file, and at most one piece more than a file may have. (Opening a pipe would wait.)
+// Returns the bytes of a regular file, or at most one piece more than a file may have. Other files
+// are refused, since opening a pipe would block.
 fn read_within(rt: &HostRuntime, alloc: Global, name: &str) -> io::Result<Vec<u8>> {
     if !fs::metadata(rt, name)?.is_file() {
         return Err(io::Error::from(ErrorKind::InvalidInput));
@@ -84,7 +85,8 @@ impl NamedFiles for Surroundings<'_> {
     }
 }
 
-/// Asks an office in a file what the lines of standard input ask under a caller, or only looks at them.
+/// Requests of an office what the lines of standard input request, for a caller, or only checks the
+/// lines.
 pub(crate) fn enter<'a, D: Databases + NamedFiles>(
     rt: &HostRuntime,
     files: &D,

@@ -1,4 +1,4 @@
-//! The program: it keeps point lists, polls devices and books energy.
+//! The program: polls SunSpec devices, and records their energy.
 #![tactic(auto)]
 
 ghost use Rattle.std.specs.Prelude.{◌≡◌};
@@ -60,7 +60,7 @@ fn main(rt: HostRuntime) -> ExitCode {
     }
 }
 
-// The words after the program's name.
+// Returns the arguments after the program's name.
 fn words_in(alloc: Global, args: env::Args) -> Result<Vec<String>, AllocError> {
     let mut args = args;
     let _program = args.next();
@@ -86,7 +86,7 @@ fn print_help(rt: &HostRuntime, text: &str) -> Ending<'static> {
     }
 }
 
-// Says how the program ends, and answers its exit status.
+// Reports how the program ended, and returns its exit status.
 fn ended(rt: &HostRuntime, ending: &Ending<'_>) -> ExitCode
     ensures { exit_status result ≡ ending_number ending.now }
 {

@@ -1,4 +1,4 @@
-//! The commands over an office in a file.
+//! The commands over an office's file.
 ghost use Rattle.std.specs.Prelude.{IfOk};
 ghost use Rattle.stored_office.specs.Tasks.Tasks.{IsOf};
 
@@ -16,11 +16,11 @@ use std::io::{self, ErrorKind, Printer, Write};
 use stored_files::{Databases, Ending, Failure, latest_stored, log_of};
 use stored_office::{Done, Task, carry_out_stored, ending_of_done, may_be_ahead, say_remarks};
 
-/// The host on which HTTP is answered.
+/// The host on which HTTP is served.
 pub(crate) const OWN_HOST: &str = "127.0.0.1";
 
-/// Carries a task out over the office in the database at a path, and gives out all that it printed. What the refusals and held readings
-/// of a round mean is said after it.
+/// Executes a task over the office in the database at a path, and flushes its output. After a
+/// round, reports what its refusals and rejected readings mean.
 pub(crate) fn over_office<'a, D: Databases + NamedFiles>(
     rt: &HostRuntime,
     files: &D,
@@ -34,7 +34,7 @@ pub(crate) fn over_office<'a, D: Databases + NamedFiles>(
     over_connection(rt, files, path, connection, task, &mut clock)
 }
 
-// The same over a connection to it, by a clock.
+// Executes a task over a connection to an office, by a clock.
 fn over_connection<'a, D: Databases + NamedFiles, C: Clock>(
     rt: &HostRuntime,
     files: &D,
@@ -60,7 +60,7 @@ fn over_connection<'a, D: Databases + NamedFiles, C: Clock>(
         &mut errors,
     );
     match (output.flush(), done) {
-        // (what a run prints after its reader has ended is dropped)
+        // (the output after its reader has closed it is dropped)
         (Err(error), Ok(Done::Ran(end))) if error.kind() == ErrorKind::BrokenPipe => {
             Ok(Done::Ran(end))
         }
@@ -78,7 +78,8 @@ fn over_connection<'a, D: Databases + NamedFiles, C: Clock>(
     }
 }
 
-// Where the latest record in the file at a path is later than the clock, reports both and what can be done. Returns whether it is later.
+// Reports a latest record that is later than the clock: both times, and what can be done. Returns
+// whether the record is later.
 fn is_said_ahead<D: Databases, C: Clock>(
     rt: &HostRuntime,
     files: &D,
@@ -94,7 +95,8 @@ fn is_said_ahead<D: Databases, C: Clock>(
     }
 }
 
-// Where a task prints: a round and a run each line at its end, the others in pieces. What a round prints is kept, to say what it means.
+// Returns the output of a task: by lines for a round and a run, in pieces for the others. The
+// output of a round is kept, to report what it means.
 fn output_of<'r>(
     rt: &'r HostRuntime,
     task: Task<'_>,
@@ -111,7 +113,8 @@ fn output_of<'r>(
     }
 }
 
-// How many bytes of requests the books in a database keep; none where they can't be asked, which their opening then tells.
+// Returns the number of bytes of kept requests in a database, or 0 if the query fails. Opening the
+// store then reports the failure.
 fn kept_in<S: Alter + Drop>(connection: &mut Connection<S>) -> u64 {
     let Ok(row) = connection.query_row("SELECT sum(length(request)) FROM replies", &[]) else {
         return 0;
@@ -122,7 +125,7 @@ fn kept_in<S: Alter + Drop>(connection: &mut Connection<S>) -> u64 {
     }
 }
 
-// Runs over the database at a path.
+// Runs the office in the database at a path.
 fn run_over<'a, D: Databases + NamedFiles>(
     rt: &HostRuntime,
     files: &D,
@@ -135,8 +138,8 @@ fn run_over<'a, D: Databases + NamedFiles>(
     run_opened(rt, files, path, connection, sites, settings, &mut clock)
 }
 
-/// Runs over a connection to the database at a path, by a clock, and watches the file and its log. The bytes of kept requests are
-/// counted once, before the store is opened.
+/// Runs an office over a connection to the database at a path, by a clock, and watches the file and
+/// its log. The bytes of kept requests are counted once, before the store is opened.
 pub(crate) fn run_opened<'a, D: Databases + NamedFiles, C: Clock>(
     rt: &HostRuntime,
     files: &D,
@@ -161,8 +164,8 @@ pub(crate) fn run_opened<'a, D: Databases + NamedFiles, C: Clock>(
     over_connection(rt, files, path, connection, task, clock)
 }
 
-/// Polls devices on a schedule and answers HTTP, as the settings say. Of several files, the oldest first, books go on in the last, and
-/// energy is told over all.
+/// Polls devices on a schedule and serves HTTP. Of several files, the oldest first, the last is
+/// continued, and the energy of all is reported.
 pub(crate) fn run<'a, D: OfficeFiles + NamedFiles>(
     rt: &HostRuntime,
     files: &D,

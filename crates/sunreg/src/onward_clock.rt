@@ -1,8 +1,8 @@
-//! The clock of an office in a file, also of runs one after the other.
+//! The clock of an office's file, also over consecutive runs.
 use run_schedule::OnwardTime;
 use socket_link::Clock;
 
-/// A clock that may be told to go on from the latest moment.
+/// A clock that can be set never to go back.
 #[derive(Drop)]
 pub(crate) struct OnwardClock<C: Clock + Drop> {
     clock: C,
@@ -17,7 +17,7 @@ impl<C: Clock + Drop> OnwardClock<C> {
         }
     }
 
-    /// From here on it tells no moment before the latest so far.
+    /// From now on, returns no time before the latest so far.
     pub(crate) fn go_on(&mut self) {
         self.time.go_on();
     }

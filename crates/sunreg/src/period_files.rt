@@ -8,10 +8,10 @@ use std::os::unix::fs::MetadataExt;
 use std::str::from_utf8;
 use stored_files::{Failure, FileFault, is_blank, length_of, log_of};
 
-/// How many files are taken away in a row that a kill left empty.
+/// How many empty files in a row, which killed processes left, are removed.
 const TRIES: u32 = 8;
 
-/// The file in which books are led, and the text of its period, which a run's own file has not.
+/// The current file of a run, and the text of its period. The run's own file has no period.
 #[derive(Drop)]
 pub(crate) struct Led {
     pub(crate) path: String,
@@ -19,7 +19,7 @@ pub(crate) struct Led {
 }
 
 impl Led {
-    /// The text of its period.
+    /// Returns the text of the period.
     pub(crate) fn period(&self) -> Option<&[u8]> {
         match &self.text {
             Some(text) => Some(text.as_slice()),
@@ -28,7 +28,7 @@ impl Led {
     }
 }
 
-// The folder of a file, and its name there.
+// Returns the folder of a file, and its name in the folder.
 fn split_path(path: &str) -> (&str, &str) {
     match path.rsplit_once('/') {
         Some((folder, name)) => (if folder.is_empty() { "/" } else { folder }, name),
@@ -36,7 +36,8 @@ fn split_path(path: &str) -> (&str, &str) {
     }
 }
 
-// Of which period the file is in which books are led, by the names beside a run's own. One that is no text is no file's of a period.
+// Returns the period of the current file, by the names beside the run's own file. A name that is no
+// text belongs to no period.
 fn period_beside(rt: &HostRuntime, file: &str, period: Period) -> io::Result<LedPeriod> {
     let (folder, name) = split_path(file);
     let mut led = LedPeriod::none();
@@ -53,7 +54,7 @@ fn period_beside(rt: &HostRuntime, file: &str, period: Period) -> io::Result<Led
     Ok(led)
 }
 
-/// The path of the file of a period.
+/// Returns the path of the file of a period.
 pub(crate) fn path_of<'a>(
     rt: &HostRuntime,
     file: &str,
@@ -68,7 +69,7 @@ pub(crate) fn path_of<'a>(
     }
 }
 
-// The path of a run's own file, or that of a period.
+// Returns the run's own file, or the file of a period.
 fn led_path<'a>(rt: &HostRuntime, file: &str, text: Option<Vec<u8>>) -> Result<Led, Failure<'a>> {
     let path = match &text {
         Some(text) => path_of(rt, file, text.as_slice())?,
@@ -80,7 +81,7 @@ fn led_path<'a>(rt: &HostRuntime, file: &str, text: Option<Vec<u8>>) -> Result<L
     Ok(Led { path, text })
 }
 
-// The file in which books are led, by the names that there are.
+// Returns the current file, by the existing names.
 fn named_file<'a>(rt: &HostRuntime, file: &'a str, period: Period) -> Result<Led, Failure<'a>> {
     match period_beside(rt, file, period) {
         Ok(led) => led_path(rt, file, led.text),
@@ -93,7 +94,8 @@ fn named_file<'a>(rt: &HostRuntime, file: &'a str, period: Period) -> Result<Led
     }
 }
 
-// Whether a file of a period is empty: a kill may leave it so where the file system knows no second names.
+// Returns whether the file of a period is empty. A killed process may leave it so on a file system
+// without hard links.
 fn is_left_empty<'a>(rt: &HostRuntime, led: &Led) -> Result<bool, Failure<'a>> {
     let path = led.path.as_str();
     if led.text.is_none() || length_of(rt, path) != Some(0) {
@@ -103,8 +105,8 @@ fn is_left_empty<'a>(rt: &HostRuntime, led: &Led) -> Result<bool, Failure<'a>> {
     Ok(is_blank(length_of(rt, log.as_str())))
 }
 
-/// The file in which books are led: of those of periods that are beside a run's own file the last, or that file where there is none.
-/// Empty ones of periods are taken away.
+/// Returns the current file: the last file of a period beside the run's own file, or the own file
+/// if there is none. Removes empty files of periods.
 pub(crate) fn led_file<'a>(
     rt: &HostRuntime,
     file: &'a str,
@@ -120,7 +122,7 @@ pub(crate) fn led_file<'a>(
     named_file(rt, file, period)
 }
 
-// The texts of the periods whose files are beside a run's own, before one of them, in their order.
+// Returns the texts of the earlier periods with a file beside the run's own, in order.
 fn periods_before(
     rt: &HostRuntime,
     file: &str,
@@ -147,7 +149,7 @@ fn periods_before(
     Ok(texts)
 }
 
-// The paths of these files. A run's own is the first, where it is there.
+// Returns the paths of these files. The run's own file is the first, if it exists.
 fn paths_before<'a>(
     rt: &HostRuntime,
     file: &str,
@@ -171,8 +173,8 @@ fn paths_before<'a>(
     Ok(paths)
 }
 
-/// The files of a run that are beside its own and before the one at a path, the oldest first, of which books were led in the first: its
-/// own, and then those of periods. Before its own there is none.
+/// Returns the run's files beside its own that come before the one at `path`, the oldest first: its
+/// own, and then those of periods. No file comes before its own.
 pub(crate) fn files_before<'a>(
     rt: &HostRuntime,
     file: &'a str,
@@ -196,7 +198,7 @@ pub(crate) fn files_before<'a>(
     }
 }
 
-// Whether two paths are names of one file.
+// Returns whether two paths are names of the same file.
 fn are_one(rt: &HostRuntime, path: &str, other: &str) -> bool {
     match (
         fs::symlink_metadata(rt, path),
@@ -207,7 +209,7 @@ fn are_one(rt: &HostRuntime, path: &str, other: &str) -> bool {
     }
 }
 
-// Removes a second name, and brings that to the disk.
+// Removes a second name, and syncs the folder.
 fn remove_name(rt: &HostRuntime, path: &str, part: &str) -> io::Result<()> {
     fs::remove_file(rt, part)?;
     let mut folder = fs::canonicalize(rt, path)?;
@@ -215,7 +217,8 @@ fn remove_name(rt: &HostRuntime, path: &str, part: &str) -> io::Result<()> {
     File::open(rt, folder.as_str())?.sync_all()
 }
 
-/// Takes from a file the name that it had until it was whole, where a kill left it beside its own: with two names it can't be opened.
+/// Removes the name that a file had before it was complete, if a killed process left it beside the
+/// file's own. A file with two names cannot be opened.
 pub(crate) fn leave_one_name(rt: &HostRuntime, path: &str) {
     let Ok(part) = part_name(rt, path) else {
         return;

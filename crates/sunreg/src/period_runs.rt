@@ -1,5 +1,7 @@
-//! A run whose books are led in a new file each month or year. Each of its runs ends soon after the period has begun that follows its
-//! own; then the meters are carried into the file of that, and the next run goes on there.
+//! A run that begins a new file each month or year.
+//!
+//! Each of its runs ends soon after the next period has begun. The meters then continue in the file
+//! of that period, over which the next run begins.
 use crate::ended;
 use crate::offices::{OWN_HOST, run_opened};
 use crate::onward_clock::OnwardClock;
@@ -28,8 +30,8 @@ use std::time::{Duration, Instant};
 use stored_files::{CopyFault, Databases, Ending, Failure, FileFault, Named, told_zone};
 use stored_office::ending_of_done;
 
-/// How often a file is tried that another process has open, and one looked for that another may be making; and how many milliseconds
-/// pass between.
+/// The most tries to open a file that another process has open, and the most looks for a file that
+/// another process may be creating. `PAUSE` is the milliseconds between them.
 const TRIES: u32 = 100;
 
 const LOOKS: u32 = 30;
@@ -40,7 +42,7 @@ const NOT_CARRIED: &str = "not carried: it stays in use, and sunreg tries again 
 
 const NAMED: &str = "carried: the new file is in use now";
 
-// Standard error, as far as nobody has to be waited for who reads it.
+// Standard error, as far as it can be written without waiting for its reader.
 #[derive(Clone, Copy)]
 struct Unwaited<'r> {
     rt: &'r HostRuntime,
@@ -59,7 +61,7 @@ impl Write for Unwaited<'_> {
     }
 }
 
-// Says lines on standard error.
+// Writes lines to standard error.
 fn say(rt: &HostRuntime, lines: &[u8]) {
     let mut errors = Escaped::new(Unwaited { rt });
     let _said = errors.write_all(lines);
@@ -102,7 +104,7 @@ fn say_alone(rt: &HostRuntime, path: &str) {
     }
 }
 
-// Says why a file was not carried, and what comes of that.
+// Reports why the meters of a file do not continue in another, and the consequence.
 fn say_not_carried(rt: &HostRuntime, from: &str, why: &NotCarried<'_>, comes: &str) {
     let mut lines = Vec::new(rt.alloc());
     let _written = write_why(&mut lines, why);
@@ -110,8 +112,9 @@ fn say_not_carried(rt: &HostRuntime, from: &str, why: &NotCarried<'_>, comes: &s
     say(rt, lines.as_slice());
 }
 
-/// What the words say of the files of a run by periods: that which was given, after earlier ones, their periods, and over how many
-/// earlier ones of periods energy is told, too, where none was given before it.
+/// The options of a run by periods: the files, whose last is the run's own, the period, and the
+/// number of earlier files by periods whose energy is reported too. That number is only given if a
+/// single file is.
 #[derive(Clone, Copy)]
 pub(crate) struct PeriodWords<'r> {
     pub(crate) files: &'r [&'r str],
@@ -119,8 +122,8 @@ pub(crate) struct PeriodWords<'r> {
     pub(crate) earlier: Option<u32>,
 }
 
-// What is run: the file that was given, and the periods of its files; and the earlier files over which energy is told, too: those that
-// were given, and how many of the periods.
+// What is run: the run's own file and its periods. Also the earlier files whose energy is reported:
+// those that were given, and a number of those by periods.
 #[derive(Clone, Copy)]
 struct Asked<'r> {
     rt: &'r HostRuntime,
@@ -133,12 +136,13 @@ struct Asked<'r> {
 }
 
 impl Asked<'_> {
-    // Whether energy is told over earlier files, too.
+    // Returns whether the energy of earlier files is reported.
     fn has_earlier(&self) -> bool {
         self.earlier.is_some() || !self.given.is_empty()
     }
 
-    // Over how many of periods at most: all are between those that were given and the one in which books go on.
+    // Returns the greatest number of earlier files by periods. If earlier files were given, all
+    // files between those and the current one are reported.
     fn most_earlier(&self) -> u32 {
         if self.given.is_empty() {
             self.earlier.unwrap_or(0)
@@ -148,12 +152,12 @@ impl Asked<'_> {
     }
 }
 
-// Where books go on, and until which moment where one is told.
+// The file to continue in, and the time until which, if any.
 #[derive(Drop)]
 enum Course {
-    // In the file in which they are led.
+    // In the current file.
     Stay(Option<u64>),
-    // In another at this path, into which that is carried.
+    // In a new file at this path.
     Carry(String, Option<u64>),
 }
 
@@ -167,7 +171,8 @@ fn zone_in<S: Alter>(connection: &mut Connection<S>) -> Result<Zone, OpenFault> 
     }
 }
 
-// The latest moment at which a meter has an entry; 0 where there is none, or it can't be asked, which an opening then tells.
+// Returns the time of the latest entry of any meter, or 0 if there is none or the query fails.
+// Opening the store then reports the failure.
 fn latest_entry<S: Alter + Drop>(connection: &mut Connection<S>) -> u64 {
     let Ok(row) = connection.query_row("SELECT max(last_moment) FROM installations", &[]) else {
         return 0;
@@ -178,7 +183,7 @@ fn latest_entry<S: Alter + Drop>(connection: &mut Connection<S>) -> u64 {
     }
 }
 
-// Where books go on, on a day in a zone.
+// Returns in which file the run continues, on a day in a zone.
 fn course_on<'a, S: Alter + Drop>(
     asked: &Asked<'a>,
     led: &Led,
@@ -208,7 +213,7 @@ fn course_on<'a, S: Alter + Drop>(
     }
 }
 
-// Where books go on at a moment. Past the last of them there are no days.
+// Returns in which file the run continues at a time. After the last time there are no days.
 fn course_at<'a, S: Alter + Drop>(
     asked: &Asked<'a>,
     led: &Led,
@@ -225,7 +230,7 @@ fn course_at<'a, S: Alter + Drop>(
     }
 }
 
-// Adds so many of these paths, from the end, to others.
+// Adds the last `count` of these paths to others.
 fn add_last<'p>(
     paths: &mut Vec<&'p str>,
     files: &'p [String],
@@ -238,7 +243,7 @@ fn add_last<'p>(
     Ok(())
 }
 
-// These paths, and then so many of others, from the end.
+// Returns these paths, and then the last `count` of the others.
 fn paths_of<'p>(
     rt: &HostRuntime,
     given: &'p [&'p str],
@@ -253,7 +258,8 @@ fn paths_of<'p>(
     Ok(paths)
 }
 
-// What the files before the one at a path tell of their registers. What is said of it isn't waited for.
+// Returns what the files before the one at a path report of their registers. Never waits for the
+// reader of standard error.
 fn registers_before<'a, D: OfficeFiles>(
     rt: &HostRuntime,
     files: &D,
@@ -270,8 +276,8 @@ fn registers_before<'a, D: OfficeFiles>(
     }
 }
 
-// What comes of earlier files that can't be read, or don't join: a run that has just begun ends, and one that goes on in another file
-// tells that alone.
+// Handles earlier files that cannot be read, or do not continue each other. A run that has just
+// begun ends. A run that continues in another file reports only that file.
 fn untold(
     rt: &HostRuntime,
     path: &str,
@@ -289,7 +295,7 @@ fn untold(
     Ok(Vec::new(rt.alloc()))
 }
 
-// What is told of the registers of the files before the one at a path, where that is asked for.
+// Returns what the files before the one at a path report of their registers, if that is requested.
 fn told_before<D: OfficeFiles>(
     asked: &Asked<'_>,
     files: &D,
@@ -319,7 +325,8 @@ fn told_before<D: OfficeFiles>(
     }
 }
 
-// Runs over a connection to the file at a path, until a moment. None: it ended since that has come, or the time is up.
+// Runs over a connection to the file at a path, until a time. Returns `None` if the run ended at
+// that time, or because its time is up.
 fn run_in<D: Databases + NamedFiles, C: Clock + Drop>(
     asked: &Asked<'_>,
     files: &D,
@@ -344,7 +351,7 @@ fn run_in<D: Databases + NamedFiles, C: Clock + Drop>(
     }
 }
 
-// Opens the file at a path. One that was just made has no log yet, which isn't told.
+// Opens the file at a path. A new file has no log yet, which is not reported.
 fn open_once<'a, D: Databases>(
     rt: &HostRuntime,
     files: &D,
@@ -370,7 +377,8 @@ fn is_busy(failure: &Failure<'_>) -> bool {
     )
 }
 
-// The same of a file that nobody had open a moment ago: who has opened it meanwhile is waited for, some seconds.
+// Opens a file that this process just closed or created. If another process has opened it
+// meanwhile, waits for some seconds.
 fn open_again<'a, D: Databases>(
     rt: &HostRuntime,
     files: &D,
@@ -386,7 +394,8 @@ fn open_again<'a, D: Databases>(
     open_once(rt, files, path, is_new)
 }
 
-// Reads the files before the one at a path that was just made, or was open before, opens that, and runs over it.
+// Reads the files before the one at a path, opens that file, and runs over it. The file is new, or
+// was open before.
 fn run_at<D: OfficeFiles + NamedFiles, C: Clock + Drop>(
     asked: &Asked<'_>,
     files: &D,
@@ -426,8 +435,8 @@ fn is_unfinished(why: &NotCarried<'_>) -> bool {
     )
 }
 
-// Whether a new file is there that this process has not made. One whose beginning is there may be another run's, which then has its name
-// in a moment.
+// Returns whether the new file exists although this call did not create it. If a part of it exists,
+// another run may be creating it, so this waits for its name.
 fn is_made(rt: &HostRuntime, to: &str, why: &NotCarried<'_>) -> bool {
     if is_unfinished(why) {
         for _look in 0..LOOKS {
@@ -440,8 +449,8 @@ fn is_made(rt: &HostRuntime, to: &str, why: &NotCarried<'_>) -> bool {
     is_there(rt, to)
 }
 
-// Carries the file at a path into another, and runs over that. Where it can't be carried, books go on where they are, and it is tried
-// again at the next hour.
+// Lets the meters of the file at a path continue in another, and runs over that. If that fails, the
+// run continues over the old file, and tries again at the next hour.
 fn carry_on<D: OfficeFiles + NamedFiles, C: Clock + Drop>(
     asked: &Asked<'_>,
     files: &D,
@@ -462,14 +471,15 @@ fn carry_on<D: OfficeFiles + NamedFiles, C: Clock + Drop>(
                 let until = next_try(asked.settings.every, clock.now());
                 return run_at(asked, files, from, is_first, false, clock, until, left);
             }
-            // (it has its name, which can't be brought to the disk; or another process made it, and has it)
+            // (the file has its name, but the folder could not be synced; or another process
+            // created the file)
             say_not_carried(rt, from, &why, NAMED);
         }
     }
     run_at(asked, files, to, is_first, true, clock, until, left)
 }
 
-// Opens the file in which books are led: where a run has just let it go, with some patience.
+// Opens the current file. After an earlier run, waits for another process that has opened it.
 fn open_led<'a, D: Databases>(
     rt: &HostRuntime,
     files: &D,
@@ -483,7 +493,7 @@ fn open_led<'a, D: Databases>(
     }
 }
 
-// Runs over the file in which books are led, or over a new one that is due.
+// Runs over the current file, or over a new file that is due.
 fn turn<D: OfficeFiles + NamedFiles, C: Clock + Drop>(
     asked: &Asked<'_>,
     files: &D,
@@ -515,7 +525,7 @@ fn turn<D: OfficeFiles + NamedFiles, C: Clock + Drop>(
     match course {
         Course::Stay(until) => {
             if asked.has_earlier() {
-                // (it is read before, by a connection of its own)
+                // (the earlier files are read before, with their own connections)
                 drop(connection);
                 return run_at(asked, files, path, is_first, false, clock, until, left);
             }
@@ -537,7 +547,7 @@ fn turn<D: OfficeFiles + NamedFiles, C: Clock + Drop>(
     }
 }
 
-// How many seconds are left of those that all lasts.
+// Returns how many seconds are left of the requested duration.
 fn left_of(rt: &HostRuntime, lasts: Option<u64>, begun: Option<Instant>) -> Option<u64> {
     let seconds = lasts?;
     let passed = match begun {
@@ -550,7 +560,7 @@ fn left_of(rt: &HostRuntime, lasts: Option<u64>, begun: Option<Instant>) -> Opti
     Some(seconds.saturating_sub(passed))
 }
 
-/// Polls devices on a schedule and answers HTTP, as the settings say, and begins a new file with each period.
+/// Polls devices on a schedule and serves HTTP, and begins a new file with each period.
 pub(crate) fn run_by_periods<'a, D: OfficeFiles + NamedFiles>(
     rt: &HostRuntime,
     files: &D,

@@ -6,14 +6,14 @@ use office_program::NamedFiles;
 use stored_files::Ending;
 use stored_office::{Task, ending_of_done};
 
-// Whether no form is asked for.
+// Returns whether no form is requested.
 fn is_plain(words: &FormWords<'_>) -> bool {
     let has_range = words.from.is_some() || words.till.is_some();
     let has_layout = words.period.is_some() || words.unit.is_some() || words.format.is_some();
     !has_range && !has_layout
 }
 
-// Carries out the report that a task is.
+// Executes a task that is a report.
 fn report_by<'a, D: OfficeFiles + NamedFiles>(
     rt: &HostRuntime,
     files: &D,
@@ -24,7 +24,7 @@ fn report_by<'a, D: OfficeFiles + NamedFiles>(
     ending_of_done(over_office(rt, &readable, path, task), OWN_HOST, 0)
 }
 
-/// Prints the energy of a register, by days where no form is asked for, or the statement of its meters.
+/// Prints the energy of a register, by default by days, or the statement of its meters.
 pub(crate) fn report<'a, D: OfficeFiles + NamedFiles>(
     rt: &HostRuntime,
     files: &D,

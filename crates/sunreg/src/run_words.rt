@@ -1,19 +1,19 @@
-//! What the words of `run` mean to a run: its settings, and where its devices are.
+//! The settings of a run from its options, and the addresses of its devices.
 use command_words::Device;
 use office_events::Name;
 use office_running::{Descriptors, Settings, Site};
 use std::net::{SocketAddr, ToSocketAddrs};
 use stored_files::Failure;
 
-/// The descriptors that each program has (POSIX, unistd.h).
+/// The descriptors that every program has (POSIX, unistd.h).
 const STANDARD_OUTPUT: i32 = 1;
 
 pub(crate) const STANDARD_ERROR: i32 = 2;
 
-/// The bytes of a megabyte.
+/// The bytes in a megabyte.
 const MEGABYTE: u64 = 1_000_000;
 
-/// The settings of a run that answers on a port of this machine alone.
+/// Returns the settings of a run that serves HTTP on a port of this machine only.
 pub(crate) fn settings_of<'n>(
     listen: u16,
     every: u32,
@@ -46,7 +46,7 @@ pub(crate) fn settings_of<'n>(
     }
 }
 
-/// A host, without the brackets round an IPv6 address (RFC 3986, section 3.2.2).
+/// Returns a host without the brackets around an IPv6 address (RFC 3986, section 3.2.2).
 pub(crate) fn bare_host(host: &str) -> &str {
     match host.strip_prefix('[') {
         Some(rest) => rest.strip_suffix(']').unwrap_or(host),
@@ -54,7 +54,7 @@ pub(crate) fn bare_host(host: &str) -> &str {
     }
 }
 
-// The first address of a device.
+// Returns the first address of a device.
 fn site_of<'a>(rt: &HostRuntime, device: Device<'a>) -> Result<Site, Failure<'a>> {
     let Device { name, host, port } = device;
     let Ok(mut addresses) = (bare_host(host), port).to_socket_addrs(rt) else {
@@ -69,7 +69,8 @@ fn site_of<'a>(rt: &HostRuntime, device: Device<'a>) -> Result<Site, Failure<'a>
     }
 }
 
-/// Where devices are. The names of their hosts are looked up once, before anything else.
+/// Returns the addresses of devices. The names of their hosts are looked up once, before anything
+/// else.
 pub(crate) fn sites_of<'a>(
     rt: &HostRuntime,
     devices: &[Device<'a>],

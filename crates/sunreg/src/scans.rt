@@ -1,4 +1,4 @@
-//! The models of a live device, over a socket.
+//! Scans the models of a live device over a socket.
 use command_io::Buffered;
 use device_scan::{ScanFault, ScanObserver};
 use mb_wire::Link;
@@ -11,16 +11,17 @@ use stored_files::{Ending, Failure, ending_of};
 use sun_chain::Model;
 use sunspec_text::{ScanForm, Site, scan_text};
 
-/// How many seconds a device may take, at each address of its host, until it is connected.
+/// The seconds that a connection may take at each address of a host.
 const PATIENCE: u64 = 5;
 
-/// How many seconds a scan may take.
+/// The seconds that a scan may take.
 const LONGEST: u64 = 600;
 
-/// The most bytes of the name of a device that is set up: the names of its registers have more after it.
+/// The greatest length in bytes of a device's name in setup lines. The names of its registers are
+/// longer.
 const MOST_NAME: usize = 9;
 
-/// Where a device is, and how long it may take for a reply.
+/// The address of a device, and its timeout.
 #[derive(Clone, Copy)]
 pub(crate) struct Target<'a> {
     pub(crate) host: &'a str,
@@ -29,7 +30,7 @@ pub(crate) struct Target<'a> {
     pub(crate) timeout: u32,
 }
 
-// Shows on a terminal which model is read.
+// Shows on a terminal which model is being read.
 #[derive(Clone, Copy)]
 struct Terminal<'a> {
     rt: &'a HostRuntime,
@@ -46,7 +47,8 @@ impl ScanObserver for Terminal<'_> {
     }
 }
 
-/// A link to a device whose takes wait so many seconds, by the first of its host's addresses that answers.
+/// Connects to a device at the first of its host's addresses that accepts. Reads from the link time
+/// out after this many seconds.
 pub(crate) fn connect<'a, R: Net>(
     net: &R,
     host: &'a str,
@@ -72,7 +74,8 @@ pub(crate) fn connect<'a, R: Net>(
     Err(Failure::Unconnected { host, port })
 }
 
-// The form of the lines that set a device up, where its name leaves room for those of its registers.
+// Returns the form of the lines that set a device up, if its name leaves room for the names of its
+// registers.
 fn setup_form<'d>(device: &'d str, target: Target<'_>) -> Option<ScanForm<'d>> {
     if device.len() > MOST_NAME || Name::new(device.as_bytes()).is_none() {
         return None;
@@ -84,7 +87,8 @@ fn setup_form<'d>(device: &'d str, target: Target<'_>) -> Option<ScanForm<'d>> {
     }))
 }
 
-/// Prints the models of a device, or their point list, or the lines that set it up under a name.
+/// Prints the models of a device, or their point list, or the lines that set the device up under a
+/// name.
 pub(crate) fn scan<'a>(
     rt: &HostRuntime,
     target: Target<'a>,
@@ -120,7 +124,7 @@ fn wrong_name<'a>(rt: &HostRuntime, device: &str) -> Ending<'a> {
     }
 }
 
-// Scans over a link that was just made, and has only so much time.
+// Scans over a new link, until a deadline.
 fn scan_within<'a, L: Link>(
     rt: &HostRuntime,
     target: Target<'a>,

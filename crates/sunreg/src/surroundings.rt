@@ -1,10 +1,11 @@
-//! What a command over an office in a file reaches.
+//! The files and devices that a command over an office's file can reach.
 use command_words::{CommandLine, Device};
 use file_commands::{Files, OfficeFiles, Opening};
 use sqlite::{Connection, FileFrom, FileStore, Unknown};
 use stored_files::{Databases, FileFault};
 
-/// Where databases come from, and where the devices are of which counters are read. The files that lines name are those of the system.
+/// The databases, and the addresses of the devices whose counters are read. The files that lines
+/// name are the system's files.
 #[derive(Clone, Copy)]
 pub(crate) struct Surroundings<'r> {
     pub(crate) rt: &'r HostRuntime,
@@ -13,7 +14,7 @@ pub(crate) struct Surroundings<'r> {
 }
 
 impl<'r> Surroundings<'r> {
-    /// Those of a command, by the system's files.
+    /// Returns the surroundings of a command, over the system's files.
     pub(crate) fn of(rt: &'r HostRuntime, line: &'r CommandLine<'r>) -> Surroundings<'r> {
         let places = match line {
             CommandLine::Enter { devices, .. } => devices.as_slice(),

@@ -1,12 +1,12 @@
-//! The program's version, and by what its sources are proved.
+//! The program's version, and the logic that proves its sources.
 use command_words::program;
 use std::io::{self, Write};
 use stored_files::{Ending, Failure};
 
-/// The logic of the kit: what `rt version` ends on.
+/// The logic of the kit: the last word that `rt version` prints.
 const LOGIC: &str = "dac8208d650f15bf";
 
-/// Prints them.
+/// Prints the version and the logic.
 pub(crate) fn version(rt: &HostRuntime) -> Ending<'static> {
     let text = program();
     let mut output = io::writer(rt);

@@ -1,4 +1,4 @@
-//! The page that a running office shows to a browser: its files, where each stands, and of what type it is.
+//! The web page of a running office: its files, their targets and their types.
 #![tactic(auto)]
 
 mod files;

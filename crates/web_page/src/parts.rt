@@ -4,19 +4,20 @@ ghost use Rattle.web_page.specs.Parts.{body_of, content_type_of, part_of};
 
 use crate::files::{ICON, PAGE, SCRIPT, STYLE};
 
-/// A part of the page, of the same name in `web/`.
+/// A part of the page. A file in `web/` has the bytes of each part.
 #[derive(Clone, Copy, Debug, PartialEq, Eq)]
 pub enum PagePart {
     /// The page itself, in HTML.
     Page,
-    /// How it looks.
+    /// The style sheet.
     Style,
-    /// What asks the office and fills the page.
+    /// The script, which queries the office and fills the page.
     Script,
     Icon,
 }
 
-/// The part that stands at a target of a request, as `/page.css`. Targets are compared to the byte.
+/// Returns the part with this target of a request, such as `/page.css`. Targets are compared by
+/// bytes.
 pub fn part_of(target: &[u8]) -> Option<PagePart>
     ensures { result ≡ part_of target.now }
 {
@@ -34,7 +35,7 @@ pub fn part_of(target: &[u8]) -> Option<PagePart>
 }
 
 impl PagePart {
-    /// What `Content-Type` says of it.
+    /// Returns the value of the header `Content-Type`.
     pub fn content_type(self) -> &'static [u8]
         ensures { result.now ≡ content_type_of self }
     {
@@ -46,7 +47,7 @@ impl PagePart {
         }
     }
 
-    /// Its bytes: those of the file in `web/`.
+    /// Returns the bytes of the part: those of its file in `web/`.
     pub fn body(self) -> &'static [u8]
         ensures { result.now ≡ body_of self }
     {
