@@ -1,9 +1,10 @@
 #!/usr/bin/env python3
-"""commands.py [PROGRAM]: the commands over an office in a file, each at a set clock; PROGRAM is out/sunreg by default.
+"""commands.py [PROGRAM]: runs commands over an office in a file, each at a set clock. PROGRAM is out/sunreg by default.
 
-Each row of a case has the time of the clock in seconds since 1970-01-01 UTC, the arguments of a command, its input, and the exit status and
-the output that it must have. The rows of a case act on one file. faketime sets the clock, and sqlite3 reads how a poll ended. The files
-of the page are requested from a run. The last line is 'N passed, M failed', which counts rows.
+Each row of a case has the time of the clock in seconds since 1970-01-01 UTC, the arguments of a
+command, and its input. It also has the expected exit status and output. The rows of a case act on
+one file. faketime sets the clock, and sqlite3 reads how a poll ended. A run serves the files of the
+page. The last line is 'N passed, M failed', which counts rows.
 """
 import contextlib
 import glob
@@ -30,8 +31,8 @@ UNMETERED = "1 device inv 1 5 1\n2 register main inv 3 40094 @40096\n"
 METERED = UNMETERED + "3 install main m1 5000 0 100000\n"
 
 # (time, lines, list, status, output)
-# An input acts once: a site, the same again, a changed line and a new one, a faulty list, a bad line, lines that `enter` doesn't take, a
-# file that does not exist, and a clock that was set back.
+# An input acts once. The rows: a site, a retry, a changed line and a new one, a faulty list, a bad
+# line. Then lines that `enter` rejects, a missing file, and a clock that was set back.
 ONCE = [
     (1000, SITE, LIST, 0, "ok\nok\nok\nok\n"),
     (2000, SITE, LIST, 0, "ok\nok\nok\nok\n"),
@@ -43,8 +44,9 @@ ONCE = [
     (2000, "8 list inv @none.csv\n", LIST, 1, "bad line 1\n"),
     (999, SITE, LIST, 1, "refused 3\n"),
 ]
-# An entry past the ceiling of 100 kW is doubted. An entry with its mark acts, and its retry without the mark is refused. Others are
-# refused, have full turns, or exchange the meter. Lines that are no entries have no mark.
+# An entry past the ceiling of 100 kW is doubted. An entry with its mark acts, and its retry without
+# the mark is refused. Others are refused, have full turns, or exchange the meter. Lines that are no
+# entries have no mark.
 BY_HAND = [
     (1000, SITE, LIST, 0, "ok\nok\nok\nok\n"),
     (4600, "5 manual main 105002 0\n6 manual main 105001 0\n", LIST, 1, "doubted 100002000\nok\n"),
@@ -58,8 +60,8 @@ BY_HAND = [
     (8201, "9 list inv @inv.csv !\n", LIST, 1, "bad line 1\n"),
     (8201, "9 close main 900 0!\n", LIST, 1, "bad line 1\n"),
 ]
-# The counter of `main` shows 7000, and that of `other` can't be read. A meter is installed at what its counter shows, a retry acts once,
-# and an exchange is doubted or not by its last number.
+# The counter of `main` shows 7000, and that of `other` can't be read. A meter is installed at its
+# counter's value, a retry acts once, and an exchange is doubted or not by its last number.
 COUNTERS = [
     (1000, READ_SITE, LIST, 0, "ok\nok\nok\nok\n"),
     (1001, READ_SITE, LIST, 0, "ok\nok\nok\nok\n"),
@@ -68,7 +70,8 @@ COUNTERS = [
     (4600, "7 install other m3 @read 100000\n8 install none m3 @read 100000\n", LIST, 1, "unread\nunread\n"),
     (4600, "7 install other m3 @read 100000 !\n", LIST, 1, "bad line 1\n"),
 ]
-# `enter -n` over the site: lines that acted, a changed line and a bad one, and entries with a mark or without.
+# `enter -n` over the site: lines that acted, a changed line and a bad one, and entries with a mark
+# or without.
 LOOKS = [
     (SITE, 0, "again\nagain\nagain\nagain\n"),
     ("1 device inv 2 5 1\n5 tick\n6 device other 2 5 1\n", 1, "refused 11\nbad line 2\nnew\n"),
@@ -111,7 +114,7 @@ def same(what, got, wanted):
 
 
 def at(moment):
-    """The environment of a process whose clock stands at a time."""
+    """The environment of a process whose clock shows a time."""
     moment = time.strftime("%Y-%m-%d %H:%M:%S", time.gmtime(moment))
     names = ("DONT_FAKE_MONOTONIC", "FAKETIME_DONT_FAKE_MONOTONIC", "NO_FAKE_STAT")
     return {**os.environ, "TZ": "UTC", "LD_PRELOAD": LIBRARY, "FAKETIME": moment, **{name: "1" for name in names}}

@@ -22,7 +22,8 @@ import tempfile
 
 HERE = pathlib.Path(__file__).resolve().parent
 PROGRAM = pathlib.Path(sys.argv[1] if len(sys.argv) > 1 else os.environ.get("SUNREG", HERE.parent / "out" / "sunreg")).resolve()
-# Parts of why a file isn't opened: it holds no office, its zone is none, or SQLite finds a row that refers to none.
+# Parts of why a file isn't opened: it holds no office, its zone is none, or SQLite finds a row that
+# refers to none.
 NOT_OURS, NO_ZONE, NO_DATABASE = "sunreg create makes", "the zone in its table meta", "SQLite database, or"
 ZONE = "CET-1CEST,M3.5.0,M10.5.0/3"
 counts = {"passed": 0, "failed": 0}
@@ -42,7 +43,8 @@ CREATE TABLE replies (caller, number, request, kind, moment);
 CREATE TABLE ranges (meter, "range");
 CREATE TABLE voids (meter, place, moment);
 INSERT INTO meta VALUES (1, 3, 'UTC0')"""
-# A meter with two readings, of which the second is voided. Another poll is pending, and one reading was rejected.
+# A meter with two readings, of which the second is voided. Another poll is pending, and one reading
+# was rejected.
 ROWS = """INSERT INTO devices VALUES (1, 'inv', 1, 5, 1);
 INSERT INTO points VALUES ('inv', 1, 'Wh', 3, 0, 40094, 'acc32', 'Wh_SF'), ('inv', 2, 'Wh_SF', 3, 0, 40096, 'sunssf', '');
 INSERT INTO registers VALUES (1, 'main', 'inv', 3, 40094, 1, 40096);
@@ -54,7 +56,8 @@ INSERT INTO intervals VALUES ('m1', 900, 177777), ('m1', 1800, 22223);
 INSERT INTO polls VALUES (1, 'inv', 1, 1898, 0, 3, 40094, 3), (2, 'inv', 1, 4000, 1, 3, 40094, 3);
 INSERT INTO outcomes VALUES (1, 1900, 1, 0);
 INSERT INTO holds VALUES (1, 'm1', 1, 1900, 5100, 1, 2);"""
-# A caller's request that was carried out; its bytes are those that the program keeps for the line ENTERED.
+# A caller's request that was carried out; its bytes are those that the program keeps for the line
+# ENTERED.
 ENTERED = "7 void m1 2\n"
 
 # A table and a column of it, a text that it can't have, and a number past its limits.
@@ -123,7 +126,8 @@ COLUMNS = [
     ("voids", "place", "'x'", "0"),
     ("voids", "moment", "'x'", "4102444801"),
 ]
-# Columns by which rows are found, or which no query reads. A row with such a value is not found, and so not believed.
+# Columns by which rows are found, or which no query reads. A row with such a value is not found,
+# and so not believed.
 UNREAD = [
     ("meta", "id"),
     ("points", "device"),
@@ -146,7 +150,8 @@ LIMITS = [
     ("intervals", "mwh", 0, 4000000000000000000), ("voids", "moment", 0, 4102444800),
 ]
 
-# What is asked of the file, and what it answers without damage. Then a register, a meter, a list's reads and a void are entered.
+# What is asked of the file, and what it answers without damage. Then a register, a meter, a list's
+# reads and a void are entered.
 QUESTIONS = """meter m1
 intervals m1
 days main

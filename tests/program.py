@@ -46,7 +46,7 @@ CHECKS = [
     Check("scan", "scan.sh", 17, 120, ""),
     Check("stand_in", "stand_in.py", 52, 120, ""),
     Check("enter", "enter.sh", 54, 120, "sqlite3"),
-    Check("files", "files.sh", 56, 120, "curl sqlite3 setpriv"),
+    Check("files", "files.sh", 57, 120, "curl sqlite3 setpriv"),
     Check("files_as_one", "files_as_one.sh --short", 150, 240, "sqlite3 tzdata"),
     Check("earlier_files", "earlier_files.sh", 83, 120, "sqlite3 tzdata"),
     Check("report", "report.sh", 423, 480, "sqlite3 tzdata"),
@@ -66,6 +66,7 @@ CHECKS = [
     Check("run_carry", "run_carry.sh --short", 50, 300, "faketime"),
     Check("texts", "texts.py", 60, 360, "rt"),
     Check("rooms", "rooms.py", 150, 60, ""),
+    Check("prose", "prose.py", 3700, 60, ""),
     Check("page", "page.sh PROGRAM", 71, 180, "chromium"),
 ]
 LONG = [

@@ -34,9 +34,12 @@ BANNED = re.compile(
 )
 BANNED_NAMES = {"put", "take", "give", "told", "of", "end", "made", "go_on"}
 BANNED_PARTS = {"told", "tell", "tells", "stand", "stands", "anew", "behind"}
-# Findings of older text, by kind of file and kind of finding.
-LEFT = {}
 PAGE, SOURCE, SCRIPT = "pages", "sources", "scripts"
+# Findings of older text, by kind of file and kind of finding: comments of web/page.js, and
+# functions that still need a better name.
+LEFT = {(SCRIPT, "long"): 1, (SCRIPT, "word"): 9, (SOURCE, "name"): 219}
+# The bytes of web/, which web/embed writes.
+GENERATED = {"crates/web_page/src/files.rt"}
 KINDS = ("long", "word", "wide", "name")
 MARKS = {".rt": r"(///|//!|//|--)", ".antt": r"(--+)", ".py": r"(#)", ".sh": r"(#)", ".js": r"(//)", ".c": r"(//)"}
 
@@ -54,12 +57,12 @@ def kind_of(path):
 def paths_under(names):
     """The files of the repository under the names."""
     out = subprocess.run(["git", "ls-files", "--", *names], cwd=TOP, capture_output=True, text=True, check=True)
-    return [it for it in out.stdout.splitlines() if kind_of(it) and os.path.exists(f"{TOP}/{it}")]
+    return [it for it in out.stdout.splitlines() if kind_of(it) and it not in GENERATED and os.path.exists(f"{TOP}/{it}")]
 
 
 def plain(text):
-    """A text without quoted names and targets of links."""
-    return re.sub(r"`[^`]*`|\]\([^)]*\)|<[^>]*>", " x ", text)
+    """A text without quoted names, names of files and targets of links."""
+    return re.sub(r"`[^`]*`|\[[\w./]+\.(?:antt|rt|md|sh|py)\]|\]\([^)]*\)|<[^>]*>", " x ", text)
 
 
 def sentences(blocks):
@@ -166,10 +169,10 @@ def findings(path):
     for number, sentence in sentences(blocks):
         if len(sentence.split()) > MOST_WORDS:
             yield "long", number, f"{len(sentence.split())} words: {sentence[:100]}"
-    for block in blocks:
-        for number, line in block:
-            for word in BANNED.finditer(plain(line)):
-                yield "word", number, f"{word[0]}: {line[:100]}"
+    for number, sentence in sentences(blocks):
+        for word in BANNED.finditer(sentence):
+            if word[0] != "nor" or "neither" not in sentence.lower():
+                yield "word", number, f"{word[0]}: {sentence[:100]}"
     for number, columns in wide_lines(path, text):
         yield "wide", number, columns
     if ending == ".rt":

@@ -21,7 +21,8 @@ HOST, PORTS = "127.0.0.1", itertools.count(int(os.environ.get("PORT", "18741")))
 LIMIT = 60 * int(os.environ.get("SLOW", "1"))
 counts = {"passed": 0, "failed": 0}
 
-# Texts that set a simulator up, what they print, and their status. Where it is 0 the simulator serves one connection.
+# Texts that set a simulator up, what they print, and their status. Where it is 0 the simulator
+# serves one connection.
 TEXTS = [
     ("", "", 0),
     ("# nothing\n\narea coil 0 65536\n", "", 0),
@@ -46,19 +47,22 @@ TEXTS = [
 SET_UP = "area holding 7 2\nset holding 8 9\narea coil 0 1\nset coil 0 5\n"
 FRAMES = ["000100000006010300070002", "000200000006010100000001", "000300000006010300090001", "000400000006010300080001"]
 RESPONSES = ["00010000000701030400000009", "00020000000401010101", "000300000003018302", "0004000000050103020009"]
-# Tricks behind the text, and the responses that they change: of two tricks of a frame the first one counts.
+# Tricks behind the text, and the responses that they change: of two tricks of a frame the first one
+# counts.
 TRICKED = [
     ("", {}), ("trick 2 unit\ntrick 2 id\n", {1: "00020000000402010101"}), ("trick 2 id\ntrick 2 unit\n", {1: "00030000000401010101"}),
     ("trick 2 unit\ntrick 3 id\n", {1: "00020000000402010101", 2: "000400000003018302"}),
 ]
-# Each client sends a frame, and reads its response up to the end of the connection. The garbled frame has no length.
+# Each client sends a frame, and reads its response up to the end of the connection. The garbled
+# frame has no length.
 NINE = "area holding 0 1\nset holding 0 9\n"
 READ, WRITE, GARBLED = "000700000006010300000001", "000800000006010600000005", "0007000000010103"
 CLIENTS = [
     ("a read", READ, "0007000000050103020009"), ("a write of 5", WRITE, WRITE), ("a read of 5", READ, "0007000000050103020005"),
     ("a garbled frame", GARBLED, None), ("a read after it", READ, "0007000000050103020005"),
 ]
-# The words of a device from 40000 on: the mark, model 103 with 50 registers, whose counter WH shows 5000 at the scale 0, and the end.
+# The words of a device from 40000 on: the mark, model 103 with 50 registers, whose counter WH shows
+# 5000 at the scale 0, and the end.
 WORDS = {40000: 0x5375, 40001: 0x6E53, 40002: 103, 40003: 50, 40027: 5000, 40054: 0xFFFF}
 CHAIN = """\
 base 40000

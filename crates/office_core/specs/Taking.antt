@@ -111,9 +111,9 @@ TakesAccepted ledger at e old new result =
     → Takes ledger past at e old new result
 
 -- Properties of processing an event that need no premise on the store. It reports the store's
--- failures and no others. A wrong result that was taken as true stays noted. The zone stays, and so
--- does whether the office has stopped. No refusal says that the office had stopped, or that a row
--- has no civil day.
+-- failures and no others. A wrong result that was taken as true stays noted. The zone stays. An
+-- office that had stopped stays so, and no other stops. No refusal says that the office had
+-- stopped, or that a row has no civil day.
 pub record Passes {B : Type 0} (ledger : B → Ledger) (old new : Office B)
     (result : Result Answer Refusal) : Type 0 where
   pub counts : Counts (ledger (books_in old)).failures (ledger (books_in new)).failures result

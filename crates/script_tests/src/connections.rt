@@ -19,7 +19,7 @@ fn bank_with_nine(rt: &impl Abort, alloc: Global) -> Bank {
     bank
 }
 
-// A call of a link that fails, if one does, how a read is answered then under a trick, and the bytes that are written.
+// The failing call of a link, if any, the result of a read under a trick, and the written bytes.
 static ANSWERS: [(Option<u64>, Result<u64, ServeFault>, &[u8]); 2] = [
     (None, Ok(1), &[0, 7, 0, 0]),
     (Some(1), Err(ServeFault::Read), &[]),

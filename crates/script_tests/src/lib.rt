@@ -1,5 +1,6 @@
-//! Tests of scripts: streams that fail and inputs of megabytes, what no script prints, and the values of arguments. What a script
-//! and its output can show is a case in the data of `script_cases`; wrong arguments and help are tried by `tests/arguments.py`.
+//! Tests of scripts and arguments: streams that fail, inputs of megabytes, what no script prints,
+//! and the values of arguments. `script_cases` holds the golden tests of scripts, and
+//! `tests/arguments.py` tests help and wrong arguments.
 #![tactic(auto)]
 
 #[cfg(test)]

@@ -1,8 +1,9 @@
-//! Words that spell a command: options in any order, what applies where none is given, and numbers at their limits.
+//! Tests that arguments spell their command: options in any order, defaults, and numbers at their
+//! limits.
 use crate::spelled_words::assert_spelled;
 use command_words::{CommandLine, command_of};
 
-/// Each line and its command.
+/// Each line with its command.
 static RIGHT: [(&str, &str); 60] = [
     ("replay", r#"Replay { zone: "UTC0" }"#),
     ("replay|--zone|CET-1", r#"Replay { zone: "CET-1" }"#),
@@ -13,7 +14,7 @@ static RIGHT: [(&str, &str); 60] = [
     ),
     ("plan", "Plan"),
     ("chain", "Chain"),
-    // options stand in any order
+    // options in any order
     (
         "create|--db|a b.db|--zone|UTC0",
         r#"Create { db: "a b.db", zone: "UTC0" }"#,
@@ -26,18 +27,18 @@ static RIGHT: [(&str, &str); 60] = [
         "round|--db=o.db|--device=inv|--host=meter.lan|--port=502",
         r#"Round { db: "o.db", device: "inv", host: "meter.lan", port: 502 }"#,
     ),
-    // at this host where none is given
+    // without a host: this machine
     (
         "round|--db|o.db|--device|\u{e4} b|--port|502",
         "Round { db: \"o.db\", device: \"\u{e4} b\", host: \"127.0.0.1\", port: 502 }",
     ),
-    // a name stays as it stands
+    // a name is not changed
     (
         "report|--db|o.db|--register|Main,=1 \u{3bc}",
         "Report { db: \"o.db\", register: \"Main,=1 \u{3bc}\", form: FormWords { from: None, \
          till: None, period: None, unit: None, format: None, statement: false } }",
     ),
-    // days stay as they stand
+    // days are not checked here
     (
         "report|--db|o.db|--register|main|--from|2024-02-30|--till=|--by|year|--unit|kwh\
          |--format|json",

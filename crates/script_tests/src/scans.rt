@@ -12,8 +12,8 @@ impl ScanObserver for Nobody {
     fn reads(&mut self, _model: Model) {}
 }
 
-// What a device responds to the four reads of a scan: the mark, a model 103 with 50 registers whose counter WH shows 5000 at scale
-// 0, and the end.
+// A device's responses to the four reads of a scan: the mark, a model 103 with 50 registers whose
+// counter WH shows 5000 at scale 0, and the end.
 const REPLIES: &[u8] = &[
     0, 1, 0, 0, 0, 7, 1, 3, 4, 83, 117, 110, 83, 0, 2, 0, 0, 0, 7, 1, 3, 4, 0, 103, 0, 50, 0, 3, 0,
     0, 0, 103, 1, 3, 100, 0, 0, 0, 0, 0, 0, 0, 0, 0, 0, 0, 0, 0, 0, 0, 0, 0, 0, 0, 0, 0, 0, 0, 0,

@@ -3,7 +3,7 @@ use command_words::{WordsFault, command_of};
 use std::alloc::Global;
 use std::process::Abort;
 
-/// Returns what a command line spells, as a text. Its words stand between bars.
+/// Returns what a command line spells, as a text. Bars separate the words of the line.
 fn spelled(rt: &impl Abort, alloc: Global, line: &str) -> String {
     let words: Vec<&str> = line.split('|').collect(alloc).expect(rt, "no memory");
     let text = match command_of(alloc, &words) {

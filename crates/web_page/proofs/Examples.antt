@@ -1,4 +1,4 @@
--- Worked examples, computed from the definitions: targets that are those of parts, and some beside them.
+-- Worked examples, computed from the definitions: targets of parts, and others.
 use Rattle.std.proofs.Common.{◌≡◌, Some, None, refl, codes}
 use Rattle.web_page.specs.Parts.{part_of}
 use Rattle.web_page.specs.declared.parts.PagePart.TheVariants.{Page, Style, Script, Icon}

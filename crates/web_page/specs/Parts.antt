@@ -1,4 +1,4 @@
--- The parts of the page: where each stands, what it is, and its bytes.
+-- The parts of the page: the target, the content type and the bytes of each.
 use Rattle.std.specs.Prelude.{ℕ, List, [], ◌∷◌, Option, codes}
 use Rattle.std.specs.List.{find}
 use Rattle.std.specs.Str.{bytes_eq}
@@ -6,9 +6,11 @@ use Rattle.web_page.specs.declared.parts.PagePart.{PagePart}
 use Rattle.web_page.specs.declared.parts.PagePart.TheVariants.{Page, Style, Script, Icon}
 use Rattle.web_page.specs.declared.files.TheConstants.{PAGE, STYLE, SCRIPT, ICON}
 
+-- All parts of the page.
 abbrev pub parts : List PagePart
 parts = Page ∷ Style ∷ Script ∷ Icon ∷ []
 
+-- The target of each part.
 abbrev pub target_of : PagePart → List ℕ
 target_of Page = codes "/"
 target_of Style = codes "/page.css"
