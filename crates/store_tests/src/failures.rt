@@ -172,7 +172,7 @@ static FAILURES: [(Failure<'static>, &str); 40] = [
             path: "a.db",
             fault: CopyFault::NotOurs,
         },
-        "a.db: it holds no office, or one of a later program",
+        "a.db: not an office file, or made by a later version of sunreg",
     ),
     (
         Failure::Uncopied {
@@ -242,7 +242,7 @@ static FAILURES: [(Failure<'static>, &str); 40] = [
             path: "a.db",
             fault: AuditFault::Output,
         },
-        "a.db: standard output can't be written",
+        "a.db: can't write standard output",
     ),
 ];
 
