@@ -11,7 +11,11 @@ fn endings_have_their_statuses_and_texts(rt: HostRuntime) {
         (Ending::Fine, 0, ""),
         (Ending::Refused, 1, ""),
         (Ending::Wrong(text), 2, "error: x\n"),
-        (Ending::NoText, 2, "error: the arguments are not valid UTF-8\n"),
+        (
+            Ending::NoText,
+            2,
+            "error: the arguments are not valid UTF-8\n",
+        ),
         (
             Ending::NoDay {
                 option: "from",

@@ -5,7 +5,7 @@ use stored_files::{AuditFault, CopyFault, Failure, FileFault};
 
 /// Each failure, and what it says.
 static FAILURES: [(Failure<'static>, &str); 40] = [
-    (Failure::Memory, "memory ran out"),
+    (Failure::Memory, "out of memory"),
     (
         Failure::Streams,
         "can't read standard input, can't write standard output, or out of memory",
@@ -63,10 +63,7 @@ static FAILURES: [(Failure<'static>, &str); 40] = [
         Failure::Host { host: "h" },
         "can't resolve h: check the host name and this machine's DNS",
     ),
-    (
-        Failure::Sockets,
-        "waiting for sockets failed",
-    ),
+    (Failure::Sockets, "waiting for sockets failed"),
     (
         Failure::Occupied { path: "a.db" },
         "a.db: not empty, but it has no tables; they may be in its log: choose a new file",
@@ -105,7 +102,7 @@ static FAILURES: [(Failure<'static>, &str); 40] = [
             path: "a.db",
             fault: OpenFault::Memory,
         },
-        "a.db: memory ran out",
+        "a.db: out of memory",
     ),
     (
         Failure::Unopened {
@@ -133,7 +130,7 @@ static FAILURES: [(Failure<'static>, &str); 40] = [
             path: "a.db",
             fault: OpenFault::Memory,
         },
-        "a.db: memory ran out",
+        "a.db: out of memory",
     ),
     (
         Failure::Uncopied {
@@ -175,14 +172,14 @@ static FAILURES: [(Failure<'static>, &str); 40] = [
             path: "a.db",
             fault: CopyFault::NotOurs,
         },
-        "a.db: it holds no office, or one of a later program",
+        "a.db: not an office file, or made by a later version of sunreg",
     ),
     (
         Failure::Uncopied {
             path: "a.db",
             fault: CopyFault::Memory,
         },
-        "a.db: memory ran out",
+        "a.db: out of memory",
     ),
     (
         Failure::Unaudited {
@@ -238,14 +235,14 @@ static FAILURES: [(Failure<'static>, &str); 40] = [
             path: "a.db",
             fault: AuditFault::Memory,
         },
-        "a.db: memory ran out",
+        "a.db: out of memory",
     ),
     (
         Failure::Unaudited {
             path: "a.db",
             fault: AuditFault::Output,
         },
-        "a.db: standard output can't be written",
+        "a.db: can't write standard output",
     ),
 ];
 

@@ -27,7 +27,7 @@ const FILES: [(OpenFault, &str); 4] = [
         "the text is no POSIX time zone of at most 64 bytes, as UTC0 or CET-1CEST,M3.5.0,M10.5.0/3",
     ),
     (OpenFault::Store, "the database refused or failed"),
-    (OpenFault::Memory, "out of memory"),
+    (OpenFault::Memory, "memory ran out"),
 ];
 
 const ROWS: [(RowFault, &str); 2] = [

@@ -14,7 +14,11 @@ use stored_office::{Done, ending_of_done};
 const ENDS: [(Result<Done, Failure<'static>>, u8, &str); 25] = [
     (Ok(Done::Reported(ExitStatus::Fine)), 0, ""),
     (Ok(Done::Reported(ExitStatus::Refused)), 1, ""),
-    (Ok(Done::Reported(ExitStatus::Failed)), 3, "can't read standard input"),
+    (
+        Ok(Done::Reported(ExitStatus::Failed)),
+        3,
+        "can't read standard input",
+    ),
     (Ok(Done::Served(ServeEnd::Served)), 0, ""),
     (
         Ok(Done::Served(ServeEnd::Unopened(ExitStatus::Refused))),
@@ -31,7 +35,11 @@ const ENDS: [(Result<Done, Failure<'static>>, u8, &str); 25] = [
         3,
         "can't listen on port 80 of h",
     ),
-    (Ok(Done::Served(ServeEnd::Broken)), 3, "can't accept more connections"),
+    (
+        Ok(Done::Served(ServeEnd::Broken)),
+        3,
+        "can't accept more connections",
+    ),
     (Ok(Done::Polled(PollEnd::Polled(Ok(())))), 0, ""),
     (
         Ok(Done::Polled(PollEnd::Polled(Err(RoundFault::Refused(Refusal::NotFound))))),
@@ -89,18 +97,18 @@ const ENDS: [(Result<Done, Failure<'static>>, u8, &str); 25] = [
         3,
         "waiting for sockets failed",
     ),
-    (Ok(Done::Ran(Err(RunFault::Output))), 3, "can't read standard input"),
+    (
+        Ok(Done::Ran(Err(RunFault::Output))),
+        3,
+        "can't read standard input",
+    ),
     (
         Ok(Done::Ran(Err(RunFault::Stopped))),
         3,
         "the office stopped",
     ),
     (Ok(Done::Ran(Err(RunFault::Memory))), 3, "out of memory"),
-    (
-        Err(Failure::Host { host: "h" }),
-        3,
-        "can't resolve h",
-    ),
+    (Err(Failure::Host { host: "h" }), 3, "can't resolve h"),
 ];
 
 /// The exit status of a command that prints.
