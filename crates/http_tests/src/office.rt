@@ -24,15 +24,21 @@ pub(crate) fn utc(rt: &impl Abort) -> Zone {
     Zone::read("UTC0").expect(rt, "no zone")
 }
 
+// The name of the device.
+fn inv() -> Option<Name> {
+    Name::new(b"inv")
+}
+
 /// A connection to the device, the start of a poll, and the response.
 pub(crate) fn poll(rt: &impl Abort, alloc: Global) -> [Event; 3] {
-    let device = Name::new(b"inv");
     let span = ReadSpan::new(3, 40_094, 3).expect(rt, "no span");
     let frame = FRAME.to_vec(alloc).expect(rt, "no memory");
+    let device = inv();
+    let asked = Command::StartPoll(StartPoll { device, span });
     [
-        Event::Connected(device),
-        Event::Command(Command::StartPoll(StartPoll { device, span })),
-        Event::Bytes(device, Piece::new(frame)),
+        Event::Connected(inv()),
+        Event::Command(asked),
+        Event::Bytes(inv(), Piece::new(frame)),
     ]
 }
 
