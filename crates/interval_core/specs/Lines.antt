@@ -1,4 +1,5 @@
--- The lines of a report: interval rows or days in order, and then their number.
+-- The lines of a report: a line for each interval row or day, in order, and a last line with
+-- their number.
 use Rattle.std.specs.Prelude.{ℕ, List, [], ◌∷◌, ◌++◌, length, flat_map, codes}
 use Rattle.std.specs.Fmt.{decimal}
 pub use Rattle.interval_core.specs.Report.{day_line}
