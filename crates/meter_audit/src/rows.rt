@@ -51,7 +51,7 @@ pub(crate) fn kind_of(row: &TableRow) -> Option<EntryKind>
     }
 }
 
-/// Returns the entry of a row, by its kind.
+/// Returns the entry that a table row of this kind records.
 pub(crate) fn entry_of(kind: EntryKind, row: &TableRow) -> Entry
     ensures { result ≡ passing.entry_in kind row.now }
 {
