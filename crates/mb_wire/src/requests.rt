@@ -75,14 +75,14 @@ pub enum RequestFault {
     WrongCoilValue,
 }
 
-// The data of a response that is no exception.
+// What a response that is no exception has after the function code.
 #[derive(Clone, Copy, Debug, PartialEq, Eq)]
 pub(crate) enum Wanted {
     // This many coils.
     Coils(u16),
     // This many registers.
     Registers(u16),
-    // The head of the request.
+    // The same head as the request.
     Head,
 }
 
@@ -156,7 +156,7 @@ impl Request<'_> {
         }
     }
 
-    // Returns the data of a response that is no exception.
+    // Returns what a response to the request has after the function code, if it is no exception.
     pub(crate) fn wanted(&self) -> Wanted
         ensures { result ≡ wanted_by (query_of self.now) }
     {
@@ -179,14 +179,14 @@ fn field_of_coil(on: bool) -> usize
     if on { 0xFF00 } else { 0 }
 }
 
-// Returns how many of `quantity` coils the bytes have.
+// Returns how many coils the bytes have, at most `quantity`.
 fn count_coils(quantity: u16, bytes: &[u8]) -> usize
     ensures { result ≡ length (coils_of quantity bytes.now) }
 {
     usize::from(quantity).min(bytes.len().saturating_mul(8))
 }
 
-// Returns how many registers the bytes have.
+// Returns how many complete registers the bytes have.
 fn count_words(bytes: &[u8]) -> usize
     ensures { result ≡ length (words_of bytes.now) }
 {
