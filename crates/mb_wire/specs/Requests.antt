@@ -94,7 +94,7 @@ request_bytes request = query_bytes (query_of request)
 abbrev pub IsWithin : ℕ → ℕ → Type 0
 IsWithin quantity most = (1 ≤ quantity) × (quantity ≤ most)
 
--- The request's quantity is one that the standard allows for its function.
+-- The standard allows the quantity of this request for its function.
 abbrev pub IsLawfulQuery : Query → Type 0
 IsLawfulQuery (ReadCoils address quantity) = IsWithin quantity MAX_READ_COILS
 IsLawfulQuery (ReadDiscrete address quantity) = IsWithin quantity MAX_READ_COILS
