@@ -52,14 +52,14 @@ impl PendingPoll {
         self.unit
     }
 
-    /// Returns the request of the poll.
+    /// Returns the request that was sent for the poll.
     pub fn request(&self) -> Request
         ensures { result ≡ request_of self.now.span }
     {
         self.span.request()
     }
 
-    /// Returns whether the deadline has come.
+    /// Returns whether the poll's deadline is at or before this time.
     pub fn is_due(&self, moment: u64) -> bool
         ensures { result ≡ due moment self.now }
     {
