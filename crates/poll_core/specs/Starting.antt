@@ -18,8 +18,8 @@ start_fault_number IdBusy = 2
 start_fault_number ClockBack = 3
 start_fault_number Closed = 4
 
--- The first fault that applies to a start, by the window, the pending polls, the next identifier,
--- the latest time, whether the session is over, and the time of the start.
+-- The first fault that applies to a start at the time `moment`; `None` if none does. `next` is
+-- its identifier, `last` the latest time, and `over` says whether the session is over.
 abbrev pub least_fault : ℕ → List Poll → ℕ → ℕ → Bool → ℕ → Option StartFault
 least_fault window polls next last over moment =
     if nat_le window (length polls) then Some WindowFull

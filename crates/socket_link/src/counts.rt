@@ -5,8 +5,8 @@ ghost use Rattle.socket_link.specs.Beginnings.{CountsNothing};
 
 use mb_wire::{LastTake, LinkFailed, Took};
 
-/// The numbers of failed calls, of reads and of reads that found the end, and the last read. The
-/// numbers saturate at 2^64 - 1.
+/// The counts of a link's calls: failed calls, reads, and reads that found the end of the input.
+/// `last` is the last read. The numbers saturate at 2^64 - 1.
 #[derive(Drop)]
 pub struct Counts {
     pub failures: u64,
