@@ -52,7 +52,7 @@ impl PendingPoll {
         self.unit
     }
 
-    /// Returns the request that was sent for the poll.
+    /// Returns the request of the poll.
     pub fn request(&self) -> Request
         ensures { result ≡ request_of self.now.span }
     {
