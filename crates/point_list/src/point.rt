@@ -18,7 +18,8 @@ pub enum PointScale {
     Named(PointName),
 }
 
-/// A point of a list: registers from `address`, in the registers of a function and an area number.
+/// A point of a list: its registers from `address` on, the function that reads them, and the
+/// number of their area.
 #[derive(Debug, Drop)]
 pub struct ListedPoint {
     pub name: PointName,
@@ -39,7 +40,7 @@ pub(crate) fn is_scale_type(kind: PointType) -> bool
     }
 }
 
-/// Returns the sunssf point with a name.
+/// Returns the sunssf point of the list with this name, or `None`.
 pub fn find_scale<'a>(points: &'a [ListedPoint], name: &[u8]) -> Option<&'a ListedPoint>
     ensures { option_copied result ≡ scale_point points.now name.now }
 {
