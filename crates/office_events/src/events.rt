@@ -1,4 +1,4 @@
-//! Events that reach the office.
+//! Events that reach the office, the program's state over one store.
 use crate::commands::Command;
 use crate::names::Name;
 use poll_core::Closing;
@@ -36,8 +36,9 @@ impl Piece {
     }
 }
 
-/// A command with an idempotency key: the caller's name, and a number that the caller chose. The
-/// office executes it once, and keeps its answer with the bytes of the request.
+/// A command with an idempotency key, which consists of the caller's name and a number that the
+/// caller chose. The office executes the command once, and keeps its answer with the bytes of the
+/// request.
 #[derive(Drop)]
 pub struct Asked {
     pub caller: Option<Name>,
