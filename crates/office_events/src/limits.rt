@@ -9,7 +9,7 @@ pub const MAX_DEVICES: usize = 64;
 /// The maximum number of accounting registers of a device.
 pub const MAX_REGISTERS: usize = 32;
 
-/// The maximum number of meters that an office ever installs, the closed ones included.
+/// The maximum number of installations of an office: its meters, the closed ones included.
 pub const MAX_INSTALLATIONS: usize = 4096;
 
 /// The maximum number of polls of an office, which is also the greatest poll number: 2^62.
