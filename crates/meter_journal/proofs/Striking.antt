@@ -270,7 +270,8 @@ next_moved meter before e0 at raw rolls rolls' h =
       put_between = (begun, omega (arith, there, first, second), omega arith, tt);
     }
 
--- The next valid row gets the rollovers that its new neighbor gives.
+-- If no valid row followed the voided one, one more valid reading follows it as `IsFollowed`
+-- says.
 next_after : (meter : Installed) (place : ℕ) (row : EntryRow) (rows : List EntryRow) (x : Around)
     → row.place == place ≡ false → row.stands ≡ true → is_read row.kind row.entry ≡ true → is_read x.row.kind x.row.entry ≡ true
     → AreNumbered (row ∷ rows) → AllFollow meter.range meter.opening (entries_in (row ∷ rows))
