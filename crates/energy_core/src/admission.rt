@@ -79,7 +79,7 @@ pub(crate) fn energy(range: u64, last: &Last, entry: &Entry) -> u64
     energy_up_to(last, u128::from(reach(range, entry))) as u64
 }
 
-/// Returns whether an entry sets a scale that no register may have.
+/// Returns whether an entry sets a scale factor that is not from -3 to 3.
 fn is_off_scale(entry: &Entry) -> bool
     ensures { result ≡ has_bad_scale entry.now }
 {
