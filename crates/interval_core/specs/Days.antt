@@ -1,4 +1,5 @@
--- The energy of the interval rows of a register, by civil day.
+-- The energy of interval rows by civil day. The rows are those of one accounting register, which
+-- may have several meters, one after another.
 use Rattle.std.specs.Prelude.{◌≡◌, ◌↔◌, ℕ, ℤ, ◌+◌, ◌<◌, ◌<ℤ◌, ◌==◌, if◌then◌else◌, List, [], ◌∷◌, map, filter, length, All, Contains}
 use Rattle.std.specs.List.{list_any}
 use Rattle.std.specs.List.Sorted.{IsPermutation}

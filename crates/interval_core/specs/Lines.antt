@@ -15,10 +15,10 @@ share_line row = decimal row.start ++ 32 ∷ (decimal row.mwh ++ 10 ∷ [])
 abbrev pub end_line : ℕ → List ℕ
 end_line count = codes "end " ++ decimal count ++ codes "\n"
 
--- The interval rows of a meter, as text.
+-- The interval rows of a meter as lines of text, and a last line with their number.
 abbrev pub intervals_text : List Share → List ℕ
 intervals_text rows = flat_map share_line rows ++ end_line (length rows)
 
--- The days of a register, as text.
+-- The days of an accounting register as lines of text, and a last line with their number.
 abbrev pub days_text : List DayTotal → List ℕ
 days_text days = flat_map day_line days ++ end_line (length days)

@@ -52,7 +52,7 @@ abbrev pub ends_after_number : (till : Option Date) → ℤ → Bool
 ends_after_number None day = true
 ends_after_number (Some till) day = is_lt (int_cmp day (epoch_day till))
 
--- The day with this number is in the range.
+-- The day with this number since 1970-01-01 is in the range.
 abbrev pub has_day : DayRange → ℤ → Bool
 has_day range day = begins_by_number range.from day && ends_after_number range.till day
 
