@@ -15,7 +15,7 @@ use Rattle.meter_journal.specs.Journal.{is_closing, entries_in}
 use Rattle.meter_audit.specs.declared.rows.TableRow.{TableRow}
 use Rattle.meter_audit.specs.Rows.{later_rows, table_rows}
 
--- One of the rows is a closing.
+-- One of the rows is a closing, so the meter was closed.
 abbrev pub is_ended : List EntryRow → Bool
 is_ended [] = false
 is_ended (row ∷ rows) = if is_closing row.kind then true else is_ended rows

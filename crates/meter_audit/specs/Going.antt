@@ -41,7 +41,7 @@ GoesOver meter old row new None = (told : List TableRow) (done : List Share)
     → HasGone meter told done old → HasGone meter (row ∷ told) done new
 GoesOver meter old row new (Some fault) = passed meter old.check row ≡ Err fault
 
--- The number of interval rows that no later entry adds to: all but the last.
+-- The number of interval rows that no later entry adds to: all except the last.
 abbrev pub settled_in : List Share → ℕ
 settled_in rows = length rows - 1
 

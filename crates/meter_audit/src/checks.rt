@@ -1,4 +1,4 @@
-//! Checks the rows of a meter, one after another, in constant memory.
+//! Checks the rows of a meter in the table of entries, one after another, in constant memory.
 ghost use Rattle.std.specs.Prelude.{◌≡◌, ◌+◌, ◌<◌, ◌^◌, IfOk};
 ghost use Rattle.std.specs.Option.{ForSome};
 ghost use Rattle.energy_core.specs.Laws.{IsShareable};

@@ -5,7 +5,7 @@ ghost use Rattle.meter_audit.specs.Passing as passing;
 use energy_core::Entry;
 use meter_journal::EntryKind;
 
-/// The source of an entry, as the table says.
+/// The kind of an entry, as the table of entries says.
 #[derive(Clone, Copy, Debug, PartialEq, Eq)]
 pub enum RowKind {
     /// The meter was opened.
