@@ -14,7 +14,7 @@ is_voided place (Entered k e ∷ lines) = is_voided place lines
 is_voided place (Held reading cause ∷ lines) = is_voided place lines
 is_voided place (Voided named ∷ lines) = (place == named) || is_voided place lines
 
--- The number of recorded entries.
+-- The number of entries that a journal records, the voided ones included.
 abbrev pub entered_count : Journal → ℕ
 entered_count [] = 0
 entered_count (Entered k e ∷ lines) = entered_count lines + 1

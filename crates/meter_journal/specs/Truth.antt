@@ -34,7 +34,7 @@ held_since (Entered k e ∷ lines) = held_since lines
 held_since (Held reading cause ∷ lines) = reading ∷ held_since lines
 held_since (Voided place ∷ lines) = []
 
--- All entries are readings.
+-- Each entry of the journal is an accepted reading. Rejected readings and voids do not matter.
 abbrev pub AreReadings : Journal → Type 0
 AreReadings [] = Unit {0}
 AreReadings (Entered k e ∷ lines) = (is_reading k ≡ true) × AreReadings lines

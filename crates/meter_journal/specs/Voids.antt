@@ -65,9 +65,9 @@ AreTherein (share ∷ shares) rows =
     All (λ row. row.start ≡ share.start → share.mwh ≤ row.mwh) rows
     × AreTherein shares (without_share share rows)
 
--- The energy before the void is that of the steps that stay and of those that it removes. After the
--- void it is that of the steps that stay and of those that it adds. Each of the steps removed and
--- added can be divided among its intervals.
+-- Before the void, the energy is that of the kept steps and the removed steps. After the void, it
+-- is that of the kept steps and the added step. Each removed or added step can be divided among
+-- its intervals.
 pub record ExchangesSteps (meter : Installed) (lines : Journal) (place : ℕ) (around : Around) : Type
     0 where
   pub staying : ℕ
