@@ -54,12 +54,13 @@ abbrev pub if_there : List (Option ℕ) → (address count : ℕ) → Answer →
 if_there table address count answer =
     if are_there table address count then answer else Exception 2
 
--- The answer to a read of coils or discrete inputs.
+-- The answer to a read of coils or discrete inputs, or exception 2 if the device lacks one of
+-- them.
 abbrev pub bits_at : List (Option ℕ) → (address quantity : ℕ) → Answer
 bits_at table address quantity =
     if_there table address quantity (Bits (map is_kept_on (values_at table address quantity)))
 
--- The answer to a read of registers.
+-- The answer to a read of registers, or exception 2 if the device lacks one of them.
 abbrev pub words_at : List (Option ℕ) → (address quantity : ℕ) → Answer
 words_at table address quantity =
     if_there table address quantity (Words (map kept_value (values_at table address quantity)))

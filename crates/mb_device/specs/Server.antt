@@ -184,7 +184,7 @@ abbrev pub served_to_end : Result ℕ ServeFault → Standing → Bool
 served_to_end (Ok count) standing = not (is_over standing)
 served_to_end (Err fault) standing = false
 
--- A read failed.
+-- A read of the link failed.
 abbrev pub is_read_fault : {X : Type 0} → Result X ServeFault → Bool
 is_read_fault (Ok x) = false
 is_read_fault (Err Read) = true

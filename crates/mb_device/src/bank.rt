@@ -198,7 +198,7 @@ impl Bank {
     }
 
     /// Sets the value at an address. Returns whether the map has that address. For a coil or a
-    /// discrete input, any value but 0 is stored as 1.
+    /// discrete input, any value except 0 is stored as 1.
     pub fn set(&mut self, kind: Kind, address: u16, value: u16) -> bool
         ensures there { result ≡ is_some (value_at self.old kind address) }
         ensures after { self.new ≡

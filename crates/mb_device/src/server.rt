@@ -22,13 +22,13 @@ use std::marker::Model;
 /// Why a server stopped.
 #[derive(Clone, Copy, Debug, PartialEq, Eq)]
 pub enum ServeFault {
-    /// A read failed.
+    /// A read of the link failed.
     Read,
-    /// A write failed, or accepted no bytes.
+    /// A write to the link failed, or accepted no bytes.
     Write,
     /// The stream is garbled, or an earlier call returned a fault.
     Garbled,
-    /// The input did not end within the given turns.
+    /// The link's input did not end within the greatest number of turns.
     TurnsUsed,
 }
 
@@ -85,7 +85,7 @@ impl<'t> Model for Server<'t> {
         IsOpen server.reader.rest };
 }
 
-// Executes a frame, and sends its response.
+// Executes the request in a frame, and sends its response.
 fn answer_frame<L: Link>(
     frame: &Frame<'_>,
     sender: &mut Sender<'_>,
