@@ -193,7 +193,8 @@ impl FrameReader {
         }
     }
 
-    /// Takes bytes of the piece, up to the end of the next frame. Feed the rest of the piece again.
+    /// Takes bytes of the piece, up to the end of the next frame. Call `feed` again with the rest
+    /// of the piece.
     pub fn feed(&mut self, piece: &[u8]) -> Fed
         ensures taken { result.taken ≤ length piece.now }
         ensures need { result.what ≡ Framing.Need → result.taken ≡ length piece.now }

@@ -28,7 +28,8 @@ pub enum Reply<'a> {
     Exception(u8),
 }
 
-/// Why a PDU is not a response to a request. The fault with the lowest number is reported.
+/// Why a PDU is not a response to a request. If several faults apply, the one with the lowest
+/// number is reported.
 #[derive(Clone, Copy, Debug, PartialEq, Eq)]
 pub enum ReplyFault {
     /// The first byte is not the function code, with or without its top bit set.

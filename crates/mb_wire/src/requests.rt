@@ -16,12 +16,12 @@ use crate::limits::MAX_PDU;
 /// A request to a device (Modbus Application Protocol V1.1b3, section 6). Addresses count from 0.
 #[derive(Clone, Copy, Debug)]
 pub enum Request<'a> {
-    /// Function 1.
+    /// Function 1: reads coils.
     ReadCoils {
         address: u16,
         quantity: u16,
     },
-    /// Function 2.
+    /// Function 2: reads discrete inputs.
     ReadDiscrete {
         address: u16,
         quantity: u16,
@@ -36,12 +36,12 @@ pub enum Request<'a> {
         address: u16,
         quantity: u16,
     },
-    /// Function 5.
+    /// Function 5: writes one coil.
     WriteCoil {
         address: u16,
         on: bool,
     },
-    /// Function 6.
+    /// Function 6: writes one register.
     WriteRegister {
         address: u16,
         value: u16,
@@ -60,7 +60,8 @@ pub enum Request<'a> {
     },
 }
 
-/// Why a PDU is not a request. The fault with the lowest number is reported.
+/// Why a PDU is not a request. If several faults apply, the one with the lowest number is
+/// reported.
 #[derive(Clone, Copy, Debug, PartialEq, Eq)]
 pub enum RequestFault {
     /// The first byte is none of the eight function codes.
