@@ -48,7 +48,8 @@ abbrev pub is_lawful_table : ℕ → List Row → Bool
 is_lawful_table length rows =
     ascends_from 2 rows && list_all (lies_inside length) rows && list_all (has_its_scale rows) rows
 
--- The length of a known model. Model 1 may have one more register, for padding.
+-- The length of the model with this ID, or 0 for an unknown model. Model 1 may have one more
+-- register, for padding.
 abbrev pub length_of_known : ℕ → ℕ
 length_of_known id =
     if id == 1 then 65
