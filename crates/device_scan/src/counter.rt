@@ -17,7 +17,7 @@ use sun_points::{acc32, sunssf};
 /// The source of a counter's scale.
 #[derive(Clone, Copy, Debug, PartialEq, Eq)]
 pub enum CounterScale {
-    /// A fixed power of ten.
+    /// A power of ten that is not read from the device.
     Fixed(i16),
     /// The `sunssf` register at this address of the device.
     Register(u16),

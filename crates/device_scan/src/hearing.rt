@@ -28,7 +28,7 @@ pub(crate) type Answer = Option<Vec<u16>>;
 /// The result of one read of the link.
 #[derive(Drop)]
 pub(crate) enum Turn {
-    /// The read timed out.
+    /// The read of the link timed out.
     Idle,
     /// The read brought bytes, and no response to the try.
     More,

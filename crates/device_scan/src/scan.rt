@@ -94,7 +94,7 @@ impl Scan {
         }
     }
 
-    /// Records that the next read brought no words.
+    /// Records that the device sent no words for the next read.
     pub fn unread(&mut self)
         ensures words { (address : ℕ) → words_of self.new address ≡ words_of self.old address }
         ensures stage { stage_of self.new ≡ stage_after (words_of self.new) (stage_of self.old) }
