@@ -52,7 +52,8 @@ HasLawfulScale points point (Fixed exponent) =
 HasLawfulScale points point (Named name) =
     IsTrue (takes_scale point.kind) × IsSomeAnd (scale_point points name) (IsGroup point)
 
--- A lawful point list.
+-- The points are a lawful list: at most 512, with distinct names. Each has a lawful name, size,
+-- address and scale.
 pub record IsPointList (points : List ListedPoint) : Type 0 where
   pub few : length points ≤ POINT_LIMIT
   pub named : All (λ point. IsTrue (is_name point.name)) points

@@ -33,7 +33,7 @@ row_of point =
     point.name ∷ decimal (code_of point.function) ∷ decimal point.area ∷ decimal point.address
     ∷ type_text point.kind ∷ scale_text point.scale ∷ []
 
--- The fields of the header.
+-- The six fields of the header of a point list.
 abbrev pub header_row : List (List ℕ)
 header_row = codes "name" ∷ codes "function" ∷ codes "area" ∷ codes "address" ∷ codes "type"
     ∷ codes "scale" ∷ []

@@ -10,9 +10,9 @@ use sun_points::{PointType, Scale};
 /// The power of ten that multiplies a point's value.
 #[derive(Debug, Drop)]
 pub enum PointScale {
-    /// No scale: the value is printed as it is.
+    /// The point has no scale: its value is printed as it is.
     Unscaled,
-    /// A fixed power of ten.
+    /// A power of ten that the list fixes, -10 to 10.
     Fixed(Scale),
     /// The power of ten in the sunssf point with this name.
     Named(PointName),
