@@ -16,7 +16,7 @@ pub record Holds (read item : Run) : Type 0 where
   pub from_first : read.first ≤ item.first
   pub to_end : item.end ≤ read.end
 
--- Some read of the list holds the item.
+-- At least one of the reads holds the item.
 abbrev pub IsContained : List Run → Run → Type 0
 IsContained reads item = Any (λ read. Holds read item) reads
 
