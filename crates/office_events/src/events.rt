@@ -4,7 +4,7 @@ use crate::names::Name;
 use poll_core::Closing;
 use std::marker::Model;
 
-/// Bytes that reached the office from a device or with a request.
+/// Bytes from a device, or of a request with an idempotency key.
 #[derive(Clone, Drop)]
 pub struct Piece {
     bytes: Vec<u8>,
@@ -53,7 +53,7 @@ pub struct Asked {
 pub enum Event {
     /// The connection to a device was opened.
     Connected(Option<Name>),
-    /// A device sent bytes.
+    /// Bytes arrived from a device.
     Bytes(Option<Name>, Piece),
     /// A timer event: no input arrived before this time.
     Tick,

@@ -126,7 +126,7 @@ pub struct Reply {
     pub at: u64,
 }
 
-/// A record of the store.
+/// A record that the office keeps in its store.
 #[derive(Drop)]
 pub enum Fact {
     Device(Device),
