@@ -21,8 +21,8 @@ abbrev pub with_verdict : List Entry → Reading → Verdict → List Entry
 with_verdict es reading (Accepted rolls step) = entry.Step reading.at reading.raw rolls ∷ es
 with_verdict es reading (Held cause) = es
 
--- The entries of an installation after these readings, of which some may be rejected. The latest
--- comes first.
+-- The entries of an installation after these readings. Some readings may be rejected. The latest
+-- entry comes first.
 abbrev pub entries_of_readings : (range ceiling : ℕ) → Last → List Reading → List Entry
 entries_of_readings range ceiling opening [] = []
 entries_of_readings range ceiling opening (r ∷ rs) =
