@@ -1,5 +1,5 @@
-//! Theorems on rows of which each may follow those before it. Each is the contract of a function.
-//! Its body calls the theorem that the proof needs, or is empty.
+//! Theorems on rows that fit: each may follow the rows before it. Each theorem is the contract of
+//! a function, whose body calls the theorem that the proof needs, or is empty.
 ghost use Rattle.meter_audit.specs.Laws.{RowsOfJournalsFit, FittingRowsStandAlone};
 ghost use Rattle.meter_audit.specs.Laws.{FineTablesAreLawful, LawfulTablesAreFine};
 ghost use Rattle.meter_audit.specs.Laws.{PassedRowsFit, FittingRowsPass, RowsAreToldApart};
