@@ -56,7 +56,7 @@ ended Whole bytes = bytes ∷ []
 ended Foreign bytes = bytes ∷ []
 ended Garbled bytes = []
 
--- A feed continues the reading of the stream, whatever came earlier. A frame that ended follows
+-- For any earlier bytes, a feed continues the reading of the stream. A frame that ended follows
 -- the earlier frames, and the new rest is buffered.
 abbrev pub ReadsOn : (old new : Buffered) → (taken : List ℕ) → Framing → Type 0
 ReadsOn old new taken what =

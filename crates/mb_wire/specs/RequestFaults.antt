@@ -74,7 +74,7 @@ is_wrong_carried_count pdu =
     carries_bytes (function_in pdu)
     && not (count_in pdu == bytes_of (function_in pdu) (field_in pdu))
 
--- The value of a coil is neither 0x0000 nor 0xFF00 (65280).
+-- The value of a coil is another than 0x0000 and 0xFF00 (65280).
 abbrev pub is_wrong_coil_value : List ℕ → Bool
 is_wrong_coil_value pdu = function_in pdu == 5 && not (field_in pdu == 0 || field_in pdu == 65280)
 
