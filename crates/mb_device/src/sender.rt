@@ -22,7 +22,8 @@ fn give_both<L: Link>(link: &mut L, first: &[u8], next: &[u8]) -> Result<(), Lin
     give_all(link, next)
 }
 
-// Sends what a trick makes of a frame's response, and the response that was buffered before it.
+// Sends the response to a frame as its trick changes it, and then the response that was buffered
+// before.
 fn give_by<L: Link>(
     link: &mut L,
     trick: Option<Trick>,
