@@ -114,7 +114,7 @@ LeavesPending timeout events event =
     ≡ filter (λ poll. is_none (settled_by events event poll)) (pending timeout events)
     ++ option_to_list (started timeout events event)
 
--- After one more event, each poll keeps its earlier outcome, or gets the one that the event
+-- After one more event, each poll keeps its earlier outcome, or gets the outcome that the event
 -- settles. A poll that the event starts has none yet.
 abbrev pub AddsResults : ℕ → List Event → Event → Type 0
 AddsResults timeout events event =

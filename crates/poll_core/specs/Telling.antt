@@ -57,7 +57,8 @@ pub record TellsOfCall (old new : State) (before after : List ℕ → Event)
   pub told : (events : List Event) (bytes : List ℕ) (told : List (ℕ × Settlement))
       → Before old events (before bytes) told → After new events (after bytes) told settled
 
--- The effect of a call that brings a piece at this time, of which it takes the bytes `taken`.
+-- The effect of a call that brings a piece at this time, and takes the bytes `taken` of the
+-- piece.
 abbrev pub TellsPiece : State → State → ℕ → List ℕ → Option (ℕ × Settlement) → Type 0
 TellsPiece old new moment taken =
     TellsOfCall old new (λ bytes. Piece moment bytes) (λ bytes. Piece moment (bytes ++ taken))
