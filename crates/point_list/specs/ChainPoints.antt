@@ -57,7 +57,7 @@ abbrev pub model_points : Words → ℕ → Model → List ListedPoint
 model_points word place model =
     map (listed place model.id (points_in word model)) (points_in word model)
 
--- The points of a list for consecutive models, of which the first has number `place`.
+-- The points of a list for consecutive models. The first model has number `place`.
 abbrev pub points_from : Words → ℕ → List Model → List ListedPoint
 points_from word place [] = []
 points_from word place (model ∷ models) =

@@ -45,7 +45,7 @@ six_fields (a ∷ b ∷ c ∷ d ∷ e ∷ f ∷ []) =
     Some (record { name = a; function = b; area = c; address = d; kind = e; scale = f })
 six_fields _ = None
 
--- The row has six fields, of which the first is this name.
+-- The row has six fields, and the first of them is this name.
 abbrev pub has_name : List ℕ → List (List ℕ) → Bool
 has_name name fields = option_map_or (λ row. bytes_eq row.name name) (six_fields fields) false
 
