@@ -42,7 +42,7 @@ abbrev pub words_told : Words → List Exchange → Words
 words_told word [] = word
 words_told word (exchange ∷ exchanges) = words_told (words_after word exchange) exchanges
 
--- Each read is the one that the stage wants, given the words so far. After the last of them, the
+-- Each read is the read that the stage wants, given the words so far. After the last of them, the
 -- scan wants none.
 abbrev pub AsksInTurn : Words → Stage → List Exchange → Type 0
 AsksInTurn word stage [] = wanted stage ≡ None
