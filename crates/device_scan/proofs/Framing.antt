@@ -38,7 +38,7 @@ frames-then a b =
       ends = next.ends;
     }
 
--- Bytes of a single unfinished or bad frame.
+-- Bytes that are an incomplete frame or a bad one have no frames, and are their own rest.
 pub rest_alone : (b : List ℕ) → IsOpen b ⊎ IsBad b → (frames b ≡ []) × (rest b ≡ b)
 rest_alone b ends = Reads-only b [] b record { joined = refl; each = tt; ends = ends }
 
@@ -80,7 +80,7 @@ piece_rest what r piece taken buffered tells is =
     let stays : rest b ≡ buffered.rest = (told what b tells).1 ∙ ap (λ (h : Buffered). h.rest) (sym is) in
     ap rest (piece_is r piece taken) ∙ (frames-then b (from taken piece)).1 ∙ ap (λ y. rest (y ++ from taken piece)) stays
 
--- A feed that consumes a complete piece and completes no frame.
+-- A feed that takes a complete piece and completes no frame leaves all bytes buffered.
 pub need_rest : (what : Framing) (r piece : List ℕ) (taken : ℕ) (buffered : Buffered) → TellsFraming what (r ++ take taken piece) → buffered ≡ buffered_after what (r ++ take taken piece)
     → what ≡ Need → taken ≡ length piece → (buffered.rest ≡ rest (r ++ piece)) × IsOpen buffered.rest × (frames (r ++ piece) ≡ []) × (buffered ≡ buffered_after Need (r ++ piece))
 need_rest what r piece taken buffered tells is need all =
@@ -93,20 +93,21 @@ need_rest what r piece taken buffered tells is need all =
     let stays : buffered.rest ≡ r ++ piece = ap (λ (h : Buffered). h.rest) is_need in
     (stays ∙ sym alone.1, subst IsOpen (sym stays) is_open, alone.0, is_need)
 
--- A feed that ends at a bad length.
+-- After a feed that ends at a bad length, the rest of the stream is bad.
 pub garbled_rest : (what : Framing) (r piece : List ℕ) (taken : ℕ) → TellsFraming what (r ++ take taken piece) → what ≡ Garbled → IsBad (rest (r ++ piece))
 garbled_rest what r piece taken tells garbled =
     let b = r ++ take taken piece in
     let bad : TellsFraming Garbled b = subst (λ w. TellsFraming w b) garbled tells in
     subst (λ y. IsBad (rest y)) (sym (piece_is r piece taken)) (bad_stays b (from taken piece) bad.0)
 
--- An unfinished frame and no more bytes.
+-- An incomplete frame with no bytes after it has no frames, and is its own rest.
 pub nothing_came : (r : List ℕ) → IsOpen r → (frames (r ++ []) ≡ []) × (r ≡ rest (r ++ []))
 nothing_came r is_open =
     let alone = rest_alone r (inl is_open) in
     (ap frames (append-nil r) ∙ alone.0, sym alone.1 ∙ sym (ap rest (append-nil r)))
 
--- Bytes after those that arrived.
+-- The frames of more bytes are those of the bytes that arrived so far, and those of their rest
+-- with the new bytes.
 pub came_more : (r came more : List ℕ) → (frames (r ++ (came ++ more)) ≡ frames (r ++ came) ++ frames (rest (r ++ came) ++ more)) × (rest (r ++ (came ++ more)) ≡ rest (rest (r ++ came) ++ more))
 came_more r came more =
     let joined : r ++ (came ++ more) ≡ (r ++ came) ++ more = sym (append_assoc r came more) in

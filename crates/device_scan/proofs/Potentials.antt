@@ -38,7 +38,7 @@ marked_potential address =
       | false ↦ elim (address == 50000) as (λ b. 250 + 250 * 64 + (65536 - (address + 2)) + 125 ≤ (if b then 82036 else 81911)) [ true ↦ omega arith | false ↦ omega arith ]
     ]
 
--- A valid model at an address.
+-- The model is valid at this address, after `models` others.
 pub record Standing (models address : ℕ) (model : Model) : Type 0 where
   pub at : model.address ≡ address
   pub few : models < 64

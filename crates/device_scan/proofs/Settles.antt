@@ -25,7 +25,7 @@ if_ok_then P Q (Err e) holds step = tt
 abbrev brings : Ask → List ℕ → Option (List ℕ)
 brings ask frame = words_in ask (fields_of frame)
 
--- Frames after others.
+-- Frames after other frames settle a try only if the others do not.
 pub settled_both : (ask : Ask) (fs gs : List (List ℕ)) → settled ask (fs ++ gs) ≡ first_of (settled ask fs) (settled ask gs)
 settled_both ask [] gs = refl
 settled_both ask (f ∷ fs) gs =
@@ -41,7 +41,7 @@ pub first_none : {X : Type 0} (a : Option X) → first_of a None ≡ a
 first_none None = refl
 first_none (Some x) = refl
 
--- One frame.
+-- One frame settles a try exactly if it is of Modbus and has the try's transaction identifier.
 one_frame : (ask : Ask) (f : List ℕ) (is : Bool) → is_reply ask f ≡ is → settled ask (f ∷ []) ≡ cond is (Some (brings ask f)) None
 one_frame ask f true e = ap (λ (b : Bool). option_map (brings ask) (cond b (Some f) None)) e
 one_frame ask f false e = ap (λ (b : Bool). option_map (brings ask) (cond b (Some f) None)) e
@@ -52,7 +52,7 @@ own_reply ask f own = ap (λ (b : Bool). b && (tid_of f == ask.id)) (eq-eqb _ _ 
 foreign_reply : (ask : Ask) (f : List ℕ) → (IsOwn f → ⊥) → is_reply ask f ≡ false
 foreign_reply ask f foreign = ap (λ (b : Bool). b && (tid_of f == ask.id)) (ne_eqb _ _ foreign)
 
--- A reader without a frame.
+-- A reader that holds no frame settles no try.
 pub none_held : (ask : Ask) (held : Option (List ℕ)) → None ≡ option_map fields_of held → settled ask (frames_held held) ≡ None
 none_held ask None is = refl
 none_held ask (Some f) is = cc
@@ -105,7 +105,7 @@ piece_settles ask what r piece taken buffered tells is =
     ∙ ap (λ (x : Option (Option (List ℕ))). first_of x (settled ask (frames (rest b ++ left)))) front
     ∙ ap (λ (y : List ℕ). first_of (settled ask (frames_held buffered.frame)) (settled ask (frames (y ++ left)))) stays
 
--- A feed that consumes a complete piece and completes no frame.
+-- A feed that takes a complete piece and completes no frame settles nothing.
 pub need_settles : (ask : Ask) (what : Framing) (r piece : List ℕ) (taken : ℕ) (buffered : Buffered) → TellsFraming what (r ++ take taken piece) → buffered ≡ buffered_after what (r ++ take taken piece)
     → what ≡ Need → taken ≡ length piece → settled ask (frames_held buffered.frame) ≡ settled ask (frames (r ++ piece))
 need_settles ask what r piece taken buffered tells is need all =

@@ -1,4 +1,4 @@
--- The result of a try: one request for registers, and the frames that follow.
+-- The result of a try. A try is one request for registers, and the frames that follow it.
 use Rattle.std.specs.Prelude.{ℕ, ◌==◌, ◌&&◌, Bool, if◌then◌else◌, List, [], ◌∷◌, Vec, find, Ok, Err, Some, None, option_map}
 use Rattle.std.specs.declared.option.Option.{Option}
 use Rattle.std.specs.declared.result.Result.{Result}
@@ -10,25 +10,27 @@ use Rattle.mb_wire.specs.Spans.{Span, request_of, span_view}
 use Rattle.mb_wire.specs.declared.replies.ReplyFault.{ReplyFault}
 use Rattle.device_scan.specs.declared.tries.Try.{Try}
 
--- A request: its transaction identifier, the unit identifier, and the requested registers.
+-- A request as a value: its transaction identifier, its unit identifier, and the registers that
+-- it requests.
 pub record Ask : Type 0 where
   pub id : ℕ
   pub unit : ℕ
   pub span : Span
 
--- The request that a `Try` of the program represents.
+-- A `Try` of the program, as a value.
 abbrev pub ask_of : Try → Ask
 ask_of attempt = record { id = attempt.id; unit = attempt.unit; span = span_view attempt.span }
 
--- The frame of the request.
+-- The bytes of the request's frame.
 abbrev pub request_frame : Ask → List ℕ
 request_frame ask = spelling ask.id ask.unit (request_bytes (request_of ask.span))
 
--- A Modbus frame (protocol identifier 0) with the request's transaction identifier.
+-- The frame is of Modbus and has the request's transaction identifier.
 abbrev pub is_reply : Ask → List ℕ → Bool
 is_reply ask frame = protocol_of frame == 0 && tid_of frame == ask.id
 
--- The registers of a decoded response. An exception has none, and neither has a fault.
+-- The registers of a decoded response, or `None` if it is an exception, another kind of response,
+-- or has a fault.
 abbrev pub brought : Result Answer ReplyFault → Option (List ℕ)
 brought (Ok (Bits bits)) = None
 brought (Ok (Words words)) = Some words
@@ -36,36 +38,38 @@ brought (Ok Echo) = None
 brought (Ok (Exception code)) = None
 brought (Err fault) = None
 
--- The registers that a response brings, if the requested unit sent it.
+-- The registers that a frame brings for the request, or `None` unless the requested unit sent
+-- them.
 abbrev pub words_in : Ask → Fields → Option (List ℕ)
 words_in ask fields =
     if fields.unit == ask.unit
     then brought (answer_in (query_of (request_of ask.span)) fields.pdu)
     else None
 
--- The first response among frames settles the try, with words or without.
+-- The result of the try: that of the first frame with its transaction identifier, which may bring
+-- no words. `None` if no frame has that identifier.
 abbrev pub settled : Ask → List (List ℕ) → Option (Option (List ℕ))
 settled ask frames =
     option_map (λ frame. words_in ask (fields_of frame)) (find (is_reply ask) frames)
 
--- The first of two results that exists.
+-- The first value if there is one, otherwise the second.
 abbrev pub first_of : {X : Type 0} → Option X → Option X → Option X
 first_of None next = next
 first_of (Some x) next = Some x
 
--- The model of the program's types: the items of a vector.
+-- The words of a vector of the program, as a list.
 abbrev pub items_of : {Z : Type 0} → Vec ℕ Z → List ℕ
 items_of words = words.items
 
--- The words of a result, as a list.
+-- The words of a result of the program, as a list, or `None` if it has no words.
 abbrev pub words_seen : {Z : Type 0} → Option (Vec ℕ Z) → Option (List ℕ)
 words_seen words = option_map items_of words
 
--- The words of a result that may not exist yet.
+-- The result of a try with its words as a list; `None` before a response arrives.
 abbrev pub seen : {Z : Type 0} → Option (Option (Vec ℕ Z)) → Option (Option (List ℕ))
 seen heard = option_map words_seen heard
 
--- The frame that a reader holds, if any.
+-- The frame that a reader holds, as a list of one frame or none.
 abbrev pub frames_held : Option (List ℕ) → List (List ℕ)
 frames_held None = []
 frames_held (Some frame) = frame ∷ []

@@ -11,14 +11,14 @@ use Rattle.sun_chain.specs.declared.model.Model.{Model}
 use Rattle.device_scan.specs.declared.stage.Stage.{Stage}
 use Rattle.device_scan.specs.declared.stage.Stage.TheVariants.{Mark, Head, Ending, Registers, Over}
 
--- Holding registers, which function 3 reads.
+-- A span of holding registers, which function 3 reads.
 abbrev pub holding : (address count : ℕ) → Span
 holding address count =
     record { function = HoldingRegisters; address = address; count = count }
 
--- The next read of each stage, if any. A mark has two registers. A head is an ID and a length, or
--- only one register at the last address. The end's ID may be read alone. Registers of a model are
--- read up to 125 at once.
+-- The read that a stage wants, or `None` at the end. A mark has two registers. A head is an ID
+-- and a length, or only one register at the last address. The end's ID may be read alone.
+-- Registers of a model are read up to 125 at once.
 abbrev pub wanted : Stage → Option Span
 wanted (Mark address) = Some (holding address 2)
 wanted (Head address models) = Some (holding address (min 2 (ADDRESSES - address)))
@@ -27,7 +27,7 @@ wanted (Registers model asked models) =
     Some (holding (model.address + 2 + asked) (min MAX_READ_REGISTERS (model.length - asked)))
 wanted Over = None
 
--- The model whose registers are read next.
+-- The model whose registers a stage reads next, or `None`.
 abbrev pub model_of : Stage → Option Model
 model_of (Mark address) = None
 model_of (Head address models) = None
@@ -35,11 +35,11 @@ model_of (Ending address) = None
 model_of (Registers model asked models) = Some model
 model_of Over = None
 
--- The models with a table: 1, 101 to 103, and 201 to 204.
+-- A model with this ID has a table of points: 1, 101 to 103, and 201 to 204.
 abbrev pub is_known : ℕ → Bool
 is_known id = id == 1 || (nat_le 101 id && nat_le id 103) || (nat_le 201 id && nat_le id 204)
 
--- The first stage: the mark at 40000.
+-- The first stage of a scan, which reads the mark at 40000.
 abbrev pub begun : Stage
 begun = Mark 40000
 
@@ -48,22 +48,24 @@ abbrev pub other_mark : ℕ → Stage
 other_mark address =
     if address == 40000 then Mark 50000 else if address == 50000 then Mark 0 else Over
 
--- The stage after `models` models: another head up to the last address, else the end of the scan.
+-- The stage after `models` models: the head at this address, or the end of the scan past the last
+-- address.
 abbrev pub head_at : (models address : ℕ) → Stage
 head_at models address = if nat_le address 65535 then Head address models else Over
 
--- The stage after a head. Only the registers of known models are read.
+-- The stage after the head of a model. Only the registers of models with a table are read.
 abbrev pub in_model : (models : ℕ) → Model → Stage
 in_model models model =
     if is_known model.id && nat_lt 0 model.length then Registers model 0 models
     else head_at models (next_after model)
 
--- A valid model: not the end's ID, not a 65th model, and not past the last address.
+-- The model is valid: its ID is not the end's, at most 64 models come before and with it, and it
+-- ends by the last address.
 abbrev pub may_stand : (models : ℕ) → Model → Bool
 may_stand models model =
     not (model.id == 0xFFFF) && nat_lt models 64 && nat_le (next_after model) ADDRESSES
 
--- The model, if it is valid.
+-- The model if it is valid, otherwise `None`.
 abbrev pub checked : (models : ℕ) → Model → Option Model
 checked models model = if may_stand models model then Some model else None
 
@@ -71,25 +73,26 @@ checked models model = if may_stand models model then Some model else None
 abbrev pub model_at : (address id length : ℕ) → Model
 model_at address id length = record { address = address; id = id; length = length }
 
--- The valid model at an address after `models` others, if its ID and its length were read.
+-- The valid model at an address after `models` others, or `None`. Its ID and its length must have
+-- been read.
 abbrev pub model_in : Words → (models address : ℕ) → Option Model
 model_in word models address =
     option_and_then (λ id. option_and_then (λ length. checked models (model_at address id length))
     (word (address + 1)))
     (word address)
 
--- The stage after a head that was not read: the ID alone, because the end may be the last register
--- of a device.
+-- The stage after a head that was not read: it reads the ID alone, because the end may be the
+-- device's last register.
 abbrev pub ending_at : (address : ℕ) → Stage
 ending_at address = if nat_lt address 65535 then Ending address else Over
 
--- The stage after the read of a head, with its ID if it was read.
+-- The stage after the read of a head: by its ID, or by `None` if the ID was not read.
 abbrev pub after_head : Words → (models address : ℕ) → Option ℕ → Stage
 after_head word models address None = ending_at address
 after_head word models address (Some id) =
     option_map_or (in_model (models + 1)) (model_in word models address) Over
 
--- The stage after a read, by the words that the device has shown so far.
+-- The stage after a read of this stage. `word` has the words that the scan has received so far.
 abbrev pub stage_after : Words → Stage → Stage
 stage_after word (Mark address) =
     if is_marked word address then Head (address + 2) 0 else other_mark address
@@ -101,7 +104,8 @@ stage_after word (Registers model asked models) =
     else head_at models (next_after model)
 stage_after word Over = Over
 
--- The registers of the next read lie inside the addresses of a device.
+-- The registers that this stage reads lie within a device's addresses, and its numbers are within
+-- the limits of a scan.
 abbrev pub fits : Stage → Bool
 fits (Mark address) = nat_le address 50000
 fits (Head address models) = nat_le models 64

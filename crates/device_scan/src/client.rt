@@ -13,8 +13,8 @@ use crate::tries::Try;
 use mb_wire::{FrameReader, Link, LinkFailed, ReadSpan};
 use std::alloc::Global;
 
-/// The bytes since the end of the last frame, the unit identifier, and the next transaction
-/// identifier.
+/// A client on one link: the bytes since the end of the last frame, the unit identifier, and the
+/// next transaction identifier.
 #[derive(Drop)]
 pub(crate) struct Client {
     reader: FrameReader,
@@ -39,7 +39,8 @@ impl Client {
         }
     }
 
-    // The transaction identifier wraps from 65535 to 0.
+    // Sends one request and waits for its response. The transaction identifier wraps from 65535
+    // to 0.
     fn try_once<L: Link>(
         &mut self,
         alloc: Global,

@@ -17,7 +17,7 @@ use sun_points::{acc32, sunssf};
 /// The source of a counter's scale.
 #[derive(Clone, Copy, Debug, PartialEq, Eq)]
 pub enum CounterScale {
-    /// A fixed power of ten.
+    /// A power of ten that is not read from the device.
     Fixed(i16),
     /// The `sunssf` register at this address of the device.
     Register(u16),
@@ -66,7 +66,8 @@ fn span_of(function: ReadFunction, address: u16, scale: CounterScale) -> Option<
     }
 }
 
-// An address without a word gives 0. The caller's span holds all addresses that it needs.
+// Returns the word at an address, or 0 without such a word. The caller's span has all addresses
+// that it needs.
 fn word_at(first: u16, words: &[u16], address: u32) -> u16
     ensures { result ≡ specs.word_at first words.now address }
 {
@@ -80,7 +81,7 @@ fn allowed(sf: i16) -> Option<i16>
     if -3 <= sf && sf <= 3 { Some(sf) } else { None }
 }
 
-// A register that is not implemented gives no scale.
+// Returns the scale in a sunssf register, or `None` if it is not implemented or not from -3 to 3.
 fn told(word: u16) -> Option<i16>
     ensures { result ≡ specs.told word }
 {

@@ -22,17 +22,17 @@ use std::alloc::{AllocError, Global};
 /// The maximum number of reads of the link for one try.
 pub const MOST_TAKES: u64 = 1000;
 
-/// The words that a device sent, if any.
+/// The words that a device sent in response to a try, or `None` if its response brought none.
 pub(crate) type Answer = Option<Vec<u16>>;
 
 /// The result of one read of the link.
 #[derive(Drop)]
 pub(crate) enum Turn {
-    /// The read timed out.
+    /// The read of the link timed out.
     Idle,
-    /// Bytes without a response to the try.
+    /// The read brought bytes, and no response to the try.
     More,
-    /// The response to the try.
+    /// The response to the try arrived, with or without words.
     Settled(Answer),
 }
 
@@ -48,7 +48,7 @@ fn registers<'a>(read: Result<Reply<'a>, ReplyFault>) -> Option<&'a [u8]>
     }
 }
 
-// A response of another unit brings no words.
+// Returns the words of a response frame. A response of another unit brings no words.
 fn answer(alloc: Global, frame: &Frame<'_>, attempt: &Try) -> Result<Answer, AllocError>
     ensures { IfOk result
         (λ answer. words_seen answer ≡ words_in (ask_of attempt.now) (spelled frame.now)) }
@@ -62,7 +62,8 @@ fn answer(alloc: Global, frame: &Frame<'_>, attempt: &Try) -> Result<Answer, All
     }
 }
 
-// A result that exists already has precedence over the frame.
+// Returns the result of the try after one more frame. A result that exists already has precedence
+// over the frame.
 fn hear_frame(
     alloc: Global,
     reader: &FrameReader,
@@ -97,7 +98,8 @@ fn hear_held(
     Ok(Some(answer(alloc, &frame, attempt)?))
 }
 
-// A result that exists already has precedence over the frames of the piece.
+// Returns the result of the try after a piece of bytes. A result that exists already has
+// precedence over the frames of the piece.
 fn hear_piece(
     alloc: Global,
     reader: &mut FrameReader,
@@ -155,7 +157,8 @@ fn hear_turn<L: Link>(
     }
 }
 
-/// Reads bytes until a response to the try arrives or a read times out, at most `MOST_TAKES` times.
+/// Reads the link until a response to the try arrives or a read times out, at most `MOST_TAKES`
+/// times. Returns the words of the response, or `None`.
 pub(crate) fn hear<L: Link>(
     alloc: Global,
     link: &mut L,

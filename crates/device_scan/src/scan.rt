@@ -61,7 +61,8 @@ impl Scan {
         }
     }
 
-    /// Returns the model whose registers are read next.
+    /// Returns the model whose registers are read next, or `None` if the next read is of no
+    /// model's registers.
     pub fn model(&self) -> Option<Model>
         ensures { result ≡ model_of (stage_of self.now) }
     {
@@ -93,7 +94,7 @@ impl Scan {
         }
     }
 
-    /// Records that the next read brought no words.
+    /// Records that the device sent no words for the next read.
     pub fn unread(&mut self)
         ensures words { (address : ℕ) → words_of self.new address ≡ words_of self.old address }
         ensures stage { stage_of self.new ≡ stage_after (words_of self.new) (stage_of self.old) }
@@ -134,7 +135,8 @@ fn holding(address: u16, count: u16) -> ReadSpan
     }
 }
 
-// The last address has no second register for the length.
+// Returns the number of registers of a head. The last address has no second register for the
+// length.
 fn head_count(address: u16) -> u16
     ensures { result ≡ min 2 (ADDRESSES - address) }
 {
@@ -153,7 +155,7 @@ fn after_mark(image: &Image, address: u16) -> Stage
     }
 }
 
-// The search ends after address 0.
+// Returns the stage after an address without a mark. The search ends after address 0.
 fn other_mark(address: u16) -> Stage
     ensures stage { result ≡ other_mark address }
     ensures inside { IsTrue (fits result) }
@@ -181,8 +183,8 @@ fn after_head(image: &Image, address: u16, models: u8) -> Stage
     }
 }
 
-// The end's ID is requested alone, except at the last address, where the head had one register
-// already.
+// Returns the stage after a head that was not read. It reads the end's ID alone, except at the
+// last address, where the head had only one register.
 fn ending_at(address: u16) -> Stage
     ensures stage { result ≡ ending_at address }
     ensures inside { IsTrue (fits result) }
@@ -194,7 +196,8 @@ fn ending_at(address: u16) -> Stage
     }
 }
 
-// A 65th model, the end's ID and a model past the last address are no models.
+// Returns the valid model at an address, or `None`. A 65th model, the end's ID and a model past
+// the last address are not valid.
 fn model_in(image: &Image, address: u16, models: u8) -> Option<Model>
     ensures model { result ≡ model_in (word_in image.now) models address }
     ensures inside { IfSome result (λ model. next_after model ≤ ADDRESSES) }
@@ -214,7 +217,8 @@ fn model_in(image: &Image, address: u16, models: u8) -> Option<Model>
     }
 }
 
-// Only the registers of known models are requested.
+// Returns the stage after the head of a model. Only the registers of models with a table are
+// requested.
 fn in_model(model: Model, models: u8) -> Stage
     requires inside { next_after model ≤ ADDRESSES }
     requires few { models ≤ 64 }

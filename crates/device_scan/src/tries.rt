@@ -1,7 +1,7 @@
 //! A try of a read.
 use mb_wire::ReadSpan;
 
-/// A single request of a read: its transaction identifier, the unit identifier, and the registers.
+/// One request of a read: its transaction identifier, the unit identifier, and the registers.
 #[derive(Clone, Copy, Debug, PartialEq, Eq)]
 pub(crate) struct Try {
     pub(crate) id: u16,

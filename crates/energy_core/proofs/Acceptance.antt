@@ -90,7 +90,7 @@ pub accepted_is_plausible : AcceptedIsPlausible
 accepted_is_plausible range terms last reading rolls step =
     (plausible_where_accepted range terms last reading rolls step, accepted_where_plausible range terms last reading rolls step)
 
--- An advance by a distance.
+-- The energy from a count to a later count is that of the distance between them.
 pub gained : (u from dist to_ : ℕ) → to_ ≡ from + dist → to_ * u - from * u ≡ dist * u
 gained u from dist to_ e = ap (λ n. n * u - from * u) e ∙ (let f : (from + dist) * u - from * u ≡ dist * u = omega arith in f)
 

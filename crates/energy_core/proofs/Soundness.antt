@@ -1,4 +1,4 @@
--- What is known of an account; readings preserve it.
+-- The invariant of an account. Accepted readings preserve it.
 use Rattle.std.proofs.Common.{◌≡◌, ℕ, ◌+◌, ◌-◌, ◌*◌, ◌^◌, ◌<◌, ◌≤◌, List, [], ◌∷◌, sym, refl, ◌∙◌, arith}
 use Rattle.std.specs.List.{All, sum_by}
 use Rattle.std.proofs.lemmas.List.Elements.{All-nil, All-cons}
@@ -48,7 +48,7 @@ accounts_are_sound range opening es last total below scale h =
       steps = shareable range opening es h.follow (omega (arith, h.within));
     }
 
--- What holds of a list of entries that begins an account.
+-- A list of entries that begins an account has an account itself.
 abbrev HasAccount : ℕ → Last → List Entry → Type 0
 HasAccount range opening es = IsAccount range opening es (last_of opening es) (whole_energy range opening es)
 

@@ -17,7 +17,7 @@ one_step r l u h = omega (arith, mul-le-mul_right u h)
 pub energy_in : Step → ℕ
 energy_in s = s.mwh
 
--- One more step.
+-- The steps with one more entry add up to the earlier sum plus the energy of that entry.
 pub sum-step : (range : ℕ) (opening : Last) (e : Entry) (es : List Entry)
     → sum_by (λ (s : Step). s.mwh) (steps_of range opening (e ∷ es))
     ≡ energy_of range (last_of opening es) e + sum_by (λ (s : Step). s.mwh) (steps_of range opening es)

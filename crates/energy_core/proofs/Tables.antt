@@ -1,4 +1,4 @@
--- A search that finds nothing.
+-- When a search in a list finds no element.
 use Rattle.std.proofs.Common.{◌≡◌, Bool, true, false, cond, List, [], ◌∷◌, Option, Some, None, refl}
 use Rattle.std.specs.List.{find, AllByRecursion}
 

@@ -93,7 +93,7 @@ one_reading range ceiling sf first a b pos on slow others =
       far,
     )
 
--- What holds after each item.
+-- The invariant after each item of a true run.
 record Booked (range ceiling : ℕ) (sf : ℤ) (first : Item) (items : List Item) (es : List Entry) : Type 0 where
   last : last_of (shown range sf first) es ≡ shown range sf (newest first items)
   on : first.count ≤ (newest first items).count

@@ -13,31 +13,32 @@ use Rattle.energy_core.specs.Value.{unit_of, value_of}
 abbrev pub intervals_touched : (from till : ℕ) → ℕ
 intervals_touched from till = (till - 1) / INTERVAL_SECONDS - from / INTERVAL_SECONDS + 1
 
--- The time of an entry.
+-- The time of an entry, in seconds since 1970-01-01 UTC.
 abbrev pub moment_of : Entry → ℕ
 moment_of (entry.Step at raw rolls) = at
 moment_of (entry.Change at before new sf) = at
 
--- The counter's state after an entry.
+-- The counter's state after an entry, if `last` is its state before the entry.
 abbrev pub after : Last → Entry → Last
 after last (entry.Step at raw rolls) = record { at = at; raw = raw; sf = last.sf }
 after last (entry.Change at before new sf) = record { at = at; raw = new; sf = sf }
 
--- The counter's state after all entries of an installation.
+-- The counter's state after all these entries, the opening included.
 abbrev pub last_of : Last → List Entry → Last
 last_of opening [] = opening
 last_of opening (e ∷ es) = after (last_of opening es) e
 
--- The count that the counter would have reached if it had not rolled over and had not been set.
+-- The count that the counter reached at the entry: with its full turns for a `Step`, before it
+-- was set for a `Change`.
 abbrev pub reached : (range : ℕ) → Entry → ℕ
 reached range (entry.Step at raw rolls) = raw + rolls * range
 reached range (entry.Change at before new sf) = before
 
--- The energy in mWh from the last entry to this one.
+-- The energy in mWh from the state `last` to this entry.
 abbrev pub energy_of : (range : ℕ) → Last → Entry → ℕ
 energy_of range last e = reached range e * unit_of last.sf - value_of last
 
--- The step from the last entry to this one.
+-- The step from the state `last` to this entry.
 abbrev pub step_to : (range : ℕ) → Last → Entry → Step
 step_to range last e = record { from = last.at; till = moment_of e; mwh = energy_of range last e }
 
@@ -46,7 +47,8 @@ abbrev pub steps_of : (range : ℕ) → Last → List Entry → List Step
 steps_of range opening [] = []
 steps_of range opening (e ∷ es) = step_to range (last_of opening es) e ∷ steps_of range opening es
 
--- The full turns that the entries record, and what the counter showed before each change, in mWh.
+-- The energy of all recorded full turns, plus the energy of the number that the counter showed
+-- before each change, in mWh.
 abbrev pub recorded : (range : ℕ) → Last → List Entry → ℕ
 recorded range opening [] = 0
 recorded range opening (entry.Step at raw rolls ∷ es) =
@@ -54,7 +56,7 @@ recorded range opening (entry.Step at raw rolls ∷ es) =
 recorded range opening (entry.Change at before new sf ∷ es) =
     before * unit_of (last_of opening es).sf + recorded range opening es
 
--- What each change set the counter to, in mWh.
+-- The energy of the numbers to which changes set the counter, in mWh.
 abbrev pub set_anew : List Entry → ℕ
 set_anew [] = 0
 set_anew (entry.Step at raw rolls ∷ es) = set_anew es
@@ -67,27 +69,28 @@ abbrev pub whole_energy : (range : ℕ) → Last → List Entry → ℕ
 whole_energy range opening es =
     (value_of (last_of opening es) + recorded range opening es) - (value_of opening + set_anew es)
 
--- No entry goes back, so each difference above is a true difference.
+-- No entry's count is less than the count before it, so no subtraction above is cut off at 0.
 abbrev pub NeverFalls : (range : ℕ) → Last → List Entry → Type 0
 NeverFalls range opening [] = Unit {0}
 NeverFalls range opening (e ∷ es) =
     ((last_of opening es).raw ≤ reached range e) × NeverFalls range opening es
 
--- A scale that a register may have.
+-- A scale factor that an accounting register may have: from -3 to 3.
 abbrev pub IsScale : ℤ → Type 0
 IsScale sf = (MIN_SCALE ≤ℤ sf) × (sf ≤ℤ MAX_SCALE)
 
--- If the entry sets the scale, it sets a lawful one.
+-- The scale factor that a change sets is from -3 to 3. A `Step` sets none.
 abbrev pub HasScale : Entry → Type 0
 HasScale (entry.Step at raw rolls) = Unit {0}
 HasScale (entry.Change at before new sf) = IsScale sf
 
--- The counter can show the numbers of the entry.
+-- Every number of the entry is below the counter's range.
 abbrev pub CanBeShown : (range : ℕ) → Entry → Type 0
 CanBeShown range (entry.Step at raw rolls) = raw < range
 CanBeShown range (entry.Change at before new sf) = (before < range) × (new < range)
 
--- An entry may follow the last one.
+-- The entry may follow the state `last`: its count does not go back, it is later, and its step,
+-- scale factor and numbers are within their limits.
 pub record Follows (range : ℕ) (last : Last) (e : Entry) : Type 0 where
   pub rises : last.raw ≤ reached range e
   pub later : last.at < moment_of e
@@ -95,12 +98,13 @@ pub record Follows (range : ℕ) (last : Last) (e : Entry) : Type 0 where
   pub scale : HasScale e
   pub shown : CanBeShown range e
 
--- Each entry may follow those before it.
+-- Each entry may follow the counter's state after the earlier ones.
 abbrev pub AllFollow : (range : ℕ) → Last → List Entry → Type 0
 AllFollow range opening [] = Unit {0}
 AllFollow range opening (e ∷ es) = Follows range (last_of opening es) e × AllFollow range opening es
 
--- The account of an installation: its last entry and its total energy after these entries.
+-- After these entries, `last` is the counter's state and `total` is the energy in mWh, within its
+-- limit. Each entry may follow those before it.
 pub record IsAccount (range : ℕ) (opening : Last) (es : List Entry) (last : Last) (total : ℕ) : Type
     0 where
   pub last_is : last ≡ last_of opening es

@@ -10,7 +10,7 @@ use Rattle.energy_core.specs.declared.admission.TermFault.{TermFault}
 use Rattle.energy_core.specs.declared.admission.TermFault.TheVariants as fault
 use Rattle.energy_core.specs.Account.{intervals_touched, moment_of, after, reached, energy_of, step_to, Follows, IsAccount}
 
--- The number of a fault.
+-- The number of each fault, from 1 to 6.
 abbrev pub fault_number : TermFault → ℕ
 fault_number fault.NegativeStep = 1
 fault_number fault.NotLater = 2
@@ -19,17 +19,17 @@ fault_number fault.TotalFull = 4
 fault_number fault.BadScale = 5
 fault_number fault.NotBelowRange = 6
 
--- The entry sets a scale that no register may have.
+-- The entry sets a scale factor that is not from -3 to 3.
 abbrev pub has_bad_scale : Entry → Bool
 has_bad_scale (entry.Step at raw rolls) = false
 has_bad_scale (entry.Change at before new sf) = int_lt sf MIN_SCALE || int_lt MAX_SCALE sf
 
--- The entry has a number that the counter cannot show.
+-- A number of the entry is not below the counter's range.
 abbrev pub is_beyond : (range : ℕ) → Entry → Bool
 is_beyond range (entry.Step at raw rolls) = nat_le range raw
 is_beyond range (entry.Change at before new sf) = nat_le range before || nat_le range new
 
--- The fault applies to the entry.
+-- The fault applies to this entry after the state `last` and the total energy `total`.
 abbrev pub refuses : (range total : ℕ) → Last → Entry → TermFault → Bool
 -- the counter would have gone back
 refuses range total last e fault.NegativeStep = nat_lt (reached range e) last.raw
@@ -48,22 +48,24 @@ abbrev pub faults : List TermFault
 faults = fault.NegativeStep ∷ fault.NotLater ∷ fault.SpanTooLong ∷ fault.TotalFull ∷ fault.BadScale
     ∷ fault.NotBelowRange ∷ []
 
--- The entry is refused for this fault, or recorded.
+-- The result of an entry: the fault, if there is one; otherwise the counter's state after the
+-- entry, and the step to it.
 abbrev pub answered : (range : ℕ) → Last → Entry → Option TermFault → Result (Last × Step) TermFault
 answered range last e (Some fault) = Err fault
 answered range last e None = Ok (after last e, step_to range last e)
 
--- The entry is refused for the first fault that applies. If none does, it is recorded: the
--- counter's state after it, and the step. The ceiling is not checked.
+-- The result of an entry by hand: the first fault that applies; if none does, the counter's state
+-- after the entry, and the step to it. The ceiling is not checked.
 abbrev pub entered : (range total : ℕ) → Last → Entry → Result (Last × Step) TermFault
 entered range total last e = answered range last e (find (refuses range total last e) faults)
 
--- The account continues: after these entries this is the counter's state, and the total has grown
--- by the step.
+-- After these entries, the account has the counter's state `r.0`, and the step `r.1` is added to
+-- its total.
 abbrev pub ContinuesAccount : (range : ℕ) → Last → List Entry → (total : ℕ) → Last × Step → Type 0
 ContinuesAccount range opening es total r = IsAccount range opening es r.0 (total + r.1.mwh)
 
--- Every account with this state and total continues by the entry, if the entry is recorded.
+-- If `answer` records the entry, the entry extends every account that has this state and this
+-- total.
 abbrev pub AccountsGoOnBy : (range total : ℕ) → Last → Entry → Result (Last × Step) TermFault
     → Type 0
 AccountsGoOnBy range total last e answer = (opening : Last) (es : List Entry)

@@ -14,8 +14,8 @@ use Rattle.energy_core.specs.Verdict.{distance, verdict_of, IsPlausible}
 use Rattle.energy_core.specs.Admission.{entered, IsBooked}
 use Rattle.energy_core.specs.Readings.{entries_of_readings}
 
--- The steps balance: their energies, the first value and what the counter was set to equal the last
--- value and what the entries recorded.
+-- The energies of the steps, the opening's value and the values that changes set equal the last
+-- value plus `recorded`.
 abbrev pub StepsAddUp : Type 0
 StepsAddUp = (range : ℕ) (opening : Last) (es : List Entry) → NeverFalls range opening es
     → sum_by (λ (s : Step). s.mwh) (steps_of range opening es) + value_of opening + set_anew es
@@ -26,7 +26,8 @@ abbrev pub StepsAreTheWhole : Type 0
 StepsAreTheWhole = (range : ℕ) (opening : Last) (es : List Entry) → NeverFalls range opening es
     → sum_by (λ (s : Step). s.mwh) (steps_of range opening es) ≡ whole_energy range opening es
 
--- An entry is recorded exactly if it may follow, and the energy stays within its limit.
+-- `entered` records an entry exactly if the entry may follow `last` and the total energy stays
+-- within its limit.
 abbrev pub EnteredIsBooked : Type 0
 EnteredIsBooked = (range total : ℕ) (last : Last) (e : Entry) (next : Last) (step : Step)
     → (entered range total last e ≡ Ok (next, step)) ↔ IsBooked range total last e next step
@@ -51,11 +52,11 @@ AcceptedIsEntered = (range : ℕ) (terms : Terms) (last : Last) (reading : Readi
       record { from = last.at; till = reading.at; mwh = step },
     )
 
--- At its opening an installation has an account without energy.
+-- An installation that was just opened has an account with 0 mWh.
 abbrev pub AccountsBegin : Type 0
 AccountsBegin = (range : ℕ) (opening : Last) → IsAccount range opening [] opening 0
 
--- One more entry extends the account by that entry.
+-- One more entry that is recorded extends the account by that entry.
 abbrev pub AccountsGoOn : Type 0
 AccountsGoOn = (range : ℕ) (opening : Last) (es : List Entry) (last : Last) (total : ℕ)
     (e : Entry) (next : Last) (step : Step)
@@ -78,13 +79,14 @@ pub record IsSound (range : ℕ) (opening : Last) (es : List Entry) (last : Last
   pub sum : total ≡ sum_by (λ (s : Step). s.mwh) (steps_of range opening es)
   pub steps : All IsShareable (steps_of range opening es)
 
--- The account of an installation whose opening is sound is sound.
+-- If the opening shows a number below the range at a lawful scale factor, each account of the
+-- installation is sound.
 abbrev pub AccountsAreSound : Type 0
 AccountsAreSound = (range : ℕ) (opening : Last) (es : List Entry) (last : Last) (total : ℕ)
     → opening.raw < range → IsScale opening.sf
     → IsAccount range opening es last total → IsSound range opening es last total
 
--- For any list of readings, the entries that they leave have an account.
+-- After any list of readings, the accepted ones are entries that have an account.
 abbrev pub ReadingsKeepAccounts : Type 0
 ReadingsKeepAccounts = (range ceiling : ℕ) (opening : Last) (rs : List Reading)
     → opening.raw < range

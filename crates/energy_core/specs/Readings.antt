@@ -1,4 +1,4 @@
--- The readings of an installation, and the entries that they leave. The latest comes first.
+-- The readings of an installation, and the accepted ones as its entries. The latest comes first.
 use Rattle.std.specs.Prelude.{ℕ, List, [], ◌∷◌}
 use Rattle.energy_core.specs.declared.entries.Last.{Last}
 use Rattle.energy_core.specs.declared.entries.Entry.{Entry}
@@ -15,12 +15,14 @@ verdict_on range ceiling opening es reading =
     verdict_of range (record { ceiling = ceiling; total = whole_energy range opening es })
     (last_of opening es) reading
 
--- The entries after a verdict: an accepted reading is an entry, a rejected one is not.
+-- The entries after a verdict on a reading: with the reading if it is accepted, unchanged if it
+-- is rejected.
 abbrev pub with_verdict : List Entry → Reading → Verdict → List Entry
 with_verdict es reading (Accepted rolls step) = entry.Step reading.at reading.raw rolls ∷ es
 with_verdict es reading (Held cause) = es
 
--- The entries of an installation after these readings, also rejected ones, the latest first.
+-- The entries of an installation after these readings. Some readings may be rejected. The latest
+-- entry comes first.
 abbrev pub entries_of_readings : (range ceiling : ℕ) → Last → List Reading → List Entry
 entries_of_readings range ceiling opening [] = []
 entries_of_readings range ceiling opening (r ∷ rs) =
@@ -32,7 +34,7 @@ abbrev pub IsAccepted : Verdict → Type 0
 IsAccepted (Accepted rolls step) = Unit {0}
 IsAccepted (Held cause) = ⊥
 
--- Each of these readings was accepted in its turn.
+-- Each of these readings is accepted when it is judged after the earlier ones.
 abbrev pub AllAccepted : (range ceiling : ℕ) → Last → List Reading → Type 0
 AllAccepted range ceiling opening [] = Unit {0}
 AllAccepted range ceiling opening (r ∷ rs) =

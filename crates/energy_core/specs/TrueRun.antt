@@ -17,15 +17,15 @@ pub record Item : Type 0 where
   pub at : ℕ
   pub count : ℕ
 
--- What the meter shows: the count modulo its range.
+-- What the meter shows at an item: the true count modulo the counter's range.
 abbrev pub shown : (range : ℕ) → ℤ → Item → Last
 shown range sf item = record { at = item.at; raw = item.count % range; sf = sf }
 
--- The reading that shows it.
+-- The meter's reading at an item.
 abbrev pub told : (range : ℕ) → ℤ → Item → Reading
 told range sf item = record { at = item.at; raw = item.count % range; sf = sf }
 
--- The latest item.
+-- The latest item of a run. If the list is empty, that is the item at the opening.
 abbrev pub newest : Item → List Item → Item
 newest first [] = first
 newest first (b ∷ items) = b

@@ -33,7 +33,7 @@ can_count ceiling unit seconds count = nat_le ((count - 1) * unit * 18) (ceiling
 abbrev pub distance : (range from to : ℕ) → ℕ
 distance range from to = (to + range - from) % range
 
--- The cause applies to the reading.
+-- The cause applies to the reading after the state `last`.
 abbrev pub applies : (range : ℕ) → Terms → Last → Reading → Cause → Bool
 -- SunSpec's value of an accumulator that does not count
 applies range terms last reading cause.NotAccumulated = reading.raw == 0
@@ -63,21 +63,21 @@ causes = cause.NotAccumulated ∷ cause.ScaleChanged ∷ cause.NotBelowRange ∷
     ∷ cause.SpanTooLong
     ∷ cause.GapTooLong ∷ cause.TooFast ∷ cause.TotalFull ∷ []
 
--- The reading is rejected for this cause, or accepted with its rollovers and the energy of its
--- step.
+-- The verdict: rejected for the cause, if there is one; otherwise accepted, with the rollovers
+-- and the energy of the step.
 abbrev pub judged : (range : ℕ) → Last → Reading → Option Cause → Verdict
 judged range last reading (Some cause) = Held cause
 judged range last reading None =
     Accepted (if nat_lt reading.raw last.raw then 1 else 0)
     (distance range last.raw reading.raw * unit_of last.sf)
 
--- The reading is rejected for the first cause that applies. If none does, it is accepted: the
--- counter rolled over once if it shows less than before, else not at all.
+-- The verdict on a reading: rejected for the first cause that applies, accepted if none does. The
+-- counter rolled over once if it shows less than at the last entry, otherwise not at all.
 abbrev pub verdict_of : (range : ℕ) → Terms → Last → Reading → Verdict
 verdict_of range terms last reading =
     judged range last reading (find (applies range terms last reading) causes)
 
--- No cause to reject the reading applies.
+-- The reading is plausible after the state `last`: no cause to reject it applies.
 pub record IsPlausible (range : ℕ) (terms : Terms) (last : Last) (reading : Reading) : Type 0 where
   pub accumulated : reading.raw ≢ 0
   pub scale : reading.sf ≡ last.sf

@@ -12,7 +12,7 @@ use crate::limits::{MAX_INTERVALS, MAX_RANGE, MAX_SCALE, MAX_TOTAL, MAX_UNIT, MI
 use crate::measures::is_long_span;
 use crate::verdicts::Terms;
 
-/// Why an entry is refused.
+/// Why an entry by hand is refused.
 #[derive(Clone, Copy, Debug, PartialEq, Eq)]
 pub enum TermFault {
     /// The counter would have gone back.
@@ -54,8 +54,8 @@ fn moment(entry: &Entry) -> u64
     }
 }
 
-/// Returns the count that the counter would have reached if it had not rolled over and had not been
-/// set.
+/// Returns the count that the counter reached at an entry: with its full turns for a `Step`,
+/// before it was set for a `Change`.
 fn reach(range: u64, entry: &Entry) -> u64
     requires { range ≤ MAX_RANGE }
     ensures value { result ≡ reached range entry.now }
@@ -79,7 +79,7 @@ pub(crate) fn energy(range: u64, last: &Last, entry: &Entry) -> u64
     energy_up_to(last, u128::from(reach(range, entry))) as u64
 }
 
-/// Returns whether an entry sets a scale that no register may have.
+/// Returns whether an entry sets a scale factor that is not from -3 to 3.
 fn is_off_scale(entry: &Entry) -> bool
     ensures { result ≡ has_bad_scale entry.now }
 {
@@ -101,7 +101,7 @@ fn is_out_of_range(range: u64, entry: &Entry) -> bool
     }
 }
 
-/// Returns the counter's time, value and scale factor after an entry.
+/// Returns the counter's state (time, number and scale factor) after an entry.
 fn stand(last: &Last, entry: &Entry) -> Last
     ensures { result ≡ after last.now entry.now }
 {
@@ -133,7 +133,7 @@ pub fn enter<C: Counter>(
     ensures account { let range = C.range counter.now in
         AccountsGoOnBy range terms.now.total last.now entry.now result }
 
-    // what the next call requires
+    // the new total is what a call with the next entry requires
     ensures total { IfOk result (λ r. terms.now.total + r.1.mwh ≤ MAX_TOTAL) }
     ensures raw { IfOk result (λ r. r.0.raw < C.range counter.now) }
     ensures scale_low { IfOk result (λ r. MIN_SCALE ≤ℤ r.0.sf) }

@@ -6,10 +6,11 @@ use crate::entries::Last;
 use crate::limits::{MAX_SCALE, MAX_UNIT, MIN_SCALE};
 use crate::measures::unit;
 
-/// Returns the energy in mWh from the last entry to `reached`, or 0 if `reached` is less. `reached`
-/// is the count without rollovers and resets.
+/// Returns the energy in mWh from the last entry to `reached`, or 0 if `reached` is less.
+/// `reached` is the count that the counter would have without rollovers and resets.
 ///
-/// All energy is computed here, also that of numbers which no counter shows.
+/// The crate computes all energy here. `reached` may be greater than any number that a counter
+/// shows.
 pub fn energy_up_to(last: &Last, reached: u128) -> u128
     requires reached { reached ≤ 2 ^ 97 }
     requires scale_low { MIN_SCALE ≤ℤ last.now.sf }

@@ -26,7 +26,7 @@ pub fn accepted_is_entered()
     ensures { AcceptedIsEntered }
 {}
 
-/// Theorem: at its opening an installation has an account without energy.
+/// Theorem: an installation that was just opened has an account with 0 mWh.
 pub fn accounts_begin()
     ensures { AccountsBegin }
 {}
@@ -36,13 +36,14 @@ pub fn accounts_go_on()
     ensures { AccountsGoOn }
 {}
 
-/// Theorem: the account of an installation whose opening is sound is sound.
+/// Theorem: if an opening shows a number below the range at a lawful scale factor, each account
+/// of its installation is sound.
 pub fn accounts_are_sound()
     ensures { AccountsAreSound }
 {}
 
-/// Theorem: for any list of readings, also with rejected ones, the entries of an installation have
-/// an account.
+/// Theorem: after any list of readings, also with rejected ones, the entries of an installation
+/// have an account.
 pub fn readings_keep_accounts()
     ensures { ReadingsKeepAccounts }
 {}

@@ -125,8 +125,8 @@ fn energy_to(range: u64, last: &Last, reading: &Reading, rolls: u8) -> u64
     energy(range, last, &entry)
 }
 
-/// Accepts a reading, or rejects it for the first cause that applies, in the order 1, 2, 8, 3, 4,
-/// 5, 6, 7.
+/// Accepts a reading, or rejects it for the first cause that applies. The causes are checked in
+/// the order of their numbers 1, 2, 8, 3, 4, 5, 6, 7.
 pub fn judge<C: Counter>(counter: &C, terms: &Terms, last: &Last, reading: &Reading) -> Verdict
     requires ceiling_low { 1 ≤ terms.now.ceiling }
     requires ceiling_high { terms.now.ceiling ≤ MAX_CEILING }

@@ -19,11 +19,11 @@ use Rattle.interval_core.proofs.OrderLemmas.{Earlier, Later, All-split, in_order
 use Rattle.interval_core.proofs.PlaceLemmas.{Other, same_day, other_day, absent, not_contained}
 use Rattle.interval_core.proofs.CountLemmas.{among, rows_on-same, rows_on-other, distinct_count-push, present, missing, energy-rows_on}
 
--- An account is that of its rows.
+-- The account is exactly that of the rows of its day.
 abbrev pub IsExact : Zone → List Share → DayAccount → Type 0
 IsExact zone rows account = account ≡ account_on zone rows account.day
 
--- The row's start is counted already.
+-- A row of the same day has this start, so the day counts its interval already.
 abbrev pub is_known : Zone → List Share → ℕ → Bool
 is_known zone rows start = among start (starts_of (rows_on zone rows (day_at zone start)))
 
@@ -60,12 +60,12 @@ days-between before a after = map-append (λ (x : DayAccount). x.day) before (a 
 same_rows : (zone : Zone) (rows : List Share) (row : Share) (day : ℤ) → day ≢ day_at zone row.start → length (rows_on zone (rows ++ row ∷ []) day) ≡ length (rows_on zone rows day)
 same_rows zone rows row day other = ap length (rows_on-other zone rows row day other)
 
--- The day of the row has one more.
+-- The day of an added row has at least one row.
 more_rows : (zone : Zone) (rows : List Share) (row : Share) → 0 < length (rows_on zone (rows ++ row ∷ []) (day_at zone row.start))
 more_rows zone rows row =
     rw rows_on-same (omega (arith, length-append (rows_on zone rows (day_at zone row.start)) (row ∷ [])))
 
--- The day itself is among the days.
+-- A list that has a day in its middle contains that day.
 here-contained : (xs : List ℤ) (y : ℤ) (ys : List ℤ) → Contains (xs ++ y ∷ ys) y
 here-contained xs y ys = Contains-append_right xs (y ∷ ys) y (0, omega arith, refl)
 
@@ -88,7 +88,7 @@ between-iff xs y ys d other = (
   ],
 )
 
--- By cases on whether a day is that of the row.
+-- A property of one day and of every other day is a property of all days.
 by_day_of : (P : ℤ → Type 0) (day : ℤ) → P day → ((d : ℤ) → d ≢ day → P d) → (d : ℤ) → P d
 by_day_of P day same other d =
     elim (cases_Bool (int_eq d day)) [

@@ -18,7 +18,7 @@ use Rattle.interval_core.specs.Fold.{no_rows, HasTaken, IsSoundFold, IsAdded, Is
 use Rattle.interval_core.proofs.OrderLemmas.{All-split, in_order-changed, in_order-inserted}
 use Rattle.interval_core.proofs.AccountLemmas.{grown, begun, known-is, is_known, is_latest, latest-push}
 
--- What holds of the images holds of the elements.
+-- A property of every mapped element is a property of the elements that were mapped.
 pub All-of_map : {X Y : Type 0} (P : Y → Type 0) (f : X → Y) (xs : List X) → All P (map f xs) → All (λ x. P (f x)) xs
 All-of_map P f xs all = λ k d lt. rw (← get_or-map f xs k d (f d) lt) (all k (f d) (rw (length-map xs f) lt))
 
@@ -37,7 +37,8 @@ is_latest-eq (Some latest) start = refl
 abbrev IsUpTo : ℕ → DayAccount → Type 0
 IsUpTo most account = account.count ≤ most
 
--- One more at a new start, and none at a known one.
+-- A day that counts one more interval at a new start, and none at a known start, stays within its
+-- greatest count.
 count-more : (latest : Option ℕ) (start had : ℕ) → ForSome latest (λ l. l ≤ start) → had ≤ most_intervals latest → had + (if not (is_latest latest start) then 1 else 0) ≤ start + 1
 count-more None start had order bound = omega (arith, bound)
 count-more (Some latest) start had order bound =
@@ -105,7 +106,7 @@ taken-added zone rows row latest old new taken order fits (inr begins) = record 
   latest = latest-push rows latest row taken.latest order;
 }
 
--- Nothing was taken yet.
+-- A new fold has added up no rows.
 pub taken-none : (zone : Zone) → HasTaken zone [] no_rows
 taken-none zone = record {
   accounts = record {
@@ -129,6 +130,6 @@ latest-before rows i latest d order within at =
     let le : (get_or rows k d).start ≤ (get_or rows i d).start = order k i d (omega (arith, before)) within in
     omega (arith, le, is, ap start same)
 
--- One more of the rows that are taken in order.
+-- The energy of the first rows grows by that of the next row.
 pub energy-more : (rows : List Share) (i : ℕ) (d : Share) → i < length rows → energy_of (take (i + 1) rows) ≡ energy_of (take i rows) + (get_or rows i d).mwh
 energy-more rows i d within = sum_by_more (λ (row : Share). row.mwh) rows i d within

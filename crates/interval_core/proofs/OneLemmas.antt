@@ -16,7 +16,7 @@ use Rattle.interval_core.proofs.PlaceLemmas.{Other, not_contained}
 use Rattle.interval_core.proofs.AccountLemmas.{IsExact, replaced, inserted}
 use Rattle.interval_core.proofs.FoldLemmas.{taken-none}
 
--- By cases on the order of two days.
+-- Of two days, one is earlier than the other, or they are the same.
 by_order : {P : Type 0} (x y : ℤ) → (x <ℤ y → P) → (x ≡ y → P) → (y <ℤ x → P) → P
 by_order {P} x y less equal greater =
     elim (int_cmp x y) as (λ r. MatchOrdering r (x <ℤ y) (x ≡ y) (y <ℤ x) → P) [ Less ↦ less | Equal ↦ equal | Greater ↦ greater ] (int_ranks x y)

@@ -8,7 +8,7 @@ use Rattle.jiff.proofs.SpanFacts.{signed_arith}
 use Rattle.std.proofs.lemmas.List.Elements.{All-nil, All-cons, All-head, All-tail, All-append, All-get_or}
 use Rattle.interval_core.specs.Days.{DayAccount, AreInOrder}
 
--- An account of an earlier day, and of a later one.
+-- The account is of an earlier day than `day`.
 abbrev pub Earlier : ℤ → DayAccount → Type 0
 Earlier day account = account.day <ℤ day
 
@@ -24,14 +24,15 @@ earlier-take day (a ∷ rest) (suc place) d order within last =
     let here : a.day <ℤ (get_or rest place d).day = All-get_or (Later a.day) rest place d (omega arith) order.0 in
     All-cons (Earlier day) a (take (suc place) rest) (omega (arith, signed_arith, here, last)) (earlier-take day rest place d order.1 (omega arith) last)
 
--- What holds of all holds of the parts.
+-- A property of all elements of two joined lists is a property of all elements of each.
 pub All-split : {X : Type 0} (P : X → Type 0) (xs ys : List X) → All P (xs ++ ys) → All P xs × All P ys
 All-split P [] ys all = (All-nil P, all)
 All-split P (x ∷ xs) ys all =
     let tail = All-split P xs ys (All-tail P x (xs ++ ys) all) in
     (All-cons P x xs (All-head P x (xs ++ ys) all) tail.0, tail.1)
 
--- An account between others.
+-- In an ordered list, the accounts before an account are of earlier days, and those after it are
+-- of later days.
 pub in_order-between : (before : List DayAccount) (a : DayAccount) (after : List DayAccount) → AreInOrder (before ++ a ∷ after)
     → All (Earlier a.day) before × All (Later a.day) after
 in_order-between [] a after order = (All-nil (Earlier a.day), order.0)
@@ -40,7 +41,7 @@ in_order-between (b ∷ before) a after order =
     let parts = All-split (Later b.day) before (a ∷ after) order.0 in
     (All-cons (Earlier a.day) b before (All-head (Later b.day) a after parts.1) tail.0, tail.1)
 
--- Another account of the day instead of the old one.
+-- A list of accounts stays in order if an account is replaced by another one of the same day.
 pub in_order-changed : (before : List DayAccount) (a b : DayAccount) (after : List DayAccount) → b.day ≡ a.day → AreInOrder (before ++ a ∷ after)
     → AreInOrder (before ++ b ∷ after)
 in_order-changed [] a b after same order = (rw same order.0, order.1)
@@ -51,7 +52,8 @@ in_order-changed (x ∷ before) a b after same order =
       in_order-changed before a b after same order.1,
     )
 
--- A new account, after those of earlier days and before those of later ones.
+-- A list of accounts stays in order if an account is inserted between those of earlier days and
+-- those of later days.
 pub in_order-inserted : (before : List DayAccount) (a : DayAccount) (after : List DayAccount) → All (Earlier a.day) before → All (Later a.day) after
     → AreInOrder (before ++ after) → AreInOrder (before ++ a ∷ after)
 in_order-inserted [] a after earlier later order = (later, order)
@@ -61,7 +63,7 @@ in_order-inserted (x ∷ before) a after earlier later order =
       in_order-inserted before a after (All-tail (Earlier a.day) x before earlier) later order.1,
     )
 
--- The meaning of a comparison.
+-- A comparison that returns "less or equal" means that the first number is at most the second.
 pub le_from_cmp : (x y : ℤ) → is_le (int_cmp x y) ≡ true → x ≤ℤ y
 le_from_cmp x y test =
     elim (int_cmp x y) as (λ r. MatchOrdering r (x <ℤ y) (x ≡ y) (y <ℤ x) → is_le r ≡ true → x ≤ℤ y) [

@@ -17,7 +17,7 @@ use Rattle.interval_core.proofs.OrderLemmas.{Earlier, Later}
 abbrev pub NotEarlier : ℤ → DayAccount → Type 0
 NotEarlier day account = day ≤ℤ account.day
 
--- No account of this day.
+-- The account is not of this day.
 abbrev pub Other : ℤ → DayAccount → Type 0
 Other day account = account.day ≢ day
 
@@ -32,7 +32,7 @@ same_day x y test = (Decides-int_eq x y).0 test
 pub other_day : (x y : ℤ) → int_eq x y ≡ false → x ≢ y
 other_day x y test = not_from_Decides (int_eq x y) (Decides-int_eq x y) test
 
--- In order from an index on.
+-- Accounts in order are also in order from an index on.
 in_order-drop : (n : ℕ) (accounts : List DayAccount) → AreInOrder accounts → AreInOrder (drop n accounts)
 in_order-drop zero accounts order = order
 in_order-drop (suc n) [] order = tt

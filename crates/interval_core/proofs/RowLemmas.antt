@@ -121,7 +121,7 @@ sum-plus {X} f g (x ∷ xs) =
     let rest = sum-plus f g xs in
     omega (arith, sum_by-cons both x xs, sum_by-cons f x xs, sum_by-cons g x xs, rest)
 
--- A sum of sums, in the other order.
+-- A sum of sums does not depend on the order of summation.
 swapped : {X Y : Type 0} (f : X → Y → ℕ) (xs : List X) (ys : List Y) → sum_by (λ x. sum_by (f x) ys) xs ≡ sum_by (λ y. sum_by (λ x. f x y) xs) ys
 swapped f [] ys = sym (sum-zero ys)
 swapped {X} {Y} f (x ∷ xs) ys =

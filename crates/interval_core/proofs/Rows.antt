@@ -3,7 +3,7 @@ use Rattle.std.proofs.Common.{◌≡◌, [], ◌∷◌, refl}
 use Rattle.interval_core.specs.Share.{shares_of}
 use Rattle.interval_core.specs.Days.{distinct_count}
 
--- 1000 mWh over three intervals.
+-- A step of 1000 mWh over three intervals.
 over_three : shares_of (record { from = 800; till = 2000; mwh = 1000 }) ≡ record { start = 0; mwh = 83 } ∷ record { start = 900; mwh = 750 } ∷ record { start = 1800; mwh = 167 } ∷ []
 over_three = refl
 
@@ -11,7 +11,7 @@ over_three = refl
 over_two : shares_of (record { from = 1000; till = 1900; mwh = 200000 }) ≡ record { start = 900; mwh = 177777 } ∷ record { start = 1800; mwh = 22223 } ∷ []
 over_two = refl
 
--- From one start of an interval to another.
+-- A step from one start of an interval to the start of another.
 on_starts : shares_of (record { from = 900; till = 2700; mwh = 11 }) ≡ record { start = 900; mwh = 5 } ∷ record { start = 1800; mwh = 6 } ∷ []
 on_starts = refl
 

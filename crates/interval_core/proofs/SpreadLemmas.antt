@@ -20,7 +20,7 @@ starts-left : (step : Step) (count next : ℕ) → starts_of (map (share_of step
 starts-left step zero next = refl
 starts-left step (suc count) next = ap (λ (l : List ℕ). next * 900 ∷ l) (starts-left step count (next + 1))
 
--- The starts rise.
+-- The starts of a step's shares ascend.
 rising : (count next : ℕ) → IsAscending (map start_of (range_with_len next count))
 rising zero next = tt
 rising (suc count) next =

@@ -1,4 +1,4 @@
--- The energy of a list of steps, interval by interval.
+-- The energy of a list of steps by interval of a quarter hour.
 use Rattle.std.specs.Prelude.{◌≡◌, ◌↔◌, ℕ, ◌+◌, ◌%◌, ◌<◌, ◌≤◌, ◌⊎◌, List, [], ◌∷◌, map, All, Any, Contains, sum_by}
 use Rattle.energy_core.specs.declared.entries.Step.{Step}
 use Rattle.energy_core.specs.declared.limits.TheConstants.{INTERVAL_SECONDS}
@@ -10,7 +10,7 @@ abbrev pub Touches : Step → ℕ → Type 0
 Touches step start = (start % INTERVAL_SECONDS ≡ 0) × (start < step.till)
     × (step.from < start + INTERVAL_SECONDS)
 
--- The starts of interval rows.
+-- The starts of the intervals of these rows.
 abbrev pub starts_of : List Share → List ℕ
 starts_of rows = map (λ row. row.start) rows
 
@@ -18,7 +18,7 @@ starts_of rows = map (λ row. row.start) rows
 abbrev pub energy_of : List Share → ℕ
 energy_of rows = sum_by (λ row. row.mwh) rows
 
--- Each number is less than all after it.
+-- The numbers ascend strictly: each is less than all after it.
 abbrev pub IsAscending : List ℕ → Type 0
 IsAscending [] = Unit {0}
 IsAscending (n ∷ ns) = All (λ later. n < later) ns × IsAscending ns
@@ -33,19 +33,19 @@ pub record IsSpread (step : Step) (shares : List Share) : Type 0 where
       → share_at step start ≡ 0
   pub whole : energy_of shares ≡ step.mwh
 
--- The shares of every step are spread so.
+-- Theorem: `shares_of` divides the energy of every step as `IsSpread` describes.
 abbrev pub SharesAddUp : Type 0
 SharesAddUp = (step : Step) → step.from < step.till → IsSpread step (shares_of step)
 
--- One row for each interval that a step touches, in order: the sum of the shares of all steps
--- there.
+-- `rows` has one row for each interval that a step touches, in order. Each row is the sum of the
+-- shares of all steps in that interval.
 pub record IsAccount (steps : List Step) (rows : List Share) : Type 0 where
   pub in_order : IsAscending (starts_of rows)
   pub touched : (start : ℕ)
       → Contains (starts_of rows) start ↔ Any (λ step. Touches step start) steps
   pub each : All (λ row. row.mwh ≡ sum_by (λ step. share_at step row.start) steps) rows
 
--- The energy of all rows together is the energy of the steps.
+-- Theorem: the energies of the rows of an account add up to the energies of its steps.
 abbrev pub AccountsAddUp : Type 0
 AccountsAddUp = (steps : List Step) (rows : List Share) → All (λ step. step.from < step.till) steps
     → IsAccount steps rows

@@ -1,4 +1,5 @@
--- The energy of the interval rows of a register, by civil day.
+-- The energy of interval rows by civil day. The rows are those of one accounting register, which
+-- may have several meters, one after another.
 use Rattle.std.specs.Prelude.{◌≡◌, ◌↔◌, ℕ, ℤ, ◌+◌, ◌<◌, ◌<ℤ◌, ◌==◌, if◌then◌else◌, List, [], ◌∷◌, map, filter, length, All, Contains}
 use Rattle.std.specs.List.{list_any}
 use Rattle.std.specs.List.Sorted.{IsPermutation}
@@ -10,17 +11,18 @@ use Rattle.interval_core.specs.declared.zone.Zone.{Zone}
 use Rattle.interval_core.specs.Account.{starts_of, energy_of}
 use Rattle.interval_core.specs.Zone.{day_at}
 
--- A day, counted from 1970-01-01, the number of its intervals, and its energy in mWh.
+-- A day, counted from 1970-01-01, the number of its intervals that have a row, and its energy in
+-- mWh.
 pub record DayAccount : Type 0 where
   pub day : ℤ
   pub count : ℕ
   pub mwh : ℕ
 
--- The account of a day's total.
+-- A `DayTotal` with its date as a number of days since 1970-01-01.
 abbrev pub account_of : DayTotal → DayAccount
 account_of total = record { day = epoch_day total.day; count = total.count; mwh = total.mwh }
 
--- The days of accounts.
+-- The days of these accounts, in their order.
 abbrev pub days_of : List DayAccount → List ℤ
 days_of accounts = map (λ account. account.day) accounts
 
@@ -33,7 +35,8 @@ abbrev pub distinct_count : List ℕ → ℕ
 distinct_count [] = 0
 distinct_count (n ∷ ns) = (if list_any (λ m. m == n) ns then 0 else 1) + distinct_count ns
 
--- The account of a day: its intervals, each counted once, and the energy of all its rows.
+-- The account of a day: the number of different intervals that begin on it and have a row, and
+-- the energy of all its rows.
 abbrev pub account_on : Zone → List Share → ℤ → DayAccount
 account_on zone rows day = record {
   day = day;
@@ -47,19 +50,19 @@ AreInOrder [] = Unit {0}
 AreInOrder (account ∷ accounts) =
     All (λ later. account.day <ℤ later.day) accounts × AreInOrder accounts
 
--- One account for each day on which a row begins, in order.
+-- `accounts` has one account for each day on which a row's interval begins, in order.
 pub record AreAccounts (zone : Zone) (rows : List Share) (accounts : List DayAccount) : Type 0 where
   pub in_order : AreInOrder accounts
   pub complete : (day : ℤ) → Contains (days_of accounts) day ↔ (0 < length (rows_on zone rows day))
   pub each : All (λ account. account ≡ account_on zone rows account.day) accounts
 
--- Any rows have exactly one list of accounts.
+-- Theorem: for any zone and rows, exactly one list of accounts exists.
 abbrev pub AccountsAreOne : Type 0
 AccountsAreOne = (zone : Zone) (rows : List Share)
     → (accounts : List DayAccount) × AreAccounts zone rows accounts
     × ((others : List DayAccount) → AreAccounts zone rows others → others ≡ accounts)
 
--- The order of the rows does not matter.
+-- Theorem: rows in another order have the same list of accounts.
 abbrev pub AccountsIgnoreOrder : Type 0
 AccountsIgnoreOrder = (zone : Zone) (rows others : List Share) (accounts : List DayAccount)
     → AreAccounts zone rows accounts

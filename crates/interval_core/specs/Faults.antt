@@ -5,12 +5,12 @@ use Rattle.interval_core.specs.declared.zone.ZoneFault.TheVariants as zone
 use Rattle.interval_core.specs.declared.day.DayFault.{DayFault}
 use Rattle.interval_core.specs.declared.day.DayFault.TheVariants as day
 
--- The number of a fault in a zone's text.
+-- The number of each fault of a text that names a zone.
 abbrev pub zone_fault_number : ZoneFault → ℕ
 zone_fault_number zone.Text = 1
 zone_fault_number zone.Memory = 2
 
--- The number of a fault of a day.
+-- The number of each reason why a time has no civil day.
 abbrev pub day_fault_number : DayFault → ℕ
 day_fault_number day.Zone = 1
 day_fault_number day.Memory = 2

@@ -1,4 +1,4 @@
--- A fold that takes rows one by one.
+-- The model of `DayFold`, which adds up rows that arrive one by one.
 use Rattle.std.specs.Prelude.{◌≡◌, ℕ, ℤ, ◌+◌, ◌-◌, ◌≤◌, ◌<◌, ◌<ℤ◌, ◌≤ℤ◌, ◌^◌, min, Option, Some, None, MatchOption, List, [], ◌∷◌, ◌++◌, length, take, drop, All, Contains, Bool, if◌then◌else◌, ◌⊎◌, Result, OnOk}
 use Rattle.std.specs.List.{HoldsAt}
 use Rattle.interval_core.specs.declared.day.DayFault.{DayFault}
@@ -8,7 +8,7 @@ use Rattle.interval_core.specs.declared.zone.Zone.{Zone}
 use Rattle.interval_core.specs.Account.{energy_of, starts_of}
 use Rattle.interval_core.specs.Days.{DayAccount, AreAccounts, AreInOrder}
 
--- The model of a fold: the accounts so far, and the start of the latest row.
+-- The accounts of the rows so far, and the start of the latest row, or `None` without rows.
 pub record FoldState : Type 0 where
   pub accounts : List DayAccount
   pub latest : Option ℕ
@@ -23,12 +23,12 @@ IsLatest rows latest =
     MatchOption latest (rows ≡ [])
     (λ start. Contains (starts_of rows) start × All (λ row. row.start ≤ start) rows)
 
--- The fold took these rows, with the days of one zone.
+-- The fold has added up exactly these rows, each on its day in the zone.
 pub record HasTaken (zone : Zone) (rows : List Share) (fold : FoldState) : Type 0 where
   pub accounts : AreAccounts zone rows fold.accounts
   pub latest : IsLatest rows fold.latest
 
--- After any rows that the fold took, a successful `push` adds this row to them.
+-- A successful `push` adds this row to the rows that the fold added up before.
 abbrev pub TakesRow : Zone → Share → (old : FoldState) → Result (Unit {0}) DayFault
     → (new : FoldState) → Type 0
 TakesRow zone row old answer new = (rows : List Share) → HasTaken zone rows old
@@ -40,29 +40,32 @@ abbrev pub most_intervals : Option ℕ → ℕ
 most_intervals None = 0
 most_intervals (Some start) = start + 1
 
--- The invariant of a fold.
+-- The invariant of a `DayFold`, by its accounts and the start of its latest row.
 pub record IsSoundFold (accounts : List DayAccount) (latest : Option ℕ) : Type 0 where
   pub in_order : AreInOrder accounts
   pub counts : All (λ account. account.count ≤ most_intervals latest) accounts
   pub moments : most_intervals latest ≤ LAST_MOMENT + 1
 
--- The index of a day among accounts: those before it are of earlier days, and the others are not.
+-- `place` is where the day belongs among the accounts: those before it are of earlier days, and
+-- the others are not.
 pub record IsPlace (day : ℤ) (accounts : List DayAccount) (place : ℕ) : Type 0 where
   pub earlier : All (λ account. account.day <ℤ day) (take place accounts)
   pub others : All (λ account. day ≤ℤ account.day) (drop place accounts)
 
--- The account of the day is at this index.
+-- The account at index `place` is that of the day.
 abbrev pub HoldsDay : ℤ → List DayAccount → ℕ → Type 0
 HoldsDay day accounts place =
     (place < length accounts) × HoldsAt (λ account. account.day ≡ day) accounts place
 
--- The day has no account: those before the index are of earlier days, and the others of later ones.
+-- The day has no account. Accounts before index `place` are of earlier days, and the others are
+-- of later ones.
 pub record IsGap (day : ℤ) (accounts : List DayAccount) (place : ℕ) : Type 0 where
   pub within : place ≤ length accounts
   pub earlier : All (λ account. account.day <ℤ day) (take place accounts)
   pub later : All (λ account. day <ℤ account.day) (drop place accounts)
 
--- The day had an account, which grows. Its energy saturates at 2 ^ 128 - 1.
+-- The day had an account, to which `count` intervals and `mwh` of energy are added. Its energy
+-- saturates at 2^128 - 1 mWh.
 pub record Grows (day : ℤ) (count mwh : ℕ) (old new : List DayAccount) : Type 0 where
   pub before : List DayAccount
   pub after : List DayAccount
@@ -85,7 +88,8 @@ pub record Begins (day : ℤ) (mwh : ℕ) (old new : List DayAccount) : Type 0 w
   pub old_is : old ≡ before ++ after
   pub new_is : new ≡ before ++ record { day = day; count = 1; mwh = mwh } ∷ after
 
--- A row was added to the day.
+-- A row of this energy was added to the day's account, or began that account. The `Bool` says
+-- whether an existing account counts another interval.
 abbrev pub IsAdded : ℤ → Bool → ℕ → List DayAccount → List DayAccount → Type 0
 IsAdded day is_new mwh old new =
     Grows day (if is_new then 1 else 0) mwh old new ⊎ Begins day mwh old new

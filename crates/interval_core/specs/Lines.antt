@@ -1,4 +1,5 @@
--- The lines of a report: interval rows or days in order, and then their number.
+-- The lines of a report: a line for each interval row or day, in order, and a last line with
+-- their number.
 use Rattle.std.specs.Prelude.{ℕ, List, [], ◌∷◌, ◌++◌, length, flat_map, codes}
 use Rattle.std.specs.Fmt.{decimal}
 pub use Rattle.interval_core.specs.Report.{day_line}
@@ -14,10 +15,10 @@ share_line row = decimal row.start ++ 32 ∷ (decimal row.mwh ++ 10 ∷ [])
 abbrev pub end_line : ℕ → List ℕ
 end_line count = codes "end " ++ decimal count ++ codes "\n"
 
--- The interval rows of a meter, as text.
+-- The interval rows of a meter as lines of text, and a last line with their number.
 abbrev pub intervals_text : List Share → List ℕ
 intervals_text rows = flat_map share_line rows ++ end_line (length rows)
 
--- The days of a register, as text.
+-- The days of an accounting register as lines of text, and a last line with their number.
 abbrev pub days_text : List DayTotal → List ℕ
 days_text days = flat_map day_line days ++ end_line (length days)

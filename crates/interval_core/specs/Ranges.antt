@@ -9,12 +9,12 @@ use Rattle.interval_core.specs.declared.totals.DayTotal.{DayTotal}
 use Rattle.interval_core.specs.declared.zone.Zone.{Zone}
 use Rattle.interval_core.specs.declared.day_range.DayRange.{DayRange}
 
--- A range with this first day has begun by the day.
+-- The day is not before the range's first day. A range without a first day has no such bound.
 abbrev pub begins_by : (from : Option Date) → Date → Bool
 begins_by None day = true
 begins_by (Some from) day = is_le (int_cmp (epoch_day from) (epoch_day day))
 
--- A range with this end ends after the day.
+-- The day is before the range's end. A range without an end has no such bound.
 abbrev pub ends_after : (till : Option Date) → Date → Bool
 ends_after None day = true
 ends_after (Some till) day = is_lt (int_cmp (epoch_day day) (epoch_day till))
@@ -27,7 +27,7 @@ is_in range day = begins_by range.from day && ends_after range.till day
 abbrev pub all_days : DayRange
 all_days = record { from = None; till = None }
 
--- The end is before the beginning.
+-- Both bounds exist, and the end is before the first day.
 abbrev pub ends_before : (from till : Option Date) → Bool
 ends_before from None = false
 ends_before from (Some till) = not (begins_by from till)
@@ -42,20 +42,21 @@ days_in range days = filter (λ total. is_in range total.day) days
 
 -- ---- times
 
--- The same by the number of a day, counted from 1970-01-01.
+-- As `begins_by`, for a day given as the number of days since 1970-01-01.
 abbrev pub begins_by_number : (from : Option Date) → ℤ → Bool
 begins_by_number None day = true
 begins_by_number (Some from) day = is_le (int_cmp (epoch_day from) day)
 
--- The same by the number of a day, counted from 1970-01-01.
+-- As `ends_after`, for a day given as the number of days since 1970-01-01.
 abbrev pub ends_after_number : (till : Option Date) → ℤ → Bool
 ends_after_number None day = true
 ends_after_number (Some till) day = is_lt (int_cmp day (epoch_day till))
 
--- The day with this number is in the range.
+-- The day with this number since 1970-01-01 is in the range.
 abbrev pub has_day : DayRange → ℤ → Bool
 has_day range day = begins_by_number range.from day && ends_after_number range.till day
 
--- The day of a time in the zone is in the range. A time after the last one has no day.
+-- The time's day in the zone is in the range. A time after `LAST_MOMENT` has no day, and is in no
+-- range.
 abbrev pub has_moment : Zone → DayRange → (moment : ℕ) → Bool
 has_moment zone range moment = nat_le moment LAST_MOMENT && has_day range (day_at zone moment)

@@ -1,4 +1,4 @@
--- The text of a day.
+-- The line of a report for one day.
 use Rattle.std.specs.Prelude.{ℕ, ◌-◌, ◌++◌, ◌∷◌, List, [], length, replicate}
 use Rattle.std.specs.Fmt.{decimal}
 use Rattle.jiff.specs.Words.{date_text}

@@ -11,13 +11,14 @@ use Rattle.interval_core.specs.declared.shares.Share.{Share}
 abbrev pub running_energy : Step → ℕ → ℕ
 running_energy step moment = step.mwh * (moment - step.from) / (step.till - step.from)
 
--- The share of the interval from `start`: the running energy that the step gains within it.
+-- The share of the interval from `start`: the running energy at its end less the running energy
+-- at `start`.
 abbrev pub share_at : Step → ℕ → ℕ
 share_at step start =
     running_energy step (min (start + INTERVAL_SECONDS) step.till)
     - running_energy step (max start step.from)
 
--- The share of the interval with this number.
+-- The share of the interval with this number: its start and its energy.
 abbrev pub share_of : Step → ℕ → Share
 share_of step interval = let start = interval * INTERVAL_SECONDS in
     record { start = start; mwh = share_at step start }

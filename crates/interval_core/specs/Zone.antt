@@ -12,7 +12,7 @@ use Rattle.interval_core.specs.declared.zone.Zone.{Zone}
 abbrev pub rule_of : Zone → TimeZone
 rule_of zone = zone.rule
 
--- The zone is the POSIX rule in the text.
+-- `jiff` reads the text as the POSIX rule of this zone.
 abbrev pub HasRule : List ℕ → Zone → Type 0
 HasRule text zone = IsPosixZone text (plain_zone (rule_of zone))
 
@@ -29,7 +29,7 @@ offset_of zone moment = offset_at (plain_zone (rule_of zone)) (pos moment *ℤ p
 abbrev pub day_at : Zone → ℕ → ℤ
 day_at zone moment = int_div_euclid (pos moment +ℤ offset_of zone moment) (pos 86_400)
 
--- Two zones that were read from the same text have the same days.
+-- Theorem: two zones that were read from the same text have the same day at every time.
 abbrev pub ZonesAreOne : Type 0
 ZonesAreOne = (text : List ℕ) (a b : Zone) → HasRule text a → HasRule text b → (moment : ℕ)
     → day_at a moment ≡ day_at b moment

@@ -7,7 +7,7 @@ use crate::limits::LAST_MOMENT;
 use crate::zone::Zone;
 use jiff::civil::Date;
 
-/// The civil days from `from` on, up to and without `till`. A missing bound is no bound.
+/// The civil days from `from` on, before `till`. `None` as a bound means no bound on that side.
 #[derive(Clone, Copy, Debug, PartialEq, Eq)]
 pub struct DayRange {
     pub from: Option<Date>,
@@ -58,7 +58,7 @@ impl DayRange {
     }
 }
 
-// Returns whether a range with this first day has begun by the day.
+// Returns whether the day is not before `from`. A range without a first day has no such bound.
 fn begins_by_day(from: Option<Date>, day: Date) -> bool
     ensures { result ≡ begins_by from day }
 {
@@ -68,7 +68,7 @@ fn begins_by_day(from: Option<Date>, day: Date) -> bool
     }
 }
 
-// Returns whether a range with this end ends after the day.
+// Returns whether the day is before `till`. A range without an end has no such bound.
 fn ends_after_day(till: Option<Date>, day: Date) -> bool
     ensures { result ≡ ends_after till day }
 {

@@ -15,12 +15,12 @@ pub fn accounts_add_up()
     ensures { AccountsAddUp }
 {}
 
-/// Theorem: rows have exactly one list of day accounts, however it is computed.
+/// Theorem: rows have exactly one list of day accounts, however a program computes it.
 pub fn accounts_are_one()
     ensures { AccountsAreOne }
 {}
 
-/// Theorem: rows in another order have the same accounts.
+/// Theorem: rows in another order have the same day accounts.
 pub fn accounts_ignore_order()
     ensures { AccountsIgnoreOrder }
 {}

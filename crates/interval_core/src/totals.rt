@@ -66,7 +66,7 @@ impl DayFold {
         self.totals.as_slice()
     }
 
-    /// Returns the days as a list of their own, in order. Allocates nothing.
+    /// Turns the fold into a list of its days, in order. Allocates nothing.
     pub fn into_rows(self) -> Vec<DayTotal>
         ensures { map account_of result.items ≡ self.accounts }
     {
@@ -74,11 +74,11 @@ impl DayFold {
         totals
     }
 
-    /// Adds a row: `mwh` in the interval from `start`. Its day is that of the zone.
+    /// Adds a row: `mwh` in the interval from `start`. Its day is that of `start` in the zone.
     ///
     /// A row with the same start as the latest row is not counted as another interval. The energy
-    /// of a day saturates at 2^128 - 1 mWh. The only error is out of memory, which leaves the fold
-    /// unchanged.
+    /// of a day saturates at 2^128 - 1 mWh. The only error is out of memory, which leaves the
+    /// fold unchanged.
     pub fn push(&mut self, start: u64, mwh: u64, zone: &Zone) -> Result<(), DayFault>
         requires moment { start ≤ LAST_MOMENT }
         requires not_back { ForSome self.old.latest (λ latest. latest ≤ start) }
@@ -112,8 +112,8 @@ impl Clone for DayFold {
     }
 }
 
-/// Returns the days of interval rows, each with the number of its intervals, counted once, and its
-/// energy. The rows are in order of their starts.
+/// Returns the civil days of interval rows, which are in order of their starts. Each day has the
+/// number of its intervals, each counted once, and its energy in mWh.
 pub fn by_day(alloc: Global, rows: &[Share], zone: &Zone) -> Result<Vec<DayTotal>, DayFault>
     requires never_back { IsNonDecreasingBy (λ row. row.start) rows.now }
     requires moments { All (λ row. row.start ≤ LAST_MOMENT) rows.now }
@@ -128,8 +128,8 @@ pub fn by_day(alloc: Global, rows: &[Share], zone: &Zone) -> Result<Vec<DayTotal
     Ok(fold.into_rows())
 }
 
-/// Returns the index of the first day that is not before `day`. The search begins at the end, where
-/// rows in order have their day.
+/// Returns the index of the first day that is not before `day`. The search begins at the end of
+/// the list, because rows that arrive in order belong there.
 fn place_of(totals: &[DayTotal], day: Date) -> usize
     ensures within { result ≤ length totals.now }
     ensures place { AreInOrder (map account_of totals.now)
@@ -142,7 +142,7 @@ fn place_of(totals: &[DayTotal], day: Date) -> usize
     place
 }
 
-/// Returns the index of the day, or the index at which it is to be inserted.
+/// Returns the index of the day as `Ok`, or the index at which to insert it as `Err`.
 fn find_day(totals: &[DayTotal], day: Date) -> Result<usize, usize>
     requires { AreInOrder (map account_of totals.now) }
     ensures found { IfOk result (HoldsDay (epoch_day day) (map account_of totals.now)) }
@@ -156,7 +156,8 @@ fn find_day(totals: &[DayTotal], day: Date) -> Result<usize, usize>
     }
 }
 
-/// Adds a row to its day.
+/// Adds a row with `mwh` of energy to its day, or begins that day. An existing day counts another
+/// interval if `is_new`.
 fn add(totals: &mut Vec<DayTotal>, day: Date, is_new: bool, mwh: u64) -> Result<(), AllocError>
     requires in_order { AreInOrder (map account_of totals.old.items) }
     requires counts { All (λ total. total.count < 2 ^ 32 - 1) totals.old.items }

@@ -25,7 +25,7 @@ a_read_is_answered : sent_to (begun []) maps (own_frames read) ≡ nine
 unfolding maps answer_to_frame sent_next course_next trick_at frames frames_in
 a_read_is_answered = refl
 
--- A frame of another protocol, a write of 5 to that register, and a read of it.
+-- A frame of another protocol, a write of 5 to holding register 0, and a read of that register.
 abbrev foreign : List ℕ
 foreign = 0 ∷ 1 ∷ 0 ∷ 9 ∷ 0 ∷ 3 ∷ 1 ∷ 3 ∷ 0 ∷ []
 
@@ -156,7 +156,7 @@ sample = record {
   inputs = replicate 8 None ++ (Some 10 ∷ []);
 }
 
--- Coil 172, and registers 1 and 2.
+-- The device of the standard's writes, which has coil 172 and registers 1 and 2.
 abbrev writable : Maps
 writable = record { coils = replicate 172 None ++ (Some 0 ∷ []); discretes = []; holdings = None ∷ Some 0 ∷ Some 0 ∷ []; inputs = [] }
 

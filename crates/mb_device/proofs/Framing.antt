@@ -16,7 +16,8 @@ use Rattle.mb_device.specs.Server.{buffered_frames, is_own, own_frames}
 abbrev concat : List (List ℕ) → List ℕ
 concat frames = flat_map (λ frame. frame) frames
 
--- Bytes after other bytes are read after the rest of those.
+-- The frames of two byte lists together are those of the first, and those of its rest with the
+-- second.
 pub frames-then : (a b : List ℕ) → (frames (a ++ b) ≡ frames a ++ frames (rest a ++ b)) × (rest (a ++ b) ≡ rest (rest a ++ b))
 frames-then a b =
     let first = Reads-is a in
@@ -38,7 +39,7 @@ frames-then a b =
 pub own_frames-then : (a b : List ℕ) → own_frames (a ++ b) ≡ own_frames a ++ own_frames (rest a ++ b)
 own_frames-then a b = ap (filter is_own) (frames-then a b).0 ∙ filter-append is_own (frames a) (frames (rest a ++ b))
 
--- Bytes that are one rest, or one frame.
+-- Bytes that are an incomplete frame or a bad one have no frames, and are their own rest.
 rest_alone : (b : List ℕ) → IsOpen b ⊎ IsBad b → (frames b ≡ []) × (rest b ≡ b)
 rest_alone b ends = Reads-only b [] b record { joined = refl; each = tt; ends = ends }
 
@@ -86,7 +87,7 @@ piece_frames what r piece taken buffered tells is =
       ap rest whole ∙ (frames-then b left).1 ∙ ap (λ y. rest (y ++ left)) stays,
     )
 
--- The last feed of a piece.
+-- A feed that takes the last bytes of a piece, and ends no frame.
 pub need_piece : (what : Framing) (r piece : List ℕ) (taken : ℕ) (buffered : Buffered) → TellsFraming what (r ++ take taken piece) → buffered ≡ buffered_after what (r ++ take taken piece) → what ≡ Need → taken ≡ length piece
     → (own_frames (r ++ piece) ≡ buffered_frames buffered.frame) × IsOpen (rest (r ++ piece)) × (buffered.rest ≡ rest (r ++ piece))
 need_piece what r piece taken buffered tells is need all =
@@ -102,7 +103,7 @@ need_piece what r piece taken buffered tells is need all =
       stays ∙ sym alone.1 ∙ ap rest whole,
     )
 
--- A feed that ends at a bad length.
+-- After a feed that ends at a bad length, the stream is garbled.
 pub garbled_piece : (what : Framing) (r piece : List ℕ) (taken : ℕ) (buffered : Buffered) → TellsFraming what (r ++ take taken piece) → buffered ≡ buffered_after what (r ++ take taken piece) → what ≡ Garbled
     → (own_frames (r ++ piece) ≡ buffered_frames buffered.frame) × IsBad (rest (r ++ piece))
 garbled_piece what r piece taken buffered tells is garbled =
@@ -116,11 +117,12 @@ garbled_piece what r piece taken buffered tells is garbled =
       subst (λ y. IsBad (rest y)) whole alone.1,
     )
 
--- Incomplete bytes, and nothing after them.
+-- An incomplete frame with no bytes after it has no frames, and stays buffered.
 pub nothing_taken : (buffered : List ℕ) → IsOpen buffered → (own_frames (buffered ++ []) ≡ []) × (rest (buffered ++ []) ≡ buffered)
 nothing_taken buffered is_open = let alone = open_alone buffered is_open in (ap own_frames (append-nil buffered) ∙ alone.0, ap rest (append-nil buffered) ∙ alone.1)
 
--- Bytes after those that were read.
+-- The frames of more bytes are those of the bytes read so far, and those of their rest with the
+-- new bytes.
 pub taken_more : (buffered taken more : List ℕ) → (own_frames (buffered ++ (taken ++ more)) ≡ own_frames (buffered ++ taken) ++ own_frames (rest (buffered ++ taken) ++ more)) × (rest (buffered ++ (taken ++ more)) ≡ rest (rest (buffered ++ taken) ++ more))
 taken_more buffered taken more =
     let joined : buffered ++ (taken ++ more) ≡ (buffered ++ taken) ++ more = sym (append_assoc buffered taken more) in

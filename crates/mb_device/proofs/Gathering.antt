@@ -12,7 +12,7 @@ use Rattle.mb_wire.proofs.Words.{length-word_bytes, words_of-word_bytes}
 use Rattle.mb_device.specs.Device.{is_kept_on, kept_value}
 use Rattle.mb_device.specs.Maps.{all_written, are_there, values_at}
 
--- One more byte of packed coils.
+-- After one more step of the loop, one more byte of coils is packed.
 pub packed_more : (count i : ℕ) (coils : List Bool) (out whole : List ℕ) (byte : ℕ) → i < count → i < length out → byte ≡ number_of (take 8 (drop (8 * i) coils)) → take i out ++ packed_in (count - i) (drop (8 * i) coils) ≡ whole → take (i + 1) (set out i byte) ++ packed_in (count - (i + 1)) (drop (8 * (i + 1)) coils) ≡ whole
 unfolding packed_in
 packed_more count i coils out whole byte less room is h =
@@ -26,7 +26,7 @@ packed_more count i coils out whole byte less room is h =
     ∙ ap (λ n. take i out ++ packed_in n (drop (8 * i) coils)) (sym left)
     ∙ h
 
--- The values of one byte.
+-- The coils of one byte are at most eight values from an index on.
 pub eight : (f : Option ℕ → Bool) (values : List (Option ℕ)) (start end : ℕ) → start ≤ length values → end ≡ min (length values) (start + 8) → map f (take (end - start) (drop start values)) ≡ take 8 (drop start (map f values))
 eight f values start end fits is =
     let left : length (drop start values) ≡ length values - start = length-drop start values in
@@ -41,7 +41,7 @@ pub word_bytes-append : (xs ys : List ℕ) → word_bytes (xs ++ ys) ≡ word_by
 word_bytes-append [] ys = refl
 word_bytes-append (x ∷ xs) ys = ap (λ rest. word x ++ rest) (word_bytes-append xs ys)
 
--- One more register.
+-- After one more step of the loop, one more register is written.
 pub words_more : (f : Option ℕ → ℕ) (values : List (Option ℕ)) (i : ℕ) (d : Option ℕ) (old new : List ℕ) → i < length values → take (2 * i + 2) new ≡ take (2 * i) old ++ word (f (get_or values i d)) → take (2 * i) old ≡ word_bytes (map f (take i values)) → take (2 * (i + 1)) new ≡ word_bytes (map f (take (i + 1) values))
 words_more f values i d old new less step h =
     let next : 2 * (i + 1) ≡ 2 * i + 2 = omega arith in
@@ -55,7 +55,7 @@ get_some [] i h = absurd (omega arith)
 get_some (w ∷ ws) zero h = refl
 get_some (w ∷ ws) (suc i) h = get_some ws i (omega arith)
 
--- One more value is stored.
+-- After one more step of the loop, one more value is stored.
 pub written_more : (table whole : List (Option ℕ)) (place i : ℕ) (values : List ℕ) (value : Option ℕ) → i < length values → value ≡ slice_get values i → all_written table (place + i) (drop i values) ≡ whole → all_written (set table (place + i) value) (place + (i + 1)) (drop (i + 1) values) ≡ whole
 written_more table whole place i values value less is h =
     let next : place + (i + 1) ≡ place + i + 1 = omega arith in
@@ -64,7 +64,7 @@ written_more table whole place i values value less is h =
     ∙ sym (ap (all_written table (place + i)) (drop_more values i 0 less))
     ∙ h
 
--- All values are stored.
+-- If no value is left, all values are stored.
 pub written_all : (table whole : List (Option ℕ)) (place i : ℕ) (values : List ℕ) → length values ≤ i → all_written table (place + i) (drop i values) ≡ whole → table ≡ whole
 written_all table whole place i values past h = sym (ap (all_written table (place + i)) (drop_all i values past)) ∙ h
 
@@ -73,7 +73,7 @@ get-map f [] i = refl
 get-map f (x ∷ xs) zero = refl
 get-map f (x ∷ xs) (suc i) = get-map f xs i
 
--- All bytes of packed coils.
+-- If no byte is left, all coils are packed.
 pub packed_all : (count i : ℕ) (coils : List Bool) (out whole : List ℕ) → count ≡ i → take i out ++ packed_in (count - i) (drop (8 * i) coils) ≡ whole → take count out ≡ whole
 unfolding packed_in
 packed_all count i coils out whole same h =
@@ -96,7 +96,7 @@ length-values_at table address quantity h =
     let left : length (drop address table) ≡ length table - address = length-drop address table in
     length-take-le quantity (drop address table) (omega arith)
 
--- The registers of a response.
+-- The registers of a response are the values that its data bytes encode.
 pub words_are : (bytes : List ℕ) (slice values : List (Option ℕ)) → slice ≡ values → bytes ≡ word_bytes (map kept_value slice) → words_of bytes ≡ map kept_value values
 words_are bytes slice values same h = ap words_of h ∙ words_of-word_bytes (map kept_value slice) ∙ ap (map kept_value) same
 
@@ -108,7 +108,7 @@ words_fit query quantity bytes slice values same h long wants =
     let equal : length (map kept_value slice) ≡ quantity = length-map slice kept_value ∙ ap length same ∙ long in
     (subst (WantsRegisters query) (sym size) wants, omega arith)
 
--- The coils of a response.
+-- The coils of a response are the values that its data bytes encode.
 pub bits_are : (quantity : ℕ) (bytes : List ℕ) (slice values : List (Option ℕ)) → slice ≡ values → length values ≡ quantity → bytes ≡ packed (map is_kept_on slice) → coils_of quantity bytes ≡ map is_kept_on values
 bits_are quantity bytes slice values same long h =
     let coils = map is_kept_on slice in

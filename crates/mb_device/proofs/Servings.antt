@@ -32,7 +32,7 @@ Served-none buffered course around standing is_open going stands =
       counts = record { counted = sym (ap length nothing); is_open = λ _. subst IsOpen (sym none.1) is_open };
     }
 
--- The server served frames so far, on a connection that is not cut.
+-- The state of a server that has served frames so far on a connection that is not cut.
 reached : (buffered : List ℕ) (course : Course) (count : ℕ) (a b : Around) (before : Standing) → (so_far : Served buffered course count a b before) → is_serving before ≡ true
     → Dealt course a.maps (own_frames (buffered ++ so_far.taken)) (course_after_all course a.maps (own_frames (buffered ++ so_far.taken))) b.maps
 reached buffered course count a b before so_far serving =
@@ -89,7 +89,7 @@ Serves-end buffered course count turned a b c before after so_far serving turns 
       tells = (all.counts, λ going. (turn.tells.1.end (ap is_cut (sym same) ∙ going) ended).1);
     }
 
--- No turn is left.
+-- If the allowed turns did not end serving, the result `TurnsUsed` has the effects of `Serves`.
 pub Serves-used : (buffered : List ℕ) (course : Course) (count : ℕ) (a b : Around) (before : Standing) → Served buffered course count a b before → is_serving before ≡ true → Serves buffered course (Err fault.TurnsUsed) a b Faulted
 Serves-used buffered course count a b before so_far serving =
     let dealt = reached buffered course count a b before so_far serving in

@@ -97,11 +97,11 @@ carried_then course mid maps after xs ys dealt =
     ∙ ap (λ c. carried_out course xs ++ carried_out c ys) (sym dealt.stands)
     ∙ ap (λ fs. fs ++ carried_out mid ys) dealt.carried
 
--- The same frames by another name.
+-- `AllAnswered` of a list of frames is `AllAnswered` of an equal list.
 pub AllAnswered-same : (course : Course) (xs ys : List (List ℕ)) (a b : Around) → ys ≡ xs → AllAnswered course xs a b → AllAnswered course ys a b
 AllAnswered-same course xs ys a b same h = subst (λ fs. AllAnswered course fs a b) (sym same) h
 
--- No frame to respond to.
+-- If nothing was written, the link's output grew by no bytes.
 Appends-none : (a b : Option (List ℕ)) → Keeps a b → Appends a b []
 Appends-none None b h = tt
 Appends-none (Some x) None h = absurd h
@@ -152,7 +152,8 @@ all_then_broken course mid xs ys a b c first dealt next =
           ∙ sym (maps_after_all-append a.maps xs upto) ∙ ap (maps_after_all a.maps) (sym all);
     }
 
--- All of some frames, and then others.
+-- If all frames of a list were answered, the result for later frames is the result for both
+-- lists.
 pub Answered-then : {X : Type 0} (result : Result X ServeFault) (course mid : Course) (xs ys : List (List ℕ)) (a b c : Around) → AllAnswered course xs a b → Dealt course a.maps xs mid b.maps → Answered result mid ys b c → Answered result course (xs ++ ys) a c
 Answered-then (Ok x) course mid xs ys a b c first dealt next = all_then_all course mid xs ys a b c first dealt next
 Answered-then (Err fault.Read) course mid xs ys a b c first dealt next = all_then_all course mid xs ys a b c first dealt next
@@ -160,7 +161,7 @@ Answered-then (Err fault.Write) course mid xs ys a b c first dealt next = all_th
 Answered-then (Err fault.Garbled) course mid xs ys a b c first dealt next = all_then_all course mid xs ys a b c first dealt next
 Answered-then (Err fault.TurnsUsed) course mid xs ys a b c first dealt next = all_then_all course mid xs ys a b c first dealt next
 
--- Frames after the one whose response was broken off.
+-- A response that was broken off stays so if more frames follow.
 pub BrokenOff-before : (course : Course) (xs ys : List (List ℕ)) (a b : Around) → BrokenOff course xs a b → BrokenOff course (xs ++ ys) a b
 BrokenOff-before course xs ys a b h =
     record {
@@ -300,7 +301,7 @@ buffered_fault fault.TurnsUsed course frame xs ys a b tells h = absurd tells
 
 -- ---- one turn
 
--- Nothing is read.
+-- If nothing was read, the link's input lost no bytes.
 pub Consumes-none : (a b : Option (List ℕ)) → Keeps a b → Consumes a b []
 Consumes-none None b h = tt
 Consumes-none (Some x) None h = absurd h
@@ -356,7 +357,7 @@ turn_failed buffered course old new is_open left given maps =
       tells = refl;
     }
 
--- Responses from a state in which nothing has happened yet.
+-- A result from a state that equals an earlier one is a result from the earlier state.
 answered_from : {X : Type 0} (result : Result X ServeFault) (course : Course) (frames : List (List ℕ)) (old mid new : Around) → Keeps old.given mid.given → mid.maps ≡ old.maps → is_cut course ≡ false → Answered result course frames mid new → Answered result course frames old new
 answered_from result course frames old mid new given maps going answered =
     let none = AllAnswered-none course [] old mid refl given maps in

@@ -11,7 +11,7 @@ use Rattle.mb_device.specs.declared.kinds.BankFault.TheVariants.{AreasOverlap, O
 use Rattle.mb_device.specs.declared.kinds.Kind.{Kind}
 use Rattle.mb_device.specs.declared.kinds.Kind.TheVariants.{Coil, Discrete, Holding, Input}
 
--- The number of a kind, to compare kinds by.
+-- The number of each kind, by which kinds are compared.
 abbrev pub kind_number : Kind → ℕ
 kind_number Coil = 1
 kind_number Discrete = 2
@@ -30,7 +30,7 @@ overlap a b =
     kind_number a.kind == kind_number b.kind
     && nat_lt (max a.start b.start) (min (a.start + a.count) (b.start + b.count))
 
--- Any two areas of one kind share an address.
+-- Two different areas of the list have one kind and share an address.
 abbrev pub any_overlap : List Area → Bool
 any_overlap [] = false
 any_overlap (area ∷ areas) = list_any (λ other. overlap area other) areas || any_overlap areas
@@ -39,43 +39,43 @@ any_overlap (area ∷ areas) = list_any (λ other. overlap area other) areas || 
 abbrev pub is_out_of_range : Area → Bool
 is_out_of_range area = area.count == 0 || nat_lt ADDRESSES (area.start + area.count)
 
--- The initial value at an address: 0 if an area contains the address.
+-- The initial value at an address: 0 if an area contains the address, otherwise `None`.
 abbrev pub first_value : List Area → Kind → ℕ → Option ℕ
 first_value areas kind address =
     if list_any (λ area. contains kind address area) areas then Some 0 else None
 
--- The initial table of one kind.
+-- The table of this kind has the initial value of these areas at each address.
 abbrev pub BeginsAs : List Area → Kind → List (Option ℕ) → Type 0
 BeginsAs areas kind table =
     (address : ℕ) → address < ADDRESSES → value_in table address ≡ first_value areas kind address
 
--- The initial register map.
+-- Each of the four tables has the initial values of these areas.
 abbrev pub AllBeginAs : List Area → Maps → Type 0
 AllBeginAs areas maps =
     (kind : Kind) (address : ℕ) → address < ADDRESSES
     → value_at maps kind address ≡ first_value areas kind address
 
--- The number of a fault: its position in the order in which faults are checked.
+-- The number of each fault: its position in the order in which faults are checked.
 abbrev pub bank_fault_number : BankFault → ℕ
 bank_fault_number AreasOverlap = 1
 bank_fault_number OutOfRange = 2
 bank_fault_number Memory = 3
 
--- A table in which `count` addresses from `start` on have the value 0.
+-- The table after `count` addresses from `start` on were set to 0.
 abbrev pub begun_from : List (Option ℕ) → ℕ → ℕ → List (Option ℕ)
 begun_from table start count =
     take start table ++ (replicate count (Some 0) ++ drop (start + count) table)
 
--- The device has one of `count` addresses from `start` on.
+-- The device has at least one of the `count` addresses from `start` on.
 abbrev pub is_any_there : List (Option ℕ) → ℕ → ℕ → Bool
 is_any_there table start count = list_any (λ value. is_some value) (values_at table start count)
 
--- The count is 0, or the addresses extend past the last.
+-- The count is 0, or the addresses extend past the table's last address.
 abbrev pub is_past_end : List (Option ℕ) → ℕ → ℕ → Bool
 is_past_end table start count = count == 0 || nat_lt (length table) (start + count)
 
--- An area is added if the table has none of its addresses and all are in range. Otherwise the first
--- fault that applies is reported, and the table is unchanged. Adding needs no memory.
+-- An area is added if its addresses are in range and the table has none of them. Otherwise the
+-- result is the first fault, and the table is unchanged. A lack of memory is never the result.
 abbrev pub Adds : List (Option ℕ) → (start count : ℕ) → Result (Unit {0}) BankFault
     → List (Option ℕ) → Type 0
 Adds old start count (Ok done) new =

@@ -19,7 +19,8 @@ code_of_fault WrongQuantity = 3
 code_of_fault WrongByteCount = 3
 code_of_fault WrongCoilValue = 3
 
--- An exception: the function code with its top bit set, and the exception code.
+-- The PDU of an exception response: the function code with its top bit set, and the exception
+-- code.
 abbrev pub exception_bytes : ℕ → ℕ → List ℕ
 exception_bytes function code =
     (if nat_lt function 128 then function + 128 else function) ∷ code ∷ []
@@ -35,41 +36,43 @@ has_all maps (WriteRegister address value) = are_there maps.holdings address 1
 has_all maps (WriteCoils address coils) = are_there maps.coils address (length coils)
 has_all maps (WriteRegisters address values) = are_there maps.holdings address (length values)
 
--- The value that a coil is stored as.
+-- The number as which a coil is stored: 1 if it is on, otherwise 0.
 abbrev pub coil_number : Bool → ℕ
 coil_number on = if on then 1 else 0
 
--- The value at an address; 0 if the device does not have it.
+-- The value at an address, or 0 if the device does not have the address.
 abbrev pub kept_value : Option ℕ → ℕ
 kept_value value = unwrap_or value 0
 
--- The coil at an address is on.
+-- The coil at an address is on. An address that the device does not have counts as off.
 abbrev pub is_kept_on : Option ℕ → Bool
 is_kept_on value = not (kept_value value == 0)
 
--- The answer if the device has all `count` addresses, otherwise exception 2 (illegal data address).
+-- The given answer if the device has all `count` addresses, otherwise exception 2 (illegal data
+-- address).
 abbrev pub if_there : List (Option ℕ) → (address count : ℕ) → Answer → Answer
 if_there table address count answer =
     if are_there table address count then answer else Exception 2
 
--- The answer to a read of coils or discrete inputs.
+-- The answer to a read of coils or discrete inputs, or exception 2 if the device lacks one of
+-- them.
 abbrev pub bits_at : List (Option ℕ) → (address quantity : ℕ) → Answer
 bits_at table address quantity =
     if_there table address quantity (Bits (map is_kept_on (values_at table address quantity)))
 
--- The answer to a read of registers.
+-- The answer to a read of registers, or exception 2 if the device lacks one of them.
 abbrev pub words_at : List (Option ℕ) → (address quantity : ℕ) → Answer
 words_at table address quantity =
     if_there table address quantity (Words (map kept_value (values_at table address quantity)))
 
--- A table after a write of coils, which changes nothing unless the device has all addresses.
+-- A table after a write of coils. If the device lacks one of the addresses, nothing changes.
 abbrev pub coils_written : List (Option ℕ) → (address : ℕ) → List Bool → List (Option ℕ)
 coils_written table address coils =
     if are_there table address (length coils)
     then all_written table address (map coil_number coils)
     else table
 
--- A table after a write of registers, which changes nothing unless the device has all addresses.
+-- A table after a write of registers. If the device lacks one of the addresses, nothing changes.
 abbrev pub words_written : List (Option ℕ) → (address : ℕ) → List ℕ → List (Option ℕ)
 words_written table address words =
     if are_there table address (length words) then all_written table address words else table
@@ -104,21 +107,21 @@ carried_out maps (WriteCoils address coils) =
 carried_out maps (WriteRegisters address values) =
     with_table maps Holding (all_written maps.holdings address values)
 
--- The response: checks the function code first, then the rest of the PDU, then the addresses.
+-- The response PDU for a decoded request, or the exception for a fault in the request.
 abbrev pub reply_for : Maps → ℕ → Result Query RequestFault → List ℕ
 reply_for maps function (Err fault) = exception_bytes function (code_of_fault fault)
 reply_for maps function (Ok query) =
     answer_bytes query (if has_all maps query then answered maps query else Exception 2)
 
--- The register map after a decoded PDU. A refused request changes nothing.
+-- The register map after a decoded request. A request with a fault changes nothing.
 abbrev pub maps_for : Maps → Result Query RequestFault → Maps
 maps_for maps (Err fault) = maps
 maps_for maps (Ok query) = if has_all maps query then carried_out maps query else maps
 
--- The response to a PDU.
+-- The response PDU of the device to a request PDU.
 abbrev pub answer_to : Maps → List ℕ → List ℕ
 answer_to maps pdu = reply_for maps (function_in pdu) (query_in pdu)
 
--- The register map after a PDU.
+-- The register map of the device after a request PDU.
 abbrev pub maps_after : Maps → List ℕ → Maps
 maps_after maps pdu = maps_for maps (query_in pdu)

@@ -8,16 +8,16 @@ use Rattle.mb_device.specs.Tricks.{Course, carried_out, is_cut}
 use Rattle.mb_device.specs.Server.{Around, Holds, Serves, Standing, Turns, course_after_all, maps_after_all, own_frames, sent_to, standing_on}
 use Rattle.mb_device.specs.declared.server.Turned.{Turned}
 
--- Bytes that were read, and bytes that were written.
+-- Bytes that a server read, and bytes that it wrote.
 pub record Exchange : Type 0 where
   pub taken : List ℕ
   pub given : List ℕ
 
--- Two consecutive exchanges as one.
+-- Two consecutive exchanges as one exchange.
 abbrev pub joined : Exchange → Exchange → Exchange
 joined first next = record { taken = first.taken ++ next.taken; given = first.given ++ next.given }
 
--- A list of exchanges as one.
+-- A list of consecutive exchanges as one exchange.
 abbrev pub in_all : List Exchange → Exchange
 in_all exchanges =
     record {
@@ -25,9 +25,8 @@ in_all exchanges =
       given = flat_map (λ exchange. exchange.given) exchanges;
     }
 
--- The bytes written are what the server sends for the Modbus frames that end in the bytes read,
--- after the buffered ones. The register map and the server are then in the state that the frames
--- leave.
+-- The bytes written are what the server sends for the Modbus frames that end in the buffered
+-- bytes and the bytes read. The register map and the server's state are those after these frames.
 pub record Exchanges (buffered : List ℕ) (course : Course) (exchange : Exchange) (old new : Maps)
     (standing : Standing) : Type 0 where
   pub given : exchange.given ≡ sent_to course old (own_frames (buffered ++ exchange.taken))
@@ -38,7 +37,8 @@ pub record Exchanges (buffered : List ℕ) (course : Course) (exchange : Exchang
   pub is_open : is_cut (course_after_all course old (own_frames (buffered ++ exchange.taken))) ≡ false
       → IsOpen (rest (buffered ++ exchange.taken))
 
--- An exchange over a link.
+-- The server exchanged bytes with a link: it read them from the link's input, and wrote its own
+-- to the link's output.
 pub record ExchangesOver (buffered : List ℕ) (course : Course) (old new : Around)
     (standing : Standing) : Type 0 where
   pub exchange : Exchange
@@ -56,21 +56,21 @@ InOrder buffered course (first ∷ later) old new standing =
     × Exchanges buffered course first old mid (Holds left next)
     × InOrder left next later mid new standing
 
--- A turn that returns `Ok` is an exchange over the link.
+-- Theorem: a turn that returns `Ok` is an exchange over the link.
 abbrev pub TurnExchanges : Type 0
 TurnExchanges =
     (buffered : List ℕ) (course : Course) (turned : Turned) (old new : Around)
     (standing : Standing) → Turns buffered course (Ok turned) old new standing →
     ExchangesOver buffered course old new standing
 
--- Serving that returns `Ok` is an exchange over the link.
+-- Theorem: a `serve` that returns `Ok` is an exchange over the link.
 abbrev pub ServingExchanges : Type 0
 ServingExchanges =
     (buffered : List ℕ) (course : Course) (count : ℕ) (old new : Around)
     (standing : Standing) → Serves buffered course (Ok count) old new standing →
     ExchangesOver buffered course old new standing
 
--- Two consecutive exchanges are one exchange.
+-- Theorem: two consecutive exchanges are one exchange.
 abbrev pub TwoAreOne : Type 0
 TwoAreOne =
     (buffered left : List ℕ) (course mid_course : Course) (first next : Exchange)
@@ -79,7 +79,7 @@ TwoAreOne =
     Exchanges left mid_course next mid new standing →
     Exchanges buffered course (joined first next) old new standing
 
--- Any number of consecutive exchanges are one exchange.
+-- Theorem: any number of consecutive exchanges are one exchange.
 abbrev pub AllAreOne : Type 0
 AllAreOne =
     (buffered : List ℕ) (course : Course) (exchanges : List Exchange) (old new : Maps)

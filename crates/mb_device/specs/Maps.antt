@@ -7,45 +7,46 @@ use Rattle.mb_wire.specs.declared.limits.TheConstants.{ADDRESSES}
 use Rattle.mb_device.specs.declared.kinds.Kind.{Kind}
 use Rattle.mb_device.specs.declared.kinds.Kind.TheVariants.{Coil, Discrete, Holding, Input}
 
--- A register map: for each kind, the values at the addresses from 0 on.
+-- A register map: for each kind of value, a table of the values at the addresses from 0 on.
 pub record Maps : Type 0 where
   pub coils : List (Option ℕ)
   pub discretes : List (Option ℕ)
   pub holdings : List (Option ℕ)
   pub inputs : List (Option ℕ)
 
--- The table of one kind.
+-- The table of this kind in a register map.
 abbrev pub table_of : Maps → Kind → List (Option ℕ)
 table_of maps Coil = maps.coils
 table_of maps Discrete = maps.discretes
 table_of maps Holding = maps.holdings
 table_of maps Input = maps.inputs
 
--- The value at an address of a table, if the device has that address.
+-- The value at an address of a table, or `None` if the device does not have that address.
 abbrev pub value_in : List (Option ℕ) → ℕ → Option ℕ
 value_in table address = slice_index_or table address None
 
--- The value of a kind at an address, if the device has that address.
+-- The value of this kind at an address, or `None` if the device does not have that address.
 abbrev pub value_at : Maps → Kind → ℕ → Option ℕ
 value_at maps kind address = value_in (table_of maps kind) address
 
--- Each table has an entry for every address, with or without a value.
+-- Each table has an item for every address, `None` where the device has no value.
 abbrev pub HasAllAddresses : Maps → Type 0
 HasAllAddresses maps = (kind : Kind) → length (table_of maps kind) ≡ ADDRESSES
 
--- The value that is stored: a coil or a discrete input is on (1) or off (0).
+-- The number that is stored for a value of this kind. A coil or a discrete input is stored as 1
+-- (on) or 0 (off).
 abbrev pub kept : Kind → ℕ → ℕ
 kept Coil value = if value == 0 then 0 else 1
 kept Discrete value = if value == 0 then 0 else 1
 kept Holding value = value
 kept Input value = value
 
--- A table with a new value at an address, if the device has that address.
+-- The table after a write of one value. If the device does not have the address, nothing changes.
 abbrev pub written : List (Option ℕ) → ℕ → ℕ → List (Option ℕ)
 written table address value =
     if is_some (value_in table address) then slice_set table address (Some value) else table
 
--- A register map with another table.
+-- The register map with its table of this kind replaced.
 abbrev pub with_table : Maps → Kind → List (Option ℕ) → Maps
 with_table maps Coil table =
     record {
@@ -81,7 +82,7 @@ are_there table address count =
     nat_le (address + count) (length table)
     && list_all (λ value. is_some value) (values_at table address count)
 
--- A table with these values from an address on.
+-- The table after these values are written from an address on.
 abbrev pub all_written : List (Option ℕ) → ℕ → List ℕ → List (Option ℕ)
 all_written table address [] = table
 all_written table address (value ∷ values) =

@@ -19,7 +19,8 @@ use Rattle.mb_device.specs.declared.server.ServeFault.{ServeFault}
 use Rattle.mb_device.specs.declared.server.ServeFault.TheVariants.{Read, Write, Garbled, TurnsUsed}
 use Rattle.mb_device.specs.declared.server.Turned.{Turned}
 
--- A frame of Modbus. The server skips frames of other protocols.
+-- The frame's protocol identifier is 0, which is Modbus. The server skips frames of other
+-- protocols.
 abbrev pub is_own : List ℕ → Bool
 is_own frame = protocol_of frame == 0
 
@@ -33,13 +34,14 @@ unfoldable pub answer_to_frame : Maps → List ℕ → Fields
 answer_to_frame maps frame =
     answer_of (tid_of frame) (unit_of frame) (answer_to maps (pdu_of frame))
 
--- The true responses to frames in order, each from the register map that the earlier frames left.
+-- The true responses to these frames in order. Each is computed from the register map after the
+-- earlier frames.
 abbrev pub answers : Maps → List (List ℕ) → List Fields
 answers maps [] = []
 answers maps (frame ∷ frames) =
     answer_to_frame maps frame ∷ answers (maps_after maps (pdu_of frame)) frames
 
--- The register map after frames.
+-- The register map after the device executed these frames.
 abbrev pub maps_after_all : Maps → List (List ℕ) → Maps
 maps_after_all maps [] = maps
 maps_after_all maps (frame ∷ frames) = maps_after_all (maps_after maps (pdu_of frame)) frames
@@ -48,24 +50,25 @@ maps_after_all maps (frame ∷ frames) = maps_after_all (maps_after maps (pdu_of
 abbrev pub sent_to : Course → Maps → List (List ℕ) → List ℕ
 sent_to course maps frames = sent course (answers maps frames)
 
--- The connection after frames.
+-- The connection's state after these frames.
 abbrev pub course_after_all : Course → Maps → List (List ℕ) → Course
 course_after_all course maps frames = course_after course (answers maps frames)
 
--- The state of a server. It serves a connection, with the bytes since the last frame's end
--- buffered; or a trick cut the connection; or a call returned a fault.
+-- The state of a server. `Holds`: it serves a connection, with the bytes since the last frame's
+-- end buffered. `Over`: a trick cut the connection. `Faulted`: a call returned a fault.
 pub data Standing : Type 0 where
   Holds : List ℕ → Course → Standing
   Over : Standing
   Faulted : Standing
 
--- The state of a server on this connection, with these buffered bytes.
+-- The state of a server on this connection with these buffered bytes. If a trick cut the
+-- connection, it is `Over`.
 abbrev pub standing_on : List ℕ → Course → Standing
 standing_on bytes (Playing tricks number later) = Holds bytes (Playing tricks number later)
 standing_on bytes CutOff = Over
 
--- The bytes that the peer still has for the server, the bytes sent to the peer, and the register
--- map.
+-- What surrounds a server: the bytes that the peer still has for it, the bytes sent to the peer,
+-- and the register map. The bytes may be unknown.
 pub record Around : Type 0 where
   pub remaining : Option (List ℕ)
   pub given : Option (List ℕ)
@@ -95,7 +98,8 @@ pub record BrokenOff (course : Course) (frames : List (List ℕ)) (old new : Aro
   pub given : Appends old.given new.given (sent_to course old.maps earlier ++ part)
   pub maps : new.maps ≡ maps_after_all old.maps (earlier ++ frame ∷ [])
 
--- Only a failed write loses the response to a frame that ended.
+-- What was executed and sent, by the result of a call. After a failed write, the response to one
+-- frame is incomplete. After any other result, everything is sent.
 abbrev pub Answered : {X : Type 0} → Result X ServeFault → Course → List (List ℕ) → Around → Around
     → Type 0
 Answered (Ok x) course frames old new = AllAnswered course frames old new
@@ -104,13 +108,14 @@ Answered (Err Write) course frames old new = BrokenOff course frames old new
 Answered (Err Garbled) course frames old new = AllAnswered course frames old new
 Answered (Err TurnsUsed) course frames old new = AllAnswered course frames old new
 
--- The state of a server that has read these bytes in all on this connection.
+-- The state of a server after a call with this result, if it has read these bytes in all on this
+-- connection.
 abbrev pub standing_after : {X : Type 0} → Result X ServeFault → List ℕ → Course → Standing
 standing_after (Ok x) bytes course = standing_on (rest bytes) course
 standing_after (Err fault) bytes course = Faulted
 
--- All bytes of a part of a connection, with those that were buffered when it began. Also the
--- connection before these bytes, and after the frames that end in them.
+-- A part of a connection: its bytes, with those that were buffered when it began. `before` and
+-- `left` are the connection before these bytes and after the frames that end in them.
 pub record Stretch : Type 0 where
   pub bytes : List ℕ
   pub before : Course
@@ -121,29 +126,30 @@ abbrev pub stretch : Course → Maps → List ℕ → Stretch
 stretch course maps bytes =
     record { bytes = bytes; before = course; left = course_after_all course maps (own_frames bytes) }
 
--- The server executed this many frames. No bad length came before a cut.
+-- The server executed this many frames of the bytes. Unless a trick cut the connection, no bad
+-- length field came.
 pub record Counts (count : ℕ) (stretch : Stretch) : Type 0 where
   pub counted : count ≡ length (carried_out stretch.before (own_frames stretch.bytes))
   pub is_open : is_cut stretch.left ≡ false → IsOpen (rest stretch.bytes)
 
--- No bad length came, and no trick cut the connection.
+-- No bad length field came, and no trick cut the connection.
 pub record IsGoing (stretch : Stretch) : Type 0 where
   pub going : is_cut stretch.left ≡ false
   pub is_open : IsOpen (rest stretch.bytes)
 
--- A bad length came, and no trick cut the connection before it.
+-- A bad length field came, and no trick cut the connection before it.
 pub record IsGarbled (stretch : Stretch) : Type 0 where
   pub going : is_cut stretch.left ≡ false
   pub bad : IsBad (rest stretch.bytes)
 
--- A turn reports the end: a trick cut the connection, or the turn read nothing and no bytes are
--- left.
+-- When a turn reports the end: after a cut always; otherwise only if the turn read nothing and no
+-- bytes are left.
 pub record EndTells (ended : Bool) (left : Course) (taken : List ℕ) (remaining : Option (List ℕ)) :
     Type 0 where
   pub cut : is_cut left ≡ true → ended ≡ true
   pub end : is_cut left ≡ false → ended ≡ true → (taken ≡ []) × IsAtEnd remaining
 
--- What the result of a turn says about the bytes that it read.
+-- What each result of a turn shows about the bytes that the turn read.
 abbrev pub TurnTells : Result Turned ServeFault → Stretch → List ℕ → Option (List ℕ) → Type 0
 TurnTells (Ok turned) stretch taken remaining =
     Counts turned.answered stretch × EndTells turned.ended stretch.left taken remaining
@@ -152,7 +158,7 @@ TurnTells (Err Write) stretch taken remaining = Unit {0}
 TurnTells (Err Garbled) stretch taken remaining = IsGarbled stretch
 TurnTells (Err TurnsUsed) stretch taken remaining = ⊥
 
--- What the result of serving says about the bytes that it read.
+-- What each result of `serve` shows about the bytes that it read.
 abbrev pub ServeTells : Result ℕ ServeFault → Stretch → Option (List ℕ) → Type 0
 ServeTells (Ok count) stretch remaining =
     Counts count stretch × (is_cut stretch.left ≡ false → IsAtEnd remaining)
@@ -167,17 +173,18 @@ is_over (Holds buffered course) = false
 is_over Over = true
 is_over Faulted = false
 
--- A turn found the end of the input. A cut is not an end of the link's input.
+-- The turn found the end of the link's input. A turn that ended because of a cut did not find it.
 abbrev pub came_to_end : Result Turned ServeFault → Standing → Bool
 came_to_end (Ok turned) standing = turned.ended && not (is_over standing)
 came_to_end (Err fault) standing = false
 
--- Serving found the end of the input.
+-- `serve` found the end of the link's input. A `serve` that ended because of a cut did not find
+-- it.
 abbrev pub served_to_end : Result ℕ ServeFault → Standing → Bool
 served_to_end (Ok count) standing = not (is_over standing)
 served_to_end (Err fault) standing = false
 
--- A read failed.
+-- A read of the link failed.
 abbrev pub is_read_fault : {X : Type 0} → Result X ServeFault → Bool
 is_read_fault (Ok x) = false
 is_read_fault (Err Read) = true
@@ -185,15 +192,15 @@ is_read_fault (Err Write) = false
 is_read_fault (Err Garbled) = false
 is_read_fault (Err TurnsUsed) = false
 
--- The last read had a buffer of 260 bytes. It found the end exactly if the result says so, and
--- failed exactly if the result says so.
+-- The last read of the link had a buffer of 260 bytes. It found the end exactly if `ended`, and
+-- failed exactly if `failed`.
 pub record TellsTake (ended failed : Bool) (last : Option LastTake) : Type 0 where
   pub answer : Result Took LinkFailed
   pub taken : last ≡ Some (record { room = MAX_ADU; answer = answer })
   pub end : ended ≡ is_end answer
   pub failure : failed ≡ is_err answer
 
--- A turn of a server with these buffered bytes on this connection.
+-- The effects of a turn of a server that has these bytes buffered on this connection.
 pub record Turns (buffered : List ℕ) (course : Course) (result : Result Turned ServeFault)
     (old new : Around) (standing : Standing) : Type 0 where
   pub taken : List ℕ
@@ -205,7 +212,8 @@ pub record Turns (buffered : List ℕ) (course : Course) (result : Result Turned
       (course_after_all course old.maps (own_frames (buffered ++ taken)))
   pub tells : TurnTells result (stretch course old.maps (buffered ++ taken)) taken new.remaining
 
--- The server responded to all that it has read so far, to this many frames.
+-- The server executed all frames of what it has read so far, and sent everything that it sends
+-- for them. `count` is the number of these frames.
 pub record Served (buffered : List ℕ) (course : Course) (count : ℕ) (old new : Around)
     (standing : Standing) : Type 0 where
   pub taken : List ℕ
@@ -216,7 +224,7 @@ pub record Served (buffered : List ℕ) (course : Course) (count : ℕ) (old new
       (course_after_all course old.maps (own_frames (buffered ++ taken)))
   pub counts : Counts count (stretch course old.maps (buffered ++ taken))
 
--- Serving by a server with these buffered bytes on this connection.
+-- The effects of `serve` by a server that has these bytes buffered on this connection.
 pub record Serves (buffered : List ℕ) (course : Course) (result : Result ℕ ServeFault)
     (old new : Around) (standing : Standing) : Type 0 where
   pub taken : List ℕ
@@ -227,24 +235,24 @@ pub record Serves (buffered : List ℕ) (course : Course) (result : Result ℕ S
       (course_after_all course old.maps (own_frames (buffered ++ taken)))
   pub tells : ServeTells result (stretch course old.maps (buffered ++ taken)) new.remaining
 
--- Serving by a server in this state, if it serves a connection.
+-- If the server's state `held` serves a connection, the effects of `serve` are those of `Serves`.
 abbrev pub ServesFrom : (held : Standing) → Result ℕ ServeFault → (old new : Around)
     → (standing : Standing) → Type 0
 ServesFrom held result old new standing =
     (buffered : List ℕ) (course : Course) → held ≡ Holds buffered course →
     Serves buffered course result old new standing
 
--- The buffered frame, if any.
+-- The frame that the reader holds, as a list of one frame or none.
 abbrev pub buffered_frames : Option (List ℕ) → List (List ℕ)
 buffered_frames None = []
 buffered_frames (Some frame) = frame ∷ []
 
--- What is buffered is a complete frame, if anything is.
+-- If the reader holds a frame, the frame is complete.
 abbrev pub HoldsFrame : Option (List ℕ) → Type 0
 HoldsFrame None = Unit {0}
 HoldsFrame (Some frame) = IsFrame frame
 
--- What the result says after the server responded to the buffered frame.
+-- What each result shows after the server responded to the frame that the reader held.
 abbrev pub BufferedTells : Result ℕ ServeFault → Option (List ℕ) → Type 0
 BufferedTells (Ok count) frame = count ≡ length (buffered_frames frame)
 BufferedTells (Err Read) frame = ⊥
@@ -252,8 +260,8 @@ BufferedTells (Err Write) frame = Unit {0}
 BufferedTells (Err Garbled) frame = ⊥
 BufferedTells (Err TurnsUsed) frame = ⊥
 
--- What the result says after the server responded to the frames of a piece: about all bytes up to
--- its end, and about those now buffered.
+-- What each result shows after the server responded to the frames of a piece: about all bytes up
+-- to the piece's end, and about the bytes now buffered.
 abbrev pub PieceTells : Result ℕ ServeFault → Stretch → List ℕ → Type 0
 PieceTells (Ok count) stretch buffered =
     Counts count stretch × (is_cut stretch.left ≡ false → buffered ≡ rest stretch.bytes)
@@ -262,13 +270,13 @@ PieceTells (Err Write) stretch buffered = Unit {0}
 PieceTells (Err Garbled) stretch buffered = IsGarbled stretch
 PieceTells (Err TurnsUsed) stretch buffered = ⊥
 
--- The state of a server with this reader and connection after a turn with this result.
+-- The state of a server after a turn with this result, if the turn left this reader and this
+-- connection.
 abbrev pub standing_in : {X : Type 0} → Result X ServeFault → Buffered → Course → Standing
 standing_in (Ok x) reader course = standing_on reader.rest course
 standing_in (Err fault) reader course = Faulted
 
--- What a turn begins with and what it leaves: the reader, the connection, and the server's
--- surroundings.
+-- The reader, the connection and the surroundings of a server, before or after a turn.
 pub record Scene : Type 0 where
   pub reader : Buffered
   pub course : Course
@@ -279,14 +287,14 @@ abbrev pub scene : Buffered → Course → (remaining given : Option (List ℕ))
 scene reader course remaining given maps =
     record { reader = reader; course = course; around = around remaining given maps }
 
--- A turn begins with the bytes that the reader has buffered. It leaves the server in the state of
--- its reader and its connection.
+-- A turn from the scene `old` to the scene `new` has the effects of `Turns`. The server's state
+-- after it is that of its reader and its connection.
 abbrev pub TakesTurn : Result Turned ServeFault → (old new : Scene) → Type 0
 TakesTurn result old new =
     Turns old.reader.rest old.course result old.around new.around
     (standing_in result new.reader new.course)
 
--- A fault of the link: a read or a write failed.
+-- The result is a fault of the link: a read or a write failed.
 abbrev pub is_link_fault : {X : Type 0} → Result X ServeFault → Bool
 is_link_fault (Ok x) = false
 is_link_fault (Err Read) = true
@@ -294,7 +302,7 @@ is_link_fault (Err Write) = true
 is_link_fault (Err Garbled) = false
 is_link_fault (Err TurnsUsed) = false
 
--- A call has returned a fault.
+-- A call of the server has returned a fault.
 abbrev pub has_faulted : Standing → Bool
 has_faulted (Holds buffered course) = false
 has_faulted Over = false
@@ -306,7 +314,7 @@ is_serving (Holds buffered course) = true
 is_serving Over = false
 is_serving Faulted = false
 
--- The number of a fault, from 1.
+-- The number of each fault, from 1.
 abbrev pub serve_fault_number : ServeFault → ℕ
 serve_fault_number Read = 1
 serve_fault_number Write = 2

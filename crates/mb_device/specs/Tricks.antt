@@ -13,16 +13,16 @@ use Rattle.mb_device.specs.declared.trick.Trick.TheVariants as play
 abbrev pub answer_of : ℕ → ℕ → List ℕ → Fields
 answer_of tid unit pdu = record { tid = tid; unit = unit; pdu = pdu }
 
--- The true frame of a response.
+-- The bytes of a response's frame, without a trick.
 abbrev pub frame_of : Fields → List ℕ
 frame_of answer = spelling answer.tid answer.unit answer.pdu
 
--- The first trick with the number.
+-- The first trick in the list for this frame number, if there is one.
 abbrev pub first_trick : List (ℕ × Trick) → ℕ → Option Trick
 first_trick tricks number =
     option_map (λ (t : ℕ × Trick). t.1) (find (λ (t : ℕ × Trick). t.0 == number) tricks)
 
--- The trick on the frame with this number. Frames from 2^64 - 1 on have none.
+-- The trick on the frame with this number, if there is one. Frames from 2^64 - 1 on have none.
 unfoldable pub trick_at : List (ℕ × Trick) → ℕ → Option Trick
 trick_at tricks number = if nat_lt number (2 ^ 64 - 1) then first_trick tricks number else None
 
@@ -50,17 +50,18 @@ sent_of (Some play.Unit) frame later = frame ++ later
 sent_of (Some play.Garble) frame later = frame ++ later
 sent_of (Some (play.Cut count)) frame later = take count frame
 
--- A connection: its tricks, the number of its next frame (2^64 - 1 for all from there on), and the
--- buffered response, empty if there is none. Or a trick cut it.
+-- The state of a connection. `Playing`: its tricks, the number of its next frame, and the
+-- buffered response, empty if there is none. The number 2^64 - 1 means that frame and all after
+-- it. `CutOff`: a trick cut it.
 pub data Course : Type 0 where
   Playing : List (ℕ × Trick) → ℕ → List ℕ → Course
   CutOff : Course
 
--- A connection before its first frame.
+-- The state of a connection before its first frame, with these tricks.
 abbrev pub begun : List (ℕ × Trick) → Course
 begun tricks = Playing tricks 1 []
 
--- The connection of a sender with these parts.
+-- The state of a connection by the fields of its sender. The `Bool` says whether a trick cut it.
 abbrev pub course_in : Bool → List (ℕ × Trick) → ℕ → List ℕ → Course
 course_in true tricks number later = CutOff
 course_in false tricks number later = Playing tricks number later
@@ -81,7 +82,7 @@ cuts (Some play.Unit) = false
 cuts (Some play.Garble) = false
 cuts (Some (play.Cut count)) = true
 
--- The response that is buffered after a frame with this trick.
+-- The response that is buffered after a frame with this trick; empty unless the trick is `Later`.
 abbrev pub later_of : Option Trick → List ℕ → List ℕ
 later_of None frame = []
 later_of (Some play.Drop) frame = []
@@ -92,43 +93,44 @@ later_of (Some play.Unit) frame = []
 later_of (Some play.Garble) frame = []
 later_of (Some (play.Cut count)) frame = []
 
--- A connection after a frame with this trick.
+-- The connection's state after a frame with this trick and this response.
 abbrev pub following : Option Trick → List ℕ → Course → Course
 following trick frame (Playing tricks number later) =
     if cuts trick then CutOff else Playing tricks (risen true number) (later_of trick frame)
 following trick frame CutOff = CutOff
 
--- What is sent for the next response of a connection.
+-- The bytes that a connection sends for its next response.
 unfoldable pub sent_next : Course → Fields → List ℕ
 sent_next (Playing tricks number later) answer =
     sent_of (trick_at tricks number) (spelled_by (trick_at tricks number) answer) later
 sent_next CutOff answer = []
 
--- The connection after its next response.
+-- The connection's state after its next response.
 unfoldable pub course_next : Course → Fields → Course
 course_next (Playing tricks number later) answer =
     following (trick_at tricks number) (spelled_by (trick_at tricks number) answer)
     (Playing tricks number later)
 course_next CutOff answer = CutOff
 
--- What a connection sends for true responses, with its tricks.
+-- The bytes that a connection sends for these true responses, as its tricks change them.
 abbrev pub sent : Course → List Fields → List ℕ
 sent course [] = []
 sent course (answer ∷ answers) = sent_next course answer ++ sent (course_next course answer) answers
 
--- A connection after responses.
+-- The connection's state after these responses.
 abbrev pub course_after : Course → List Fields → Course
 course_after course [] = course
 course_after course (answer ∷ answers) = course_after (course_next course answer) answers
 
--- The frames that are executed, from the frame with this number on: all up to a cut.
+-- Of frames numbered from this number on, those that are executed: all up to and with the frame
+-- that a trick cuts.
 abbrev pub up_to_cut : List (ℕ × Trick) → ℕ → List (List ℕ) → List (List ℕ)
 up_to_cut tricks number [] = []
 up_to_cut tricks number (frame ∷ frames) =
     frame ∷ (if cuts (trick_at tricks number) then []
     else up_to_cut tricks (risen true number) frames)
 
--- The frames that a server executes on this connection.
+-- Of these frames, those that a server executes on this connection.
 abbrev pub carried_out : Course → List (List ℕ) → List (List ℕ)
 carried_out (Playing tricks number later) frames = up_to_cut tricks number frames
 carried_out CutOff frames = []

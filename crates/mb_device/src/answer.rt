@@ -15,7 +15,7 @@ use mb_wire::{
     encode_reply,
 };
 
-// Returns the exception code of a fault.
+// Returns the exception code for a fault of a request.
 pub(crate) fn code_of(fault: RequestFault) -> u8
     ensures { result ≡ code_of_fault fault }
 {
@@ -28,7 +28,7 @@ pub(crate) fn code_of(fault: RequestFault) -> u8
     }
 }
 
-// Writes the exception that answers a PDU that is no request.
+// Writes an exception response with this function and exception code, and returns its length.
 pub(crate) fn refuse(function: u8, code: u8, out: &mut [u8; MAX_PDU]) -> usize
     ensures count { result ≡ 2 }
     ensures written { take result out.new ≡ exception_bytes function code }
@@ -75,7 +75,7 @@ fn has_words(table: &[Option<u16>], address: u16, bytes: &[u8]) -> bool
     has_all(table, address, (bytes.len() / 2) as u16)
 }
 
-// Writes the response to a read of coils or discrete inputs.
+// Writes the response to a read of coils or discrete inputs, and returns its length.
 pub(crate) fn answer_bits(
     table: &[Option<u16>],
     request: &Request<'_>,
@@ -105,7 +105,7 @@ pub(crate) fn answer_bits(
     }
 }
 
-// Writes the response to a read of registers.
+// Writes the response to a read of registers, and returns its length.
 pub(crate) fn answer_words(
     table: &[Option<u16>],
     request: &Request<'_>,
@@ -131,7 +131,7 @@ pub(crate) fn answer_words(
     }
 }
 
-// Executes a write of one coil, and writes its response.
+// Executes a write of one coil, writes its response, and returns the response's length.
 pub(crate) fn answer_coil(
     table: &mut [Option<u16>],
     request: &Request<'_>,
@@ -155,7 +155,7 @@ pub(crate) fn answer_coil(
     }
 }
 
-// Executes a write of coils, and writes its response.
+// Executes a write of coils, writes its response, and returns the response's length.
 pub(crate) fn answer_coils(
     table: &mut [Option<u16>],
     request: &Request<'_>,
@@ -181,7 +181,7 @@ pub(crate) fn answer_coils(
     }
 }
 
-// Executes a write of registers, and writes its response.
+// Executes a write of registers, writes its response, and returns the response's length.
 pub(crate) fn answer_registers(
     table: &mut [Option<u16>],
     request: &Request<'_>,

@@ -94,7 +94,7 @@ fn begin_table(alloc: Global, areas: &[Area], kind: Kind) -> Result<Vec<Option<u
     Ok(table)
 }
 
-// Returns whether the device has any of the addresses.
+// Returns whether the device has any address of this part of a table.
 fn any_some(values: &[Option<u16>]) -> bool
     ensures { result ≡ list_any (λ value. is_some value) values.now }
 {
@@ -198,7 +198,7 @@ impl Bank {
     }
 
     /// Sets the value at an address. Returns whether the map has that address. For a coil or a
-    /// discrete input, any value but 0 is stored as 1.
+    /// discrete input, any value except 0 is stored as 1.
     pub fn set(&mut self, kind: Kind, address: u16, value: u16) -> bool
         ensures there { result ≡ is_some (value_at self.old kind address) }
         ensures after { self.new ≡
@@ -245,7 +245,7 @@ impl Bank {
         }
     }
 
-    // Executes a request, and writes its response.
+    // Executes a request, writes its response, and returns the response's length.
     fn carry_out(&mut self, request: &Request<'_>, out: &mut [u8; MAX_PDU]) -> usize
         requires { IsLawful request.now }
         ensures some { 1 ≤ result }
@@ -292,7 +292,7 @@ impl Bank {
     }
 }
 
-// Returns the value at an address of a table.
+// Returns the value at an address of a table, or `None` if the device does not have it.
 fn value_of(table: &[Option<u16>], address: u16) -> Option<u16>
     ensures { result ≡ value_in table.now address }
 {

@@ -1,4 +1,4 @@
-//! Packs values into the bytes of a response, and unpacks those of a request.
+//! Packs values into the data bytes of a response, and unpacks the data bytes of a request.
 ghost use Rattle.std.specs.Prelude.{◌≡◌, ◌≤◌, ◌<◌, ◌+◌, ◌*◌, ◌/◌, ◌^◌, ◌++◌, slice_get};
 ghost use Rattle.std.specs.Prelude.{map, length, take};
 ghost use Rattle.std.specs.Option.{option_map};
@@ -24,7 +24,7 @@ fn pack_byte(values: &[Option<u16>]) -> u8
     }
 }
 
-// Writes values as coils, and returns the number of bytes.
+// Writes these values as coils to the front of `out`, and returns the number of bytes.
 pub(crate) fn pack_coils(values: &[Option<u16>], out: &mut [u8; MAX_BYTES]) -> usize
     requires { length values.now ≤ MAX_READ_COILS }
     ensures count { result ≡ bytes_for (length values.now) }
@@ -38,7 +38,7 @@ pub(crate) fn pack_coils(values: &[Option<u16>], out: &mut [u8; MAX_BYTES]) -> u
     count
 }
 
-// Writes the value with index `i` after the values before it.
+// Writes the value as register `i` of the data bytes.
 fn put_word(out: &mut [u8; MAX_BYTES], i: usize, value: u16)
     requires { i < MAX_READ_REGISTERS }
     ensures { take (2 * i + 2) out.new ≡ take (2 * i) out.old ++ word value }
@@ -47,7 +47,7 @@ fn put_word(out: &mut [u8; MAX_BYTES], i: usize, value: u16)
     out[place..place + 2].copy_from_slice(&value.to_be_bytes());
 }
 
-// Writes values as registers, and returns the number of bytes.
+// Writes these values as registers to the front of `out`, and returns the number of bytes.
 pub(crate) fn pack_words(values: &[Option<u16>], out: &mut [u8; MAX_BYTES]) -> usize
     requires { length values.now ≤ MAX_READ_REGISTERS }
     ensures count { result ≡ 2 * length values.now }
@@ -59,7 +59,7 @@ pub(crate) fn pack_words(values: &[Option<u16>], out: &mut [u8; MAX_BYTES]) -> u
     2 * values.len()
 }
 
-// Stores the registers in bytes, from an address on.
+// Stores the registers of these data bytes in the table, from an address on.
 pub(crate) fn write_words(table: &mut [Option<u16>], place: usize, bytes: &[u8])
     requires { place + length bytes.now / 2 ≤ length table.old }
     ensures { table.new ≡ all_written table.old place (words_of bytes.now) }
@@ -69,7 +69,8 @@ pub(crate) fn write_words(table: &mut [Option<u16>], place: usize, bytes: &[u8])
     }
 }
 
-// Returns the value to store for coil `i`.
+// Returns the number to store for coil `i` of these data bytes, 0 or 1, or `None` without that
+// coil.
 fn coil_in(quantity: u16, bytes: &[u8], i: usize) -> Option<u16>
     ensures { result ≡ option_map coil_number (slice_get (coils_of quantity bytes.now) i) }
 {
@@ -79,7 +80,7 @@ fn coil_in(quantity: u16, bytes: &[u8], i: usize) -> Option<u16>
     }
 }
 
-// Stores the coils in bytes as 0 or 1, from an address on.
+// Stores the coils of these data bytes in the table as 0 or 1, from an address on.
 pub(crate) fn write_coils(table: &mut [Option<u16>], place: usize, quantity: u16, bytes: &[u8])
     requires count { length bytes.now ≡ bytes_for quantity }
     requires fits { place + quantity ≤ length table.old }

@@ -22,7 +22,8 @@ fn give_both<L: Link>(link: &mut L, first: &[u8], next: &[u8]) -> Result<(), Lin
     give_all(link, next)
 }
 
-// Writes what a trick sends for a frame, and for the frame that was buffered before it.
+// Sends the response to a frame as its trick changes it, and then the response that was buffered
+// before.
 fn give_by<L: Link>(
     link: &mut L,
     trick: Option<Trick>,
@@ -62,7 +63,8 @@ fn write_without_length(tid: u16, unit: u8, pdu: &[u8], out: &mut [u8; MAX_ADU])
     end
 }
 
-// Writes a response as its trick changes it, and returns its length in bytes.
+// Writes the frame of a response, with its header as the trick changes it. Returns its length in
+// bytes.
 fn write_by(trick: Option<Trick>, tid: u16, unit: u8, pdu: &[u8], out: &mut [u8; MAX_ADU]) -> usize
     requires low { 1 ≤ length pdu.now }
     requires high { length pdu.now ≤ MAX_PDU }
@@ -79,7 +81,7 @@ fn write_by(trick: Option<Trick>, tid: u16, unit: u8, pdu: &[u8], out: &mut [u8;
     }
 }
 
-// Returns the first trick with this number.
+// Returns the first trick in the list for this frame number, or `None`.
 fn find_first(tricks: &[(u64, Trick)], number: u64) -> Option<Trick>
     ensures { result ≡ first_trick tricks.now number }
 {
@@ -89,7 +91,7 @@ fn find_first(tricks: &[(u64, Trick)], number: u64) -> Option<Trick>
         .map(|trick| trick.1)
 }
 
-// Returns the trick on the frame with this number.
+// Returns the trick on the frame with this number, or `None`. Frames from 2^64 - 1 on have none.
 #[tactic(auto, unfolding(crate::specs::Tricks::trick_at))]
 fn find_trick(tricks: &[(u64, Trick)], number: u64) -> Option<Trick>
     ensures { result ≡ trick_at tricks.now number }
@@ -104,7 +106,7 @@ fn find_trick(tricks: &[(u64, Trick)], number: u64) -> Option<Trick>
 #[derive(Drop)]
 pub(crate) struct Sender<'t> {
     tricks: &'t [(u64, Trick)],
-    // The number of the next frame.
+    // The number of the next frame, from 1.
     next: u64,
     // The buffered response: its first `len` bytes. None is buffered if `len` is 0.
     later: [u8; MAX_ADU],
@@ -144,7 +146,7 @@ impl<'t> Sender<'t> {
         self.is_cut
     }
 
-    // Moves on to the next frame, after a frame with this trick.
+    // Advances to the next frame, after a frame with this trick and this response.
     fn go_on(&mut self, trick: Option<Trick>, frame: [u8; MAX_ADU], end: usize)
         requires { end ≤ MAX_ADU }
         ensures { self.new ≡ following trick (take end frame) self.old }

@@ -22,13 +22,13 @@ use std::marker::Model;
 /// Why a server stopped.
 #[derive(Clone, Copy, Debug, PartialEq, Eq)]
 pub enum ServeFault {
-    /// A read failed.
+    /// A read of the link failed.
     Read,
-    /// A write failed, or accepted no bytes.
+    /// A write to the link failed, or accepted no bytes.
     Write,
     /// The stream is garbled, or an earlier call returned a fault.
     Garbled,
-    /// The input did not end within the given turns.
+    /// The link's input did not end within the greatest number of turns.
     TurnsUsed,
 }
 
@@ -56,13 +56,13 @@ pub struct Turned {
     pub ended: bool,
 }
 
-// The result of each turn after a cut.
+// The result of each turn after a trick cut the connection.
 const OVER: Turned = Turned {
     answered: 0,
     ended: true,
 };
 
-/// Responds to the frames of one stream: truly, or changed by tricks.
+/// Responds to the frames of one stream. Tricks may change its responses.
 #[derive(Drop)]
 pub struct Server<'t> {
     reader: FrameReader,
@@ -85,7 +85,7 @@ impl<'t> Model for Server<'t> {
         IsOpen server.reader.rest };
 }
 
-// Executes a frame, and sends its response.
+// Executes the request in a frame, and sends its response.
 fn answer_frame<L: Link>(
     frame: &Frame<'_>,
     sender: &mut Sender<'_>,
@@ -111,7 +111,8 @@ fn answer_frame<L: Link>(
     sender.send(link, frame.tid, frame.unit, &pdu[..length])
 }
 
-// Responds to the frame that the reader holds, if any. Returns the number of frames.
+// Responds to the frame that the reader holds, if it holds one. Returns the number of frames: 0
+// or 1.
 fn answer_buffered<L: Link>(
     reader: &FrameReader,
     sender: &mut Sender<'_>,
@@ -141,7 +142,7 @@ fn answer_buffered<L: Link>(
     }
 }
 
-// Responds to the frames that end in a piece, up to a cut. Returns the number of frames.
+// Responds to the Modbus frames that end in a piece, up to a cut. Returns how many it executed.
 fn answer_piece<L: Link>(
     reader: &mut FrameReader,
     sender: &mut Sender<'_>,

@@ -52,7 +52,7 @@ plain function address field known short quantity coil =
       coil = coil;
     }
 
--- A quantity that a function allows.
+-- A quantity that a function allows is not reported as wrong.
 allowed : (function most quantity n : ℕ) → most_of function ≡ most → IsWithin quantity most → n ≡ quantity → (not (writes_one function) && (nat_lt n 1 || nat_lt (most_of function) n)) ≡ false
 allowed function most quantity n e h same =
     and_right (not (writes_one function)) _ (or_from _ _ (le-ltb n 1 (omega arith)) (le-ltb (most_of function) n (omega arith)))
@@ -68,7 +68,7 @@ coil_reads : (on : Bool) (address : ℕ) → query_in (head_bytes 5 address (coi
 coil_reads true address = reads _ _ (plain 5 address 65280 refl refl refl refl) (ap (λ n. WriteCoil n true) (whole address))
 coil_reads false address = reads _ _ (plain 5 address 0 refl refl refl refl) (ap (λ n. WriteCoil n false) (whole address))
 
--- A PDU with data.
+-- A PDU whose byte count and data fit its quantity has no fault.
 carrying : (function most address quantity : ℕ) (bytes : List ℕ) → is_known function ≡ true → carries_bytes function ≡ true → (function == 5) ≡ false → most_of function ≡ most → IsWithin quantity most → length bytes ≡ bytes_of function quantity → Faultless (head_bytes function address quantity ++ length bytes ∷ bytes)
 carrying function most address quantity bytes known carries other greatest within e =
     let pdu = head_bytes function address quantity ++ length bytes ∷ bytes in

@@ -12,7 +12,7 @@ from n bytes = take (length bytes - n) (drop n bytes)
 pub whole_again : (n : ℕ) (bytes : List ℕ) → take n bytes ++ from n bytes ≡ bytes
 whole_again n bytes = ap (λ t. take n bytes ++ t) (take_rest bytes n) ∙ take-append-drop n bytes
 
--- Bytes were written, and then others are.
+-- Bytes that were written, and the result of writing others, are the result of writing both.
 pub Gives-both : {X E : Type 0} (result : Result X E) (a b c : Option (List ℕ)) (first next : List ℕ) → Appends a b first → Gives result b c next → Gives result a c (first ++ next)
 Gives-both (Ok x) a b c first next given gives = Appends-trans a b c _ _ given gives
 Gives-both (Err e) a b c first next given gives =
@@ -24,7 +24,7 @@ Gives-both (Err e) a b c first next given gives =
       given = Appends-trans a b c _ _ given gives.given;
     }
 
--- A part was written, and then the rest is.
+-- A part that was written, and the result of writing the rest, are the result of writing all.
 pub Gives-then : {X E : Type 0} (result : Result X E) (a b c : Option (List ℕ)) (bytes : List ℕ) (n : ℕ) → Appends a b (take n bytes) → Gives result b c (from n bytes) → Gives result a c bytes
 Gives-then result a b c bytes n first next =
     subst (Gives result a c) (whole_again n bytes) (Gives-both result a b c (take n bytes) (from n bytes) first next)

@@ -1,4 +1,4 @@
--- What holds of requests and responses also holds of their values.
+-- Rules that requests and responses follow are also rules for their values.
 use Rattle.std.proofs.Common.{ℕ, sym, ap, ◌∙◌, subst}
 use Rattle.mb_wire.specs.Requests.{IsLawful, IsLawfulQuery, IsWithin, query_of}
 use Rattle.mb_wire.specs.Replies.{AnswersQuery, AnswersRequest, FitsRequest, answer_of}

@@ -145,7 +145,7 @@ pub AllByRecursion-append : {X : Type 0} (P : X → Type 0) (xs ys : List X) →
 AllByRecursion-append P [] ys h g = g
 AllByRecursion-append P (x ∷ xs) ys h g = (h.0, AllByRecursion-append P xs ys h.1 g)
 
--- One more frame, and nothing after it.
+-- If the rest and the new bytes are one frame, the reading grows by that frame.
 more_frame : (bytes r p : List ℕ) (fs : List (List ℕ)) → Reads bytes fs r → IsFrame (r ++ p) → Reads (bytes ++ p) (fs ++ (r ++ p) ∷ []) []
 more_frame bytes r p fs h f =
     record {
@@ -159,7 +159,7 @@ more_frame bytes r p fs h f =
       ends = inl (inl (lit< tt));
     }
 
--- No further frame, and a longer rest.
+-- If the rest and the new bytes are no frame, the reading keeps its frames and has a longer rest.
 more_rest : (bytes r p : List ℕ) (fs : List (List ℕ)) → Reads bytes fs r → IsOpen (r ++ p) ⊎ IsBad (r ++ p) → Reads (bytes ++ p) (fs ++ []) (r ++ p)
 more_rest bytes r p fs h ends =
     let P : List (List ℕ) → Type 0 = λ y. Reads (bytes ++ p) y (r ++ p) in

@@ -1,11 +1,11 @@
 -- Numbers of 16 bits in bytes, high byte first (Modbus Application Protocol V1.1b3, section 4.2).
 use Rattle.std.specs.Prelude.{ℕ, ◌+◌, ◌*◌, ◌/◌, ◌%◌, ◌<◌, List, [], ◌∷◌, ◌++◌, slice_index}
 
--- The two bytes of a 16-bit number.
+-- The two bytes of a 16-bit number, high byte first.
 abbrev pub word : ℕ → List ℕ
 word n = n / 256 ∷ n % 256 ∷ []
 
--- The 16-bit number at a place.
+-- The 16-bit number in the two bytes from this index.
 abbrev pub number_at : List ℕ → ℕ → ℕ
 number_at bytes place = 256 * slice_index bytes place + slice_index bytes (place + 1)
 
@@ -15,11 +15,11 @@ words_of [] = []
 words_of (high ∷ []) = []
 words_of (high ∷ low ∷ bytes) = (256 * high + low) ∷ words_of bytes
 
--- The bytes of 16-bit numbers.
+-- The bytes of these 16-bit numbers, two bytes each.
 abbrev pub word_bytes : List ℕ → List ℕ
 word_bytes [] = []
 word_bytes (n ∷ numbers) = word n ++ word_bytes numbers
 
--- Each is a byte (an index past the end reads as 0).
+-- Each number of the list is below 256.
 abbrev pub AreBytes : List ℕ → Type 0
 AreBytes bytes = (place : ℕ) → slice_index bytes place < 256

@@ -12,12 +12,12 @@ abbrev pub number_of : List Bool → ℕ
 number_of [] = 0
 number_of (bit ∷ bits) = (if bit then 1 else 0) + 2 * number_of bits
 
--- All bits of the bytes.
+-- All bits of these bytes as coils, the lowest bit of the first byte first.
 unfoldable pub coils_in : List ℕ → List Bool
 coils_in [] = []
 coils_in (byte ∷ bytes) = bits_in 8 byte ++ coils_in bytes
 
--- The first `quantity` coils in the bytes.
+-- The first `quantity` coils that the bytes encode.
 abbrev pub coils_of : ℕ → List ℕ → List Bool
 coils_of quantity bytes = take quantity (coils_in bytes)
 
@@ -25,7 +25,7 @@ coils_of quantity bytes = take quantity (coils_in bytes)
 abbrev pub bytes_for : ℕ → ℕ
 bytes_for quantity = (quantity + 7) / 8
 
--- This many bytes that encode the coils, with spare bits 0.
+-- A list of this many bytes that encode the coils, with spare bits 0.
 unfoldable pub packed_in : ℕ → List Bool → List ℕ
 packed_in zero coils = []
 packed_in (suc count) coils = number_of (take 8 coils) ∷ packed_in count (drop 8 coils)
@@ -34,7 +34,7 @@ packed_in (suc count) coils = number_of (take 8 coils) ∷ packed_in count (drop
 abbrev pub packed : List Bool → List ℕ
 packed coils = packed_in (bytes_for (length coils)) coils
 
--- The bytes with all bits after the first `quantity` set to 0.
+-- The same bytes with every bit after the first `quantity` coils set to 0.
 unfoldable pub cleared_after : ℕ → List ℕ → List ℕ
 cleared_after quantity [] = []
 cleared_after quantity (byte ∷ bytes) =

@@ -24,7 +24,7 @@ unit_of bytes = slice_index bytes 6
 abbrev pub pdu_of : List ℕ → List ℕ
 pdu_of bytes = drop 7 bytes
 
--- A length that the standard allows.
+-- The standard allows this value of the length field: 2 to 254.
 abbrev pub IsGoodSpan : ℕ → Type 0
 IsGoodSpan n = (MIN_LENGTH ≤ n) × (n ≤ MAX_LENGTH)
 
@@ -33,21 +33,22 @@ pub record IsFrame (bytes : List ℕ) : Type 0 where
   pub good : IsGoodSpan (span_of bytes)
   pub whole : length bytes ≡ 6 + span_of bytes
 
--- A frame of Modbus. A reader skips frames of other protocols.
+-- The frame's protocol identifier is 0, which is Modbus. A reader skips frames of other
+-- protocols.
 abbrev pub IsOwn : List ℕ → Type 0
 IsOwn frame = protocol_of frame ≡ 0
 
--- The beginning of a frame that is not complete yet.
+-- The bytes begin a frame and do not complete it. They may also be no bytes.
 abbrev pub IsOpen : List ℕ → Type 0
 IsOpen bytes =
     (length bytes < 6) ⊎ (IsGoodSpan (span_of bytes) × (length bytes < 6 + span_of bytes))
 
--- Six bytes with a bad length, and any bytes after them.
+-- The first six bytes have a bad length field. Any bytes may follow.
 abbrev pub IsBad : List ℕ → Type 0
 IsBad bytes = (6 ≤ length bytes) × ((span_of bytes < MIN_LENGTH) ⊎ (MAX_LENGTH < span_of bytes))
 
--- The bytes are these complete frames in order, and this rest. Later bytes never move the end of a
--- frame.
+-- The byte list consists of these complete frames in order, and this rest, which is no complete
+-- frame. Later bytes never move the end of a frame.
 pub record Reads (bytes : List ℕ) (frames : List (List ℕ)) (rest : List ℕ) : Type 0 where
   pub joined : bytes ≡ flat_map (λ frame. frame) frames ++ rest
   pub each : AllByRecursion IsFrame frames
@@ -59,7 +60,7 @@ begins_with_frame bytes =
     nat_le MIN_LENGTH (span_of bytes) && nat_le (span_of bytes) MAX_LENGTH
     && nat_le (6 + span_of bytes) (length bytes)
 
--- The frames that the bytes begin with, at most `k` of them.
+-- The first complete frames of the byte list, at most `k` of them.
 unfoldable pub frames_in : ℕ → List ℕ → List (List ℕ)
 frames_in zero bytes = []
 frames_in (suc k) bytes =
@@ -67,13 +68,13 @@ frames_in (suc k) bytes =
     then take (6 + span_of bytes) bytes ∷ frames_in k (drop (6 + span_of bytes) bytes)
     else []
 
--- What is left of the bytes after at most `k` frames.
+-- The bytes that are left after the first complete frames, at most `k` of them.
 unfoldable pub rest_in : ℕ → List ℕ → List ℕ
 rest_in zero bytes = bytes
 rest_in (suc k) bytes =
     if begins_with_frame bytes then rest_in k (drop (6 + span_of bytes) bytes) else bytes
 
--- The frames of a byte list: a list of bytes has no more frames than bytes.
+-- All complete frames that the byte list begins with.
 unfoldable pub frames : List ℕ → List (List ℕ)
 frames bytes = frames_in (length bytes) bytes
 
@@ -81,12 +82,12 @@ frames bytes = frames_in (length bytes) bytes
 unfoldable pub rest : List ℕ → List ℕ
 rest bytes = rest_in (length bytes) bytes
 
--- Six bytes or more, with a bad length.
+-- At least six bytes arrived, and their length field is bad.
 abbrev pub is_bad : List ℕ → Bool
 is_bad bytes =
     nat_le 6 (length bytes)
     && (nat_lt (span_of bytes) MIN_LENGTH || nat_lt MAX_LENGTH (span_of bytes))
 
--- The stream is garbled: after its last frame it has a bad length.
+-- The stream is garbled: after its last complete frame come six bytes with a bad length field.
 unfoldable pub is_garbled : List ℕ → Bool
 is_garbled bytes = is_bad (rest bytes)

@@ -1,4 +1,5 @@
--- What the calls of a link do to its bytes, if the link knows them, and when its counts rise.
+-- What a call of a link does to the bytes of its two directions, if the link knows them, and
+-- which counts it raises.
 use Rattle.std.specs.Prelude.{◌≡◌, ℕ, ◌+◌, ◌-◌, ◌^◌, ◌<◌, ◌≤◌, ◌==◌, ◌&&◌, nat_lt, min, Bool, true, false, if◌then◌else◌, List, ◌++◌, length, take, Ok, Err, Some, None}
 use Rattle.std.specs.Io.KnownBytes.{Appends, Consumes, IsAtEnd, Keeps}
 use Rattle.std.specs.declared.result.Result.{Result}
@@ -23,28 +24,29 @@ TakeConsumes old new (Ok End) piece = Keeps old new × IsAtEnd new
 TakeConsumes old new (Ok Idle) piece = Keeps old new
 TakeConsumes old new (Err failed) piece = Keeps old new
 
--- A count that may rise by one. It saturates at 2^64 - 1.
+-- A count after an event that raises it by one, if the event happened. The count saturates at
+-- 2^64 - 1.
 abbrev pub risen : Bool → ℕ → ℕ
 risen rises count = if rises then min (count + 1) (2 ^ 64 - 1) else count
 
--- A write failed, or accepted none of its bytes.
+-- The write failed, or accepted none of its bytes.
 abbrev pub is_failed_give : Result ℕ LinkFailed → List ℕ → Bool
 is_failed_give (Ok n) bytes = n == 0 && nat_lt 0 (length bytes)
 is_failed_give (Err failed) bytes = true
 
--- The call with this number is set to fail.
+-- The call with this number is the one to fail.
 abbrev pub is_call : Option ℕ → ℕ → Bool
 is_call None call = false
 is_call (Some fails) call = fails == call
 
--- A read found the end of the input.
+-- The read found the end of the input.
 abbrev pub is_end : Result Took LinkFailed → Bool
 is_end (Ok (Bytes n)) = false
 is_end (Ok End) = true
 is_end (Ok Idle) = false
 is_end (Err failed) = false
 
--- The peer accepted a part of the bytes, from the first, and not the last.
+-- The peer accepted some bytes from the first on, and not all of them.
 pub record GivesPart (old new : Option (List ℕ)) (bytes : List ℕ) : Type 0 where
   pub part : List ℕ
   pub unsent : List ℕ
@@ -52,7 +54,7 @@ pub record GivesPart (old new : Option (List ℕ)) (bytes : List ℕ) : Type 0 w
   pub whole : bytes ≡ part ++ unsent
   pub given : Appends old new part
 
--- The peer accepted all bytes, or a part of them if writing failed.
+-- The peer accepted all bytes if the call succeeded, and a part of them if it failed.
 abbrev pub Gives : {X E : Type 0} → Result X E → Option (List ℕ) → Option (List ℕ) → List ℕ → Type 0
 Gives (Ok x) old new bytes = Appends old new bytes
 Gives (Err failed) old new bytes = GivesPart old new bytes

@@ -23,7 +23,7 @@ pub record Memory : Type 0 where
   pub ends : ℕ
   pub last : Option LastTake
 
--- No call was made.
+-- No call was made over the link, and nothing was written.
 pub record IsFresh (link : Memory) : Type 0 where
   pub output : link.output ≡ []
   pub calls : link.calls ≡ 0
@@ -32,36 +32,38 @@ pub record IsFresh (link : Memory) : Type 0 where
   pub ends : link.ends ≡ 0
   pub last : link.last ≡ None
 
--- One more call.
+-- The link counts one more call. Its output size, its piece size and its failing call are
+-- unchanged.
 pub record CallsOnce (old new : Memory) : Type 0 where
   pub room : new.room ≡ old.room
   pub piece : new.piece ≡ old.piece
   pub fails : new.fails ≡ old.fails
   pub calls : new.calls ≡ risen true old.calls
 
--- The next call is set to fail.
+-- The link's next call is set to fail.
 abbrev pub fails_next : Memory → Bool
 fails_next link = is_call link.fails (risen true link.calls)
 
--- The result of a read into `room` bytes.
+-- The result of a read into a buffer of `room` bytes.
 abbrev pub take_answer : Memory → ℕ → Result Took LinkFailed
 take_answer link room =
     if fails_next link then Err (record {})
     else if length link.input == 0 then Ok End
     else Ok (Bytes (min (min link.piece room) (length link.input)))
 
--- The bytes of the input that a read with this result returns.
+-- The bytes of the input that a read with this result returns; none if it failed or found the
+-- end.
 abbrev pub handed_out : Result Took LinkFailed → List ℕ → List ℕ
 handed_out (Ok (Bytes n)) input = take n input
 handed_out (Ok End) input = []
 handed_out (Ok Idle) input = []
 handed_out (Err failed) input = []
 
--- A buffer with new bytes at its front, and otherwise unchanged.
+-- The buffer after a read wrote new bytes to its front. Its other bytes are unchanged.
 abbrev pub filled : List ℕ → List ℕ → List ℕ
 filled bytes piece = bytes ++ drop (length bytes) piece
 
--- The link after a read.
+-- The state of the link after a read with this result.
 pub record LeavesTake (old new : Memory) (room : ℕ) (answer : Result Took LinkFailed) : Type 0 where
   pub call : CallsOnce old new
   pub input : old.input ≡ handed_out answer old.input ++ new.input
@@ -81,7 +83,8 @@ give_answer link count =
     if output_free link == 0 || fails_next link then Err (record {})
     else Ok (min (min link.piece count) (output_free link))
 
--- The link after a write. The contract of `give` says what the output is then.
+-- The state of the link after a write with this result. The contract of `give` says what the
+-- output is then.
 pub record LeavesGive (old new : Memory) (answer : Result ℕ LinkFailed) (bytes : List ℕ) : Type 0
   where
     pub call : CallsOnce old new

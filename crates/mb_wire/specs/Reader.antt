@@ -9,7 +9,8 @@ use Rattle.mb_wire.specs.declared.frames.Framing.TheVariants.{Need, Whole, Forei
 use Rattle.mb_wire.specs.declared.frames.State.{State}
 use Rattle.mb_wire.specs.declared.frames.State.TheVariants.{Reading, Ended, Stuck}
 
--- The bytes since the end of the last frame, and the frame of Modbus that the last feed ended.
+-- The bytes since the end of the last frame, and the Modbus frame that the last feed ended, if it
+-- ended one.
 pub record Buffered : Type 0 where
   pub rest : List ℕ
   pub frame : Option (List ℕ)
@@ -26,36 +27,37 @@ FitsState Reading bytes = IsOpen bytes
 FitsState Ended bytes = IsFrame bytes × IsOwn bytes
 FitsState Stuck bytes = IsBad bytes × (length bytes ≡ 6)
 
--- What the bytes since the end of the last frame are, with those that this feed took.
+-- What the bytes since the end of the last frame are after a feed with this result.
 abbrev pub TellsFraming : Framing → List ℕ → Type 0
 TellsFraming Need bytes = IsOpen bytes
 TellsFraming Whole bytes = IsFrame bytes × IsOwn bytes
 TellsFraming Foreign bytes = IsFrame bytes × (IsOwn bytes → ⊥)
 TellsFraming Garbled bytes = IsBad bytes × (length bytes ≡ 6)
 
--- A frame ended.
+-- The feed ended a frame, of Modbus or of another protocol.
 abbrev pub IsEnd : Framing → Type 0
 IsEnd Need = ⊥
 IsEnd Whole = Unit {0}
 IsEnd Foreign = Unit {0}
 IsEnd Garbled = ⊥
 
--- The model after a feed with this result, from the bytes since the end of the last frame.
+-- The model of a reader after a feed with this result. `bytes` are those since the end of the
+-- last frame.
 abbrev pub buffered_after : Framing → List ℕ → Buffered
 buffered_after Need bytes = record { rest = bytes; frame = None }
 buffered_after Whole bytes = record { rest = []; frame = Some bytes }
 buffered_after Foreign bytes = record { rest = []; frame = None }
 buffered_after Garbled bytes = record { rest = bytes; frame = None }
 
--- The frame that ended, if one did.
+-- The frame that the feed ended, as a list of one frame or none.
 abbrev pub ended : Framing → List ℕ → List (List ℕ)
 ended Need bytes = []
 ended Whole bytes = bytes ∷ []
 ended Foreign bytes = bytes ∷ []
 ended Garbled bytes = []
 
--- A feed continues the reading of the stream, for any earlier bytes. The frame that ended, if
--- any, follows the earlier frames, and the new rest is buffered.
+-- For any earlier bytes, a feed continues the reading of the stream. A frame that ended follows
+-- the earlier frames, and the new rest is buffered.
 abbrev pub ReadsOn : (old new : Buffered) → (taken : List ℕ) → Framing → Type 0
 ReadsOn old new taken what =
     (bytes : List ℕ) (before : List (List ℕ)) → Reads bytes before old.rest →
@@ -67,24 +69,24 @@ pub record Fields : Type 0 where
   pub unit : ℕ
   pub pdu : List ℕ
 
--- The fields that the bytes of a frame encode.
+-- The fields that the bytes of a complete frame encode.
 abbrev pub fields_of : List ℕ → Fields
 fields_of frame = record { tid = tid_of frame; unit = unit_of frame; pdu = pdu_of frame }
 
--- The fields of a borrowed frame.
+-- The fields of a `Frame` that the reader lends out.
 abbrev pub spelled : Frame → Fields
 spelled frame = record { tid = frame.tid; unit = frame.unit; pdu = frame.pdu.now }
 
--- The only encoding of a frame with these fields.
+-- The bytes of the frame with these fields. No other bytes are a frame with the same fields.
 abbrev pub spelling : ℕ → ℕ → List ℕ → List ℕ
 spelling tid unit pdu = word tid ++ word 0 ++ word (1 + length pdu) ++ unit ∷ pdu
 
--- This encoding is a frame of Modbus with these fields.
+-- `spelling` gives a Modbus frame with these fields.
 abbrev pub SpellsFrame : ℕ → ℕ → List ℕ → Type 0
 SpellsFrame tid unit pdu =
     IsFrame (spelling tid unit pdu) × IsOwn (spelling tid unit pdu)
     × (fields_of (spelling tid unit pdu) ≡ record { tid = tid; unit = unit; pdu = pdu })
 
--- Bytes that are a complete frame of Modbus.
+-- The bytes are a complete frame of Modbus.
 abbrev pub IsOwnFrame : List ℕ → Type 0
 IsOwnFrame bytes = AreBytes bytes × IsFrame bytes × IsOwn bytes

@@ -14,21 +14,22 @@ use Rattle.mb_wire.specs.declared.replies.Reply.TheVariants as lent
 use Rattle.mb_wire.specs.declared.replies.ReplyFault.{ReplyFault}
 use Rattle.mb_wire.specs.declared.replies.ReplyFault.TheVariants.{WrongFunction, WrongLength, WrongByteCount, WrongEcho}
 
--- A device's response, as a value.
+-- A device's response as a value, without the memory that a `Reply` borrows.
 pub data Answer : Type 0 where
   Bits : (bits : List Bool) → Answer
   Words : (words : List ℕ) → Answer
   Echo : Answer
   Exception : (code : ℕ) → Answer
 
--- The value of a borrowed response.
+-- The value of a `Reply`, which borrows its bytes.
 abbrev pub answer_of : Reply → Answer
 answer_of (lent.Bits quantity bytes) = Bits (coils_of quantity bytes.now)
 answer_of (lent.Words bytes) = Words (words_of bytes.now)
 answer_of lent.Echo = Echo
 answer_of (lent.Exception code) = Exception code
 
--- The data of a response that is no exception: coils, registers, or the head of the request.
+-- What a response that is no exception has after the function code: coils, registers, or a
+-- repetition of the request's head.
 abbrev pub wanted_by : Query → Wanted
 wanted_by (ReadCoils address quantity) = Coils quantity
 wanted_by (ReadDiscrete address quantity) = Coils quantity
@@ -39,19 +40,20 @@ wanted_by (WriteRegister address value) = Head
 wanted_by (WriteCoils address coils) = Head
 wanted_by (WriteRegisters address values) = Head
 
--- The response to the query has this many coils.
+-- The query reads coils or discrete inputs, and its response has this many.
 abbrev pub WantsCoils : Query → ℕ → Type 0
 WantsCoils query quantity = wanted_by query ≡ Coils quantity
 
--- The response to the query has this many registers.
+-- The query reads registers, and its response has this many.
 abbrev pub WantsRegisters : Query → ℕ → Type 0
 WantsRegisters query quantity = wanted_by query ≡ Registers quantity
 
--- The response to the query repeats its head.
+-- The query writes, and its response repeats the head of the request.
 abbrev pub WantsHead : Query → Type 0
 WantsHead query = wanted_by query ≡ Head
 
--- The head that the response to a write repeats.
+-- The head of a request: the function code, the address and the field. The response to a write
+-- repeats it.
 abbrev pub echo_of : Query → List ℕ
 echo_of query = take 5 (query_bytes query)
 
@@ -72,7 +74,7 @@ SpellsReply query pdu Echo = (wanted_by query ≡ Head) × (pdu ≡ echo_of quer
 -- An exception: the function code with its top bit set, and the exception code.
 SpellsReply query pdu (Exception code) = pdu ≡ (function_of query + 128) ∷ code ∷ []
 
--- The encoding of an answer whose spare bits are 0.
+-- The encoding of an answer to the query, with spare bits 0.
 abbrev pub answer_bytes : Query → Answer → List ℕ
 answer_bytes query (Bits bits) = function_of query ∷ bytes_for (length bits) ∷ packed bits
 answer_bytes query (Words words) = function_of query ∷ 2 * length words ∷ word_bytes words
@@ -97,7 +99,7 @@ AnswersRequest request (lent.Words bytes) =
 AnswersRequest request lent.Echo = wanted_by (query_of request) ≡ Head
 AnswersRequest request (lent.Exception code) = Unit {0}
 
--- The response fits the request: it is an exception, or the answer to a lawful request.
+-- The response fits the request: it is an exception, or it answers a lawful request.
 abbrev pub FitsRequest : Request → Reply → Type 0
 FitsRequest request (lent.Bits quantity bytes) =
     IsLawful request × AnswersRequest request (lent.Bits quantity bytes)
@@ -106,33 +108,33 @@ FitsRequest request (lent.Words bytes) =
 FitsRequest request lent.Echo = IsLawful request × AnswersRequest request lent.Echo
 FitsRequest request (lent.Exception code) = Unit {0}
 
--- Coil `i`, from 0.
+-- Coil `i` of the answer, from 0; `None` if the answer has no such coil.
 abbrev pub bit_at : Answer → ℕ → Option Bool
 bit_at (Bits bits) i = slice_get bits i
 bit_at (Words words) i = None
 bit_at Echo i = None
 bit_at (Exception code) i = None
 
--- Register `i`, from 0.
+-- Register `i` of the answer, from 0; `None` if the answer has no such register.
 abbrev pub word_at : Answer → ℕ → Option ℕ
 word_at (Bits bits) i = None
 word_at (Words words) i = slice_get words i
 word_at Echo i = None
 word_at (Exception code) i = None
 
--- The response has a byte count and data.
+-- A response with this content has a byte count and data bytes.
 abbrev pub brings_bytes : Wanted → Bool
 brings_bytes (Coils quantity) = true
 brings_bytes (Registers quantity) = true
 brings_bytes Head = false
 
--- The number of data bytes in the response.
+-- The number of data bytes in a response with this content.
 abbrev pub byte_count : Wanted → ℕ
 byte_count (Coils quantity) = bytes_for quantity
 byte_count (Registers quantity) = 2 * quantity
 byte_count Head = 0
 
--- The PDU has the function code with its top bit set.
+-- The PDU has the query's function code with its top bit set.
 abbrev pub is_exception : Query → List ℕ → Bool
 is_exception query pdu = slice_index pdu 0 == function_of query + 128
 
@@ -162,7 +164,7 @@ is_wrong_echo query pdu =
     not (is_exception query pdu) && not (brings_bytes (wanted_by query))
     && not (number_at pdu 1 == address_of query && number_at pdu 3 == field_of query)
 
--- The first fault that applies.
+-- The first fault of the PDU as a response to the query; `None` if it is a response.
 abbrev pub reply_fault : Query → List ℕ → Option ReplyFault
 reply_fault query pdu =
     if is_wrong_function query pdu then Some WrongFunction
@@ -171,7 +173,7 @@ reply_fault query pdu =
     else if is_wrong_echo query pdu then Some WrongEcho
     else None
 
--- The answer in a PDU with this data and no fault.
+-- The answer with this content, from a PDU that has no fault.
 abbrev pub brought : Wanted → List ℕ → Answer
 brought (Coils quantity) pdu = Bits (coils_of quantity (drop 2 pdu))
 brought (Registers quantity) pdu = Words (words_of (drop 2 pdu))
@@ -182,7 +184,7 @@ abbrev pub answer_from : Query → List ℕ → Answer
 answer_from query pdu =
     if is_exception query pdu then Exception (slice_index pdu 1) else brought (wanted_by query) pdu
 
--- The answer in the PDU, or the first fault that applies.
+-- The answer in the PDU to the query, or the first fault that applies.
 abbrev pub answer_in : Query → List ℕ → Result Answer ReplyFault
 answer_in query pdu = value_unless (reply_fault query pdu) (answer_from query pdu)
 
@@ -190,12 +192,12 @@ answer_in query pdu = value_unless (reply_fault query pdu) (answer_from query pd
 abbrev pub reply_of : Request → List ℕ → Result Answer ReplyFault
 reply_of request pdu = answer_in (query_of request) pdu
 
--- The value of a decoder's result.
+-- The result of the decoder, with the value of its `Reply`.
 abbrev pub read_as : Result Reply ReplyFault → Result Answer ReplyFault
 read_as (Ok reply) = Ok (answer_of reply)
 read_as (Err fault) = Err fault
 
--- A response's PDU with its spare bits set to 0.
+-- The PDU of a response with this content, with spare bits set to 0.
 abbrev pub cleared_reply : Wanted → List ℕ → List ℕ
 cleared_reply (Coils quantity) pdu = take 2 pdu ++ cleared_after quantity (drop 2 pdu)
 cleared_reply (Registers quantity) pdu = pdu
@@ -206,11 +208,11 @@ abbrev pub reply_cleared : Query → List ℕ → List ℕ
 reply_cleared query pdu =
     if is_exception query pdu then pdu else cleared_reply (wanted_by query) pdu
 
--- Encoding the response gives the PDU again, with its spare bits set to 0.
+-- If the response is encoded again, the result is the PDU with its spare bits set to 0.
 abbrev pub SpellsBack : Query → List ℕ → Reply → Type 0
 SpellsBack query pdu reply = answer_bytes query (answer_of reply) ≡ reply_cleared query pdu
 
--- The number of a fault: its position in the order in which faults are checked.
+-- The number of each fault: its position in the order in which faults are checked.
 abbrev pub fault_number : ReplyFault → ℕ
 fault_number WrongFunction = 1
 fault_number WrongLength = 2

@@ -1,4 +1,4 @@
--- The request in a PDU, or the first fault that applies.
+-- Decodes a request from a PDU, or finds the first fault that applies.
 use Rattle.std.specs.Prelude.{ℕ, ◌+◌, ◌*◌, Bool, ◌&&◌, ◌||◌, not, nat_le, nat_lt, ◌==◌, if◌then◌else◌, List, ◌++◌, length, take, drop, slice_index, Ok, Err, Some, None}
 use Rattle.std.specs.declared.result.Result.{Result}
 use Rattle.std.specs.declared.option.Option.{Option}
@@ -11,35 +11,35 @@ use Rattle.mb_wire.specs.declared.requests.Request.{Request}
 use Rattle.mb_wire.specs.declared.requests.RequestFault.{RequestFault}
 use Rattle.mb_wire.specs.declared.requests.RequestFault.TheVariants.{UnknownFunction, WrongLength, WrongQuantity, WrongByteCount, WrongCoilValue}
 
--- The function code.
+-- The function code in a request's PDU.
 abbrev pub function_in : List ℕ → ℕ
 function_in pdu = slice_index pdu 0
 
--- The address.
+-- The address in a request's PDU.
 abbrev pub address_in : List ℕ → ℕ
 address_in pdu = number_at pdu 1
 
--- The field after the address: a quantity or a value.
+-- The field after the address in a request's PDU: a quantity or a value.
 abbrev pub field_in : List ℕ → ℕ
 field_in pdu = number_at pdu 3
 
--- The byte count.
+-- The byte count in a request's PDU.
 abbrev pub count_in : List ℕ → ℕ
 count_in pdu = slice_index pdu 5
 
--- One of the eight functions that the crate decodes.
+-- The function code is one of the eight that the crate decodes.
 abbrev pub is_known : ℕ → Bool
 is_known function = (nat_le 1 function && nat_le function 6) || function == 15 || function == 16
 
--- One of the two functions whose requests have a byte count and data.
+-- The function is 15 or 16, whose requests have a byte count and data.
 abbrev pub carries_bytes : ℕ → Bool
 carries_bytes function = function == 15 || function == 16
 
--- One of the two functions that write a single value.
+-- The function writes a single value: it is 5 or 6.
 abbrev pub writes_one : ℕ → Bool
 writes_one function = function == 5 || function == 6
 
--- The greatest quantity that a function allows.
+-- The greatest quantity that the standard allows for a function that has a quantity.
 abbrev pub most_of : ℕ → ℕ
 most_of function =
     if nat_le function 2 then MAX_READ_COILS
@@ -47,11 +47,11 @@ most_of function =
     else if function == 15 then MAX_WRITE_COILS
     else MAX_WRITE_REGISTERS
 
--- The number of data bytes that a function has for a quantity.
+-- The number of data bytes in a write request of this function (15 or 16) for a quantity.
 abbrev pub bytes_of : ℕ → ℕ → ℕ
 bytes_of function quantity = if function == 15 then bytes_for quantity else 2 * quantity
 
--- The function code is none of the eight.
+-- The function code is none of the eight that the crate decodes.
 abbrev pub is_unknown_function : List ℕ → Bool
 is_unknown_function pdu = nat_lt 0 (length pdu) && not (is_known (function_in pdu))
 
@@ -78,7 +78,7 @@ is_wrong_carried_count pdu =
 abbrev pub is_wrong_coil_value : List ℕ → Bool
 is_wrong_coil_value pdu = function_in pdu == 5 && not (field_in pdu == 0 || field_in pdu == 65280)
 
--- The first fault that applies.
+-- The first fault of the PDU as a request; `None` if it is a request.
 abbrev pub request_fault : List ℕ → Option RequestFault
 request_fault pdu =
     if is_unknown_function pdu then Some UnknownFunction
@@ -101,7 +101,7 @@ query_from pdu =
     then WriteCoils (address_in pdu) (coils_of (field_in pdu) (drop 6 pdu))
     else WriteRegisters (address_in pdu) (words_of (drop 6 pdu))
 
--- The value, or the fault if there is one.
+-- The fault as an error if there is one, otherwise the value.
 abbrev pub value_unless : {V F : Type 0} → Option F → V → Result V F
 value_unless None value = Ok value
 value_unless (Some fault) value = Err fault
@@ -110,7 +110,7 @@ value_unless (Some fault) value = Err fault
 abbrev pub query_in : List ℕ → Result Query RequestFault
 query_in pdu = value_unless (request_fault pdu) (query_from pdu)
 
--- The value of a decoder's result.
+-- The result of the decoder, with the value of its `Request`.
 abbrev pub asked_as : Result Request RequestFault → Result Query RequestFault
 asked_as (Ok request) = Ok (query_of request)
 asked_as (Err fault) = Err fault
@@ -120,7 +120,7 @@ abbrev pub request_cleared : List ℕ → List ℕ
 request_cleared pdu =
     if function_in pdu == 15 then take 6 pdu ++ cleared_after (field_in pdu) (drop 6 pdu) else pdu
 
--- The number of a fault: its position in the order in which faults are checked.
+-- The number of each fault: its position in the order in which faults are checked.
 abbrev pub request_fault_number : RequestFault → ℕ
 request_fault_number UnknownFunction = 1
 request_fault_number WrongLength = 2

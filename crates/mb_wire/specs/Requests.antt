@@ -7,7 +7,7 @@ use Rattle.mb_wire.specs.Coils.{bytes_for, coils_of, packed}
 use Rattle.mb_wire.specs.declared.requests.Request.{Request}
 use Rattle.mb_wire.specs.declared.requests.Request.TheVariants as lent
 
--- A client's request, as a value.
+-- A client's request as a value, without the memory that a `Request` borrows.
 pub data Query : Type 0 where
   ReadCoils : (address quantity : ℕ) → Query
   ReadDiscrete : (address quantity : ℕ) → Query
@@ -18,7 +18,7 @@ pub data Query : Type 0 where
   WriteCoils : (address : ℕ) (coils : List Bool) → Query
   WriteRegisters : (address : ℕ) (values : List ℕ) → Query
 
--- The value of a borrowed request.
+-- The value of a `Request`, which borrows its data bytes.
 abbrev pub query_of : Request → Query
 query_of (lent.ReadCoils address quantity) = ReadCoils address quantity
 query_of (lent.ReadDiscrete address quantity) = ReadDiscrete address quantity
@@ -29,7 +29,7 @@ query_of (lent.WriteRegister address value) = WriteRegister address value
 query_of (lent.WriteCoils address quantity bytes) = WriteCoils address (coils_of quantity bytes.now)
 query_of (lent.WriteRegisters address bytes) = WriteRegisters address (words_of bytes.now)
 
--- The function code.
+-- The function code of a request.
 abbrev pub function_of : Query → ℕ
 function_of (ReadCoils address quantity) = 1
 function_of (ReadDiscrete address quantity) = 2
@@ -40,7 +40,7 @@ function_of (WriteRegister address value) = 6
 function_of (WriteCoils address coils) = 15
 function_of (WriteRegisters address values) = 16
 
--- The first address.
+-- The first address of a request.
 abbrev pub address_of : Query → ℕ
 address_of (ReadCoils address quantity) = address
 address_of (ReadDiscrete address quantity) = address
@@ -66,7 +66,7 @@ field_of (WriteRegister address value) = value
 field_of (WriteCoils address coils) = length coils
 field_of (WriteRegisters address values) = length values
 
--- The fields after the head: the byte count and the data, if the function has them.
+-- The bytes after a request's head: the byte count and the data, if the function has them.
 abbrev pub carried_by : Query → List ℕ
 carried_by (ReadCoils address quantity) = []
 carried_by (ReadDiscrete address quantity) = []
@@ -81,20 +81,20 @@ carried_by (WriteRegisters address values) = 2 * length values ∷ word_bytes va
 abbrev pub head_bytes : ℕ → ℕ → ℕ → List ℕ
 head_bytes function address field = function ∷ word address ++ word field
 
--- The encoding of a request whose spare bits are 0.
+-- The encoding of a request, with spare bits 0.
 abbrev pub query_bytes : Query → List ℕ
 query_bytes query =
     head_bytes (function_of query) (address_of query) (field_of query) ++ carried_by query
 
--- The encoding of a borrowed request whose spare bits are 0.
+-- The encoding of a `Request`, with spare bits 0.
 abbrev pub request_bytes : Request → List ℕ
 request_bytes request = query_bytes (query_of request)
 
--- A quantity from 1 to the limit.
+-- The quantity is from 1 to this limit.
 abbrev pub IsWithin : ℕ → ℕ → Type 0
 IsWithin quantity most = (1 ≤ quantity) × (quantity ≤ most)
 
--- A request with a quantity that the standard allows.
+-- The standard allows the quantity of this request for its function.
 abbrev pub IsLawfulQuery : Query → Type 0
 IsLawfulQuery (ReadCoils address quantity) = IsWithin quantity MAX_READ_COILS
 IsLawfulQuery (ReadDiscrete address quantity) = IsWithin quantity MAX_READ_COILS
@@ -105,7 +105,7 @@ IsLawfulQuery (WriteRegister address value) = Unit {0}
 IsLawfulQuery (WriteCoils address coils) = IsWithin (length coils) MAX_WRITE_COILS
 IsLawfulQuery (WriteRegisters address values) = IsWithin (length values) MAX_WRITE_REGISTERS
 
--- A borrowed request with such a quantity, and the matching number of data bytes.
+-- The `Request` has a quantity that the standard allows, and the matching number of data bytes.
 abbrev pub IsLawful : Request → Type 0
 IsLawful (lent.ReadCoils address quantity) = IsWithin quantity MAX_READ_COILS
 IsLawful (lent.ReadDiscrete address quantity) = IsWithin quantity MAX_READ_COILS
@@ -119,7 +119,7 @@ IsLawful (lent.WriteRegisters address bytes) =
     IsWithin (length (words_of bytes.now)) MAX_WRITE_REGISTERS
     × (length bytes.now ≡ 2 * length (words_of bytes.now))
 
--- The PDU encodes the query.
+-- The PDU encodes the request, whose quantity and address are in range.
 abbrev pub SpellsRequest : List ℕ → Query → Type 0
 SpellsRequest pdu (ReadCoils address quantity) =
     IsWithin quantity MAX_READ_COILS × (address < 65536) × (pdu ≡ head_bytes 1 address quantity)

@@ -7,7 +7,7 @@ use Rattle.mb_wire.specs.declared.span.ReadFunction.{ReadFunction}
 use Rattle.mb_wire.specs.declared.span.ReadFunction.TheVariants.{HoldingRegisters, InputRegisters}
 use Rattle.mb_wire.specs.declared.span.ReadSpan.{ReadSpan}
 
--- The function code.
+-- The function code of a read of registers.
 abbrev pub code_of : ReadFunction → ℕ
 code_of HoldingRegisters = 3
 code_of InputRegisters = 4
@@ -18,11 +18,11 @@ pub record Span : Type 0 where
   pub address : ℕ
   pub count : ℕ
 
--- The value of a span.
+-- The value of a `ReadSpan`.
 abbrev pub span_view : ReadSpan → Span
 span_view span = record { function = span.function; address = span.address; count = span.count }
 
--- Function 3 or 4, and 1 to 125 registers within the 65536 addresses of a device.
+-- The function is 3 or 4, and it reads 1 to 125 registers within the 65536 addresses of a device.
 pub record IsSpan (function address count : ℕ) : Type 0 where
   pub low : 3 ≤ function
   pub high : function ≤ 4

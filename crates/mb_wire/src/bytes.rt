@@ -8,7 +8,7 @@ ghost use Rattle.mb_wire.specs.Requests.{head_bytes};
 use crate::limits::MAX_PDU;
 use byteorder::{BigEndian, ByteOrder};
 
-// Returns the big-endian number at `place`.
+// Returns the big-endian 16-bit number in the two bytes from index `place`.
 pub(crate) fn read_number(bytes: &[u8], place: usize) -> u16
     requires { place + 2 ≤ length bytes.now }
     ensures { result ≡ number_at bytes.now place }

@@ -17,11 +17,12 @@ use std::marker::Model;
 pub enum Framing {
     /// The reader took the complete piece, and no frame ended.
     Need,
-    /// The last byte taken ended a frame of Modbus.
+    /// The last byte that the call took ended a frame of Modbus.
     Whole,
-    /// The last byte taken ended a frame of another protocol.
+    /// The last byte that the call took ended a frame of another protocol.
     Foreign,
-    /// The last byte taken is the low byte of a bad length. The reader takes no further bytes.
+    /// The last byte that the call took is the low byte of a bad length. The reader takes no
+    /// further bytes.
     Garbled,
 }
 
@@ -67,15 +68,16 @@ impl Model for FrameReader {
     ghost invariant = { λ r. (r.len ≤ MAX_ADU) × FitsState r.state (take r.len r.buf) };
 }
 
-// The state after one step: `len` bytes are in the buffer.
+// The result of one step of `feed`: the bytes that it took, and how many bytes are now in the
+// buffer.
 #[derive(Drop)]
 struct Step {
     len: usize,
     fed: Fed,
 }
 
-// Copies bytes of the piece after the first `len` of `buf`, up to `limit` in all. Returns the
-// number of bytes copied.
+// Copies bytes of the piece after the first `len` bytes of `buf`, until `buf` has `limit` bytes
+// or the piece ends. Returns the number of bytes copied.
 fn top_up(buf: &mut [u8; MAX_ADU], len: usize, piece: &[u8], limit: usize) -> usize
     requires within { len ≤ limit }
     requires fits { limit ≤ MAX_ADU }
@@ -90,7 +92,7 @@ fn top_up(buf: &mut [u8; MAX_ADU], len: usize, piece: &[u8], limit: usize) -> us
     count
 }
 
-// Returns the header's length field: the number of bytes after the sixth.
+// Returns the length field of the header in `buf`: the number of bytes after the sixth.
 fn span_in(buf: &[u8; MAX_ADU]) -> usize
     ensures span { result ≡ span_of buf.now }
     ensures fits { result < 65536 }
@@ -191,7 +193,8 @@ impl FrameReader {
         }
     }
 
-    /// Takes bytes of the piece, up to the end of the next frame. Feed the rest of the piece again.
+    /// Takes bytes of the piece, up to the end of the next frame. Call `feed` again with the rest
+    /// of the piece.
     pub fn feed(&mut self, piece: &[u8]) -> Fed
         ensures taken { result.taken ≤ length piece.now }
         ensures need { result.what ≡ Framing.Need → result.taken ≡ length piece.now }

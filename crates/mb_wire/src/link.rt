@@ -6,7 +6,7 @@ ghost use Rattle.mb_wire.specs.Links.{is_end, is_failed_give, risen};
 ghost use Rattle.std.specs.declared.option.Option.{Option};
 ghost use Rattle.mb_wire.specs.declared.link.LastTake.{LastTake};
 
-/// The result of a read from a link.
+/// The result of a read from a link that did not fail.
 #[derive(Clone, Copy, Debug, PartialEq, Eq)]
 pub enum Took {
     /// This many bytes arrived. They are at the front of the buffer.
@@ -35,7 +35,8 @@ pub trait Link {
 
     ghost given: { Self → Option (List ℕ) } = { λ _. None };
 
-    // The numbers of failed calls, of reads, and of reads that found the end of the input.
+    // The numbers of failed calls, of reads, and of reads that found the end of the input. They
+    // saturate.
     ghost failed: { Self → ℕ };
 
     ghost taken: { Self → ℕ };

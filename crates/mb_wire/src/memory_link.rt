@@ -47,8 +47,8 @@ impl<'a> Model for MemoryLink<'a> {
 impl<'a> MemoryLink<'a> {
     ghost use Rattle.mb_wire.specs.MemoryLinks.{IsFresh};
 
-    /// Creates a link that moves at most `piece` bytes in a call. The call with the number `fails`,
-    /// from 1, fails.
+    /// Creates a link over `input` and `output` that moves at most `piece` bytes in a call. The
+    /// call with the number `fails`, from 1, fails.
     pub fn new(
         input: &'a [u8],
         output: &'a mut [u8],

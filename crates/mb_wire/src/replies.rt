@@ -28,7 +28,8 @@ pub enum Reply<'a> {
     Exception(u8),
 }
 
-/// Why a PDU is not a response to a request. The fault with the lowest number is reported.
+/// Why a PDU is not a response to a request. If several faults apply, the one with the lowest
+/// number is reported.
 #[derive(Clone, Copy, Debug, PartialEq, Eq)]
 pub enum ReplyFault {
     /// The first byte is not the function code, with or without its top bit set.
@@ -57,7 +58,7 @@ impl ReplyFault {
 }
 
 impl Wanted {
-    // Returns whether the response has a byte count and data.
+    // Returns whether a response with this content has a byte count and data.
     fn brings(self) -> bool
         ensures { result ≡ brings_bytes self }
     {
@@ -67,7 +68,7 @@ impl Wanted {
         }
     }
 
-    // Returns the number of data bytes in the response.
+    // Returns the number of data bytes in a response with this content.
     fn count(self) -> u32
         ensures { result ≡ byte_count self }
     {
@@ -126,7 +127,7 @@ fn has_wrong_echo(request: &Request<'_>, pdu: &[u8]) -> bool
     read_number(pdu, 1) != request.address() || usize::from(read_number(pdu, 3)) != request.field()
 }
 
-// Returns the first fault that applies.
+// Returns the first fault of the PDU as a response to the request, or `None` if it is a response.
 fn find_fault(request: &Request<'_>, pdu: &[u8]) -> Option<ReplyFault>
     ensures { result ≡ reply_fault (query_of request.now) pdu.now }
 {
@@ -216,7 +217,8 @@ pub fn encode_reply(request: &Request<'_>, reply: &Reply<'_>, out: &mut [u8; MAX
 }
 
 impl Reply<'_> {
-    /// Returns coil or discrete input `i` of the response, from 0.
+    /// Returns coil or discrete input `i` of the response, from 0, or `None` if the response has
+    /// no such bit.
     pub fn bit(&self, i: usize) -> Option<bool>
         ensures { result ≡ bit_at (answer_of self.now) i }
     {
@@ -232,7 +234,8 @@ impl Reply<'_> {
         }
     }
 
-    /// Returns register `i` of the response, from 0.
+    /// Returns register `i` of the response, from 0, or `None` if the response has no such
+    /// register.
     pub fn word(&self, i: usize) -> Option<u16>
         ensures { result ≡ word_at (answer_of self.now) i }
     {

@@ -68,7 +68,7 @@ fn has_wrong_quantity(pdu: &[u8]) -> bool
     !writes_one && (quantity < 1 || quantity > greatest_quantity(pdu[0]))
 }
 
-// Returns how many data bytes a function has for a quantity.
+// Returns the number of data bytes in a write request of this function (15 or 16) for a quantity.
 fn carried_count(function: u8, quantity: u16) -> u32
     ensures { result ≡ bytes_of function quantity }
 {
@@ -96,7 +96,7 @@ fn has_wrong_coil_value(pdu: &[u8]) -> bool
     pdu[0] == 5 && !is_coil_value
 }
 
-// Returns the first fault that applies.
+// Returns the first fault of the PDU as a request, or `None` if it is a request.
 fn find_fault(pdu: &[u8]) -> Option<RequestFault>
     ensures { result ≡ request_fault pdu.now }
 {

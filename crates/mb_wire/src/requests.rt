@@ -16,12 +16,12 @@ use crate::limits::MAX_PDU;
 /// A request to a device (Modbus Application Protocol V1.1b3, section 6). Addresses count from 0.
 #[derive(Clone, Copy, Debug)]
 pub enum Request<'a> {
-    /// Function 1.
+    /// Function 1: reads coils.
     ReadCoils {
         address: u16,
         quantity: u16,
     },
-    /// Function 2.
+    /// Function 2: reads discrete inputs.
     ReadDiscrete {
         address: u16,
         quantity: u16,
@@ -36,12 +36,12 @@ pub enum Request<'a> {
         address: u16,
         quantity: u16,
     },
-    /// Function 5.
+    /// Function 5: writes one coil.
     WriteCoil {
         address: u16,
         on: bool,
     },
-    /// Function 6.
+    /// Function 6: writes one register.
     WriteRegister {
         address: u16,
         value: u16,
@@ -60,7 +60,8 @@ pub enum Request<'a> {
     },
 }
 
-/// Why a PDU is not a request. The fault with the lowest number is reported.
+/// Why a PDU is not a request. If several faults apply, the one with the lowest number is
+/// reported.
 #[derive(Clone, Copy, Debug, PartialEq, Eq)]
 pub enum RequestFault {
     /// The first byte is none of the eight function codes.
@@ -75,14 +76,14 @@ pub enum RequestFault {
     WrongCoilValue,
 }
 
-// The data of a response that is no exception.
+// What a response that is no exception has after the function code.
 #[derive(Clone, Copy, Debug, PartialEq, Eq)]
 pub(crate) enum Wanted {
     // This many coils.
     Coils(u16),
     // This many registers.
     Registers(u16),
-    // The head of the request.
+    // The same head as the request.
     Head,
 }
 
@@ -156,7 +157,7 @@ impl Request<'_> {
         }
     }
 
-    // Returns the data of a response that is no exception.
+    // Returns what a response to the request has after the function code, if it is no exception.
     pub(crate) fn wanted(&self) -> Wanted
         ensures { result ≡ wanted_by (query_of self.now) }
     {
@@ -179,14 +180,14 @@ fn field_of_coil(on: bool) -> usize
     if on { 0xFF00 } else { 0 }
 }
 
-// Returns how many of `quantity` coils the bytes have.
+// Returns how many coils the bytes have, at most `quantity`.
 fn count_coils(quantity: u16, bytes: &[u8]) -> usize
     ensures { result ≡ length (coils_of quantity bytes.now) }
 {
     usize::from(quantity).min(bytes.len().saturating_mul(8))
 }
 
-// Returns how many registers the bytes have.
+// Returns how many complete registers the bytes have.
 fn count_words(bytes: &[u8]) -> usize
     ensures { result ≡ length (words_of bytes.now) }
 {

@@ -10,7 +10,7 @@ use Rattle.meter_audit.specs.declared.intervals.IntervalFault.{IntervalFault}
 use Rattle.meter_audit.specs.declared.intervals.IntervalFault.TheVariants as fault
 use Rattle.meter_audit.specs.Comparing.{fault_between, next_fault, difference_after, IsFirst}
 
--- At an index up to which both are the same.
+-- The lists first differ at an index up to which their rows are equal.
 first_at : (wanted found wanted_left found_left : List Share) (i : ℕ) (f : IntervalFault)
     → take i wanted ≡ take i found → i ≤ length wanted → drop i wanted ≡ wanted_left → drop i found ≡ found_left
     → next_fault wanted_left found_left ≡ Some f → IsFirst wanted found (difference_after i f)
@@ -88,7 +88,7 @@ own_default [] i d e less = absurd (omega (arith, less))
 own_default (row ∷ rows) zero d e less = refl
 own_default (row ∷ rows) (suc i) d e less = own_default rows i d e (omega (arith, less))
 
--- If two rows differ, the lists do.
+-- If the rows at an index differ, the lists differ.
 pub differ_at : (wanted found : List Share) (i : ℕ) (d e : Share) (f : IntervalFault) → i < length wanted
     → fault_between (get_or wanted i d) (get_or found i e) ≡ Some f → found ≡ wanted → ⊥
 differ_at wanted found i d e f lt h is =
@@ -103,6 +103,6 @@ lengths_differ wanted found lt is = absurd (omega (arith, lt, ap (λ (rs : List 
 pub lengths_differ_too : (wanted found : List Share) → length wanted < length found → found ≡ wanted → ⊥
 lengths_differ_too wanted found lt is = absurd (omega (arith, lt, ap (λ (rs : List Share). length rs) is))
 
--- All rows are the same.
+-- If all rows up to the end of both lists are equal, the lists are equal.
 pub all_same : (wanted found : List Share) (i : ℕ) → take i wanted ≡ take i found → length wanted ≤ i → length found ≤ i → found ≡ wanted
 all_same wanted found i same le within = sym (take_all i found within) ∙ sym same ∙ take_all i wanted le

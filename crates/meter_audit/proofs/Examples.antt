@@ -85,7 +85,7 @@ fine_tables = record {
   are = refl;
 }
 
--- A voided reading, and the next one.
+-- A voided first reading, and the reading after it.
 abbrev voided_first : TableRow
 voided_first = told 2 row_kind.Reading 1900 5200 0 0 (pos 0) true
 
@@ -103,7 +103,7 @@ voided_after_a_voided : passed house (check_as 2 (last 1000 5000 (pos 0)) 0 fals
     ≡ Ok (check_as 3 (last 1000 5000 (pos 0)) 0 false false, None)
 voided_after_a_voided = refl
 
--- A closing, and what may not follow it.
+-- A closing is accepted, and no row may follow it.
 closed : passed house (begun house) (told 2 row_kind.Closing 1900 5200 0 0 (pos 0) false)
     ≡ Ok (check 2 (last 1900 5200 (pos 0)) 200000 true, Some (record { from = 1000; till = 1900; mwh = 200000 }))
 unfolding unit_of
@@ -122,7 +122,7 @@ rescaled = refl
 reset_to_a_scale : passed house (begun house) (told 2 row_kind.Reset 2000 5000 0 500 (pos 1) false) ≡ Err (fault.Scale (pos 0))
 reset_to_a_scale = refl
 
--- What else is refused.
+-- Rows that are refused for the remaining faults.
 a_gap : passed house (begun house) (told 3 row_kind.Reading 1900 5200 0 0 (pos 0) false) ≡ Err (fault.Place 2)
 a_gap = refl
 

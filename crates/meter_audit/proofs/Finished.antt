@@ -13,7 +13,7 @@ use Rattle.meter_audit.specs.Laws.{check_after}
 use Rattle.meter_audit.specs.Going.{HasGone, Agrees, FinishedIsFine, RefusedIsNotFine}
 use Rattle.meter_audit.proofs.Apart.{rows_are_told_apart, refused_below, same_tail, same_head}
 
--- The same without the last.
+-- Two lists that end in the same element are equal without that element.
 same_but_last : {X : Type 0} (xs ys : List X) (z : X) → xs ++ z ∷ [] ≡ ys ++ z ∷ [] → xs ≡ ys
 same_but_last [] [] z h = refl
 same_but_last [] (y ∷ []) z h = absurd (let t = same_tail z y [] (z ∷ []) h in cc)

@@ -28,7 +28,7 @@ use Rattle.meter_audit.specs.Passing.{IsSoundCheck, passed}
 use Rattle.meter_audit.specs.Laws.{PassedRowsFit, HasTaken, IsTaken}
 use Rattle.meter_audit.specs.Going.{HasGone, IsSoundProgress, settled_in, DropsDone}
 
--- Shares are merged with the last row.
+-- Shares are merged with the last row, and the rows before it stay.
 pub joins_last : (done : List Share) (row : Share) (rows shares : List Share)
     → with_shares (done ++ row ∷ rows) shares ≡ done ++ with_shares (row ∷ rows) shares
 joins_last [] row rows shares = refl
@@ -48,7 +48,7 @@ joined_some row share shares h =
       | inr other ↦ let e = sym (cond-false _ _ _ other) ∙ h in absurd (cc)
     ]
 
--- Rows stay non-empty.
+-- Rows to which shares are added are not empty if they were not empty before.
 still_some : (rows shares : List Share) → with_shares rows shares ≡ [] → rows ≡ []
 still_some [] shares h = refl
 still_some (row ∷ []) [] h = absurd (cc)
@@ -125,7 +125,7 @@ pub passed_as : (r : Result (Check × Option Step) RowFault) (next : Check) (ste
 passed_as r next step step' h is =
     sym h ∙ ap (λ (o : Option Step). let q : Result (Check × Option Step) RowFault = Ok (next, o) in q) is
 
--- The remaining rows have no more energy.
+-- The rows that remain after a removal have at most the energy of all rows.
 less_left : (n : ℕ) (rows : List Share) → energy_of (drop n rows) ≤ energy_of rows
 less_left zero rows = omega (arith)
 less_left (suc n) [] = omega (arith)
@@ -142,7 +142,7 @@ left_is_sound n meter old new same left sound = record {
   within = omega (arith, sound.within, less_left n old.wanted.items, ap energy_of left, ap (λ (check : Check). check.total) same);
 }
 
--- If rows are removed but the last, one is left if there was one.
+-- If all rows except the last are removed, a row is left unless there was none.
 none_left : (rows : List Share) → drop (settled_in rows) rows ≡ [] → rows ≡ []
 none_left [] h = refl
 none_left (row ∷ rows) h =
@@ -152,7 +152,7 @@ none_left (row ∷ rows) h =
       ap (λ (rs : List Share). length rs) h,
     ))
 
--- The removed rows are done.
+-- After `drop_done`, the removed rows count as compared.
 pub drops_done : (old new : Progress) → new.check ≡ old.check
     → new.wanted.items ≡ drop (settled_in old.wanted.items) old.wanted.items → DropsDone old new
 drops_done old new same left meter told done gone =

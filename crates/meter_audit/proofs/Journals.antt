@@ -53,7 +53,7 @@ all_unended meter whole (Voided place ∷ lines) rows fit h = all_unended meter 
 
 -- ---- voided rows
 
--- Each voided row fits as such.
+-- Each voided row fits as a voided row.
 abbrev AllVoidedFit : Installed → List EntryRow → Type 0
 AllVoidedFit meter [] = Unit {0}
 AllVoidedFit meter (row ∷ rows) =
@@ -77,7 +77,7 @@ was_accepted meter es at raw rolls h =
       once = one_at_most (nat_lt raw l.raw) rolls (rolls_of meter es at raw rolls h);
     }
 
--- A row that is voided now fits as a voided one.
+-- A row that fitted as a valid reading fits as a voided row.
 voided_now : (meter : Installed) (es : List Entry) (k : EntryKind) (e : Entry) → is_read k e ≡ true → EntryFits meter es k e
     → VoidedFits meter.range (last_after meter es) k e
 voided_now meter es =
@@ -130,7 +130,7 @@ moment_after : (meter : Installed) (row : EntryRow) (rows : List EntryRow) → r
 moment_after meter row rows on =
     ap (λ (es : List Entry). (last_after meter es).at) (entries_standing row rows on) ∙ last_moment meter row.entry (entries_in rows)
 
--- Without its row, the last entry is no later.
+-- Without the latest row, the last entry's time is not later.
 last_without : (meter : Installed) (row : EntryRow) (rows : List EntryRow) → AllFollow meter.range meter.opening (entries_in (row ∷ rows))
     → (last_after meter (entries_in rows)).at ≤ (last_after meter (entries_in (row ∷ rows))).at
 last_without meter row rows h =
@@ -227,7 +227,7 @@ all_voided_fit meter (Voided place ∷ lines) well h =
 
 -- ---- voided rows directly after a valid one
 
--- Each of these may follow the valid entries.
+-- Each voided row directly after a valid row may follow the valid entries before it.
 abbrev AllAfterFit : Installed → List EntryRow → Type 0
 AllAfterFit meter [] = Unit {0}
 AllAfterFit meter (row ∷ rows) =
@@ -266,7 +266,8 @@ lower_with_next : (meter : Installed) (place : ℕ) (rows : List EntryRow) (a : 
 lower_with_next meter place rows a None next is h = absurd (cc)
 lower_with_next meter place rows a (Some n) next is h = h
 
--- If the last row is still valid, it was valid, and no more energy is before it.
+-- If the last row is valid after a void, it was valid before, and the energy before it has not
+-- grown.
 last_still : (meter : Installed) (place : ℕ) (rows : List EntryRow) (a : Around) → row_at place rows ≡ Some a
     → Leaves meter place rows a a.next → last_stands (with_void meter.opening place rows) ≡ true
     → (last_stands rows ≡ true) × Lower meter (entries_in rows) (entries_in (with_void meter.opening place rows))

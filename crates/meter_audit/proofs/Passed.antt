@@ -199,7 +199,7 @@ accepted_by rolls (verdict.Accepted wanted step) h =
       | inr other ↦ absurd (let f : Some _ ≡ None = sym (cond-false _ _ _ other) ∙ h in cc)
     ]
 
--- The recorded entry, and the check after it.
+-- The row's entry was recorded, and `next` and `step` are those after it.
 record IsAfter (check : Check) (k : EntryKind) (told : TableRow) (answer : Result (Last × Step) TermFault) (next : Check) (step : Option Step) : Type 0 where
   last : Last
   gone : Step
@@ -228,7 +228,7 @@ booked_after check k told (Ok (last, gone)) next step h =
       step_is = sym (ap (λ (p : Check × Option Step). p.1) pair);
     }
 
--- The entry fits after these.
+-- A valid row without a fault fits after these rows.
 stood_fits : (meter : Installed) (rows : List EntryRow) (told : TableRow) (k : EntryKind) (next : Last) (step : Step)
     → let check = check_after meter rows in
     is_off_scale check k told ≡ false → reading_fault meter check k told ≡ None
@@ -242,7 +242,7 @@ stood_fits meter rows told kind.Reset next step scale none booked =
     (record { next = next; step = step; entered = booked }, same_scale told.sf (last_after meter (entries_in rows)).sf scale)
 stood_fits meter rows told kind.Rescale next step scale none booked = record { next = next; step = step; entered = booked }
 
--- A reading without a fault may follow these.
+-- A reading without a fault would be accepted after these rows.
 was_accepted : (meter : Installed) (rows : List EntryRow) (told : TableRow) (k : EntryKind) → is_reading k ≡ true
     → reading_fault meter (check_after meter rows) k told ≡ None → EntryFits meter (entries_in rows) k (entry_in k told)
 was_accepted meter rows told kind.Reading is none =

@@ -88,7 +88,8 @@ no_voided_fault meter check told h =
 no_reading_fault : (rolls step : ℕ) → fault_by rolls (verdict.Accepted rolls step) ≡ None
 no_reading_fault rolls step = cond-true _ _ _ (eq-eqb rolls rolls refl)
 
--- Directly after a valid row, it was accepted after the valid entries.
+-- A voided reading directly after a valid row has no fault, because it was accepted after the
+-- valid entries.
 no_stood_fault : (meter : Installed) (rows : List EntryRow) (told : TableRow)
     → (last_stands rows ≡ true → IsAcceptedAs meter (entries_in rows) told.moment told.raw told.rolls)
     → stood_fault meter (check_after meter rows) kind.Reading told ≡ None
@@ -105,7 +106,7 @@ no_stood_fault meter rows told h =
 abbrev row_with : (place : ℕ) → EntryKind → Entry → Bool → EntryRow
 row_with place k e stands = record { place = place; kind = k; entry = e; stands = stands }
 
--- The table row of a row after these.
+-- The table row of a row that follows these rows.
 abbrev told_after : Installed → List EntryRow → EntryRow → TableRow
 told_after meter rows row = table_row (scale_after meter (row ∷ rows)) row
 

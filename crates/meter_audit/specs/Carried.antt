@@ -21,19 +21,21 @@ abbrev pub carried : Installed → (lines : Journal) → Installed
 carried meter lines =
     record { range = meter.range; ceiling = meter.ceiling; opening = last_in meter lines }
 
--- A line of the new file in the journal of both. The opening has the sequence number 1 in each
--- file. A void in the new file therefore names a number that is too low by the number of entries in
--- the old file.
+-- A line of the new file as a line of the joined journal. The opening has sequence number 1 in
+-- each file. The number in a void is therefore raised by `count`, the number of entries in the
+-- old file.
 abbrev pub moved_line : (count : ℕ) → Line → Line
 moved_line count (Entered k e) = Entered k e
 moved_line count (Held reading cause) = Held reading cause
 moved_line count (Voided place) = Voided (place + count)
 
--- The journal of both files. No void of the new file names an entry of the old one.
+-- The journal of both files: the lines of the new file, renumbered, after those of the old one.
+-- No void of the new file names an entry of the old one.
 abbrev pub joined_journal : (lines more : Journal) → Journal
 joined_journal lines more = map (moved_line (entered_count lines)) more ++ lines
 
--- A row of the new file in the journal of both.
+-- A row of the new file as a row of the joined journal, with its sequence number raised by
+-- `count`.
 abbrev pub moved_row : (count : ℕ) → EntryRow → EntryRow
 moved_row count row = record row { place = row.place + count }
 
@@ -58,7 +60,8 @@ pub record GoesOn (meter : Installed) (lines more : Journal) : Type 0 where
       ≡ with_shares (interval_rows meter lines) (interval_rows (carried meter lines) more)
   pub again : carried (carried meter lines) more ≡ carried meter (joined_journal lines more)
 
--- Every meter continues so, for any lawful journals of the two files.
+-- Theorem: every meter with lawful journals in the two files continues in the new file as
+-- `GoesOn` describes.
 abbrev pub CarriesGoOn : Type 0
 CarriesGoOn = (meter : Installed) (lines more : Journal) → IsWellInstalled meter
     → AreFitting meter lines
@@ -81,15 +84,15 @@ pub record AreCountedOnce (old new both : List Share) : Type 0 where
       ≡ (account_on zone old day).mwh + (account_on zone new day).mwh
   pub whole : energy_of both ≡ energy_of old + energy_of new
 
--- The interval rows of both files are the account of the steps of both, and count those of both
--- once.
+-- The interval rows of both files are the account of the steps of both. They count each quarter
+-- hour and each day once.
 pub record CountsOnce (meter : Installed) (lines more : Journal) : Type 0 where
   pub account : IsAccount (steps_in (carried meter lines) more ++ steps_in meter lines)
       (interval_rows meter (joined_journal lines more))
   pub rows : AreCountedOnce (interval_rows meter lines) (interval_rows (carried meter lines) more)
       (interval_rows meter (joined_journal lines more))
 
--- For any lawful journals of the two files, each quarter hour counts once.
+-- Theorem: for any lawful journals of the two files, each quarter hour counts once.
 abbrev pub CarriesCountOnce : Type 0
 CarriesCountOnce = (meter : Installed) (lines more : Journal) → IsWellInstalled meter
     → AreFitting meter lines
@@ -104,8 +107,9 @@ StaysWithin meter lines (line ∷ more) =
     (total_in meter lines + total_in (carried meter lines) (line ∷ more) ≤ MAX_TOTAL)
     × StaysWithin meter lines more
 
--- If the meter was open, the journal of both files is lawful too. The same readings are accepted
--- and rejected, with the same rollovers and causes. The same entries may be recorded and voided.
+-- Theorem: if the meter was open, the joined journal is lawful too. The same readings are
+-- accepted and rejected, with the same rollovers and causes. The same entries may be recorded and
+-- voided.
 abbrev pub CarriedJournalsFit : Type 0
 CarriedJournalsFit = (meter : Installed) (lines more : Journal) → IsWellInstalled meter
     → AreFitting meter lines
@@ -114,25 +118,26 @@ CarriedJournalsFit = (meter : Installed) (lines more : Journal) → IsWellInstal
     → StaysWithin meter lines more
     → AreFitting meter (joined_journal lines more)
 
--- A line that may be in the new file. A void names no entry of the old file. No reading was
--- rejected because the energy would have exceeded its limit.
+-- A line that may be in the new file: it voids no entry of the old file, and rejects no reading
+-- because of the limit of the total energy.
 abbrev pub ComesLater : (count : ℕ) → Line → Type 0
 ComesLater count (Entered k e) = Unit {0}
 ComesLater count (Held reading cause) = cause ≢ TotalFull
 ComesLater count (Voided place) = count + 2 ≤ place
 
--- All lines may be in the new file.
+-- Each of these lines may be in the new file.
 abbrev pub AllComeLater : (count : ℕ) → Journal → Type 0
 AllComeLater count [] = Unit {0}
 AllComeLater count (line ∷ lines) = ComesLater count line × AllComeLater count lines
 
--- These lines after a journal are those of a new file, if they are lawful.
+-- These later lines are those of a new file, in which they are lawful.
 pub record IsSplit (meter : Installed) (lines later : Journal) : Type 0 where
   pub more : Journal
   pub joined : joined_journal lines more ≡ later ++ lines
   pub fit : AreFitting (carried meter lines) more
 
--- Lines that may follow in one file may follow in a new one, if they void no entry of the old one.
+-- Theorem: lines that may follow in one file may follow in a new file, if they void no entry of
+-- the old one.
 abbrev pub LaterLinesAreCarried : Type 0
 LaterLinesAreCarried = (meter : Installed) (lines later : Journal) → IsWellInstalled meter
     → AreFitting meter (later ++ lines)

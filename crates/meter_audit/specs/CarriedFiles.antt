@@ -24,7 +24,7 @@ pub record InFile : Type 0 where
   pub meter : Installed
   pub tables : Tables
 
--- Each of these files is fine, and the meter continues in each from the file before.
+-- Each of these files is fine, and the meter continues in each file from the file before it.
 abbrev pub GoOn : InFile → (later : List InFile) → Type 0
 GoOn old [] = Unit {0}
 GoOn old (new ∷ later) =
@@ -43,13 +43,13 @@ told_by_both old new = record {
   ended = new.ended;
 }
 
--- What a file and those after it report together.
+-- What the tables of a file and of all later files report together.
 abbrev pub told_by_all : Tables → (later : List InFile) → Tables
 told_by_all old [] = old
 told_by_all old (new ∷ later) = told_by_all (told_by_both old new.tables) later
 
--- If the energy of all files stays within the limit of one meter, they report together what one
--- lawful journal gives.
+-- Theorem: if the energy of all files stays within the limit of one meter, the files report
+-- together what one lawful journal gives.
 abbrev pub FilesAreOneHistory : Type 0
 FilesAreOneHistory = (first : InFile) (later : List InFile) → IsWellInstalled first.meter
     → AreFine first.meter first.tables

@@ -12,7 +12,7 @@ use Rattle.meter_audit.specs.declared.rows.TableRow.{TableRow}
 use Rattle.meter_audit.specs.Fitting.{AllFit, Tables, tables_of, AreFine, is_ended}
 use Rattle.meter_audit.specs.Carried.{moved_row, AreCountedOnce}
 
--- The meter in the new file, by its rows in the old one.
+-- The meter as it is installed in the new file, by its rows in the old file.
 abbrev pub carried_from : Installed → (old : List EntryRow) → Installed
 carried_from meter old = record {
   range = meter.range;
@@ -25,7 +25,8 @@ carried_from meter old = record {
 abbrev pub joined_rows : (old new : List EntryRow) → List EntryRow
 joined_rows old new = map (moved_row (length old)) new ++ old
 
--- The table row of a row of the new file, in the tables of both.
+-- The table row of the new file as a row in the tables of both files, with its sequence number
+-- raised by `count`.
 abbrev pub moved_told : (count : ℕ) → TableRow → TableRow
 moved_told count told = record told { place = told.place + count }
 
@@ -45,7 +46,7 @@ pub record AreOne (count : ℕ) (old new both : Tables) : Type 0 where
   pub once : AreCountedOnce old.intervals new.intervals both.intervals
   pub ended : both.ended ≡ new.ended
 
--- The tables of an open meter's rows in both files are these.
+-- Theorem: the tables of an open meter's rows in both files are as `AreOne` describes.
 abbrev pub CarriedTablesAreOne : Type 0
 CarriedTablesAreOne = (meter : Installed) (old new : List EntryRow) → IsWellInstalled meter
     → AllFit meter old
@@ -65,7 +66,8 @@ EntriesStayWithin meter old (row ∷ rows) =
     ≤ MAX_TOTAL)
     × EntriesStayWithin meter old rows
 
--- If the tables of each file are fine, the tables of both are fine.
+-- Theorem: if the rows of each file fit and the entries stay within the limit of the energy, the
+-- tables of both files are fine.
 abbrev pub CarriedTablesAreFine : Type 0
 CarriedTablesAreFine = (meter : Installed) (old new : List EntryRow) → IsWellInstalled meter
     → AllFit meter old

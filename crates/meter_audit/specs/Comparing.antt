@@ -5,7 +5,8 @@ use Rattle.meter_audit.specs.declared.intervals.IntervalFault.{IntervalFault}
 use Rattle.meter_audit.specs.declared.intervals.IntervalFault.TheVariants as fault
 use Rattle.meter_audit.specs.declared.intervals.IntervalDifference.{IntervalDifference}
 
--- How two rows differ. If their starts differ, only the earlier row is reported.
+-- How the row that the entries give differs from the row in the table, or `None` if they are
+-- equal. If their starts differ, only the earlier row is reported.
 abbrev pub fault_between : (wanted found : Share) → Option IntervalFault
 fault_between wanted found =
     if nat_lt wanted.start found.start then Some (fault.Missing wanted.start wanted.mwh) else
@@ -13,26 +14,27 @@ fault_between wanted found =
     if wanted.mwh == found.mwh then None else
     Some (fault.Differs wanted.start found.mwh wanted.mwh)
 
--- How the next rows differ.
+-- How the first rows of the two lists differ, or `None` if they are equal or both lists are
+-- empty.
 abbrev pub next_fault : (wanted found : List Share) → Option IntervalFault
 next_fault [] [] = None
 next_fault [] (row ∷ found) = Some (fault.Unwanted row.start row.mwh)
 next_fault (row ∷ wanted) [] = Some (fault.Missing row.start row.mwh)
 next_fault (row ∷ wanted) (other ∷ found) = fault_between row other
 
--- How many of the rows that the entries give a difference is about.
+-- The number of wanted rows that the difference covers: 0 if the row is unwanted, otherwise 1.
 abbrev pub wanted_with : IntervalFault → ℕ
 wanted_with (fault.Missing start wanted) = 1
 wanted_with (fault.Unwanted start has) = 0
 wanted_with (fault.Differs start has wanted) = 1
 
--- How many of the rows that were found a difference is about.
+-- The number of found rows that the difference covers: 0 if the row is missing, otherwise 1.
 abbrev pub found_with : IntervalFault → ℕ
 found_with (fault.Missing start wanted) = 0
 found_with (fault.Unwanted start has) = 1
 found_with (fault.Differs start has wanted) = 1
 
--- The difference after this many equal rows.
+-- The first difference of two lists of interval rows, after `same` equal rows.
 abbrev pub difference_after : (same : ℕ) → IntervalFault → IntervalDifference
 difference_after same f = record {
   same = same;

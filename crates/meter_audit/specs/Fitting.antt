@@ -15,14 +15,13 @@ use Rattle.meter_journal.specs.Journal.{is_closing, entries_in}
 use Rattle.meter_audit.specs.declared.rows.TableRow.{TableRow}
 use Rattle.meter_audit.specs.Rows.{later_rows, table_rows}
 
--- One of the rows is a closing.
+-- One of the rows is a closing, so the meter was closed.
 abbrev pub is_ended : List EntryRow → Bool
 is_ended [] = false
 is_ended (row ∷ rows) = if is_closing row.kind then true else is_ended rows
 
--- A voided reading showed a number that the counter can show, after the last valid entry. What was
--- valid when it was accepted is unknown, unless the row before it is valid. Its rollovers are
--- counted from what was valid then.
+-- What is known of a voided reading: it showed a number that the counter can show, later than the
+-- last valid entry. Entries that were valid then may be voided since, so its step is unknown.
 pub record WasReading (range : ℕ) (last : Last) (at raw rolls : ℕ) : Type 0 where
   pub accumulated : raw ≢ 0
   pub below : raw < range
@@ -35,12 +34,13 @@ abbrev pub VoidedFits : (range : ℕ) → Last → EntryKind → Entry → Type 
 VoidedFits range last kind.Reading (entry.Step at raw rolls) = WasReading range last at raw rolls
 VoidedFits range last _ _ = ⊥
 
--- The row may follow these entries, as a valid or a voided one.
+-- A row of this kind may follow these valid entries, as a valid row if `stands`, otherwise as a
+-- voided one.
 abbrev pub MayCome : Installed → List Entry → (stands : Bool) → EntryKind → Entry → Type 0
 MayCome meter es true k e = EntryFits meter es k e
 MayCome meter es false k e = VoidedFits meter.range (last_after meter es) k e
 
--- The last of these rows is valid, or is the opening.
+-- The latest of these rows is valid, or there are no rows after the opening.
 abbrev pub last_stands : List EntryRow → Bool
 last_stands [] = true
 last_stands (row ∷ rows) = row.stands
@@ -54,7 +54,7 @@ pub record RowFits (meter : Installed) (rows : List EntryRow) (row : EntryRow) :
   pub voided_after : row.stands ≡ false → last_stands rows ≡ true
       → EntryFits meter (entries_in rows) row.kind row.entry
 
--- Each row may follow those before it.
+-- Each row may follow the rows before it.
 abbrev pub AllFit : Installed → List EntryRow → Type 0
 AllFit meter [] = Unit {0}
 AllFit meter (row ∷ rows) = RowFits meter rows row × AllFit meter rows
@@ -74,7 +74,7 @@ pub record Tables : Type 0 where
   pub total : ℕ
   pub ended : Bool
 
--- The tables of a meter with these rows after its opening.
+-- The tables of a meter that has these rows after its opening.
 abbrev pub tables_of : Installed → List EntryRow → Tables
 tables_of meter rows = record {
   entries = table_rows meter rows;

@@ -15,7 +15,8 @@ use Rattle.meter_audit.specs.Fitting.{AreTold, Tables, AreFine}
 use Rattle.meter_audit.specs.Passing.{IsSoundCheck, passed}
 use Rattle.meter_audit.specs.Laws.{HasTaken}
 
--- The invariant of a check in progress, after any rows.
+-- The invariant of a check in progress: its check is sound, and the pending rows have at most its
+-- energy.
 pub record IsSoundProgress (meter : Installed) (progress : Progress) : Type 0 where
   pub check : IsSoundCheck meter progress.check
   pub within : energy_of progress.wanted.items ≤ progress.check.total
@@ -33,40 +34,40 @@ pub record HasGone (meter : Installed) (told : List TableRow) (done : List Share
   -- nothing was removed before there was a row to keep
   pub begun : progress.wanted.items ≡ [] → done ≡ []
 
--- The result for one more row: the check has passed it too, or reports why the row is refused.
+-- If no fault is reported, the check has also passed this row. Otherwise the row is refused for
+-- that fault.
 abbrev pub GoesOver : Installed → Progress → TableRow → Progress → Option RowFault → Type 0
 GoesOver meter old row new None = (told : List TableRow) (done : List Share)
     → HasGone meter told done old → HasGone meter (row ∷ told) done new
 GoesOver meter old row new (Some fault) = passed meter old.check row ≡ Err fault
 
--- The number of interval rows that no later entry adds to: all but the last.
+-- The number of interval rows that no later entry adds to: all except the last.
 abbrev pub settled_in : List Share → ℕ
 settled_in rows = length rows - 1
 
--- A check after the removal of these rows has passed the same rows, and has compared the removed
--- ones.
+-- The new check has passed the same rows as the old one. The interval rows that are settled were
+-- removed, and count as compared.
 abbrev pub DropsDone : (old new : Progress) → Type 0
 DropsDone old new = (meter : Installed) (told : List TableRow) (done : List Share)
     → HasGone meter told done old
     → HasGone meter told (done ++ take (settled_in old.wanted.items) old.wanted.items) new
 
--- The other tables agree with the check: the compared and the pending intervals, the last entry,
--- the energy, and whether the meter was closed.
+-- The meter's other tables agree with the check: the compared and the pending intervals, the last
+-- entry, the energy, and whether the meter was closed.
 pub record Agrees (tables : Tables) (done : List Share) (progress : Progress) : Type 0 where
   pub intervals : tables.intervals ≡ done ++ progress.wanted.items
   pub last : tables.last ≡ progress.check.last
   pub total : tables.total ≡ progress.check.total
   pub ended : tables.ended ≡ progress.check.is_ended
 
--- After all rows of a meter, its tables are fine exactly if they agree with the check.
+-- Theorem: after all rows of a meter, its tables are fine exactly if they agree with the check.
 abbrev pub FinishedIsFine : Type 0
 FinishedIsFine = (meter : Installed) (told : List TableRow) (done : List Share)
     (progress : Progress) (tables : Tables) → HasGone meter told done progress
     → tables.entries ≡ told ++ opening_row meter.opening ∷ []
     → AreFine meter tables ↔ Agrees tables done progress
 
--- If a row is refused, no list of rows that contains it is that of rows that fit, with any rows
--- after it.
+-- Theorem: if a row is refused, no rows that contain it fit, with any rows after it.
 abbrev pub RefusedIsNotFine : Type 0
 RefusedIsNotFine = (meter : Installed) (told newer : List TableRow) (done : List Share)
     (progress : Progress) (row : TableRow) (fault : RowFault) → IsWellInstalled meter

@@ -1,4 +1,4 @@
--- Theorems on rows that fit.
+-- Theorems on rows, and tables of rows, in which each row may follow those before it.
 use Rattle.std.specs.Prelude.{◌≡◌, ◌+◌, List, ◌∷◌, length, reverse, take, slice_get, Option, Some, Ok, Err, IsOk}
 use Rattle.energy_core.specs.declared.entries.Step.{Step}
 use Rattle.interval_core.specs.Account.{energy_of}
@@ -16,25 +16,25 @@ use Rattle.meter_audit.specs.Rows.{scale_after, table_row, later_rows}
 use Rattle.meter_audit.specs.Fitting.{RowFits, AllFit, Tables, tables_of, AreFine, is_ended, last_stands}
 use Rattle.meter_audit.specs.Passing.{passed}
 
--- The rows of every lawful journal fit, also voided ones.
+-- Theorem: the rows of every lawful journal fit, the voided ones included.
 abbrev pub RowsOfJournalsFit : Type 0
 RowsOfJournalsFit = (meter : Installed) (lines : Journal) → IsWellInstalled meter
     → AreFitting meter lines
     → AllFit meter (rows_of meter.opening lines)
 
--- The valid rows are lawful by themselves: entered one after another, they are a lawful journal,
--- and leave their own entries.
+-- The valid rows are lawful by themselves: a journal that enters only them is lawful, and has the
+-- same valid entries.
 pub record StandsAlone (meter : Installed) (rows : List EntryRow) : Type 0 where
   pub fit : AreFitting meter (entering (standing rows))
   pub entries : entries_of meter.opening (entering (standing rows)) ≡ entries_in rows
 
--- The valid ones of rows that fit are lawful by themselves.
+-- Theorem: of rows that fit, the valid ones are lawful by themselves.
 abbrev pub FittingRowsStandAlone : Type 0
 FittingRowsStandAlone = (meter : Installed) (rows : List EntryRow) → AllFit meter rows
     → StandsAlone meter rows
 
--- Tables report what a lawful journal gives: the last entry, the energy, the interval rows, and
--- whether the meter was closed. So the interval rows add up to the energy.
+-- The tables report what a lawful journal gives: the last entry, the energy, the interval rows,
+-- and whether the meter was closed. The interval rows add up to the energy.
 pub record AreLawful (meter : Installed) (tables : Tables) : Type 0 where
   pub lines : Journal
   pub fit : AreFitting meter lines
@@ -44,18 +44,18 @@ pub record AreLawful (meter : Installed) (tables : Tables) : Type 0 where
   pub ended : tables.ended ≡ has_closing lines
   pub adds_up : energy_of tables.intervals ≡ tables.total
 
--- Fine tables report what a lawful journal gives.
+-- Theorem: fine tables report what a lawful journal gives.
 abbrev pub FineTablesAreLawful : Type 0
 FineTablesAreLawful = (meter : Installed) (tables : Tables) → IsWellInstalled meter
     → AreFine meter tables → AreLawful meter tables
 
--- The tables of every lawful journal are fine.
+-- Theorem: the tables of every lawful journal are fine.
 abbrev pub LawfulTablesAreFine : Type 0
 LawfulTablesAreFine = (meter : Installed) (lines : Journal) → IsWellInstalled meter
     → AreFitting meter lines
     → AreFine meter (tables_of meter (rows_of meter.opening lines))
 
--- The check after these rows.
+-- The state of a check that has passed these rows.
 abbrev pub check_after : Installed → List EntryRow → Check
 check_after meter rows = record {
   place = length rows + 1;
@@ -65,13 +65,13 @@ check_after meter rows = record {
   stands = last_stands rows;
 }
 
--- All these rows fit, and this is the check after them.
+-- All these rows fit, and `check` is the state after them.
 pub record HasTaken (meter : Installed) (rows : List EntryRow) (check : Check) : Type 0 where
   pub fit : AllFit meter rows
   pub check_is : check ≡ check_after meter rows
 
--- A table row is that of a row that fits after these. This is the check after it, with the step to
--- it.
+-- The table row is that of a row that fits after `rows`. `after` is the check after that row, and
+-- `step` the step to it.
 pub record IsTaken (meter : Installed) (rows : List EntryRow) (told : TableRow) (after : Check)
     (step : Option Step) : Type 0 where
   pub row : EntryRow
@@ -79,32 +79,34 @@ pub record IsTaken (meter : Installed) (rows : List EntryRow) (told : TableRow) 
   pub taken : HasTaken meter (row ∷ rows) after
   pub step_is : step ≡ step_past meter.range (last_after meter (entries_in rows)) row
 
--- Each table row that passes is that of a row that fits.
+-- Theorem: each table row that passes is the table row of a row that fits.
 abbrev pub PassedRowsFit : Type 0
 PassedRowsFit = (meter : Installed) (rows : List EntryRow) (check : Check) (told : TableRow)
     (after : Check) (step : Option Step) → IsWellInstalled meter → HasTaken meter rows check
     → passed meter check told ≡ Ok (after, step)
     → IsTaken meter rows told after step
 
--- The table row of each row that fits passes.
+-- Theorem: the table row of each row that fits passes.
 abbrev pub FittingRowsPass : Type 0
 FittingRowsPass = (meter : Installed) (rows : List EntryRow) (check : Check) (row : EntryRow)
     → IsWellInstalled meter → HasTaken meter rows check → RowFits meter rows row
     → IsOk (passed meter check (table_row (scale_after meter (row ∷ rows)) row))
 
--- Rows that fit can be read back: different rows have different table rows.
+-- Theorem: rows that fit can be read back from the table, because different rows have different
+-- table rows.
 abbrev pub RowsAreToldApart : Type 0
 RowsAreToldApart = (meter : Installed) (rows others : List EntryRow) → AllFit meter rows
     → AllFit meter others → later_rows meter rows ≡ later_rows meter others → rows ≡ others
 
--- A check has passed table rows, the latest first. They are those of rows that fit, and this is the
--- check after them.
+-- A check has passed these table rows, the latest first. They are those of rows that fit, and
+-- `check` is the state after them.
 pub record HasPassed (meter : Installed) (told : List TableRow) (check : Check) : Type 0 where
   pub rows : List EntryRow
   pub taken : HasTaken meter rows check
   pub told_is : told ≡ later_rows meter rows
 
--- Of table rows in order, a check passed those before an index, and refused the row at that index.
+-- The check passed the table rows before index `at.index`, and refused the row at that index for
+-- `at.fault`.
 pub record IsFirstRefused (meter : Installed) (told : List TableRow) (at : RefusedRow) :
     Type 0 where
   pub check : Check

@@ -28,20 +28,20 @@ use Rattle.meter_audit.specs.declared.rows.RowKind.{RowKind}
 use Rattle.meter_audit.specs.declared.rows.RowKind.TheVariants as row_kind
 use Rattle.meter_audit.specs.declared.rows.TableRow.{TableRow}
 
--- A meter that may be checked: its range, its ceiling and its opening are lawful.
+-- The meter may be checked: its range, its ceiling and its opening are lawful.
 pub record MayBeChecked (meter : Installed) : Type 0 where
   pub range : IsRange meter.range
   pub ceiling : (1 ≤ meter.ceiling) × (meter.ceiling ≤ MAX_CEILING)
   pub installed : IsWellInstalled meter
 
--- The invariant of a check, after any rows.
+-- The invariant of a check after any rows of this meter.
 pub record IsSoundCheck (meter : Installed) (check : Check) : Type 0 where
   pub place : check.place < 2 ^ 63
   pub total : check.total ≤ MAX_TOTAL
   pub raw : check.last.raw < meter.range
   pub scale : IsScale check.last.sf
 
--- The check after the opening.
+-- The state of a check that has seen only the opening.
 abbrev pub begun : Installed → Check
 begun meter = record {
   place = 1;
@@ -51,7 +51,7 @@ begun meter = record {
   stands = true;
 }
 
--- The kind of the entry, or `None` for an opening.
+-- The kind of an entry by its column in the table, or `None` for an opening.
 abbrev pub kind_in : RowKind → Option EntryKind
 kind_in row_kind.Opening = None
 kind_in row_kind.Reading = Some kind.Reading
@@ -60,13 +60,13 @@ kind_in row_kind.Closing = Some kind.Closing
 kind_in row_kind.Reset = Some kind.Reset
 kind_in row_kind.Rescale = Some kind.Rescale
 
--- A change sets the counter, at its own scale factor.
+-- Entries of this kind set the counter to another number: resets and rescales.
 abbrev pub is_change : EntryKind → Bool
 is_change kind.Reset = true
 is_change kind.Rescale = true
 is_change _ = false
 
--- The entry of a row, by its kind.
+-- The entry that a table row of this kind records.
 abbrev pub entry_in : EntryKind → TableRow → Entry
 entry_in k row =
     if is_change k then entry.Change row.moment row.raw row.after row.sf
@@ -76,7 +76,7 @@ entry_in k row =
 abbrev pub has_unused : EntryKind → TableRow → Bool
 has_unused k row = if is_change k then not (row.rolls == 0) else not (row.after == 0)
 
--- The kind is a rescale.
+-- Entries of this kind are rescales.
 abbrev pub is_rescale : EntryKind → Bool
 is_rescale kind.Rescale = true
 is_rescale _ = false
@@ -85,7 +85,7 @@ is_rescale _ = false
 abbrev pub is_off_scale : Check → EntryKind → TableRow → Bool
 is_off_scale check k row = not (is_rescale k) && not (int_eq row.sf check.last.sf)
 
--- The kind of a row whose columns its kind may have, or the first fault.
+-- The kind of a row if its columns are those of that kind; otherwise the first fault.
 abbrev pub shape_by : Check → TableRow → Option EntryKind → Result EntryKind RowFault
 shape_by check row None = Err fault.OpenedAgain
 shape_by check row (Some k) =
@@ -94,14 +94,15 @@ shape_by check row (Some k) =
     if has_unused k row then Err fault.Unused else
     if is_off_scale check k row then Err (fault.Scale check.last.sf) else Ok k
 
--- The kind of a row with the next sequence number and with columns that its kind may have, or the
--- first fault.
+-- The kind of a row with the next sequence number and with columns that its kind may have;
+-- otherwise the first fault.
 abbrev pub shape_of : Check → TableRow → Result EntryKind RowFault
 shape_of check row =
     if row.place == check.place + 1 then shape_by check row (kind_in row.kind)
     else Err (fault.Place (check.place + 1))
 
--- The fault of a reading by its verdict: a valid reading is accepted, with its rollovers.
+-- The fault of a reading with this verdict: it was rejected, or its rollovers differ from the
+-- accepted ones. `None` if neither applies.
 abbrev pub fault_by : (rolls : ℕ) → Verdict → Option RowFault
 fault_by rolls (verdict.Held why) = Some (fault.Held why)
 fault_by rolls (verdict.Accepted wanted step) =
@@ -111,7 +112,8 @@ fault_by rolls (verdict.Accepted wanted step) =
 abbrev pub terms_of : Installed → Check → Terms
 terms_of meter check = record { ceiling = meter.ceiling; total = check.total }
 
--- The fault of a valid reading.
+-- The fault of a row that is checked as a valid reading; `None` if it has none, or if its kind is
+-- no reading.
 abbrev pub reading_fault : Installed → Check → EntryKind → TableRow → Option RowFault
 reading_fault meter check k row =
     if is_reading k
@@ -119,12 +121,13 @@ reading_fault meter check k row =
     (reading_at check.last row.moment row.raw))
     else None
 
--- The fault of a voided reading directly after a valid row: it is checked like a valid one.
+-- The fault of a voided row directly after a valid row, where it is checked like a valid reading.
+-- `None` after a voided row.
 abbrev pub stood_fault : Installed → Check → EntryKind → TableRow → Option RowFault
 stood_fault meter check k row = if check.stands then reading_fault meter check k row else None
 
--- The fault of any voided reading: it shows a number that the counter can show, later than the last
--- valid entry.
+-- The fault of any voided reading: it shows 0 or a number not below the range, is not later than
+-- the last valid entry, or has more than one rollover.
 abbrev pub voided_fault : Installed → Check → TableRow → Option RowFault
 voided_fault meter check row =
     if row.raw == 0 then Some (fault.Held cause.NotAccumulated) else
@@ -132,17 +135,18 @@ voided_fault meter check row =
     if nat_le row.moment check.last.at then Some (fault.Held cause.NotLater) else
     if nat_lt 1 row.rolls then Some (fault.Rolls 1) else None
 
--- The fault, or else this result.
+-- The fault as an error if there is one, otherwise the given result.
 abbrev pub unless : {X : Type 0} → Option RowFault → Result X RowFault → Result X RowFault
 unless (Some f) answer = Err f
 unless None answer = answer
 
--- The energy of a step in mWh, if there is one.
+-- The energy of the step in mWh, or 0 without a step.
 abbrev pub energy_in : Option Step → ℕ
 energy_in None = 0
 energy_in (Some step) = step.mwh
 
--- The check after a recorded entry, and the step to it.
+-- The check after a recorded entry with the step to it, or the fault for which the entry was
+-- refused.
 abbrev pub following : Check → EntryKind → TableRow → Result (Last × Step) TermFault
     → Result (Check × Option Step) RowFault
 following check k row (Err f) = Err (fault.Refused f)
@@ -157,13 +161,13 @@ following check k row (Ok (last, step)) = Ok (
   Some step,
 )
 
--- The check after a valid row, and the step to it, or the first fault.
+-- The check after a valid row with the step to it, or the first fault.
 abbrev pub stood : Installed → Check → EntryKind → TableRow → Result (Check × Option Step) RowFault
 stood meter check k row =
     unless (reading_fault meter check k row)
     (following check k row (entered meter.range check.total check.last (entry_in k row)))
 
--- The check after a voided row, which has no step, or the first fault.
+-- The check after a voided row, to which no step leads, or the first fault.
 abbrev pub voided : Installed → Check → EntryKind → TableRow
     → Result (Check × Option Step) RowFault
 voided meter check k row =
@@ -171,13 +175,14 @@ voided meter check k row =
     (unless (stood_fault meter check k row)
     (Ok (record check { place = row.place; stands = false }, None)))
 
--- The check after a row of this kind, or the first fault.
+-- The check after a row of this kind, valid or voided, or the first fault.
 abbrev pub passed_by : Installed → Check → TableRow → Result EntryKind RowFault
     → Result (Check × Option Step) RowFault
 passed_by meter check row (Err f) = Err f
 passed_by meter check row (Ok k) =
     if row.is_voided then voided meter check k row else stood meter check k row
 
--- The check after a row, and the step to it, if it is valid; or the first fault.
+-- The check after a row with the step to it, which a voided row does not have; or the first
+-- fault.
 abbrev pub passed : Installed → Check → TableRow → Result (Check × Option Step) RowFault
 passed meter check row = passed_by meter check row (shape_of check row)

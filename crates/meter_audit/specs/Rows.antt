@@ -14,7 +14,7 @@ use Rattle.meter_audit.specs.declared.rows.RowKind.{RowKind}
 use Rattle.meter_audit.specs.declared.rows.RowKind.TheVariants as row_kind
 use Rattle.meter_audit.specs.declared.rows.TableRow.{TableRow}
 
--- The kind of the table's row.
+-- The kind of a table row for entries of this kind.
 abbrev pub kind_as : EntryKind → RowKind
 kind_as kind.Reading = row_kind.Reading
 kind_as kind.Manual = row_kind.Manual
@@ -22,26 +22,26 @@ kind_as kind.Closing = row_kind.Closing
 kind_as kind.Reset = row_kind.Reset
 kind_as kind.Rescale = row_kind.Rescale
 
--- What the counter showed. For a change, that is the number before it.
+-- The number that the counter showed. For a change, that is the number before it.
 abbrev pub raw_of : Entry → ℕ
 raw_of (entry.Step at raw rolls) = raw
 raw_of (entry.Change at before after sf) = before
 
--- The recorded rollovers.
+-- The rollovers that the entry records; 0 for a change.
 abbrev pub rolls_of : Entry → ℕ
 rolls_of (entry.Step at raw rolls) = rolls
 rolls_of (entry.Change at before after sf) = 0
 
--- What a change set the counter to, or 0.
+-- The number to which a change set the counter, or 0 for another entry.
 abbrev pub after_of : Entry → ℕ
 after_of (entry.Step at raw rolls) = 0
 after_of (entry.Change at before after sf) = after
 
--- The scale factor after these rows.
+-- The counter's scale factor after these rows.
 abbrev pub scale_after : Installed → List EntryRow → ℤ
 scale_after meter rows = (last_after meter (entries_in rows)).sf
 
--- The table row of a row, with the scale factor after it.
+-- The table row of an entry's row, if `sf` is the scale factor after it.
 abbrev pub table_row : (sf : ℤ) → EntryRow → TableRow
 table_row sf row = record {
   place = row.place;
@@ -73,6 +73,6 @@ later_rows meter [] = []
 later_rows meter (row ∷ rows) =
     table_row (scale_after meter (row ∷ rows)) row ∷ later_rows meter rows
 
--- The table rows of these rows, and of the opening before them.
+-- The table rows of the opening and of these rows after it, the latest first.
 abbrev pub table_rows : Installed → List EntryRow → List TableRow
 table_rows meter rows = later_rows meter rows ++ opening_row meter.opening ∷ []

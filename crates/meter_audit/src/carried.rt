@@ -22,14 +22,14 @@ pub fn carries_count_once()
     shares_add_up();
 }
 
-/// Theorem: the journal of both files is lawful, if the meter was open and the energy of both files
-/// stays within the limit of one.
+/// Theorem: the joined journal of both files is lawful, if the meter was open and the energy of
+/// both files stays within the limit of one.
 pub fn carried_journals_fit()
     ensures { CarriedJournalsFit }
 {}
 
-/// Theorem: lines that may follow in one file may follow in a new one, if no void names an entry of
-/// the old file. The journal of both files is then that of the one file.
+/// Theorem: lines that may follow in one file may follow in a new one, if no void names an entry
+/// of the old file. The joined journal of both files is then the journal of the one file.
 pub fn later_lines_are_carried()
     ensures { LaterLinesAreCarried }
 {}
@@ -42,14 +42,15 @@ pub fn carried_tables_are_one()
     shares_add_up();
 }
 
-/// Theorem: if the tables of each file are fine, the tables of both are fine.
+/// Theorem: if the rows of each file fit and the entries stay within the limit of the energy, the
+/// tables of both files are fine.
 pub fn carried_tables_are_fine()
     ensures { CarriedTablesAreFine }
 {}
 
-/// Theorem: fine files report together what one lawful journal gives, if the meter continues in
-/// each from the file before. That is the last entry, the energy, the interval rows, and whether
-/// the meter was closed.
+/// Theorem: if a meter continues in each file from the file before, fine files report together
+/// what one lawful journal gives: the last entry, the energy, the interval rows, and whether the
+/// meter was closed.
 pub fn files_are_one_history()
     ensures { FilesAreOneHistory }
 {

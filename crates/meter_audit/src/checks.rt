@@ -1,4 +1,4 @@
-//! Checks the rows of a meter, one after another, in constant memory.
+//! Checks the rows of a meter in the table of entries, one after another, in constant memory.
 ghost use Rattle.std.specs.Prelude.{◌≡◌, ◌+◌, ◌<◌, ◌^◌, IfOk};
 ghost use Rattle.std.specs.Option.{ForSome};
 ghost use Rattle.energy_core.specs.Laws.{IsShareable};
@@ -21,7 +21,7 @@ pub struct Check {
     pub stands: bool,
 }
 
-/// Returns the check after the opening.
+/// Returns the state of a check that has seen only the opening.
 pub fn begin(meter: &Installed) -> Check
     requires { passing.MayBeChecked meter.now }
     ensures value { result ≡ passing.begun meter.now }
@@ -58,7 +58,8 @@ fn is_off_scale(check: &Check, kind: EntryKind, row: &TableRow) -> bool
     }
 }
 
-/// Returns the kind of a row with the next sequence number and with columns that its kind may have.
+/// Returns the kind of a row with the next sequence number and with columns that its kind may
+/// have; otherwise the first fault.
 fn shape(check: &Check, row: &TableRow) -> Result<EntryKind, RowFault>
     requires { check.now.place < 2 ^ 63 }
     ensures { result ≡ passing.shape_of check.now row.now }
@@ -87,7 +88,8 @@ fn shape(check: &Check, row: &TableRow) -> Result<EntryKind, RowFault>
     Ok(kind)
 }
 
-/// Returns what is wrong with a valid reading.
+/// Returns the fault of a row that is checked as a valid reading, or `None` if it has none or its
+/// kind is no reading.
 fn reading_fault(
     meter: &Installed,
     check: &Check,
@@ -125,7 +127,7 @@ fn reading_fault(
     }
 }
 
-/// Returns what is wrong with a voided reading that directly follows a valid row.
+/// Returns the fault of a voided row directly after a valid row, or `None`.
 fn stood_fault(
     meter: &Installed,
     check: &Check,
@@ -143,7 +145,7 @@ fn stood_fault(
     }
 }
 
-/// Returns what is wrong with a voided reading after any row.
+/// Returns the fault of a voided reading after any row, or `None`.
 fn voided_fault(meter: &Installed, check: &Check, row: &TableRow) -> Option<RowFault>
     ensures { result ≡ passing.voided_fault meter.now check.now row.now }
 {
@@ -162,7 +164,7 @@ fn voided_fault(meter: &Installed, check: &Check, row: &TableRow) -> Option<RowF
     None
 }
 
-/// Returns the check after a valid row, and the step to it.
+/// Returns the check after a valid row, with the step to it; or the first fault.
 fn stand(
     meter: &Installed,
     check: &Check,

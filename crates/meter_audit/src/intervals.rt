@@ -4,7 +4,7 @@ ghost use Rattle.meter_audit.specs.Comparing.{fault_between, difference_after, I
 
 use interval_core::Share;
 
-/// How an interval row of a table differs from what the entries give, in mWh.
+/// How an interval row of a table differs from the row that the entries give, in mWh.
 #[derive(Clone, Copy, Debug, PartialEq, Eq)]
 pub enum IntervalFault {
     /// The table lacks a row that the entries give.
@@ -15,8 +15,8 @@ pub enum IntervalFault {
     Differs { start: u64, has: u64, wanted: u64 },
 }
 
-/// The first difference, the number of equal rows before it, and the number of rows of each side up
-/// to and with it.
+/// The first difference between two lists of interval rows: `same` equal rows come before it.
+/// `wanted_done` and `found_done` count the rows of each list up to and with the difference.
 #[derive(Clone, Copy, Debug, PartialEq, Eq)]
 pub struct IntervalDifference {
     pub same: usize,
@@ -25,7 +25,8 @@ pub struct IntervalDifference {
     pub found_done: usize,
 }
 
-/// Returns how two rows differ. If their starts differ, only the earlier row is reported.
+/// Returns how the two rows differ, or `None` if they are equal. If their starts differ, only the
+/// earlier row is reported.
 fn between(wanted: &Share, found: &Share) -> Option<IntervalFault>
     ensures { result ≡ fault_between wanted.now found.now }
 {
@@ -51,7 +52,7 @@ fn between(wanted: &Share, found: &Share) -> Option<IntervalFault>
     })
 }
 
-/// Returns the difference after this many equal rows.
+/// Returns the first difference of two lists of interval rows, after `same` equal rows.
 fn difference_at(same: usize, fault: IntervalFault) -> IntervalDifference
     requires { same < 2 ^ 63 }
     ensures { result ≡ difference_after same fault }
@@ -69,8 +70,9 @@ fn difference_at(same: usize, fault: IntervalFault) -> IntervalDifference
     }
 }
 
-/// Returns the first difference between the rows that the entries give and those that were found,
-/// both in order of their starts. To continue, skip `wanted_done` and `found_done` rows.
+/// Returns the first difference between the rows that the entries give and the rows that were
+/// found, or `None`. Both are in order of their starts. To continue, skip `wanted_done` and
+/// `found_done` rows.
 pub fn first_difference(wanted: &[Share], found: &[Share]) -> Option<IntervalDifference>
     ensures none { IsNone result ↔ (found.now ≡ wanted.now) }
     ensures first { IfSome result (IsFirst wanted.now found.now) }

@@ -1,5 +1,5 @@
-//! Theorems on rows that fit. Each is the contract of a function. Its body calls the theorem that
-//! the proof needs, or is empty.
+//! Theorems on rows that fit: each may follow the rows before it. Each theorem is the contract of
+//! a function, whose body calls the theorem that the proof needs, or is empty.
 ghost use Rattle.meter_audit.specs.Laws.{RowsOfJournalsFit, FittingRowsStandAlone};
 ghost use Rattle.meter_audit.specs.Laws.{FineTablesAreLawful, LawfulTablesAreFine};
 ghost use Rattle.meter_audit.specs.Laws.{PassedRowsFit, FittingRowsPass, RowsAreToldApart};
@@ -7,12 +7,12 @@ ghost use Rattle.meter_audit.specs.Going.{FinishedIsFine, RefusedIsNotFine};
 
 use meter_journal::interval_rows_add_up;
 
-/// Theorem: the rows of every lawful journal fit, also voided ones.
+/// Theorem: the rows of every lawful journal fit, the voided ones included.
 pub fn rows_of_journals_fit()
     ensures { RowsOfJournalsFit }
 {}
 
-/// Theorem: the valid ones of rows that fit are a lawful journal by themselves.
+/// Theorem: of rows that fit, the valid ones are a lawful journal by themselves.
 pub fn fitting_rows_stand_alone()
     ensures { FittingRowsStandAlone }
 {}
@@ -50,7 +50,7 @@ pub fn finished_is_fine()
     ensures { FinishedIsFine }
 {}
 
-/// Theorem: after a refused row, no rows that contain it are those of entries that fit.
+/// Theorem: after a refused row, no rows that contain it are rows that fit.
 pub fn refused_is_not_fine()
     ensures { RefusedIsNotFine }
 {}

@@ -65,7 +65,7 @@ pub fn take_row(
     }
 }
 
-// Removes all interval rows but the last.
+// Removes all interval rows except the last.
 fn leave_last(wanted: &mut Vec<Share>)
     ensures { let done = settled_in wanted.old.items in
         wanted.new.items ≡ drop done wanted.old.items }
@@ -78,7 +78,7 @@ fn leave_last(wanted: &mut Vec<Share>)
     }
 }
 
-/// Removes the interval rows that no later entry adds to: all but the last.
+/// Removes the interval rows that no later entry adds to: all except the last.
 pub fn drop_done(progress: &mut Progress)
     ensures sound { (meter : TheMeter) → IsSoundProgress meter progress.old
         → IsSoundProgress meter progress.new }

@@ -5,7 +5,7 @@ ghost use Rattle.meter_audit.specs.Passing as passing;
 use energy_core::Entry;
 use meter_journal::EntryKind;
 
-/// The source of an entry, as the table says.
+/// The kind of an entry, as the table of entries says.
 #[derive(Clone, Copy, Debug, PartialEq, Eq)]
 pub enum RowKind {
     /// The meter was opened.
@@ -51,7 +51,7 @@ pub(crate) fn kind_of(row: &TableRow) -> Option<EntryKind>
     }
 }
 
-/// Returns the entry of a row, by its kind.
+/// Returns the entry that a table row of this kind records.
 pub(crate) fn entry_of(kind: EntryKind, row: &TableRow) -> Entry
     ensures { result ≡ passing.entry_in kind row.now }
 {

@@ -13,7 +13,8 @@ pub struct Standing {
     pub is_ended: bool,
 }
 
-/// What was wanted, for each value that differs.
+/// For each value of the installation's row that differs, the value that the entries give; `None`
+/// for an equal value.
 #[derive(Clone, Copy, Debug, PartialEq, Eq)]
 pub struct StandingFaults {
     pub last: Option<Last>,
@@ -28,7 +29,7 @@ fn is_same(last: &Last, other: &Last) -> bool
     last.at == other.at && last.raw == other.raw && last.sf == other.sf
 }
 
-/// Returns how the row of an installation differs from the check after all entries.
+/// Returns how the row of an installation differs from the check after all its entries.
 pub fn standing_faults(check: &Check, standing: &Standing) -> StandingFaults
     ensures last { IsNone result.last ↔ (standing.now.last ≡ check.now.last) }
     ensures total { IsNone result.total ↔ (standing.now.total ≡ check.now.total) }

@@ -19,7 +19,7 @@ entries_alone : (opening : Last) (rows : List EntryRow) → entries_of opening (
 entries_alone opening [] = refl
 entries_alone opening (row ∷ rows) = ap (λ (es : List Entry). row.entry ∷ es) (entries_alone opening rows)
 
--- No row is a closing, or none that another follows.
+-- None of the rows is a closing.
 abbrev AllOpen : List EntryRow → Type 0
 AllOpen [] = Unit {0}
 AllOpen (row ∷ rows) = (is_closing row.kind ≡ false) × AllOpen rows

@@ -24,7 +24,8 @@ use Rattle.meter_journal.proofs.StillFitting.{rolls_of}
 abbrev pub own_rolls : EntryKind → Last → Entry → Entry
 own_rolls k last e = cond (is_reading k) (with_rolls last e) e
 
--- The row of an entry, but for its rollovers. It is valid if no void of the whole journal names it.
+-- The row of an entry, except for its rollovers. It is valid if no void of the whole journal
+-- names it.
 pub record IsRowOf (whole : Journal) (place : ℕ) (k : EntryKind) (e : Entry) (row : EntryRow) : Type 0 where
   pub place_is : row.place ≡ place
   pub kind_is : row.kind ≡ k
@@ -47,7 +48,8 @@ count_of whole (Entered k e ∷ lines) (row ∷ rows) h = omega (arith, count_of
 count_of whole (Held reading cause ∷ lines) rows h = count_of whole lines rows h
 count_of whole (Voided place ∷ lines) rows h = count_of whole lines rows h
 
--- Only voids of these sequence numbers matter.
+-- Rows of one journal are rows of another if the voids of both name the same sequence numbers
+-- below `bound`.
 renamed : (whole whole' : Journal) (bound : ℕ) (lines : Journal) (rows : List EntryRow) → entered_count lines + 2 ≤ bound
     → ((place : ℕ) → place < bound → is_voided place whole' ≡ is_voided place whole)
     → AreRowsOf whole lines rows → AreRowsOf whole' lines rows
@@ -95,7 +97,7 @@ rolled_twice kind.Closing l last e is = absurd (let f : false ≡ true = is in c
 rolled_twice kind.Reset l last e is = absurd (let f : false ≡ true = is in cc)
 rolled_twice kind.Rescale l last e is = absurd (let f : false ≡ true = is in cc)
 
--- A row that the void does not name.
+-- A row that the void does not name is still that of its entry.
 row_kept : (opening : Last) (place : ℕ) (whole : Journal) (n : ℕ) (k : EntryKind) (e : Entry) (last : Last) (row : EntryRow)
     → IsRowOf whole n k e row → n == place ≡ false → IsRowOf (Voided place ∷ whole) n k e (rolled last row)
 row_kept opening place whole n k e last row h off =
@@ -110,7 +112,7 @@ row_kept opening place whole n k e last row h off =
       stands_is = stands;
     })
 
--- The row that the void names.
+-- The row that the void names is still that of its entry, now voided.
 row_struck : (place : ℕ) (whole : Journal) (n : ℕ) (k : EntryKind) (e : Entry) (row : EntryRow)
     → IsRowOf whole n k e row → n == place ≡ true → IsRowOf (Voided place ∷ whole) n k e (struck row)
 row_struck place whole n k e row h at =

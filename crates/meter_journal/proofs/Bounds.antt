@@ -76,7 +76,7 @@ none_before law bound step h whole le =
 most_before : SharesAddUp → (bound : ℕ) (step : Step) → step.from < step.till → share_before bound step ≤ step.mwh
 most_before law bound step h = omega (arith, before_most bound (shares_of step), (law step h).whole)
 
--- What the items have counted.
+-- The items of a true run never count less than the first item.
 later : (ceiling : ℕ) (sf : ℤ) (first : Item) (items : List Item) → IsTrueRun ceiling sf first items → first.count ≤ (newest first items).count
 later ceiling sf first [] h = omega arith
 later ceiling sf first (b ∷ items) h = omega (arith, h.1, later ceiling sf first items h.3)
@@ -93,7 +93,8 @@ rows_before bound sf first items = energy_before bound (rows_of_steps (true_step
 none_counted : (u n : ℕ) → (n - n) * u ≡ 0
 none_counted u n = let z : n - n ≡ 0 = omega arith in let m : (n - n) * u ≡ 0 * u = ap (λ k. k * u) z in omega arith
 
--- All of it, if the newest item is at or before the bound; and never more.
+-- The energy up to the bound is all of the run's energy if the newest item is at or before the
+-- bound. It is never more.
 whole_run : SharesAddUp → (ceiling : ℕ) (sf : ℤ) (first : Item) (items : List Item) (bound : ℕ) → IsTrueRun ceiling sf first items
     → (rows_before bound sf first items ≤ advance sf first (newest first items))
     × ((newest first items).at ≤ bound → rows_before bound sf first items ≡ advance sf first (newest first items))

@@ -28,7 +28,8 @@ pub not_before : (meter : Installed) (es : List Entry) → AllFollow meter.range
 not_before meter [] h = omega arith
 not_before meter (e ∷ es) h = omega (arith, h.0.later, last_moment meter e es, not_before meter es h.1)
 
--- A quarter hour between the opening and a later time.
+-- The interval from `s` is a quarter hour that ends after the opening and begins before the time
+-- `last`.
 pub record Lies (opened last s : ℕ) : Type 0 where
   pub whole : s % 900 ≡ 0
   pub following : opened < s + 900

@@ -64,7 +64,7 @@ numbered_onto (row ∷ rows) done h =
 pub numbered_from : (rows : List EntryRow) → AreNumbered (latest_first rows) → NumberedFrom 2 rows
 numbered_from rows h = numbered_onto rows [] (subst AreNumbered (sym (append-nil (reverse rows))) h)
 
--- From an index on.
+-- Rows that are numbered from a number on are also numbered from an index on.
 pub numbered_drop : (n m i : ℕ) (rows : List EntryRow) → m ≡ i + n → NumberedFrom n rows → NumberedFrom m (drop i rows)
 numbered_drop n m zero rows is h = let e : n ≡ m = omega (arith, is) in subst (λ k. NumberedFrom k rows) e h
 numbered_drop n m (suc i) [] is h = tt
@@ -72,7 +72,7 @@ numbered_drop n m (suc i) (row ∷ rows) is h = numbered_drop (suc n) m i rows (
 
 -- ---- a void
 
--- Rows after the voided one.
+-- A void changes the newer rows only by the rollovers that their neighbors give.
 void_onto : (opening : Last) (place n : ℕ) (newer before done : List EntryRow) → place < n → NumberedFrom n newer
     → with_void opening place before ≡ done
     → with_void opening place (reverse newer ++ before) ≡ reverse (rolled_on (last_of opening (entries_in done)) newer) ++ done
@@ -87,7 +87,7 @@ void_onto opening place n (row ∷ newer) before done lt h is =
     ∙ ap (λ (l : Last). reverse (rolled_on l newer) ++ next ∷ done) (last_on opening next done)
     ∙ sym (reverse_onto next (rolled_on (following (last_of opening (entries_in done)) next) newer) done)
 
--- One more row gets the rollovers that its neighbor gives it.
+-- After one more step of the loop, one more row has the rollovers that its neighbor gives it.
 pub roll_step : (rows : List EntryRow) (i : ℕ) (last stand : Last) (d next : EntryRow) → i < length rows → next ≡ rolled last (get_or rows i d)
     → stand ≡ following last next
     → take (i + 1) (set rows i next) ++ rolled_on stand (drop (i + 1) (set rows i next)) ≡ take i rows ++ rolled_on last (drop i rows)
@@ -104,7 +104,7 @@ roll_step rows i last stand d next lt next_is stand_is =
 pub roll_end : (rows : List EntryRow) (i : ℕ) (last : Last) → length rows ≤ i → take i rows ++ rolled_on last (drop i rows) ≡ rows
 roll_end rows i last le = ap (λ rs. take i rows ++ rolled_on last rs) (drop_all i rows le) ∙ append-nil (take i rows) ∙ take_all i rows le
 
--- Older rows, the voided one, and those after it.
+-- The rows after a void: the older rows, the voided row, and the newer rows with their rollovers.
 pub void_at : (opening : Last) (place n : ℕ) (older : List EntryRow) (row : EntryRow) (newer : List EntryRow) → place < n → NumberedFrom n newer
     → row.place == place ≡ true
     → with_void opening place (latest_first (older ++ row ∷ newer))

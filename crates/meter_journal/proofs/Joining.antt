@@ -17,7 +17,7 @@ use Rattle.meter_journal.proofs.Merging.{Above, Rising}
 different : (a b : ℕ) → a < b → a == b ≡ false
 different a b lt = grind (arith, nat_tests, lt)
 
--- The last row, and one more share in its interval.
+-- A share in the last row's interval is added to that row.
 pub joined_same : (rows : List Share) (n : ℕ) (row share : Share) → length rows ≡ suc n → get_or rows n row ≡ row → row.start ≡ share.start
     → set rows n (record { start = row.start; mwh = row.mwh + share.mwh }) ≡ with_shares rows (share ∷ [])
 joined_same [] n row share long is at = absurd (omega (arith, long))
@@ -29,7 +29,7 @@ joined_same (first ∷ next ∷ rows) zero row share long is at = absurd (omega 
 joined_same (first ∷ next ∷ rows) (suc n) row share long is at =
     ap (λ rs. first ∷ rs) (joined_same (next ∷ rows) n row share (omega (arith, long)) is at)
 
--- The last row, and one more share in a later interval.
+-- A share in a later interval than the last row becomes a new row.
 pub joined_other : (rows : List Share) (n : ℕ) (row share : Share) → length rows ≡ suc n → get_or rows n row ≡ row → row.start == share.start ≡ false
     → rows ++ share ∷ [] ≡ with_shares rows (share ∷ [])
 joined_other [] n row share long is at = absurd (omega (arith, long))

@@ -213,7 +213,7 @@ each_more f share (row ∷ rows) rising h there =
           )
     ]
 
--- All of these have a row.
+-- Each of these shares has a row in its interval.
 abbrev HaveRows : List Share → List Share → Type 0
 HaveRows [] rows = Unit {0}
 HaveRows (share ∷ shares) rows = Among share.start rows × HaveRows shares rows
@@ -261,7 +261,8 @@ same_share : (a b : Share) → a.start ≡ b.start → a.mwh ≡ b.mwh → a ≡
 same_share a b start mwh =
     ap (λ s. let r : Share = record { start = s; mwh = a.mwh } in r) start ∙ ap (λ n. let r : Share = record { start = b.start; mwh = n } in r) mwh
 
--- Rows in order with the same starts and the energy that is due are the same.
+-- Two lists of rows are equal if both are in order, have the same starts, and have the energy
+-- that is due at each start.
 pub same_rows : (f : ℕ → ℕ) (xs ys : List Share) → Rising xs → Rising ys → EachIs f xs → EachIs f ys
     → ((s : ℕ) → Among s xs → Among s ys) → ((s : ℕ) → Among s ys → Among s xs) → xs ≡ ys
 same_rows f [] [] up up' each each' to from = refl

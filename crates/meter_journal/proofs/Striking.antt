@@ -90,7 +90,7 @@ weigh_row w meter row rows =
 
 -- ---- steps that a void removes and adds
 
--- Each goes forward, between these times.
+-- Each step ends after it begins, and lies between these times.
 abbrev pub AllBetween : (opened last : ℕ) → List Step → Type 0
 AllBetween opened last [] = Unit {0}
 AllBetween opened last (step ∷ steps) = (opened ≤ step.from) × (step.from < step.till) × (step.till ≤ last) × AllBetween opened last steps
@@ -99,12 +99,13 @@ between_later : (opened m n : ℕ) (steps : List Step) → m ≤ n → AllBetwee
 between_later opened m n [] le h = tt
 between_later opened m n (step ∷ steps) le h = (h.0, h.1, omega (arith, h.2, le), between_later opened m n steps le h.3)
 
--- The step is one of these.
+-- The step is in the list.
 abbrev pub IsOneOf : Step → List Step → Type 0
 IsOneOf step [] = ⊥
 IsOneOf step (first ∷ steps) = (first ≡ step) ⊎ IsOneOf step steps
 
--- The steps to the second entries are those to the first, some removed and others added.
+-- The steps of the entries `es'` are those of `es`, without the steps `out` and with the steps
+-- `put`.
 pub record AreMoved (meter : Installed) (es es' : List Entry) (out put : List Step) : Type 0 where
   pub moves : (w : Step → ℕ) → weigh w (steps_after meter es) + weigh w put ≡ weigh w (steps_after meter es') + weigh w out
   pub within : (w : Step → ℕ) → weigh w out ≤ weigh w (steps_after meter es)
@@ -113,19 +114,19 @@ pub record AreMoved (meter : Installed) (es es' : List Entry) (out put : List St
   pub out_between : AllBetween meter.opening.at (last_after meter es).at out
   pub put_between : AllBetween meter.opening.at (last_after meter es).at put
 
--- The steps removed and added if this row is next.
+-- The steps that a void removes if this row is the next valid one.
 abbrev pub out_to : Installed → Around → Option EntryRow → List Step
 out_to meter x next = steps_out meter (record { before = x.before; row = x.row; next = next })
 
 abbrev pub put_to : Installed → Around → Option EntryRow → List Step
 put_to meter x next = steps_put meter (record { before = x.before; row = x.row; next = next })
 
--- No valid entry follows the voided one.
+-- No valid entry follows the voided entry.
 pub record IsLast (meter : Installed) (place : ℕ) (rows : List EntryRow) (x : Around) : Type 0 where
   pub gap : IsGap meter.opening place rows x
   pub rows_are : with_void meter.opening place rows ≡ map (changed_by place None (last_before meter.opening x)) rows
 
--- This valid entry follows the voided one.
+-- This valid entry is the next one after the voided entry.
 pub record IsFollowed (meter : Installed) (place : ℕ) (rows : List EntryRow) (x : Around) (next : EntryRow) : Type 0 where
   pub rows_are : with_void meter.opening place rows ≡ map (changed_by place (Some next) (last_before meter.opening x)) rows
   pub last : last_after meter (entries_in (with_void meter.opening place rows)) ≡ last_after meter (entries_in rows)
@@ -153,7 +154,7 @@ last_grows meter row rows h =
       | inr off ↦ omega (arith, ap (λ (es : List Entry). (last_after meter es).at) (entries_struck row rows off))
     ]
 
--- A step before the row.
+-- A step between the entries of the older rows is also one with this row.
 one_below : (meter : Installed) (row : EntryRow) (rows : List EntryRow) (step : Step) → IsOneOf step (steps_after meter (entries_in rows))
     → IsOneOf step (steps_after meter (entries_in (row ∷ rows)))
 one_below meter row rows step there =
@@ -162,7 +163,7 @@ one_below meter row rows step there =
       | inr off ↦ subst (λ (es : List Entry). IsOneOf step (steps_after meter es)) (sym (entries_struck row rows off)) there
     ]
 
--- A row after the next one.
+-- `IsFollowed` is preserved by one more row after the next valid row.
 row_after : (meter : Installed) (place : ℕ) (row : EntryRow) (rows : List EntryRow) (x : Around) (next : EntryRow)
     → row.place == place ≡ false → AreNumbered (row ∷ rows) → StandFits meter (entries_in rows) row
     → AllFollow meter.range meter.opening (entries_in (row ∷ rows))
@@ -204,7 +205,7 @@ row_after meter place row rows x next off numbers fits follow h =
       };
     }
 
--- A voided row after the voided one.
+-- `IsLast` is preserved by one more row that was voided earlier.
 struck_after : (meter : Installed) (place : ℕ) (row : EntryRow) (rows : List EntryRow) (x : Around)
     → row.place == place ≡ false → row.stands ≡ false
     → IsLast meter place rows x → IsLast meter place (row ∷ rows) (passed row x)
@@ -222,7 +223,7 @@ struck_after meter place row rows x off struck h =
           ∙ ap (λ r. r ∷ map (changed_by place None l) rows) (sym (unchanged place None l row off refl));
     }
 
--- A reading, and the same with other rollovers.
+-- The row is a reading.
 record IsRead (row : EntryRow) : Type 0 where
   reading : is_reading row.kind ≡ true
   at : ℕ
@@ -269,7 +270,8 @@ next_moved meter before e0 at raw rolls rolls' h =
       put_between = (begun, omega (arith, there, first, second), omega arith, tt);
     }
 
--- The next row itself.
+-- If no valid row followed the voided one, one more valid reading follows it as `IsFollowed`
+-- says.
 next_after : (meter : Installed) (place : ℕ) (row : EntryRow) (rows : List EntryRow) (x : Around)
     → row.place == place ≡ false → row.stands ≡ true → is_read row.kind row.entry ≡ true → is_read x.row.kind x.row.entry ≡ true
     → AreNumbered (row ∷ rows) → AllFollow meter.range meter.opening (entries_in (row ∷ rows))

@@ -25,7 +25,7 @@ use Rattle.meter_journal.proofs.Striking.{weigh, IsOneOf, AreMoved, IsLast, Chan
 abbrev with_next : Around → Option EntryRow → Around
 with_next a next = record { before = a.before; row = a.row; next = next }
 
--- The last entry is gone.
+-- Removing the last entry removes the step to it, and no other.
 last_gone : (meter : Installed) (e : Entry) (es : List Entry) → AllFollow meter.range meter.opening (e ∷ es)
     → AreMoved meter (e ∷ es) es (step_to meter.range (last_after meter es) e ∷ []) []
 last_gone meter e es h =

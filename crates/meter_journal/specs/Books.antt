@@ -1,4 +1,4 @@
--- The state of a meter after entries, and after a journal.
+-- The state of a meter after a list of entries, and after a journal.
 use Rattle.std.specs.Prelude.{ℕ, ◌<◌, List}
 use Rattle.energy_core.specs.declared.entries.Last.{Last}
 use Rattle.energy_core.specs.declared.entries.Step.{Step}
@@ -12,37 +12,38 @@ use Rattle.meter_journal.specs.declared.lines.Installed.{Installed}
 use Rattle.meter_journal.specs.Journal.{Journal, entries_of}
 use Rattle.meter_journal.specs.Intervals.{rows_of_steps}
 
--- The opening has a number that the counter can show, at a scale that a register may have.
+-- The meter's opening shows a number that the counter can show, at a scale factor from -3 to 3.
 pub record IsWellInstalled (meter : Installed) : Type 0 where
   pub raw : meter.opening.raw < meter.range
   pub scale : IsScale meter.opening.sf
 
--- The last entry of a meter after these entries.
+-- The counter's state after a meter's opening and these entries.
 abbrev pub last_after : Installed → List Entry → Last
 last_after meter es = last_of meter.opening es
 
--- The total energy of these entries, in mWh.
+-- The total energy of a meter with these entries, in mWh.
 abbrev pub total_after : Installed → List Entry → ℕ
 total_after meter es = whole_energy meter.range meter.opening es
 
--- The steps between these entries, the latest first.
+-- The steps between consecutive entries of a meter, the latest first.
 abbrev pub steps_after : Installed → List Entry → List Step
 steps_after meter es = steps_of meter.range meter.opening es
 
--- The verdict on a reading after these entries.
+-- The verdict on a reading of a meter that has these entries.
 abbrev pub verdict_after : Installed → List Entry → Reading → Verdict
 verdict_after meter es reading = verdict_on meter.range meter.ceiling meter.opening es reading
 
--- These entries have an account, with this energy.
+-- The entries of this meter have an account: each may follow those before it, and the total
+-- energy is within its limit.
 abbrev pub HasAccount : Installed → List Entry → Type 0
 HasAccount meter es =
     IsAccount meter.range meter.opening es (last_after meter es) (total_after meter es)
 
--- The last valid entry of a journal.
+-- The counter's state after the last valid entry of a journal.
 abbrev pub last_in : Installed → Journal → Last
 last_in meter lines = last_after meter (entries_of meter.opening lines)
 
--- The energy of the valid entries of a journal.
+-- The energy of the valid entries of a journal, in mWh.
 abbrev pub total_in : Installed → Journal → ℕ
 total_in meter lines = total_after meter (entries_of meter.opening lines)
 
@@ -50,6 +51,6 @@ total_in meter lines = total_after meter (entries_of meter.opening lines)
 abbrev pub steps_in : Installed → Journal → List Step
 steps_in meter lines = steps_after meter (entries_of meter.opening lines)
 
--- The interval rows of the valid entries of a journal.
+-- The interval rows that the valid entries of a journal give.
 abbrev pub interval_rows : Installed → Journal → List Share
 interval_rows meter lines = rows_of_steps (steps_in meter lines)

@@ -1,4 +1,4 @@
--- What one more line changes in the state of a meter.
+-- How one more line of a journal changes the state of a meter.
 use Rattle.std.specs.Prelude.{◌≡◌, ℕ, ◌+◌, ◌%◌, ◌<◌, ◌≤◌, List, ◌∷◌, All, Some, Ok}
 use Rattle.energy_core.specs.declared.entries.Entry.{Entry}
 use Rattle.energy_core.specs.declared.entries.Step.{Step}
@@ -25,25 +25,24 @@ pub record LiesWithin (opened last : ℕ) (row : Share) : Type 0 where
   pub before : row.start < last
   pub gone_on : opened < last
 
--- The interval rows of a journal are between its opening and its last valid entry.
+-- Theorem: the interval rows of a journal are between its opening and its last valid entry.
 abbrev pub RowsLieWithin : Type 0
 RowsLieWithin = (meter : Installed) (lines : Journal) → IsWellInstalled meter
     → AreFitting meter lines
     → All (LiesWithin meter.opening.at (last_in meter lines).at) (interval_rows meter lines)
 
--- After a void the last entry is no later than before.
+-- Theorem: a void does not make the time of the last valid entry later.
 abbrev pub VoidsGoNoFurther : Type 0
 VoidsGoNoFurther = (meter : Installed) (lines : Journal) (place : ℕ) → IsWellInstalled meter
     → AreFitting meter (Voided place ∷ lines)
     → (last_in meter (Voided place ∷ lines)).at ≤ (last_in meter lines).at
 
--- The step from the last entry to one more.
+-- The step from the last valid entry of a journal to one more entry.
 abbrev pub step_on : Installed → Journal → Entry → Step
 step_on meter lines e = step_to meter.range (last_in meter lines) e
 
--- One more entry is recorded after the last one. It is then the last entry, and the energy grows by
--- its step. The interval rows grow by the shares of the step. They are merged with the last row, or
--- equally, each is added to the row of its interval.
+-- The meter after one more entry: that entry is the last one, and the energy has grown by its
+-- step. `joined` and `added` are two ways to add the step's shares to the interval rows.
 pub record ContinuesJournal (meter : Installed) (lines : Journal) (k : EntryKind) (e : Entry) :
     Type 0 where
   pub may : MayGoOn meter (last_in meter lines) (total_in meter lines) e
@@ -57,28 +56,29 @@ pub record ContinuesJournal (meter : Installed) (lines : Journal) (k : EntryKind
   pub added : interval_rows meter (Entered k e ∷ lines)
       ≡ with_each (shares_of (step_on meter lines e)) (interval_rows meter lines)
 
--- One more entry that fits extends the journal in this way.
+-- Theorem: one more entry that fits extends a journal as `ContinuesJournal` describes.
 abbrev pub EntriesGoOn : Type 0
 EntriesGoOn = (meter : Installed) (lines : Journal) (k : EntryKind) (e : Entry)
     → IsWellInstalled meter
     → AreFitting meter (Entered k e ∷ lines) → ContinuesJournal meter lines k e
 
--- Adding shares to rows adds their energy. Removing shares adds none.
+-- Shares that are added to rows add their energy to that of the rows. Shares that are removed add
+-- no energy.
 pub record MoveEnergy (shares rows : List Share) : Type 0 where
   pub added : energy_in_rows (with_each shares rows) ≡ energy_in_rows rows + energy_in_rows shares
   pub taken : energy_in_rows (without_each shares rows) ≤ energy_in_rows rows
 
--- All shares and rows move energy in this way.
+-- Theorem: `MoveEnergy` applies to all shares and rows.
 abbrev pub SharesMoveEnergy : Type 0
 SharesMoveEnergy = (shares rows : List Share) → MoveEnergy shares rows
 
--- The entries before this row have an account, and it is sound.
+-- The entries before the row `around.row` have an account, and that account is sound.
 pub record WasKept (meter : Installed) (around : Around) : Type 0 where
   pub account : HasAccount meter (entries_in around.before)
   pub sound : let es = entries_in around.before in
       IsSound meter.range meter.opening es (last_after meter es) (total_after meter es)
 
--- The entries before each row of a journal have a sound account.
+-- Theorem: the entries before any row of a journal have a sound account.
 abbrev pub PlacesWereKept : Type 0
 PlacesWereKept = (meter : Installed) (lines : Journal) (place : ℕ) (around : Around)
     → IsWellInstalled meter

@@ -5,7 +5,8 @@ use Rattle.energy_core.specs.declared.entries.Step.{Step}
 use Rattle.interval_core.specs.declared.shares.Share.{Share}
 use Rattle.interval_core.specs.Share.{shares_of}
 
--- Shares after a row. The first share may be in the same interval, and is then merged with the row.
+-- The row followed by the shares. If the first share is in the row's interval, the two are merged
+-- into one row.
 abbrev pub joined : Share → List Share → List Share
 joined row [] = row ∷ []
 joined row (share ∷ shares) =
@@ -13,7 +14,8 @@ joined row (share ∷ shares) =
     then record { start = row.start; mwh = row.mwh + share.mwh } ∷ shares
     else row ∷ share ∷ shares
 
--- Rows, and the shares of a later step after them.
+-- The rows followed by the shares of a later step. Shares in the last row's interval are merged
+-- with that row.
 abbrev pub with_shares : List Share → List Share → List Share
 with_shares [] shares = shares
 with_shares (row ∷ []) shares = joined row shares
@@ -30,7 +32,8 @@ energy_before bound [] = 0
 energy_before bound (row ∷ rows) =
     (if nat_lt row.start bound then row.mwh else 0) + energy_before bound rows
 
--- A share added to the row of its interval. Without such a row, the share becomes the last row.
+-- The rows with a share added to the row of its interval. Without such a row, the share becomes
+-- the last row.
 abbrev pub with_share : Share → List Share → List Share
 with_share share [] = share ∷ []
 with_share share (row ∷ rows) =
@@ -38,26 +41,26 @@ with_share share (row ∷ rows) =
     then record { start = row.start; mwh = row.mwh + share.mwh } ∷ rows
     else row ∷ with_share share rows
 
--- Shares added to rows, one by one.
+-- The rows after each of the shares was added to the row of its interval.
 abbrev pub with_each : (shares : List Share) → List Share → List Share
 with_each [] rows = rows
 with_each (share ∷ shares) rows = with_each shares (with_share share rows)
 
--- A row less a share in its interval.
+-- A row less the energy of a share in the same interval.
 abbrev pub less : Share → Share → Share
 less share row =
     if row.start == share.start then record { start = row.start; mwh = row.mwh - share.mwh }
     else row
 
--- Rows less a share.
+-- The rows after a share was subtracted from the row of its interval.
 abbrev pub without_share : Share → List Share → List Share
 without_share share rows = map (less share) rows
 
--- Rows less shares, one by one.
+-- The rows after each of the shares was subtracted from the row of its interval.
 abbrev pub without_each : (shares : List Share) → List Share → List Share
 without_each [] rows = rows
 without_each (share ∷ shares) rows = without_each shares (without_share share rows)
 
--- The shares of several steps, step by step.
+-- The shares of all these steps, in the order of the steps.
 abbrev pub all_shares : List Step → List Share
 all_shares steps = flat_map shares_of steps

@@ -1,4 +1,4 @@
--- The valid entries of a journal, without the order in which lines came.
+-- The valid entries of a journal, found without applying its voids one by one.
 use Rattle.std.specs.Prelude.{◌≡◌, ℕ, ◌+◌, ◌==◌, Bool, true, false, ◌||◌, List, [], ◌∷◌, map, if◌then◌else◌}
 use Rattle.energy_core.specs.declared.entries.Last.{Last}
 use Rattle.energy_core.specs.Account.{last_of}
@@ -7,14 +7,14 @@ use Rattle.meter_journal.specs.declared.lines.EntryRow.{EntryRow}
 use Rattle.meter_journal.specs.Journal.{Entered, Held, Voided, Journal, standing, entries_in, rolled, rows_of}
 use Rattle.meter_journal.specs.Fitting.{EntryFits}
 
--- A void names this sequence number.
+-- A void of the journal names this sequence number.
 abbrev pub is_voided : (place : ℕ) → Journal → Bool
 is_voided place [] = false
 is_voided place (Entered k e ∷ lines) = is_voided place lines
 is_voided place (Held reading cause ∷ lines) = is_voided place lines
 is_voided place (Voided named ∷ lines) = (place == named) || is_voided place lines
 
--- The number of recorded entries.
+-- The number of entries that a journal records, the voided ones included.
 abbrev pub entered_count : Journal → ℕ
 entered_count [] = 0
 entered_count (Entered k e ∷ lines) = entered_count lines + 1
@@ -42,10 +42,10 @@ AllStillFit meter (row ∷ rows) =
     (row.stands ≡ true → EntryFits meter (entries_in rows) row.kind row.entry)
     × AllStillFit meter rows
 
--- The journal of these rows alone, without voids.
+-- The journal that only enters these rows, without voids.
 abbrev pub entering : List EntryRow → Journal
 entering rows = map (λ row. Entered row.kind row.entry) rows
 
--- The journal of the valid entries alone.
+-- The journal that only enters the valid entries of this journal.
 abbrev pub standing_alone : (opening : Last) → Journal → Journal
 standing_alone opening lines = entering (standing (rows_of opening lines))

@@ -12,7 +12,7 @@ use Rattle.meter_journal.specs.Books.{total_in, steps_in, interval_rows}
 use Rattle.meter_journal.specs.Intervals.{energy_before}
 use Rattle.meter_journal.specs.Journal.{Entered, Held, Voided, Journal, is_reading, entries_of}
 
--- What an entry showed, as a reading at this scale.
+-- What an entry showed, as a reading at this scale factor; `None` for a change.
 abbrev pub reading_by : ℤ → Entry → Option Reading
 reading_by sf (entry.Step at raw rolls) = Some (record { at = at; raw = raw; sf = sf })
 reading_by sf (entry.Change at before after new) = None
@@ -34,7 +34,7 @@ held_since (Entered k e ∷ lines) = held_since lines
 held_since (Held reading cause ∷ lines) = reading ∷ held_since lines
 held_since (Voided place ∷ lines) = []
 
--- All entries are readings.
+-- Each entry of the journal is an accepted reading. Rejected readings and voids do not matter.
 abbrev pub AreReadings : Journal → Type 0
 AreReadings [] = Unit {0}
 AreReadings (Entered k e ∷ lines) = (is_reading k ≡ true) × AreReadings lines

@@ -1,4 +1,4 @@
--- What a void changes in the state of a meter.
+-- How a void changes the state of a meter.
 use Rattle.std.specs.Prelude.{◌≡◌, ℕ, ◌+◌, ◌==◌, ◌≤◌, nat_lt, Bool, false, List, [], ◌∷◌, ◌++◌, map, filter, sum_by, All, Option, Some, None, is_some, if◌then◌else◌}
 use Rattle.std.specs.Option.{option_map}
 use Rattle.energy_core.specs.declared.entries.Last.{Last}
@@ -13,23 +13,23 @@ use Rattle.meter_journal.specs.Intervals.{with_each, without_share, without_each
 use Rattle.meter_journal.specs.Journal.{Voided, Journal, Around, entries_in, rolled, struck, rows_of, row_at}
 use Rattle.meter_journal.specs.Fitting.{AreFitting}
 
--- The last valid entry before a row.
+-- The counter's state after the valid entries before `around.row`.
 abbrev pub last_before : (opening : Last) → Around → Last
 last_before opening around = last_of opening (entries_in around.before)
 
--- The row is the next valid one.
+-- The row is the next valid row, which `next` is, if there is one.
 abbrev pub is_next : (next : Option EntryRow) → EntryRow → Bool
 is_next None row = false
 is_next (Some next) row = row.place == next.place
 
--- A row after the one with this sequence number was voided: that row is voided. The next valid row
--- has the rollovers that its new neighbor gives. All other rows are unchanged.
+-- A row after a void of the sequence number `place`: the voided row is marked. The next valid row
+-- gets the rollovers that `before` gives. All other rows are unchanged.
 abbrev pub changed_by : (place : ℕ) → (next : Option EntryRow) → (before : Last) → EntryRow
     → EntryRow
 changed_by place next before row =
     if row.place == place then struck row else if is_next next row then rolled before row else row
 
--- The step to the entry of a row, if there is one.
+-- The step from the state `last` to the entry of a row; no step without a row.
 abbrev pub step_if : (range : ℕ) → Last → Option EntryRow → List Step
 step_if range last None = []
 step_if range last (Some row) = step_to range last row.entry ∷ []
@@ -52,7 +52,8 @@ steps_put meter around =
 abbrev pub energy_in : List Step → ℕ
 energy_in steps = sum_by (λ step. step.mwh) steps
 
--- The rows that begin before the last entry. If the last entry is the opening, there are none.
+-- The rows that begin before the time `last` of the last entry; none if that entry is the
+-- opening.
 abbrev pub rows_until : (opened last : ℕ) → List Share → List Share
 rows_until opened last rows =
     if last == opened then [] else filter (λ row. nat_lt row.start last) rows
@@ -64,9 +65,9 @@ AreTherein (share ∷ shares) rows =
     All (λ row. row.start ≡ share.start → share.mwh ≤ row.mwh) rows
     × AreTherein shares (without_share share rows)
 
--- The energy before the void is that of the steps that stay and of those that it removes. After the
--- void it is that of the steps that stay and of those that it adds. Each of the steps removed and
--- added can be divided among its intervals.
+-- Before the void, the energy is that of the kept steps and the removed steps. After the void, it
+-- is that of the kept steps and the added step. Each removed or added step can be divided among
+-- its intervals.
 pub record ExchangesSteps (meter : Installed) (lines : Journal) (place : ℕ) (around : Around) : Type
     0 where
   pub staying : ℕ
@@ -75,8 +76,8 @@ pub record ExchangesSteps (meter : Installed) (lines : Journal) (place : ℕ) (a
   pub out : All IsShareable (steps_out meter around)
   pub put : All IsShareable (steps_put meter around)
 
--- The shares of the removed steps leave the interval rows, and the shares of the added step join
--- them. Rows that no step reaches any more are gone.
+-- The shares of the removed steps are subtracted from the interval rows, and the shares of the
+-- added step are added. Rows that no step touches any more are removed.
 pub record ExchangesShares (meter : Installed) (lines : Journal) (place : ℕ) (around : Around) :
     Type 0 where
   pub therein : AreTherein (all_shares (steps_out meter around)) (interval_rows meter lines)
@@ -99,7 +100,7 @@ pub record IsVoided (meter : Installed) (lines : Journal) (place : ℕ) (around 
     pub steps : ExchangesSteps meter lines place around
     pub shares : ExchangesShares meter lines place around
 
--- Each void that fits changes a journal in this way.
+-- Theorem: each void that fits changes a journal as `IsVoided` describes.
 abbrev pub VoidsChangeTwoRows : Type 0
 VoidsChangeTwoRows = (meter : Installed) (lines : Journal) (place : ℕ) (around : Around)
     → IsWellInstalled meter

@@ -15,14 +15,14 @@ use energy_core::{
 use interval_core::{Share, shares_add_up};
 use std::alloc::{AllocError, Global};
 
-/// The last entry of a meter, and its energy in mWh.
+/// The state of a meter's counter after its last valid entry, and its energy in mWh.
 #[derive(Clone, Copy, Debug, PartialEq, Eq)]
 pub struct Tally {
     pub last: Last,
     pub total: u64,
 }
 
-/// Advances the tally by one entry, and returns the step to it.
+/// Advances the tally by one entry, and returns the step to that entry.
 fn go_on(meter: &Installed, tally: &mut Tally, entry: &Entry) -> Step
     requires range_low { MIN_RANGE ≤ meter.now.range }
     requires range_high { meter.now.range ≤ MAX_RANGE }
@@ -66,7 +66,7 @@ fn go_past(meter: &Installed, tally: &mut Tally, row: &EntryRow) -> Option<Step>
     Some(go_on(meter, tally, &row.entry))
 }
 
-/// Returns the tally after these rows.
+/// Returns the tally of a meter after these rows.
 pub fn tally_after(meter: &Installed, rows: &[EntryRow]) -> Tally
     requires range_low { MIN_RANGE ≤ meter.now.range }
     requires range_high { meter.now.range ≤ MAX_RANGE }
@@ -87,8 +87,8 @@ pub fn tally_after(meter: &Installed, rows: &[EntryRow]) -> Tally
     tally
 }
 
-/// Returns the tally after any rows, or `None` if a valid entry may not follow the valid ones
-/// before it.
+/// Returns the tally of a meter after these rows, or `None` if a valid entry may not follow the
+/// valid entries before it.
 pub fn checked_tally(meter: &Installed, rows: &[EntryRow]) -> Option<Tally>
     requires range_low { MIN_RANGE ≤ meter.now.range }
     requires range_high { meter.now.range ≤ MAX_RANGE }
@@ -126,7 +126,8 @@ pub fn checked_tally(meter: &Installed, rows: &[EntryRow]) -> Option<Tally>
     Some(tally)
 }
 
-/// Returns the interval rows of the valid entries, in order. The only error is out of memory.
+/// Returns the interval rows that the valid entries give, in order. The only error is out of
+/// memory.
 pub fn interval_rows(
     alloc: Global,
     meter: &Installed,

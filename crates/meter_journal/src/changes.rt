@@ -1,5 +1,5 @@
-//! Theorems on what one more line changes in the state of a meter. Each is the contract of a
-//! function. Its body calls the theorem that the proof needs, or is empty.
+//! Theorems on how one more line of a journal changes the state of a meter. Each is the contract
+//! of a function. Its body calls the theorem that the proof needs, or is empty.
 ghost use Rattle.meter_journal.specs.Changes.{EntriesGoOn, PlacesWereKept, RowsLieWithin};
 ghost use Rattle.meter_journal.specs.Changes.{SharesMoveEnergy, VoidsGoNoFurther};
 ghost use Rattle.meter_journal.specs.Voids.{VoidsChangeTwoRows};
@@ -14,7 +14,7 @@ pub fn rows_lie_within()
     shares_add_up();
 }
 
-/// Theorem: after a void, the last entry is no later than before.
+/// Theorem: a void does not make the time of the last valid entry later.
 pub fn voids_go_no_further()
     ensures { VoidsGoNoFurther }
 {}
@@ -36,13 +36,13 @@ pub fn voids_change_two_rows()
     shares_add_up();
 }
 
-/// Theorem: interval rows gain the energy of the shares that are added to them. They gain none if
-/// shares are removed.
+/// Theorem: shares that are added to interval rows add their energy to that of the rows. Shares
+/// that are removed add no energy.
 pub fn shares_move_energy()
     ensures { SharesMoveEnergy }
 {}
 
-/// Theorem: the entries before any entry have a sound account.
+/// Theorem: the entries before any entry of a journal have a sound account.
 pub fn places_were_kept()
     ensures { PlacesWereKept }
 {}

@@ -11,8 +11,8 @@ use energy_core::{MAX_INTERVALS, MAX_TOTAL, Step};
 use interval_core::{Share, Shares, shares_add_up};
 use std::alloc::AllocError;
 
-/// Adds one more share to the pending row. Returns the pending row if it is complete, because the
-/// share is in another interval.
+/// Adds the next share to the pending row. If the share is in another interval, it becomes the
+/// pending row, and the complete row is returned.
 pub fn join(pending: &mut Option<Share>, share: Share) -> Option<Share>
     requires { ForSome pending.old (λ row. row.mwh + share.mwh < 2 ^ 64) }
     ensures rows { let so_far = option_to_list pending.old in
@@ -35,7 +35,8 @@ pub fn join(pending: &mut Option<Share>, share: Share) -> Option<Share>
     }
 }
 
-/// Adds one more share to these rows.
+/// Adds the next share to these rows: to the last row if both are in one interval, else as a new
+/// row.
 fn join_last(rows: &mut Vec<Share>, share: Share) -> Result<(), AllocError>
     requires { energy_of rows.old.items + share.mwh < 2 ^ 64 }
     ensures ok { OnOk result (rows.new.items ≡ with_shares rows.old.items (share ∷ [])) }

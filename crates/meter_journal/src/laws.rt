@@ -6,9 +6,9 @@ ghost use Rattle.meter_journal.specs.Laws.{RowsStand, StandingEntriesFit, VoidsL
 
 use interval_core::{accounts_add_up, shares_add_up};
 
-/// Theorem: the energy of the valid entries is their last value less the first, plus a full range
-/// for each recorded rollover. For each change it adds what the counter showed before it, less what
-/// it was set to.
+/// Theorem: the energy of the valid entries is the last value less the opening's, plus one full
+/// range for each recorded rollover. For each change it adds what the counter showed before it,
+/// less what it was set to.
 pub fn journals_balance()
     ensures { JournalsBalance }
 {}
@@ -43,7 +43,7 @@ pub fn truth_is_kept()
     shares_add_up();
 }
 
-/// Theorem: the valid entries are those that no void names.
+/// Theorem: the valid entries of a journal are those that no void names.
 pub fn rows_stand()
     ensures { RowsStand }
 {}
@@ -53,7 +53,7 @@ pub fn standing_entries_fit()
     ensures { StandingEntriesFit }
 {}
 
-/// Theorem: the valid entries leave the same state as if no other line existed.
+/// Theorem: the valid entries leave the same state as if the journal had no other lines.
 pub fn voids_leave_no_trace()
     ensures { VoidsLeaveNoTrace }
 {}

@@ -9,7 +9,7 @@ ghost use Rattle.meter_journal.specs.Lists as lists;
 use crate::lines::{EntryKind, EntryRow};
 use energy_core::{Entry, Last};
 
-/// Returns the row of a new entry after these rows.
+/// Returns the row of a new entry after these rows, with the next sequence number.
 pub fn row_after(rows: &[EntryRow], kind: EntryKind, entry: Entry) -> EntryRow
     ensures { result ≡ journal.new_row rows.now kind entry }
 {
@@ -65,7 +65,8 @@ pub fn is_voidable(row: &EntryRow, next: &Option<EntryRow>) -> bool
     row.stands && is_read(row) && is_free
 }
 
-/// Returns the counter's state after a row. A voided row changes nothing.
+/// Returns the counter's state after a row, from the state before it. A voided row changes
+/// nothing.
 fn following(last: &Last, row: &EntryRow) -> Last
     ensures { result ≡ lists.following last.now row.now }
 {
@@ -82,7 +83,7 @@ fn following(last: &Last, row: &EntryRow) -> Last
     }
 }
 
-/// Returns the counter's state after these rows.
+/// Returns the counter's state after the opening and these rows.
 pub fn last_of_rows(opening: &Last, rows: &[EntryRow]) -> Last
     ensures { let es = journal.entries_in (lists.latest_first rows.now) in
         result ≡ last_of opening.now es }
@@ -94,8 +95,8 @@ pub fn last_of_rows(opening: &Last, rows: &[EntryRow]) -> Last
     last
 }
 
-/// Returns the entry with one rollover if it shows less than the entry before it, and otherwise
-/// none.
+/// Returns the entry with the rollovers of a reading: one if it shows less than `last`, otherwise
+/// none. A change is unchanged.
 fn with_rolls(last: &Last, entry: &Entry) -> Entry
     ensures { result ≡ journal.with_rolls last.now entry.now }
 {
@@ -109,7 +110,8 @@ fn with_rolls(last: &Last, entry: &Entry) -> Entry
     }
 }
 
-/// Returns the row after `last`. A valid reading gets the rollovers that the entry before it gives.
+/// Returns the row as it follows `last`. A valid reading gets the rollovers that `last` gives.
+/// Any other row is unchanged.
 fn rolled(last: &Last, row: &EntryRow) -> EntryRow
     ensures { result ≡ journal.rolled last.now row.now }
 {
@@ -120,7 +122,8 @@ fn rolled(last: &Last, row: &EntryRow) -> EntryRow
     next
 }
 
-/// Updates the rollovers of the valid readings from an index on.
+/// Updates the rollovers of the valid readings from index `from` on. `last` is the counter's
+/// state before them.
 fn roll_on(last: &Last, rows: &mut [EntryRow], from: usize)
     requires { from ≤ length rows.old }
     ensures { rows.new ≡ take from rows.old ++ lists.rolled_on last.now (drop from rows.old) }
@@ -158,7 +161,7 @@ pub struct FoundRow {
     pub next: Option<EntryRow>,
 }
 
-/// Returns the first valid row from an index on.
+/// Returns the first valid row from index `from` on, or `None`.
 fn next_standing(rows: &[EntryRow], from: usize) -> Option<EntryRow>
     requires { from ≤ length rows.now }
     ensures { result ≡ find (λ row. row.stands) (drop from rows.now) }
@@ -171,7 +174,8 @@ fn next_standing(rows: &[EntryRow], from: usize) -> Option<EntryRow>
     None
 }
 
-/// Returns the row with a sequence number. The number gives the index, without a search.
+/// Returns the row with a sequence number, or `None`. The number gives the index, so no search is
+/// needed.
 pub fn find_row(rows: &[EntryRow], place: u64) -> Option<FoundRow>
     requires { lists.AreNumbered (lists.latest_first rows.now) }
     ensures missing { IfNone result (journal.row_at place (lists.latest_first rows.now) ≡ None) }

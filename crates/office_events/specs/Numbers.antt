@@ -1,11 +1,11 @@
--- The numbers of refusals and of the causes of a failed store, and counters of 64 bits.
+-- The numbers of refusals and of the causes of a failed store, and counting in 64 bits.
 use Rattle.std.specs.Prelude.{ℕ, ◌+◌, ◌-◌, ◌^◌, min}
 use Rattle.office_events.specs.declared.refusals.Refusal.{Refusal}
 use Rattle.office_events.specs.declared.refusals.Refusal.TheVariants as refusal
 use Rattle.office_events.specs.declared.refusals.StoreCause.{StoreCause}
 use Rattle.office_events.specs.declared.refusals.StoreCause.TheVariants as store
 
--- The number that the program prints for a refusal.
+-- The number that the program prints for each refusal.
 abbrev pub refusal_number : Refusal → ℕ
 refusal_number refusal.NotFound = 1
 refusal_number refusal.Exists = 2
@@ -25,12 +25,12 @@ refusal_number refusal.Stopped = 15
 refusal_number refusal.NotVoidable = 16
 refusal_number (refusal.NotPlausible cause) = 17
 
--- The number of the cause of a failed store.
+-- The number of each cause of a failed store.
 abbrev pub store_number : StoreCause → ℕ
 store_number store.Refused = 1
 store_number store.Damaged = 2
 store_number store.NoDay = 3
 
--- The next value of a counter. The counter stays at the greatest number of 64 bits.
+-- The value of a counter after it counts one more. It saturates at 2^64 - 1.
 abbrev pub one_more : ℕ → ℕ
 one_more n = min (n + 1) (2 ^ 64 - 1)

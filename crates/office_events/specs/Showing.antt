@@ -1,12 +1,12 @@
--- The events that an observer is shown.
+-- What an observer is shown of each event that reaches the office.
 use Rattle.std.specs.Prelude.{ℕ, List, Option, Result}
 use Rattle.office_events.specs.declared.answers.Answer.{Answer}
 use Rattle.office_events.specs.declared.answers.Note.{Note}
 use Rattle.office_events.specs.declared.events.Event.{Event}
 use Rattle.office_events.specs.declared.refusals.Refusal.{Refusal}
 
--- An event at a time, for the round of the device at an index or for no round. With it: its answer,
--- its notifications, and the frames to send.
+-- An event at a time, with its answer, its notifications, and the frames to send. `place` is the
+-- index of the device whose round caused the event, or `None`.
 pub record Shown : Type 0 where
   pub place : Option ℕ
   pub at : ℕ
@@ -15,7 +15,8 @@ pub record Shown : Type 0 where
   pub notes : List Note
   pub frames : List ℕ
 
--- An event, with everything that an observer is shown of it.
+-- What an observer is shown of an event with this device index, time, answer, notifications and
+-- frames.
 abbrev pub shown : Option ℕ → ℕ → Event → Result Answer Refusal → List Note → List ℕ → Shown
 shown place at event answer notes frames =
     record {

@@ -1,5 +1,6 @@
-//! Commands for the office. Numbers are as the caller gave them, and the office checks their
-//! ranges. A name is `None` if the caller's text is not a valid name.
+//! Commands for the office, the program's state over one store. Numbers are as the caller gave
+//! them, and the office checks their ranges. A name is `None` if the caller's text is not a valid
+//! name.
 use crate::names::Name;
 use mb_wire::ReadSpan;
 use read_plan::PlannedList;
@@ -23,7 +24,7 @@ pub struct PutList {
     pub list: PlannedList,
 }
 
-/// The source of a register's scale.
+/// The source of the scale of an accounting register, as the caller gave it.
 #[derive(Clone, Copy, Debug, PartialEq, Eq)]
 pub enum GivenScale {
     /// A fixed power of ten, -3 to 3.
@@ -32,7 +33,8 @@ pub enum GivenScale {
     Register(u64),
 }
 
-/// The command to add a register: two consecutive Modbus registers of a device that count energy.
+/// The command to add an accounting register: a counter of energy in two consecutive Modbus
+/// registers of a device.
 #[derive(Clone, Copy, Debug, PartialEq, Eq)]
 pub struct AddRegister {
     pub name: Option<Name>,
@@ -44,22 +46,22 @@ pub struct AddRegister {
     pub scale: GivenScale,
 }
 
-/// The command to install a meter at a register.
+/// The command to install a meter at an accounting register.
 #[derive(Clone, Copy, Debug, PartialEq, Eq)]
 pub struct Install {
     pub register: Option<Name>,
     pub meter: Option<Name>,
-    /// The meter's count, below its range.
+    /// The meter's count at its installation, below its range.
     pub raw: u64,
     /// The power of ten of the meter's counts, -3 to 3.
     pub sf: i64,
     /// The greatest power that can flow through the meter, 1 to 1,000,000,000 W.
     pub ceiling: u64,
-    /// The number of values of the meter's counter, 65,536 to 4,294,967,296.
+    /// The number of counts in a full turn of the meter's counter, 65,536 to 4,294,967,296.
     pub range: u64,
 }
 
-/// The command to close the meter at a register, and to install another there.
+/// The command to close the meter at an accounting register, and to install another meter there.
 #[derive(Clone, Copy, Debug, PartialEq, Eq)]
 pub struct Exchange {
     pub register: Option<Name>,
@@ -74,7 +76,8 @@ pub struct Exchange {
     pub range: u64,
 }
 
-/// The command to record that the counter rose to `before` and was set to `after`.
+/// The command to record a reset: the counter at an accounting register rose to `before` and was
+/// set to `after`.
 #[derive(Clone, Copy, Debug, PartialEq, Eq)]
 pub struct Reset {
     pub register: Option<Name>,
@@ -82,7 +85,8 @@ pub struct Reset {
     pub after: u64,
 }
 
-/// The command to record that the counter rose to `before` and was set to `after` at another scale.
+/// The command to record a rescale: the counter rose to `before` and was set to `after`, which is
+/// counted at another scale factor.
 #[derive(Clone, Copy, Debug, PartialEq, Eq)]
 pub struct Rescale {
     pub register: Option<Name>,
@@ -91,18 +95,18 @@ pub struct Rescale {
     pub sf: i64,
 }
 
-/// The command to enter a reading by hand.
+/// The command to enter a reading of a meter by hand.
 #[derive(Clone, Copy, Debug, PartialEq, Eq)]
 pub struct Manual {
     pub register: Option<Name>,
     pub raw: u64,
     /// The number of rollovers since the meter's last entry, 0 to 255.
     pub rolls: u64,
-    /// The time of the reading, if it is earlier than the command.
+    /// The time of the reading, if it is earlier than that of the command.
     pub at: Option<u64>,
 }
 
-/// The command to close a meter, with its last count.
+/// The command to close the meter at an accounting register, with its last count.
 #[derive(Clone, Copy, Debug, PartialEq, Eq)]
 pub struct Close {
     pub register: Option<Name>,
@@ -110,15 +114,15 @@ pub struct Close {
     pub rolls: u64,
 }
 
-/// The command to send a single read.
+/// The command to send a single read to a device.
 #[derive(Clone, Copy, Debug, PartialEq, Eq)]
 pub struct StartPoll {
     pub device: Option<Name>,
     pub span: ReadSpan,
 }
 
-/// The command to send the reads of the plan of a device's list. `from` is the index of the first
-/// read to send, from 0.
+/// The command to send the reads of a device's plan to it. `from` is the index of the first read
+/// to send, from 0.
 #[derive(Clone, Copy, Debug, PartialEq, Eq)]
 pub struct StartRound {
     pub device: Option<Name>,

@@ -1,10 +1,10 @@
-//! Events that reach the office.
+//! Events that reach the office, the program's state over one store.
 use crate::commands::Command;
 use crate::names::Name;
 use poll_core::Closing;
 use std::marker::Model;
 
-/// Bytes that reached the office from a device or with a request.
+/// Bytes from a device, or of a request with an idempotency key.
 #[derive(Clone, Drop)]
 pub struct Piece {
     bytes: Vec<u8>,
@@ -36,8 +36,9 @@ impl Piece {
     }
 }
 
-/// A command with an idempotency key: the caller's name, and a number that the caller chose. The
-/// office executes it once, and keeps its answer with the bytes of the request.
+/// A command with an idempotency key, which consists of the caller's name and a number that the
+/// caller chose. The office executes the command once, and keeps its answer with the bytes of the
+/// request.
 #[derive(Drop)]
 pub struct Asked {
     pub caller: Option<Name>,
@@ -52,7 +53,7 @@ pub struct Asked {
 pub enum Event {
     /// The connection to a device was opened.
     Connected(Option<Name>),
-    /// A device sent bytes.
+    /// Bytes arrived from a device.
     Bytes(Option<Name>, Piece),
     /// A timer event: no input arrived before this time.
     Tick,

@@ -1,4 +1,4 @@
-//! The records of the store.
+//! The records that the office keeps in its store.
 use crate::answers::CommandKind;
 use crate::events::Piece;
 use crate::names::Name;
@@ -9,7 +9,7 @@ use meter_journal::EntryKind;
 use poll_core::Outcome;
 use read_plan::PlannedList;
 
-/// A device, and the terms of its polls.
+/// A device of the office, with its unit and the terms of its polls.
 #[derive(Clone, Copy, Debug, PartialEq, Eq)]
 pub struct Device {
     pub name: Name,
@@ -26,7 +26,7 @@ pub struct DeviceList {
     pub list: PlannedList,
 }
 
-/// The source of a register's scale.
+/// The source of the scale of an accounting register.
 #[derive(Clone, Copy, Debug, PartialEq, Eq)]
 pub enum ScaleSource {
     /// A fixed power of ten, -3 to 3.
@@ -35,8 +35,8 @@ pub enum ScaleSource {
     Register(u16),
 }
 
-/// A register that counts energy: two consecutive Modbus registers of a device, the high word
-/// first.
+/// An accounting register of the office: a counter of energy in two consecutive Modbus registers
+/// of a device, the high word first.
 #[derive(Clone, Copy, Debug, PartialEq, Eq)]
 pub struct Register {
     pub name: Name,
@@ -46,14 +46,15 @@ pub struct Register {
     pub scale: ScaleSource,
 }
 
-/// A meter that was installed at a register, with its count at that time.
+/// The opening of a meter: its installation at an accounting register, with its count at that
+/// time.
 #[derive(Clone, Copy, Debug, PartialEq, Eq)]
 pub struct Opening {
     pub meter: Name,
     pub register: Name,
     /// The greatest power that can flow through the meter, in W.
     pub ceiling: u64,
-    /// The number of values of the meter's counter.
+    /// The number of counts in a full turn of the meter's counter.
     pub range: u64,
     /// Seconds since 1970-01-01 UTC.
     pub at: u64,
@@ -61,7 +62,7 @@ pub struct Opening {
     pub sf: i16,
 }
 
-/// A read that was sent to a device.
+/// A poll: one read that was sent to a device.
 #[derive(Clone, Copy, Debug, PartialEq, Eq)]
 pub struct Poll {
     /// The number of the poll, from 1.
@@ -75,7 +76,7 @@ pub struct Poll {
     pub span: ReadSpan,
 }
 
-/// The end of a poll, with its outcome.
+/// How and when a poll ended.
 #[derive(Clone, Copy, Debug, PartialEq, Eq)]
 pub struct EndedPoll {
     pub poll: u64,
@@ -92,7 +93,7 @@ pub struct BookedEntry {
     pub entry: Entry,
 }
 
-/// A rejected reading. It is kept with its cause, and changes nothing else.
+/// A rejected reading, which is kept with its cause. It changes nothing else.
 #[derive(Clone, Copy, Debug, PartialEq, Eq)]
 pub struct HeldReading {
     pub meter: Name,
@@ -104,7 +105,7 @@ pub struct HeldReading {
     pub cause: Cause,
 }
 
-/// A record that an entry of a meter is void.
+/// A void: the record that an entry of a meter was false, and no longer counts.
 #[derive(Clone, Copy, Debug, PartialEq, Eq)]
 pub struct VoidedEntry {
     pub meter: Name,
@@ -113,8 +114,8 @@ pub struct VoidedEntry {
     pub at: u64,
 }
 
-/// The answer to a command with an idempotency key. It is kept under its caller and number, and
-/// never deleted.
+/// The answer to a command with an idempotency key. It is kept under the caller's name and
+/// number, and never deleted.
 #[derive(Clone, Drop)]
 pub struct Reply {
     pub caller: Name,
@@ -125,7 +126,7 @@ pub struct Reply {
     pub at: u64,
 }
 
-/// A record of the store.
+/// A record that the office keeps in its store.
 #[derive(Drop)]
 pub enum Fact {
     Device(Device),

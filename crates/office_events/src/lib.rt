@@ -1,4 +1,5 @@
-//! The events that reach an office, and its records, answers and notifications.
+//! The events that reach the office, which is the program's state over one store. Also its
+//! records, its answers and its notifications.
 #![tactic(auto)]
 
 mod answers;

@@ -1,4 +1,4 @@
-//! Names of devices, registers and meters.
+//! Names of devices, accounting registers and meters.
 ghost use Rattle.std.specs.Prelude.{◌≡◌, ℕ, ◌≤◌, ◌-◌, ◌++◌, ◌↔◌, List, length, take};
 ghost use Rattle.std.specs.Prelude.{replicate};
 ghost use Rattle.std.specs.List.{list_all};
@@ -8,8 +8,8 @@ ghost use Rattle.office_events.specs.Names as specs_names;
 use crate::limits::MAX_NAME;
 use std::marker::Model;
 
-/// The name of a device, register or meter: 1 to 16 ASCII letters, digits, `_` or `-`, with a
-/// letter first.
+/// The name of a device, accounting register or meter: 1 to 16 ASCII letters, digits, `_` or `-`,
+/// with a letter first.
 #[derive(Clone, Copy, Debug, PartialEq, Eq)]
 pub struct Name {
     bytes: [u8; MAX_NAME],
@@ -75,7 +75,7 @@ fn padded(text: &[u8]) -> [u8; MAX_NAME]
 }
 
 impl Name {
-    /// Creates a name from its bytes, if they are a valid name.
+    /// Creates a name from its bytes, or returns `None` if they are not a valid name.
     pub fn new(text: &[u8]) -> Option<Name>
         ensures { result ≡ specs_names.named text.now }
     {

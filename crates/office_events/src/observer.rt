@@ -4,13 +4,13 @@ use crate::events::Event;
 use crate::refusals::Refusal;
 
 /// An observer of each event that reaches an office. It is shown the event with its answer, its
-/// notifications, and the frames to send. `place` is the index of the device whose round caused the
-/// event.
+/// notifications, and the frames to send. `place` is the index of the device whose round caused
+/// the event, or `None` if no round did.
 pub trait Observer {
     ghost use Rattle.std.specs.Prelude.{Option};
     ghost use Rattle.office_events.specs.Showing.{Shown, shown};
 
-    // The relation between an observer, an event, and the observer afterwards.
+    // Holds if the observer, shown this event, is afterwards in the second state.
     ghost sees: { Self → Shown → Self → Type 0 };
 
     fn observe(

@@ -7,7 +7,7 @@ use std::fmt::{Display, Formatter};
 /// The reason why the store failed.
 #[derive(Clone, Copy, Debug, PartialEq, Eq)]
 pub enum StoreCause {
-    /// The store refused or failed, or has no more poll numbers.
+    /// The store refused a record or failed, or has no more poll numbers.
     Refused,
     /// The store holds impossible data.
     Damaged,
@@ -48,15 +48,17 @@ impl Error for StoreCause {}
 /// after `NotPlausible`.
 #[derive(Clone, Copy, Debug, PartialEq, Eq)]
 pub enum Refusal {
-    /// No device, register, meter, list, entry or poll has this name or number.
+    /// The office has no device, accounting register, meter, list, entry or poll with this name
+    /// or number.
     NotFound,
-    /// A device, register or meter has this name already, or a meter is open at the register.
+    /// A device, accounting register or meter has this name already, or a meter is open at the
+    /// accounting register.
     Exists,
     /// The timestamp is before that of the latest accepted event.
     ClockBack,
     /// A scale is not from -3 to 3.
     BadScale,
-    /// The count is lower than the last one, also with its rollovers.
+    /// The count, also with its rollovers, is lower than the last one.
     NegativeStep,
     /// The last entry has the same timestamp or a later one.
     NotLater,
@@ -64,21 +66,21 @@ pub enum Refusal {
     SpanTooLong,
     /// The energy of the meter would pass 4 * 10^18 mWh.
     TotalFull,
-    /// The meter at the register was closed.
+    /// The meter at the accounting register was closed.
     Ended,
     /// The device is not connected or is connected already, or its session can start no poll.
     Busy,
-    /// The caller used the number for another request.
+    /// The caller already used the number of its idempotency key for another request.
     Reused,
     /// A name, a number or a timestamp is out of range, or a limit of the office is reached.
     Limit,
-    /// The store failed, has no more poll numbers, or a row has no civil day.
+    /// The store failed or has no more poll numbers, or an interval row has no civil day.
     Store(StoreCause),
     /// Memory ran out.
     Memory,
     /// The office has stopped, because the store or memory failed while the office settled polls.
     Stopped,
-    /// The entry is void already or no reading from the device, or the next valid entry is no
+    /// The entry is already void, or is no reading from the device. Or the next valid entry is no
     /// reading from the device.
     NotVoidable,
     /// Without the entry to void, the next entry would have been rejected for this cause.

@@ -45,7 +45,7 @@ digits-of-name (d ∷ ds) h =
     let k = and-two (is_ascii_digit d) (list_all is_ascii_digit ds) h in
     rw (digit-of-name d k.0) (digits-of-name ds k.1)
 
--- The list's names of a chain's points are lawful.
+-- The names that a chain's points have in a point list are lawful.
 pub named : (place : ℕ) (name : List ℕ) → place ≤ 64 → is_short name ≡ true → is_name (chain_name place name) ≡ true
 named place name few short =
     let k = and-two (nat_le (length name) 20) (list_all is_name_byte name) short in
@@ -274,7 +274,7 @@ points-keep all distinct word place (model ∷ models) few inside sub =
     (points-keep all distinct word (place + 1) models (omega (arith, few, size)) (λ k d below. inside (suc k) d (omega (arith, below)))
     (λ s a. sub s (among-right s (model_points word place model) (points_from word (place + 1) models) a)))
 
--- Names are distinct.
+-- The points of a chain have distinct names.
 
 pairs-map : (f : ModelPoint → ListedPoint) (points : List ModelPoint) → AllPairs (λ a b. (f a).name ≢ (f b).name) points → AllPairs (λ a b. a.name ≢ b.name) (map f points)
 pairs-map f [] pairs = λ i j d before below. absurd (omega (arith, below))
@@ -378,7 +378,7 @@ next-from word place (first ∷ models) (suc i) model within is =
     ∙ ap (λ (more : List ListedPoint). model_points word place first ++ more)
     (ap (λ (k : ℕ). points_from word (place + 1) (take i models) ++ model_points word k model) same ∙ next-from word (place + 1) models i model (omega (arith, within)) is)
 
--- The points of one more model.
+-- The points of the first models grow by those of the next model.
 pub points-next : (word : Words) (models : List Model) (i : ℕ) (model : Model) → i < length models → model ≡ get_or models i model
     → points_from word 1 (take i models) ++ model_points word (i + 1) model ≡ points_from word 1 (take (i + 1) models)
 points-next word models i model within is =
@@ -394,7 +394,7 @@ map-twice : {X Y Z : Type 0} (f : Y → Z) (g : X → Y) (xs : List X) → map f
 map-twice f g [] = refl
 map-twice {Z = Z} f g (x ∷ xs) = ap (λ (more : List Z). f (g x) ∷ more) (map-twice f g xs)
 
--- The points of a model, one by one.
+-- The list has a point for each point of a model, in the same order.
 pub model-seen : (word : Words) (place : ℕ) (model : Model) (points : List NamedPoint) → map seen points ≡ points_in word model
     → map (λ point. listed place model.id (map seen points) (seen point)) points ≡ model_points word place model
 model-seen word place model points are =

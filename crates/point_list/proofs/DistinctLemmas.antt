@@ -5,7 +5,8 @@ use Rattle.std.proofs.lemmas.List.{get_or-take, get_or_default, length-take-le, 
 use Rattle.std.proofs.lemmas.List.Quantifiers.{all_pairs_push}
 use Rattle.point_list.specs.declared.point.ListedPoint.{ListedPoint}
 
--- One more point, with a name that no earlier point has.
+-- The names of the first points stay distinct with one more point whose name no earlier point
+-- has.
 pub distinct-more : (points : List ListedPoint) (i : ℕ) (x : ListedPoint) → i < length points → x ≡ get_or points i x
     → AllPairs (λ a b. a.name ≢ b.name) (take i points) → All (λ p. p.name ≢ x.name) (take i points) → AllPairs (λ a b. a.name ≢ b.name) (take (i + 1) points)
 distinct-more points i x within is pairs other =

@@ -53,7 +53,7 @@ sound taken place row h =
 pub sound-none : (taken : Bool) (place : ℕ) (row : RowText) → Sound taken place row → first_of (conditions_where taken place row) ≡ None
 sound-none taken place row s = rw (s.name, s.untaken, s.function, s.area, s.address, s.kind, s.scale, s.few) refl
 
--- A value that exists.
+-- An option that is not `None` has a value.
 pub there : {X : Type 0} (o : Option X) → is_none o ≡ false → (x : X) × (o ≡ Some x)
 there None h = absurd (cc h)
 there (Some x) h = (x, refl)

@@ -10,7 +10,7 @@ use Rattle.point_list.specs.Rows.{csv_rows}
 use Rattle.point_list.specs.RowTexts.{header_row, rows_text}
 use Rattle.point_list.proofs.RowFacts.{rows-begin}
 
--- One more written row.
+-- The text of rows grows by the text of the next row.
 pub rows_text-push : (xs : List (List (List ℕ))) (y : List (List ℕ)) → rows_text (xs ++ (y ∷ [])) ≡ rows_text xs ++ row_text default_writer y
 unfolding rows_text
 rows_text-push [] y = append-nil (row_text default_writer y)

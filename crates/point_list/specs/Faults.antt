@@ -15,7 +15,7 @@ use Rattle.point_list.specs.Fields.{fixed_scale_of, function_of, number_within, 
 use Rattle.point_list.specs.Names.{is_name}
 use Rattle.point_list.specs.Points.{takes_scale}
 
--- The number that the program prints for a fault.
+-- The number that the program prints for each fault of a row.
 abbrev pub fault_number : RowFault → ℕ
 fault_number Csv = 1
 fault_number Header = 2
@@ -30,7 +30,7 @@ fault_number NoSuchScale = 10
 fault_number GroupTooWide = 11
 fault_number TooMany = 12
 
--- The fields of a row.
+-- The six fields of a row, as texts.
 pub record RowText : Type 0 where
   pub name : List ℕ
   pub function : List ℕ
@@ -39,44 +39,45 @@ pub record RowText : Type 0 where
   pub kind : List ℕ
   pub scale : List ℕ
 
--- The fields of a row with exactly six fields.
+-- The fields of a row by name, or `None` unless the row has exactly six.
 abbrev pub six_fields : List (List ℕ) → Option RowText
 six_fields (a ∷ b ∷ c ∷ d ∷ e ∷ f ∷ []) =
     Some (record { name = a; function = b; area = c; address = d; kind = e; scale = f })
 six_fields _ = None
 
--- A row with six fields, the first of them this name.
+-- The row has six fields, and the first of them is this name.
 abbrev pub has_name : List ℕ → List (List ℕ) → Bool
 has_name name fields = option_map_or (λ row. bytes_eq row.name name) (six_fields fields) false
 
--- The field is not a whole number from `low` to `high`.
+-- The field does not spell a whole number from `low` to `high`.
 abbrev pub is_no_number : ℕ → ℕ → List ℕ → Bool
 is_no_number low high field = is_none (number_within low high field)
 
--- A point of a known type reaches past the last register.
+-- A point of this type at this address reaches past address 65535. False if the address or the
+-- type is unknown.
 abbrev pub reaches_past : Option ℕ → Option PointType → Bool
 reaches_past (Some address) (Some kind) = nat_lt ADDRESSES (address + registers_of kind)
 reaches_past _ _ = false
 
--- The field is a scale from -10 to 10.
+-- The field spells a scale from -10 to 10.
 abbrev pub is_fixed_scale : List ℕ → Bool
 is_fixed_scale field = is_some (fixed_scale_of field)
 
--- An invalid scale: a text that is no number from -10 to 10 and no name, or any text for a type
--- without a scale. An empty field is valid.
+-- The scale field is invalid: it is no number from -10 to 10 and no name, or the type is known
+-- and has no scale. An empty field is valid.
 abbrev pub is_bad_scale : List ℕ → Option PointType → Bool
 is_bad_scale [] kind = false
 is_bad_scale (first ∷ rest) kind =
     not (is_fixed_scale (first ∷ rest) || is_name (first ∷ rest))
     || option_map_or (λ k. not (takes_scale k)) kind false
 
--- The first of the faults whose condition is true.
+-- The first fault in the list whose condition is true, or `None`.
 abbrev pub first_of : List (RowFault × Bool) → Option RowFault
 first_of [] = None
 first_of (fault ∷ faults) = if fault.1 then Some fault.0 else first_of faults
 
--- The condition of each fault, for a row of six fields at index `place` below the header. `taken`:
--- an earlier row has its name.
+-- Each fault with its condition, for a row of six fields at index `place` below the header.
+-- `taken` says that an earlier row has its name.
 abbrev pub conditions_where : Bool → ℕ → RowText → List (RowFault × Bool)
 conditions_where taken place row =
     (Name, not (is_name row.name))
@@ -93,16 +94,17 @@ conditions_where taken place row =
     ∷ (TooMany, nat_le POINT_LIMIT place)
     ∷ []
 
--- The condition of each fault, where `earlier` are the rows above.
+-- Each fault with its condition, for a row of six fields below the rows `earlier`.
 abbrev pub conditions : ℕ → List (List (List ℕ)) → RowText → List (RowFault × Bool)
 conditions place earlier row = conditions_where (list_any (has_name row.name) earlier) place row
 
--- The first fault of a row, apart from the faults of its scale point.
+-- The first fault of a row below the rows `earlier`, or `None`. Faults of its scale point are not
+-- considered.
 abbrev pub least_fault : ℕ → List (List (List ℕ)) → List (List ℕ) → Option RowFault
 least_fault place earlier fields =
     option_map_or (λ row. first_of (conditions place earlier row)) (six_fields fields) (Some Csv)
 
--- The model of a row's fields, which the program holds as slices.
+-- The fields of a row as texts, which the program holds as slices.
 abbrev pub seen_row : RowFields → RowText
 seen_row row =
     record {

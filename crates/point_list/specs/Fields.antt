@@ -11,32 +11,34 @@ use Rattle.mb_wire.specs.declared.limits.TheConstants.{MAX_READ_REGISTERS}
 use Rattle.mb_wire.specs.declared.span.ReadFunction.{ReadFunction}
 use Rattle.mb_wire.specs.declared.span.ReadFunction.TheVariants.{HoldingRegisters, InputRegisters}
 
--- A whole number: one to ten digits.
+-- The whole number that a field of one to ten digits spells, or `None`.
 abbrev pub number_of : List ℕ → Option ℕ
 number_of field = number_of_digits 10 field
 
--- A whole number from `low` to `high`.
+-- The whole number from `low` to `high` that a field spells, or `None`.
 abbrev pub number_within : ℕ → ℕ → List ℕ → Option ℕ
 number_within low high field =
     option_and_then (λ n. if nat_le low n && nat_le n high then Some n else None) (number_of field)
 
--- The read function of a code: 3 for holding registers, 4 for input registers.
+-- The read function with this code: 3 for holding registers, 4 for input registers. `None` for
+-- any other code.
 abbrev pub function_coded : ℕ → Option ReadFunction
 function_coded n =
     if n == 3 then Some HoldingRegisters else if n == 4 then Some InputRegisters else None
 
--- The read function that a field spells.
+-- The read function that a field spells, or `None`.
 abbrev pub function_of : List ℕ → Option ReadFunction
 function_of field = option_and_then function_coded (number_of field)
 
--- A text type: `string` and its number of registers, 1 to 125.
+-- The text type that a field spells: `string` and its number of registers, 1 to 125. `None` for
+-- any other field.
 abbrev pub text_type_of : List ℕ → Option PointType
 text_type_of field =
     if starts_with (λ a b. a == b) field (codes "string")
     then option_and_then (λ n. Some (kind.Text n))
     (number_within 1 MAX_READ_REGISTERS (drop 6 field)) else None
 
--- The point type that a field spells.
+-- The point type that a field spells, or `None`.
 abbrev pub type_of : List ℕ → Option PointType
 type_of field =
     if bytes_eq field (codes "int16") then Some kind.Int16
@@ -54,7 +56,8 @@ abbrev pub minus : ℕ → ℤ
 minus zero = pos 0
 minus (suc n) = negsuc n
 
--- A fixed scale: -10 to 10, with `-` for a negative number and no other sign.
+-- The fixed scale that a field spells: -10 to 10, with `-` for a negative number and no other
+-- sign. `None` for any other field.
 abbrev pub fixed_scale_of : List ℕ → Option ℤ
 fixed_scale_of [] = None
 fixed_scale_of (first ∷ rest) =

@@ -21,21 +21,23 @@ use Rattle.point_list.specs.Rows.{csv_rows}
 use Rattle.point_list.specs.declared.rows.TheConstants.{ROW_LIMIT}
 use Rattle.mb_wire.specs.declared.limits.TheConstants.{MAX_READ_REGISTERS}
 
--- The scale of a named scale point.
+-- The scale that names a scale point, or `None` if the field is no name.
 abbrev pub named_scale : List ℕ → Option PointScale
 named_scale field = if is_name field then Some (Named field) else None
 
--- The scale of a point: none, a number from -10 to 10, or the name of a scale point.
+-- The scale that a field spells: none, a number from -10 to 10, or the name of a scale point.
+-- `None` for any other field.
 abbrev pub scale_spelled : List ℕ → Option PointScale
 scale_spelled [] = Some Unscaled
 scale_spelled (first ∷ rest) =
     option_or (option_map Fixed (fixed_scale_of (first ∷ rest))) (named_scale (first ∷ rest))
 
--- The name that a field spells.
+-- The name that a field spells, or `None` if it is no name.
 abbrev pub name_spelled : List ℕ → Option (List ℕ)
 name_spelled field = if is_name field then Some field else None
 
--- The point of a name, a scale and the other four of six fields.
+-- The point with this name and this scale, and with the other four fields of a row. `None` if a
+-- field is invalid.
 abbrev pub spelled_with : Option (List ℕ) → Option PointScale → RowText → Option ListedPoint
 spelled_with spelled scaled row =
     option_and_then (λ name.
@@ -55,23 +57,23 @@ spelled_with spelled scaled row =
     scaled) (type_of row.kind)) (number_within 0 65535 row.address)) (number_within 0 255 row.area))
     (function_of row.function)) spelled
 
--- The point that six fields spell.
+-- The point that six fields spell, or `None`.
 abbrev pub point_spelled : RowText → Option ListedPoint
 point_spelled row = spelled_with (name_spelled row.name) (scale_spelled row.scale) row
 
--- The point that a row spells, if the row has six fields.
+-- The point that a row spells, or `None` if a field is invalid or the row has not six fields.
 abbrev pub point_of_row : List (List ℕ) → Option ListedPoint
 point_of_row fields = option_and_then point_spelled (six_fields fields)
 
--- The points that rows spell.
+-- The points that these rows spell, in order. A row that spells no point is skipped.
 abbrev pub points_of : List (List (List ℕ)) → List ListedPoint
 points_of rows = flat_map (λ fields. option_to_list (point_of_row fields)) rows
 
--- The first fault of the row at index `place` below the header, from 0.
+-- The first fault of the row at index `place` below the header, from 0, or `None`.
 abbrev pub row_fault : List (List (List ℕ)) → ℕ → Option RowFault
 row_fault rows place = least_fault place (take place rows) (slice_index_or rows place [])
 
--- The first fault of each of the first n rows.
+-- For each of the first `n` rows, its first fault or `None`.
 abbrev pub row_faults : List (List (List ℕ)) → ℕ → List (Option RowFault)
 row_faults rows zero = []
 row_faults rows (suc n) = row_faults rows n ++ (row_fault rows n ∷ [])
@@ -83,17 +85,18 @@ is_one_group point scale =
     && nat_le (max (end_of point) (end_of scale))
     (min point.address scale.address + MAX_READ_REGISTERS)
 
--- The fault of a point whose named scale point is this one, or missing.
+-- The fault of a point that names this scale point, or `None`. The scale point itself is `None`
+-- if the list has no such point.
 abbrev pub group_fault : ListedPoint → Option ListedPoint → Option RowFault
 group_fault point None = Some NoSuchScale
 group_fault point (Some scale) = if is_one_group point scale then None else Some GroupTooWide
 
--- The fault of a point's scale point, if any.
+-- The fault of a point's scale, or `None`. Only a named scale can have a fault.
 abbrev pub scale_fault : List ListedPoint → ListedPoint → PointScale → Option RowFault
 scale_fault points point (Named name) = group_fault point (scale_point points name)
 scale_fault points point _ = None
 
--- The fault of each point's scale point, if any.
+-- For each point of `some`, the fault of its scale, or `None`.
 abbrev pub scale_faults : List ListedPoint → List ListedPoint → List (Option RowFault)
 scale_faults points some = map (λ point. scale_fault points point point.scale) some
 
@@ -104,25 +107,26 @@ faulty_rows row (None ∷ faults) = faulty_rows (row + 1) faults
 faulty_rows row (Some fault ∷ faults) =
     record { row = row; fault = fault } ∷ faulty_rows (row + 1) faults
 
--- Faults of scale points are reported only if no row has another fault.
+-- The first list of faulty rows, or the second list if the first is empty.
 abbrev pub or_else : List FaultyRow → List FaultyRow → List FaultyRow
 or_else [] others = others
 or_else (row ∷ rows) others = row ∷ rows
 
--- The faulty rows among the first rows below the header, apart from faults of their scale points.
--- The header is row 1.
+-- The faulty rows among the first `count` rows below the header. Faults of their scale points are
+-- not considered. The header is row 1.
 abbrev pub faulty_first : List (List (List ℕ)) → (count : ℕ) → List FaultyRow
 faulty_first rows count = faulty_rows 2 (row_faults rows count)
 
--- The rows whose points have a fault of their scale point.
+-- The rows whose points have a fault of their scale. The first point is on row 2.
 abbrev pub faulty_points : List ListedPoint → List FaultyRow
 faulty_points points = faulty_rows 2 (scale_faults points points)
 
--- The faulty rows below the header.
+-- The faulty rows below the header. Faults of scale points count only if no row has another
+-- fault.
 abbrev pub faults_below : List (List (List ℕ)) → List FaultyRow
 faults_below rows = or_else (faulty_first rows (length rows)) (faulty_points (points_of rows))
 
--- The header `name,function,area,address,type,scale`.
+-- The row's fields are the header `name,function,area,address,type,scale`.
 abbrev pub is_header_text : RowText → Bool
 is_header_text row =
     bytes_eq row.name (codes "name") && bytes_eq row.function (codes "function")
@@ -134,7 +138,7 @@ is_header_text row =
 abbrev pub is_header : List (List ℕ) → Bool
 is_header fields = option_map_or is_header_text (six_fields fields) false
 
--- The fault of a text without a valid header, on row 1.
+-- The faulty rows of a text without a valid header: the fault `Header` on row 1.
 abbrev pub no_header : List FaultyRow
 no_header = record { row = 1; fault = Header } ∷ []
 
@@ -143,28 +147,30 @@ abbrev pub list_faults : List (List (List ℕ)) → List FaultyRow
 list_faults [] = no_header
 list_faults (header ∷ rows) = if is_header header then faults_below rows else no_header
 
--- The header and the rows below it. Reading ends after the first row over the limit.
+-- The rows of a text that `read_list` reads: the header, and at most 513 rows below it.
 abbrev pub rows_read : List ℕ → List (List (List ℕ))
 rows_read text = take ROW_LIMIT (csv_rows text)
 
--- Rows spell points, one each, in order.
+-- Each row spells the point with the same index.
 abbrev pub SpellEach : List (List (List ℕ)) → List ListedPoint → Type 0
 SpellEach rows points = map point_of_row rows ≡ map (λ point. Some point) points
 
--- Rows below the header spell points, and no row is faulty.
+-- Each row below the header spells the point with the same index, and no row is faulty.
 abbrev pub SpellsBelow : List (List (List ℕ)) → List ListedPoint → Type 0
 SpellsBelow rows points = (faults_below rows ≡ []) × SpellEach rows points
 
--- A text spells a list: no row is faulty, and each row below the header spells a point.
+-- The text spells this list of points: no row is faulty, and each row below the header spells the
+-- point with the same index.
 pub record SpellsList (text : List ℕ) (points : List ListedPoint) : Type 0 where
   pub faultless : list_faults (rows_read text) ≡ []
   pub each : SpellEach (drop 1 (csv_rows text)) points
 
--- All faulty rows of a list, at least one.
+-- The reported faulty rows are all faulty rows of the text, and are at least one.
 abbrev pub AreFaults : List FaultyRow → List FaultyRow → Type 0
 AreFaults faulty told = (told ≡ faulty) × (told ≢ [])
 
--- A fault explains why a text is no list. Lack of memory can happen with any text.
+-- This fault explains why a text with these faulty rows is no list. Lack of memory can happen
+-- with any text.
 abbrev pub ExplainsList : List FaultyRow → ListFault → Type 0
 ExplainsList faulty Memory = Unit {0}
 ExplainsList faulty (Faults told) = AreFaults faulty told

@@ -3,11 +3,11 @@ use Rattle.std.specs.Prelude.{ℕ, Bool, false, ◌==◌, nat_le, ◌&&◌, ◌|
 use Rattle.std.specs.Char.{is_ascii_alphabetic, is_ascii_alphanumeric}
 use Rattle.std.specs.List.{list_all}
 
--- A letter, a digit, `_` or `.`.
+-- The byte is an ASCII letter, a digit, `_` or `.`.
 abbrev pub is_name_byte : ℕ → Bool
 is_name_byte byte = is_ascii_alphanumeric byte || byte == 95 || byte == 46
 
--- A name of 1 to 32 such bytes, the first a letter.
+-- The bytes are the name of a point: 1 to 32 letters, digits, `_` and `.`, with a letter first.
 abbrev pub is_name : List ℕ → Bool
 is_name [] = false
 is_name (first ∷ rest) =

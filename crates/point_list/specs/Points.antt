@@ -1,4 +1,4 @@
--- Lists of points.
+-- Lists of points, and the rules that a lawful list follows.
 use Rattle.std.specs.Prelude.{ℕ, ◌≡◌, ◌≢◌, ◌+◌, ◌≤◌, Bool, true, false, ◌&&◌, List, length, max, min, IsTrue, IsSomeAnd, int_le, pos, negsuc}
 use Rattle.std.specs.declared.option.Option.{Option}
 use Rattle.std.specs.List.{All, AllPairs, find}
@@ -13,12 +13,12 @@ use Rattle.point_list.specs.declared.point.ListedPoint.{ListedPoint}
 use Rattle.point_list.specs.declared.point.PointScale.{PointScale}
 use Rattle.point_list.specs.declared.point.PointScale.TheVariants.{Unscaled, Fixed, Named}
 
--- The type of scale points.
+-- The type is `sunssf`, which scale points have.
 abbrev pub is_sunssf : PointType → Bool
 is_sunssf kind.Sunssf = true
 is_sunssf _ = false
 
--- The types that may have a scale.
+-- A point of this type may have a scale.
 abbrev pub takes_scale : PointType → Bool
 takes_scale kind.Int16 = true
 takes_scale kind.Uint16 = true
@@ -31,7 +31,7 @@ takes_scale _ = false
 abbrev pub end_of : ListedPoint → ℕ
 end_of point = point.address + registers_of point.kind
 
--- The scale point with a name.
+-- The scale point of the list with this name, or `None`.
 abbrev pub scale_point : List ListedPoint → List ℕ → Option ListedPoint
 scale_point points name = find (λ point. is_sunssf point.kind && bytes_eq point.name name) points
 
@@ -42,8 +42,8 @@ pub record IsGroup (point scale : ListedPoint) : Type 0 where
   pub narrow : max (end_of point) (end_of scale)
       ≤ min point.address scale.address + MAX_READ_REGISTERS
 
--- Only some types may have a scale. A named scale is a sunssf point of the list, in one group with
--- the point.
+-- The scale of a point is lawful. Only some types may have a scale. A named scale is a sunssf
+-- point of the list, in one group with the point.
 abbrev pub HasLawfulScale : List ListedPoint → ListedPoint → PointScale → Type 0
 HasLawfulScale points point Unscaled = Unit {0}
 HasLawfulScale points point (Fixed exponent) =
@@ -52,7 +52,8 @@ HasLawfulScale points point (Fixed exponent) =
 HasLawfulScale points point (Named name) =
     IsTrue (takes_scale point.kind) × IsSomeAnd (scale_point points name) (IsGroup point)
 
--- A lawful point list.
+-- The points are a lawful list: at most 512, with distinct names. Each has a lawful name, size,
+-- address and scale.
 pub record IsPointList (points : List ListedPoint) : Type 0 where
   pub few : length points ≤ POINT_LIMIT
   pub named : All (λ point. IsTrue (is_name point.name)) points

@@ -9,7 +9,7 @@ use Rattle.point_list.specs.declared.point.PointScale.{PointScale}
 use Rattle.point_list.specs.declared.point.PointScale.TheVariants.{Unscaled, Fixed, Named}
 use Rattle.mb_wire.specs.Spans.{code_of}
 
--- The text of a type in a list.
+-- The text by which a point list names a type.
 abbrev pub type_text : PointType → List ℕ
 type_text kind.Int16 = codes "int16"
 type_text kind.Uint16 = codes "uint16"
@@ -21,7 +21,7 @@ type_text kind.Acc32 = codes "acc32"
 type_text kind.Sunssf = codes "sunssf"
 type_text (kind.Text registers) = codes "string" ++ decimal registers
 
--- The text of a scale in a list.
+-- The text by which a point list names a scale; empty for a point without a scale.
 abbrev pub scale_text : PointScale → List ℕ
 scale_text Unscaled = []
 scale_text (Fixed exponent) = signed_decimal exponent
@@ -33,16 +33,16 @@ row_of point =
     point.name ∷ decimal (code_of point.function) ∷ decimal point.area ∷ decimal point.address
     ∷ type_text point.kind ∷ scale_text point.scale ∷ []
 
--- The fields of the header.
+-- The six fields of the header of a point list.
 abbrev pub header_row : List (List ℕ)
 header_row = codes "name" ∷ codes "function" ∷ codes "area" ∷ codes "address" ∷ codes "type"
     ∷ codes "scale" ∷ []
 
--- The text of rows.
+-- The comma-separated text of these rows.
 unfoldable pub rows_text : List (List (List ℕ)) → List ℕ
 rows_text [] = []
 rows_text (row ∷ rows) = row_text default_writer row ++ rows_text rows
 
--- The text of a list.
+-- The comma-separated text of a list of points, with its header.
 abbrev pub list_text : List ListedPoint → List ℕ
 list_text points = rows_text (header_row ∷ map row_of points)

@@ -76,7 +76,8 @@ fn chain_scale(
     }
 }
 
-// Chains are read from holding registers, in area 0.
+// Returns the point of a list for a point of a model. Chains are read from holding registers, in
+// area 0.
 fn listed(
     alloc: Global,
     place: usize,
@@ -144,7 +145,7 @@ fn chain_points(alloc: Global, chain: &Chain<'_>) -> Result<Vec<ListedPoint>, Al
     Ok(points)
 }
 
-// The row after the last allowed row.
+// Returns the fault of a chain with more than 512 points: `TooMany` on row 514.
 fn too_many(alloc: Global) -> Result<FaultyRows, AllocError>
     ensures { IfOk result (λ rows. rows ≡ record { row = 514; fault = RowFault.TooMany } ∷ []) }
 {

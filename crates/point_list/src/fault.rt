@@ -118,7 +118,7 @@ impl Model for FaultyRows {
 }
 
 impl FaultyRows {
-    /// Creates the list of faulty rows.
+    /// Creates the error that reports these faulty rows.
     pub fn new(rows: Vec<FaultyRow>) -> Self
         ensures { result ≡ rows.items }
     {

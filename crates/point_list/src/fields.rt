@@ -37,7 +37,7 @@ pub fn function(field: &[u8]) -> Option<ReadFunction>
     }
 }
 
-// The type `string1` to `string125`.
+// Parses a text type, `string1` to `string125`; returns `None` for any other field.
 fn text_type(field: &[u8]) -> Option<PointType>
     ensures { result ≡ text_type_of field.now }
 {
@@ -74,7 +74,7 @@ pub fn point_type(field: &[u8]) -> Option<PointType>
     }
 }
 
-// The two's complement of a negative number, or 0.
+// Returns the 16-bit two's complement of `-number`.
 fn scale_word_below(number: u16) -> u16
     requires { number ≤ 10 }
     ensures { scale_of result ≡ Some (minus number) }

@@ -28,7 +28,7 @@ pub fn is_scaled_type(kind: PointType) -> bool
     }
 }
 
-// The address after the last register of a point.
+// Returns the address after the last register of a point.
 fn end(point: &ListedPoint) -> u32
     ensures { result ≡ end_of point.now }
 {

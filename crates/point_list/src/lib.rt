@@ -1,4 +1,4 @@
-//! Point lists: the registers of a device that an office reads, as comma-separated values.
+//! Point lists: the registers of a device that the program reads, as comma-separated values.
 #![tactic(auto)]
 
 mod chain_points;

@@ -28,7 +28,7 @@ impl Model for PointList {
 impl PointList {
     ghost use Rattle.point_list.specs.Points.{IsPointList};
 
-    /// Creates a list from lawful points. Other points are returned as the error.
+    /// Creates a list from points. Unless they are lawful, returns them as the error.
     pub fn new(points: Vec<ListedPoint>) -> Result<Self, Vec<ListedPoint>>
         ensures lawful { IsOk result ↔ IsPointList points.items }
         ensures list { IfOk result (λ list. list ≡ points.items) }

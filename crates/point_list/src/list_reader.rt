@@ -50,7 +50,8 @@ fn scale_fault(points: &[ListedPoint], point: &ListedPoint) -> Option<RowFault>
     }
 }
 
-// `place` is the index of the row below the header, from 0. The first of these rows is row 2.
+// Adds the fault of a row, if there is one. `place` is the index of the row below the header,
+// from 0. The first of these rows is row 2.
 fn add_fault(
     place: usize,
     fault: Option<RowFault>,
@@ -95,7 +96,7 @@ fn scale_faults(alloc: Global, points: &[ListedPoint]) -> Result<Vec<FaultyRow>,
     Ok(faults)
 }
 
-// A missing or wrong header.
+// Returns the fault of a text whose header is missing or wrong.
 fn no_header(alloc: Global) -> ListFault
     ensures { ExplainsList (list_faults []) result }
 {

@@ -15,7 +15,7 @@ use sun_points::Sink;
 /// The reason why a list was not written.
 #[derive(Clone, Copy, Debug, PartialEq, Eq)]
 pub enum WriteListFault {
-    /// The writer failed.
+    /// The sink failed to take the text.
     Write,
     /// Memory for the text ran out.
     Memory,

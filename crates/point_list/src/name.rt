@@ -47,7 +47,7 @@ pub fn is_point_name(bytes: &[u8]) -> bool
 }
 
 impl PointName {
-    /// Creates a name from its bytes. Bytes that are no name are returned as the error.
+    /// Creates a name from its bytes. Unless they are a name, returns them as the error.
     pub fn new(bytes: Vec<u8>) -> Result<Self, Vec<u8>>
         ensures lawful { IsOk result ↔ IsTrue (is_name bytes.items) }
         ensures name { IfOk result (λ name. name ≡ bytes.items) }

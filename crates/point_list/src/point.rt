@@ -10,15 +10,16 @@ use sun_points::{PointType, Scale};
 /// The power of ten that multiplies a point's value.
 #[derive(Debug, Drop)]
 pub enum PointScale {
-    /// No scale: the value is printed as it is.
+    /// The point has no scale: its value is printed as it is.
     Unscaled,
-    /// A fixed power of ten.
+    /// A power of ten that the list fixes, -10 to 10.
     Fixed(Scale),
     /// The power of ten in the sunssf point with this name.
     Named(PointName),
 }
 
-/// A point of a list: registers from `address`, in the registers of a function and an area number.
+/// A point of a list: its registers from `address` on, the function that reads them, and the
+/// number of their area.
 #[derive(Debug, Drop)]
 pub struct ListedPoint {
     pub name: PointName,
@@ -39,7 +40,7 @@ pub(crate) fn is_scale_type(kind: PointType) -> bool
     }
 }
 
-/// Returns the sunssf point with a name.
+/// Returns the sunssf point of the list with this name, or `None`.
 pub fn find_scale<'a>(points: &'a [ListedPoint], name: &[u8]) -> Option<&'a ListedPoint>
     ensures { option_copied result ≡ scale_point points.now name.now }
 {

@@ -57,14 +57,15 @@ fn row_has_name(row: &ByteRecord, name: &[u8]) -> bool
     }
 }
 
-// Rows without six fields have no name.
+// Returns whether an earlier row has the name. Rows without six fields have no name.
 fn is_taken(earlier: &[ByteRecord], name: &[u8]) -> bool
     ensures { result ≡ list_any (λ row. has_name name.now (fields_of row)) earlier.now }
 {
     earlier.iter().any(|row| row_has_name(row, name))
 }
 
-// An unknown type is reported as `Type`, not as `Address`.
+// Returns whether a point of this type reaches past address 65535. An unknown type is reported as
+// `Type`, not as `Address`.
 fn is_past_end(address: Option<u64>, kind: Option<PointType>) -> bool
     ensures { result ≡ reaches_past address kind }
 {

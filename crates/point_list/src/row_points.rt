@@ -40,7 +40,8 @@ fn scale_of(alloc: Global, field: &[u8]) -> Result<Option<PointScale>, AllocErro
     }
 }
 
-// The name and the scale are parsed already, because both need memory.
+// Returns the point with this name, this scale, and the other fields of a row. Name and scale are
+// parsed already, because both need memory.
 fn point_with(
     name: Option<PointName>,
     scale: Option<PointScale>,

@@ -55,7 +55,7 @@ and_fresh : (g b : Bool) → b ≡ false → (g && not b) ≡ g
 and_fresh true b h = ap not h
 and_fresh false b h = refl
 
--- The event that ends a session.
+-- If a session is over only after an event, that event ended the session.
 ending_at-over : (es : List Event) (e : Event) → is_over es ≡ false → is_over (es ++ e ∷ []) ≡ true → is_some (ending_at es e) ≡ true
 unfolding is_over ending_at
 ending_at-over es e going over =
@@ -83,7 +83,7 @@ not_some : {X : Type 0} (o : Option X) → o ≡ None → IsSome o → ⊥
 not_some None h g = cc
 not_some (Some x) h g = cc
 
--- One more event preserves this: once the session is over, no poll is pending.
+-- If no poll is pending once a session is over, the same is true after one more event.
 keeps : (t w : ℕ) (es : List Event) (e : Event) → Accepts t w es e → (is_over es ≡ true → pending t es ≡ []) → is_over (es ++ e ∷ []) ≡ true → pending t (es ++ e ∷ []) ≡ []
 keeps t w es (Start m n u s) accepted h over =
     let was : is_over es ≡ true = sym (is_over-same es (Start m n u s) refl ∙ or_false (is_over es)) ∙ over in

@@ -27,12 +27,12 @@ cons_named p o xs = cons_option (named p o) xs
 pub same_is : {X : Type 0} (xs ys : List X) → xs ≡ ys → IsPermutation xs ys
 same_is xs ys e = let P : List _ → Type 0 = λ zs. IsPermutation xs zs in subst P e (IsPermutation-refl xs)
 
--- One more element at the front of the second part.
+-- A list stays a permutation of two parts if one element is added to it and between the parts.
 pub middle : {X : Type 0} (x : X) (xs ys zs : List X) → IsPermutation xs (ys ++ zs) → IsPermutation (x ∷ xs) (ys ++ x ∷ zs)
 middle x xs ys zs h =
     IsPermutation-trans _ _ _ (IsPermutation-cons x xs (ys ++ zs) h) (IsPermutation-sym _ _ (IsPermutation-middle ys x zs))
 
--- Polls split by a test, if all that pass have an outcome.
+-- One more poll when outcomes are split by a test, where each poll that passes has an outcome.
 parted_step : (t : Bool) (f g h : Poll → Option Settlement) (p : Poll) (o : Settlement) (r : Option Settlement) (xs ys : List Poll) (us : List (ℕ × Settlement)) → f p ≡ cond t (Some o) r → g p ≡ Some o → h p ≡ r → IsPermutation us (give g xs ++ give h ys) → IsPermutation (filter_map (λ (q : Poll). named q (f q)) (p ∷ []) ++ us) (give g (cond t (p ∷ xs) xs) ++ give h (cond (not t) (p ∷ ys) ys))
 parted_step true f g h p o r xs ys us fe ge he rest =
     let P : Option Settlement → Option Settlement → Type 0 = λ a b. IsPermutation (cons_named p a [] ++ us) (cons_named p b (give g xs) ++ give h ys) in
@@ -68,7 +68,7 @@ give_lost : (x : Option LostCause) (ps : List Poll) → give (λ p. option_map L
 give_lost None ps = give_none ps
 give_lost (Some c) ps = give_all (λ _. Lost c) ps
 
--- The outcome of each poll by the frames and the end.
+-- The outcome that these frames and the end of the session give a poll.
 abbrev framed : List (List ℕ) → Option LostCause → Poll → Option Settlement
 framed fs x p = option_or (option_map (answer p) (find (is_for p) fs)) (option_map Lost x)
 
@@ -91,7 +91,7 @@ by_frames (f ∷ fs) x ps =
     sym (append_assoc told (by_frame fs others) (losses x (unmatched fs others))) ∙ ap (λ y. (told ++ by_frame fs others) ++ losses x y) (sym (unmatched-cons f fs ps)) in
     IsPermutation-trans _ _ _ first (IsPermutation-trans _ _ _ later (same_is _ _ same))
 
--- The outcomes that an event settles among the pending polls.
+-- Of these polls, the outcomes of those that the event settles.
 abbrev newly : List Event → Event → List Poll → List (ℕ × Settlement)
 newly es e ps = give (λ p. settled_by es e p) ps
 

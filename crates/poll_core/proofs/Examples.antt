@@ -56,7 +56,7 @@ garbled : outcomes_at 5 one (Piece 104 (0 ∷ 0 ∷ 0 ∷ 0 ∷ 0 ∷ 1 ∷ []))
 unfolding outcomes_at pending frames_at ending_at stream next_id settled_by frames frames_in rest rest_in is_garbled
 garbled = refl
 
--- Four bytes of a response, and then the end.
+-- Four bytes of a response arrive, and then the connection ends.
 abbrev four_bytes : List Event
 four_bytes = one ++ Piece 103 (0 ∷ 0 ∷ 0 ∷ 0 ∷ []) ∷ []
 
@@ -68,7 +68,7 @@ lost_late : outcomes_at 5 four_bytes (Close 105 Gone) ≡ (1, Silent) ∷ []
 unfolding outcomes_at pending frames_at ending_at stream next_id settled_by frames frames_in rest rest_in is_garbled
 lost_late = refl
 
--- Two polls, answered in the other order in one piece.
+-- Two polls are answered in one piece, the second poll first.
 abbrev two : List Event
 two = Start 1000 1 1 (registers 0 1) ∷ Start 1000 2 1 (registers 1 1) ∷ []
 

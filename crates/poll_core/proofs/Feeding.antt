@@ -60,7 +60,7 @@ FindsBy-own f ps qs (Some p) own apart h =
       left_one f ps ∙ filter_agree _ _ (λ q. ap not (own_id f own q)) ps ∙ sym h.1 ∙ none_passes t qs none,
     )
 
--- Two consecutive feeds.
+-- Two consecutive feeds complete the frames of the first, and then those of the second.
 pub FeedsOn-then : (a p b q c : List ℕ) (gs hs : List (List ℕ)) → FeedsOn a p gs b → FeedsOn b q hs c → FeedsOn a (p ++ q) (gs ++ hs) c
 FeedsOn-then a p b q c gs hs first second = λ bytes before h.
     let P : List ℕ → Type 0 = λ y. Reads y (before ++ (gs ++ hs)) c in
@@ -80,7 +80,7 @@ Finds-nothing a buffered ps e =
       others_are = unmatched-nil ps;
     }
 
--- Frames that settle nothing, and then more.
+-- A feed whose frames settle no poll, followed by another feed, is one feed.
 pub Finds-then : (a p q : List ℕ) (mid buffered : Buffered) (ps qs : List Poll) (o : Option Poll) → Finds a p ps None mid ps → Finds mid.rest q ps o buffered qs → Finds a (p ++ q) ps o buffered qs
 Finds-then a p q mid buffered ps qs o first second =
     record {
@@ -97,7 +97,7 @@ Finds-then a p q mid buffered ps qs o first second =
 some_inj : {X : Type 0} (a b : X) → Some a ≡ Some b → a ≡ b
 some_inj a b e = cc
 
--- The frame that the reader lends.
+-- The frame that the reader lends settles the same poll as the frame that it holds.
 pub FindsBy-lent : (buffered : Option (List ℕ)) (fields : Fields) (ps qs : List Poll) (o : Option Poll) → Some fields ≡ option_map fields_of buffered → AreApart ps → TakesOut (has_id fields.tid) ps o qs → (f : List ℕ) → buffered ≡ Some f → IsOwn f → FindsBy f ps o qs
 FindsBy-lent buffered fields ps qs o lent apart h f e own =
     let same : fields ≡ fields_of f = some_inj _ _ (lent ∙ ap (option_map fields_of) e) in
@@ -116,7 +116,7 @@ piece-more at n piece = take-add at n piece ∙ ap (λ x. take at piece ++ take 
 abbrev slice_at : ℕ → List ℕ → List ℕ
 slice_at at piece = take (length piece - at) (drop at piece)
 
--- One more feed, by its result.
+-- After one more feed, the invariant still holds, or the feed settled a poll.
 goes_on : (old piece : List ℕ) (at n : ℕ) (ps qs : List Poll) (o : Option Poll) (mid buffered : Buffered) → Strays old piece at ps mid → Finds mid.rest (take n (slice_at at piece)) ps o buffered qs → Finds old (take (at + n) piece) ps o buffered qs
 goes_on old piece at n ps qs o mid buffered strays more =
     let P : List ℕ → Type 0 = λ y. Finds old y ps o buffered qs in

@@ -35,7 +35,8 @@ any-push : {X : Type 0} (t : X → Bool) (xs : List X) (x : X) → list_any t (x
 any-push t [] x = or_false (t x)
 any-push t (y ∷ xs) x = ap (λ b. t y || b) (any-push t xs x) ∙ or_assoc (t y) (list_any t xs) (t x)
 
--- The effect of starts in a row.
+-- After these starts in a row: how many polls are pending, the next identifier, and whether the
+-- session is over.
 record Started (t : ℕ) (es starts : List Event) : Type 0 where
   count : length (pending t (es ++ starts)) ≡ length (pending t es) + length starts
   next : next_id (es ++ starts) ≡ (next_id es + length starts) % 65536
@@ -141,7 +142,7 @@ fits_after t w m es starts h few fits late =
     ∙ cond-false _ _ _ (le-ltb m (last_moment (es ++ starts)) late)
     ∙ cond-false _ _ _ going
 
--- A start that does not fit is refused.
+-- An option is present if the option that replaces it when the test fails is present.
 some_if : {X : Type 0} (b : Bool) (x : X) (o : Option X) → IsSome o → IsSome (cond b (Some x) o)
 some_if true x o h = refl
 some_if false x o h = h
@@ -182,7 +183,7 @@ ready_is t w es id count next few succeed no_more =
           after_full t w m es starts h e;
     }
 
--- The same by the state of the session.
+-- `start_fits` gives the same result for a session's state as for the events that led to it.
 fits_is : (s : State) (es : List Event) (k : ℕ) → Stands s es → start_fits s.window s.polls s.next (is_some s.ending) k ≡ start_fits s.window (pending s.timeout es) (next_id es) (is_over es) k
 fits_is s es k h =
     ap (λ ps. start_fits s.window ps s.next (is_some s.ending) k) h.polls

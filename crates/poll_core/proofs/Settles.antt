@@ -35,7 +35,7 @@ pub record Mid (t m n : ℕ) (r : List ℕ) (ps : List Poll) (x : Option LostCau
   pub none_after : is_closed es ≡ true → pending t es ≡ []
   pub buffered : x ≡ None → r ≡ rest (stream (es ++ e ∷ []))
 
--- The outcomes of an event that is no start.
+-- The outcomes of an event that is no start: timeouts, answers by frames, and losses.
 abbrev pub told_at : ℕ → List Poll → List (List ℕ) → Option LostCause → List (ℕ × Settlement)
 told_at m ps fs x = silences (filter (due m) ps) ++ by_frame fs (alive m ps) ++ losses x (unmatched fs (alive m ps))
 
@@ -78,7 +78,7 @@ last_moment-push [] e = refl
 last_moment-push (f ∷ []) e = refl
 last_moment-push (f ∷ g ∷ es) e = last_moment-push (g ∷ es) e
 
--- One outcome that was due is reported.
+-- A session that reports an outcome that it still had to report remains within its event.
 pub tell : (t m n : ℕ) (r : List ℕ) (ps qs : List Poll) (x : Option LostCause) (es : List Event) (e : Event) (told : List (ℕ × Settlement)) (taken : SettledPoll) (frame : Option (List ℕ)) → Mid t m n r ps x es e told → TellsOwed m x ps (Some taken) qs → Mid t m n r qs x es e (told ++ told_by taken frame ∷ [])
 tell t m n r ps qs x es e told taken frame mid h =
     record {
@@ -99,7 +99,7 @@ pub some_case : (x : Option LostCause) → is_some x ≡ true → (c : LostCause
 some_case None h = absurd (cc)
 some_case (Some c) h = (c, refl)
 
--- No outcome is left: the session has processed the event.
+-- If no outcome is left to report, the session has processed the event.
 pub done : (t m n w : ℕ) (r : Buffered) (ps qs : List Poll) (x : Option LostCause) (es : List Event) (e : Event) (told : List (ℕ × Settlement)) → Mid t m n r.rest ps x es e told → TellsOwed m x ps None qs → Stands (record { timeout = t; window = w; last = m; next = n; reader = r; polls = qs; ending = x; settling = None }) (es ++ e ∷ []) × (told ≡ outcomes_at t es e)
 done t m n w r ps qs x es e told mid h = (
   record {
@@ -351,7 +351,7 @@ goes_with : (x : Option LostCause) (es : List Event) (e : Event) → is_some x �
 goes_with None es e h = closing_none (is_closed es) (closing_of e) (or_parts _ _ (sym (unfold_over es e) ∙ sym h)).1
 goes_with (Some c) es e h = refl
 
--- A call, as it begins or continues.
+-- A session before a call for an event, which begins or continues, is within the event.
 pub enter : (s : State) (es : List Event) (e : Event) (told : List (ℕ × Settlement)) → is_start e ≡ false → Before s es e told → Mid s.timeout (moment_of e) s.next s.reader.rest s.polls (option_or s.ending (closing_of e)) es e told
 enter s es e told other (inl (stands, bare, none)) =
     let P : List (ℕ × Settlement) → Type 0 = λ y. Mid s.timeout (moment_of e) s.next s.reader.rest s.polls (option_or s.ending (closing_of e)) es e y in
@@ -370,12 +370,12 @@ enter s es e told other (inr (settling, w)) =
       buffered = w.buffered;
     }
 
--- The result of a call that reports one more outcome.
+-- After a call that reports one more outcome, the session is in a state `After` it.
 pub told_more : (t m n w : ℕ) (r : Buffered) (ps : List Poll) (x : Option LostCause) (z : Option Call) (es : List Event) (e : Event) (told : List (ℕ × Settlement)) → Mid t m n r.rest ps x es e told → Within (record { timeout = t; window = w; last = m; next = n; reader = r; polls = ps; ending = x; settling = z }) es e told
 told_more t m n w r ps x z es e told mid =
     record { last = mid.last; next = mid.next; whole = mid.whole; polls = mid.polls; over = mid.over; none_after = mid.none_after; buffered = mid.buffered }
 
--- The end of a call that only reports outcomes that were due.
+-- After a call that only reports outcomes that were due, the session is in a state `After` it.
 pub settle : (t m n w : ℕ) (r : Buffered) (ps qs : List Poll) (x : Option LostCause) (call : Call) (taken : Option SettledPoll) (es : List Event) (e : Event) (told : List (ℕ × Settlement)) → call_of e ≡ Some call → Mid t m n r.rest ps x es e told → TellsOwed m x ps taken qs → After (record { timeout = t; window = w; last = m; next = n; reader = r; polls = qs; ending = x; settling = call_if taken call }) es e told (told_of taken r.frame)
 settle t m n w r ps qs x call None es e told by mid h = done t m n w r ps qs x es e told mid h
 settle t m n w r ps qs x call (Some taken) es e told by mid h =
@@ -406,7 +406,7 @@ piece_owed s m qs taken piece h es p told b =
     let P : List ℕ → Type 0 = λ y. After (record { timeout = s.timeout; window = s.window; last = m; next = s.next; reader = s.reader; polls = qs; ending = s.ending; settling = Some call.Piece }) es (Piece m y) told (told_of (Some taken) s.reader.frame) in
     subst P (sym (append-nil p)) (settle s.timeout m s.next s.window s.reader s.polls qs s.ending call.Piece (Some taken) es (Piece m p) told refl (enters s m p es told b) h)
 
--- The session is over: the piece is dropped.
+-- A session that is over drops the piece.
 pub piece_dropped : (one : OneReading) → (s : State) (m : ℕ) (c : LostCause) (qs : List Poll) (piece : List ℕ) → s.ending ≡ Some c → TellsOwed m s.ending s.polls None qs → (es : List Event) (p : List ℕ) (told : List (ℕ × Settlement)) → Before s es (Piece m p) told → After (record { timeout = s.timeout; window = s.window; last = m; next = s.next; reader = s.reader; polls = qs; ending = s.ending; settling = None }) es (Piece m (p ++ take (length piece) piece)) told None
 piece_dropped one s m c qs piece over h es p told b =
     let q = take (length piece) piece in
@@ -415,7 +415,7 @@ piece_dropped one s m c qs piece over h es p told b =
     let mid = subst Q (sym over) (drop_rest one s.timeout m s.next s.reader.rest s.reader.rest q p s.polls c es told (subst P over (enters s m p es told b))) in
     done s.timeout m s.next s.window s.reader s.polls qs s.ending es (Piece m (p ++ q)) told mid h
 
--- The piece is fed, up to a frame that settles a poll or to its end.
+-- The state after the piece was fed, up to a frame that settles a poll or up to the piece's end.
 abbrev fed_mid : State → ℕ → Buffered → List Poll → Option Poll → Bool → List ℕ → List Event → List ℕ → List (ℕ × Settlement) → Type 0
 fed_mid s m buffered rs o g q es p told = Mid s.timeout m s.next buffered.rest rs (garbled_end g) es (Piece m (p ++ q)) (told ++ told_list o buffered.frame)
 
@@ -434,7 +434,7 @@ piece_framed one s m n piece buffered qs rs poll g going h found bad clean es p 
     let mid' = subst P (ap garbled_end clean ∙ sym going) mid in
     (refl, told_more s.timeout m s.next s.window buffered rs s.ending (Some call.Piece) es (Piece m (p ++ q)) (told ++ told_list (Some poll) buffered.frame) mid')
 
--- No frame settled a poll: an outcome that is now due is reported, or the piece is done.
+-- If no frame settled a poll, the call reports an outcome that is now due, or the piece is done.
 pub piece_ended : (one : OneReading) → (s : State) (m n k : ℕ) (piece : List ℕ) (buffered : Buffered) (qs rs us : List Poll) (g : Bool) (x : Option LostCause) (lost : Option SettledPoll) → s.ending ≡ None → TellsOwed m s.ending s.polls None qs → Finds s.reader.rest (take n piece) qs None buffered rs → is_bad buffered.rest ≡ g → x ≡ garbled_end g → TellsOwed m x rs lost us → n ≤ length piece → (g ≡ false → n ≡ length piece) → k ≡ cond (is_some lost) n (length piece) → (es : List Event) (p : List ℕ) (told : List (ℕ × Settlement)) → Before s es (Piece m p) told → After (record { timeout = s.timeout; window = s.window; last = m; next = s.next; reader = buffered; polls = us; ending = x; settling = call_if lost call.Piece }) es (Piece m (p ++ take k piece)) told (told_of lost buffered.frame)
 piece_ended one s m n k piece buffered qs rs us g x (Some taken) going h found bad x_is owes within all k_is es p told b =
     let q = take n piece in
@@ -468,7 +468,7 @@ piece_ended one s m n k piece buffered qs rs us false x None going h found bad x
 nil_rest : (r : List ℕ) → [] ≡ r → [] ≡ r
 nil_rest r e = e
 
--- A session without events.
+-- A new session has processed an empty list of events.
 pub Stands-new : (one : OneReading) → (t w : ℕ) (r : Buffered) → Reads [] [] r.rest → Stands (record { timeout = t; window = w; last = 0; next = 0; reader = r; polls = []; ending = None; settling = None }) []
 unfolding pending next_id stream is_over is_closed is_garbled
 Stands-new one t w r h =

@@ -40,7 +40,7 @@ starts s es m n u span poll h going poll_is =
       buffered = λ _. h.buffered going ∙ ap rest (sym (stream-same es e refl));
     }
 
--- A refusal by the state of the session is a refusal by its events.
+-- `least_fault` of a session's state is the fault of a start after the session's events.
 pub refused : (s : State) (es : List Event) (m : ℕ) (fault : Option StartFault) → fault ≡ least_fault s.window s.polls s.next s.last (is_some s.ending) m → Stands s es → fault ≡ start_fault s.timeout s.window es m
 refused s es m fault e h =
     e
@@ -49,7 +49,7 @@ refused s es m fault e h =
     ∙ ap (λ l. least_fault s.window (pending s.timeout es) (next_id es) l (is_some s.ending) m) h.last
     ∙ ap (λ o. least_fault s.window (pending s.timeout es) (next_id es) (last_moment es) o m) h.over
 
--- Polls with different identifiers, and one more whose identifier is free.
+-- Polls with different identifiers stay so after one more poll with a free identifier.
 pub apart_push : (ps : List Poll) (p : Poll) → AreApart ps → filter (has_id p.id) ps ≡ [] → AreApart (ps ++ p ∷ [])
 apart_push ps p h free = λ id.
     let split : filter (has_id id) (ps ++ p ∷ []) ≡ filter (has_id id) ps ++ filter (has_id id) (p ∷ []) = filter-append (has_id id) ps (p ∷ []) in

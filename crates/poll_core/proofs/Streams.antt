@@ -76,7 +76,7 @@ is_garbled-append one b q g =
     let bad : IsBad (rest b ++ q) = bad-append (rest b) q (bad_is (rest b) g) in
     ap is_bad (one.only (b ++ q) (frames b) (rest b ++ q) h).1 ∙ is_bad-bad _ bad
 
--- A stream that is not garbled is read from its rest.
+-- The reading of a stream that is not garbled continues from its rest.
 pub reads_on : (one : OneReading) → (b q : List ℕ) (gs : List (List ℕ)) (s : List ℕ) → Reads (rest b ++ q) gs s → Reads (b ++ q) (frames b ++ gs) s
 reads_on one b q gs s g =
     let h = one.exists b in
@@ -107,7 +107,8 @@ pub stream-push : (es : List Event) (e : Event) → stream (es ++ e ∷ []) ≡ 
 unfolding stream
 stream-push es e = flat_map-append bytes_of es (e ∷ []) ∙ ap (λ y. flat_map bytes_of es ++ y) (append-nil (bytes_of e))
 
--- The frames of a longer piece.
+-- The frames of a longer piece are those of its beginning, and those that the other bytes
+-- complete.
 pub frames_at-more : (one : OneReading) → (es : List Event) (m : ℕ) (p q : List ℕ) (gs : List (List ℕ)) (r : List ℕ) → Reads ((stream es ++ p) ++ q) (frames (stream es ++ p) ++ gs) r → frames_at es (Piece m (p ++ q)) ≡ frames_at es (Piece m p) ++ gs
 unfolding frames_at
 frames_at-more one es m p q gs r h =

@@ -27,7 +27,7 @@ apart_out xs ys i e h = λ id.
     let m : length (filter (has_id id) ys) ≡ length (filter (has_id id) (remove xs i)) = ap (λ zs. length (filter (has_id id) zs)) e in
     omega (arith, h id)
 
--- If none passes, all fail.
+-- If no element passes a test, the filter by the opposite test keeps them all.
 pub none_passes : {X : Type 0} (t : X → Bool) (xs : List X) → filter t xs ≡ [] → filter (λ x. not (t x)) xs ≡ xs
 none_passes t [] h = refl
 none_passes t (x ∷ xs) h =
@@ -35,11 +35,11 @@ none_passes t (x ∷ xs) h =
     let others : filter t xs ≡ [] = sym (cond-false _ _ _ failing) ∙ h in
     ap (λ b. cond (not b) (x ∷ filter (λ y. not (t y)) xs) (filter (λ y. not (t y)) xs)) failing ∙ ap (λ ys. x ∷ ys) (none_passes t xs others)
 
--- No deadline has come, and the session is not over.
+-- If no deadline has come and the session is not over, no outcome is left to report.
 pub tells_none : (m : ℕ) (old new : List Poll) → TakesOut (due m) old None new → TellsOwed m None old None new
 tells_none m old new h = (h.0, ap (λ ps. silences ps ++ []) h.1, none_passes (due m) old h.1, λ e. absurd (let f : false ≡ true = e in cc))
 
--- No poll is left.
+-- If no poll is left, no outcome is left to report.
 pub tells_end : (m : ℕ) (c : LostCause) (old new : List Poll) → TakesOut (due m) old None new → old ≡ [] → TellsOwed m (Some c) old None new
 tells_end m c old new h none =
     let a : alive m old ≡ old = none_passes (due m) old h.1 in
@@ -53,7 +53,7 @@ tells_due m ending old new p h = (
   h.2,
 )
 
--- The first of the other polls is lost.
+-- If no poll has timed out and the session is over, the first poll is lost.
 pub tells_lost : (m : ℕ) (c : LostCause) (old mid new : List Poll) (p : Poll) → TakesOut (due m) old None mid → p ≡ get_or mid 0 p → 0 < length mid → new ≡ remove mid 0 → TellsOwed m (Some c) old (Some (record { poll = p; by = by.End c })) new
 tells_lost m c [] mid new p h here some e = absurd (let l : length mid ≡ 0 = ap length h.0 in omega arith)
 tells_lost m c (q ∷ qs) mid new p h here some e =

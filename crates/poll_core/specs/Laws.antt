@@ -9,60 +9,61 @@ use Rattle.poll_core.specs.Settling.{Event, Start, Piece, Tick, Close, Settlemen
 use Rattle.poll_core.specs.Standing.{is_over, last_moment}
 use Rattle.poll_core.specs.Starting.{start_fault}
 
--- The outcome of a started poll by its number, if the poll has one.
+-- The number and the outcome of a started poll, or `None` if it has no outcome.
 abbrev pub with_outcome : Poll × Option Settlement → Option (ℕ × Settlement)
 with_outcome result = option_map (λ outcome. (result.0.number, outcome)) result.1
 
--- The outcomes of all started polls that have one, in the order of the starts.
+-- The number and outcome of each started poll that has an outcome, in the order of the starts.
 abbrev pub outcomes_by_poll : ℕ → List Event → List (ℕ × Settlement)
 outcomes_by_poll timeout events = filter_map with_outcome (results timeout [] events)
 
--- The outcomes that each event settles, event by event.
+-- The outcomes that the later events settle, event by event. The first list has the events before
+-- them.
 abbrev pub outcomes_after : ℕ → List Event → List Event → List (ℕ × Settlement)
 outcomes_after timeout before [] = []
 outcomes_after timeout before (event ∷ later) =
     outcomes_at timeout before event ++ outcomes_after timeout (before ++ event ∷ []) later
 
--- The outcomes that a list of events settles, event by event.
+-- The outcomes that the events settle, event by event.
 abbrev pub outcomes_by_event : ℕ → List Event → List (ℕ × Settlement)
 outcomes_by_event timeout events = outcomes_after timeout [] events
 
--- The number of the poll that an event starts, if it starts one.
+-- The number of the poll that an event starts, or `None` if it starts none.
 abbrev pub number_started : Event → Option ℕ
 number_started (Start moment poll unit span) = Some poll
 number_started (Piece moment bytes) = None
 number_started (Tick moment) = None
 number_started (Close moment closing) = None
 
--- The numbers of all started polls.
+-- The numbers of all polls that the events start.
 abbrev pub numbers_started : List Event → List ℕ
 numbers_started events = filter_map number_started events
 
--- The numbers of all settled polls.
+-- The numbers of all polls that the events settle, in the order of their outcomes.
 abbrev pub numbers_settled : ℕ → List Event → List ℕ
 numbers_settled timeout events = map (λ told. told.0) (outcomes_by_event timeout events)
 
--- The numbers of all pending polls.
+-- The numbers of all polls that are pending after the events.
 abbrev pub numbers_pending : ℕ → List Event → List ℕ
 numbers_pending timeout events = map (λ poll. poll.number) (pending timeout events)
 
--- Those of the polls that the event settles, each with its outcome.
+-- Of these polls, the numbers of those that the event settles, each with its outcome.
 abbrev pub settled_among : List Event → Event → List Poll → List (ℕ × Settlement)
 settled_among before event polls =
     filter_map (λ poll.
     option_map (λ outcome. (poll.number, outcome)) (settled_by before event poll))
     polls
 
--- A poll and what settled it, after one more event.
+-- A poll and its outcome after one more event. An earlier outcome stays.
 abbrev pub with_event : List Event → Event → Poll × Option Settlement → Poll × Option Settlement
 with_event before event result = (result.0, option_or result.1 (settled_by before event result.0))
 
--- A poll that was just started, without an outcome.
+-- The poll that an event started, without an outcome; an empty list if it started none.
 abbrev pub new_result : Option Poll → List (Poll × Option Settlement)
 new_result None = []
 new_result (Some poll) = (poll, None) ∷ []
 
--- One of the events started the poll, and no later one settles it.
+-- The poll is pending: one of the events started it, and no later one of them settles it.
 pub record Waits (timeout : ℕ) (events : List Event) (poll : Poll) : Type 0 where
   pub before : List Event
   pub start : Event
@@ -71,8 +72,8 @@ pub record Waits (timeout : ℕ) (events : List Event) (poll : Poll) : Type 0 wh
   pub starts : started timeout before start ≡ Some poll
   pub unsettled : outcome (before ++ start ∷ []) later poll ≡ None
 
--- A session accepts the event after these: its time is not before the latest, and a start is not
--- refused.
+-- After the events `before`, a session accepts this event: its time is not before theirs, and a
+-- start is not refused.
 abbrev pub Accepts : ℕ → ℕ → List Event → Event → Type 0
 Accepts timeout window before (Start moment poll unit span) =
     start_fault timeout window before moment ≡ None
@@ -80,25 +81,26 @@ Accepts timeout window before (Piece moment bytes) = last_moment before ≤ mome
 Accepts timeout window before (Tick moment) = last_moment before ≤ moment
 Accepts timeout window before (Close moment closing) = last_moment before ≤ moment
 
--- A session accepts each of the events.
+-- After the events `before`, a session accepts each of these events in order.
 abbrev pub AcceptsAll : ℕ → ℕ → List Event → List Event → Type 0
 AcceptsAll timeout window before [] = Unit {0}
 AcceptsAll timeout window before (event ∷ later) =
     Accepts timeout window before event × AcceptsAll timeout window (before ++ event ∷ []) later
 
--- Each started poll is settled once, or is pending.
+-- The started polls are exactly those that the events settle and those that are pending, each
+-- once.
 abbrev pub SettledOrPending : ℕ → List Event → Type 0
 SettledOrPending timeout events =
     IsPermutation (numbers_started events)
     (numbers_settled timeout events ++ numbers_pending timeout events)
 
--- The outcomes after one more event are the earlier ones and those of the event.
+-- The outcomes after one more event are the earlier outcomes, followed by those of the event.
 abbrev pub AddsOutcomes : ℕ → List Event → Event → Type 0
 AddsOutcomes timeout events event =
     outcomes_by_event timeout (events ++ event ∷ [])
     ≡ outcomes_by_event timeout events ++ outcomes_at timeout events event
 
--- The outcomes of one more event are those of pending polls, each independently of the others.
+-- One more event settles pending polls, each independently of the others, and no other polls.
 abbrev pub SettlesPending : ℕ → List Event → Event → Type 0
 SettlesPending timeout events event =
     IsPermutation (settled_among events event (pending timeout events))
@@ -112,19 +114,20 @@ LeavesPending timeout events event =
     ≡ filter (λ poll. is_none (settled_by events event poll)) (pending timeout events)
     ++ option_to_list (started timeout events event)
 
--- After one more event, the result of each poll is the earlier one, or what the event settles.
+-- After one more event, each poll keeps its earlier outcome, or gets the outcome that the event
+-- settles. A poll that the event starts has none yet.
 abbrev pub AddsResults : ℕ → List Event → Event → Type 0
 AddsResults timeout events event =
     results timeout [] (events ++ event ∷ [])
     ≡ map (with_event events event) (results timeout [] events)
     ++ new_result (started timeout events event)
 
--- A session that accepted all these events is over.
+-- A session that accepted all these events is over: its stream is garbled, or it was closed.
 abbrev pub IsOverAfter : (timeout window : ℕ) → List Event → Type 0
 IsOverAfter timeout window events =
     AcceptsAll timeout window [] events × (is_over events ≡ true)
 
--- If a longer piece settles nothing, the shorter piece that it begins with settles nothing.
+-- If a piece settles no poll, a shorter piece with which it begins settles none either.
 abbrev pub SettlesNoLess : ℕ → List Event → (moment : ℕ) → (piece more : List ℕ) → Type 0
 SettlesNoLess timeout events moment piece more =
     outcomes_at timeout events (Piece moment (piece ++ more)) ≡ []

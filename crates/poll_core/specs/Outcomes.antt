@@ -11,7 +11,7 @@ use Rattle.poll_core.specs.declared.outcome.LostCause.TheVariants as cause
 use Rattle.poll_core.specs.declared.outcome.Closing.{Closing}
 use Rattle.poll_core.specs.declared.outcome.Closing.TheVariants as closing
 
--- The number of a malformation.
+-- The number of each malformation.
 abbrev pub malformation_number : Malformation → ℕ
 malformation_number malformation.WrongFunction = 1
 malformation_number malformation.WrongLength = 2
@@ -19,14 +19,14 @@ malformation_number malformation.WrongByteCount = 3
 malformation_number malformation.WrongEcho = 4
 malformation_number malformation.WrongUnit = 5
 
--- The number of a cause.
+-- The number of each cause of a lost poll.
 abbrev pub cause_number : LostCause → ℕ
 cause_number cause.Gone = 1
 cause_number cause.Garbled = 2
 cause_number cause.Failed = 3
 cause_number cause.Restart = 4
 
--- The number of a kind of outcome.
+-- The number of each kind of outcome.
 abbrev pub outcome_number : Outcome → ℕ
 outcome_number Answered = 1
 outcome_number (Exception code) = 2
@@ -34,7 +34,8 @@ outcome_number Silent = 3
 outcome_number (Malformed wrong) = 4
 outcome_number (Lost why) = 5
 
--- The second number of an outcome: its exception code, malformation or cause, or 0.
+-- The second number of an outcome: its exception code, or the number of its malformation or
+-- cause; 0 for other outcomes.
 abbrev pub outcome_code : Outcome → ℕ
 outcome_code Answered = 0
 outcome_code (Exception code) = code
@@ -42,14 +43,14 @@ outcome_code Silent = 0
 outcome_code (Malformed wrong) = malformation_number wrong
 outcome_code (Lost why) = cause_number why
 
--- The malformation of a response that has this fault.
+-- The malformation that is reported for a response with this fault.
 abbrev pub malformation_by : ReplyFault → Malformation
 malformation_by fault.WrongFunction = malformation.WrongFunction
 malformation_by fault.WrongLength = malformation.WrongLength
 malformation_by fault.WrongByteCount = malformation.WrongByteCount
 malformation_by fault.WrongEcho = malformation.WrongEcho
 
--- The cause by which a closing loses the pending polls.
+-- The cause that is reported for polls that a closing of the connection loses.
 abbrev pub cause_of : Closing → LostCause
 cause_of closing.Gone = cause.Gone
 cause_of closing.Failed = cause.Failed

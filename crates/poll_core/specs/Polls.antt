@@ -1,4 +1,4 @@
--- A poll as contracts see it.
+-- The model of a poll, which the contracts use.
 use Rattle.std.specs.Prelude.{ℕ, Bool, ◌==◌, nat_le}
 use Rattle.mb_wire.specs.Spans.{Span}
 
@@ -11,12 +11,12 @@ pub record Poll : Type 0 where
   pub span : Span
   pub deadline : ℕ
 
--- The poll with these fields.
+-- The model of a poll with these fields.
 abbrev pub poll_of : (number id unit : ℕ) → Span → (deadline : ℕ) → Poll
 poll_of number id unit span deadline =
     record { number = number; id = id; unit = unit; span = span; deadline = deadline }
 
--- The deadline of the poll has come.
+-- The deadline of the poll is at or before this time.
 abbrev pub due : ℕ → Poll → Bool
 due moment poll = nat_le poll.deadline moment
 

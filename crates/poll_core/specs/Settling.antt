@@ -32,14 +32,14 @@ moment_of (Piece moment bytes) = moment
 moment_of (Tick moment) = moment
 moment_of (Close moment closing) = moment
 
--- The bytes that an event brings.
+-- The bytes that arrive with an event: those of a piece, otherwise none.
 abbrev pub bytes_of : Event → List ℕ
 bytes_of (Start moment poll unit span) = []
 bytes_of (Piece moment bytes) = bytes
 bytes_of (Tick moment) = []
 bytes_of (Close moment closing) = []
 
--- The cause by which an event closes the session, if it does.
+-- The cause by which an event closes the session, or `None` if it does not close it.
 abbrev pub closing_of : Event → Option LostCause
 closing_of (Start moment poll unit span) = None
 closing_of (Piece moment bytes) = None
@@ -61,7 +61,7 @@ stream events = flat_map bytes_of events
 unfoldable pub next_id : List Event → ℕ
 next_id events = length (filter is_start events) % 65536
 
--- How a poll ended, with the registers of an answer.
+-- The outcome of a poll. An answered poll has the registers that the device sent.
 pub data Settlement : Type 0 where
   Answered : (words : List ℕ) → Settlement
   Exception : (code : ℕ) → Settlement
@@ -69,42 +69,45 @@ pub data Settlement : Type 0 where
   Malformed : (malformation : Malformation) → Settlement
   Lost : (cause : LostCause) → Settlement
 
--- The registers of an answer.
+-- The registers of a decoded response; none if it is a response of another kind.
 abbrev pub words_in : Answer → List ℕ
 words_in (replies.Words words) = words
 words_in _ = []
 
--- The outcome of a decoded response.
+-- The outcome that a decoded response gives, or its fault.
 abbrev pub by_reply : Result Answer ReplyFault → Settlement
 by_reply (Ok (replies.Exception code)) = Exception code
 by_reply (Ok answer) = Answered (words_in answer)
 by_reply (Err fault) = Malformed (malformation_by fault)
 
--- The outcome by a frame with the poll's transaction identifier. The unit is checked first.
+-- The outcome that a frame with the poll's transaction identifier gives. The unit is checked
+-- first.
 abbrev pub answer : Poll → List ℕ → Settlement
 answer poll frame =
     if unit_of frame == poll.unit
     then by_reply (reply_of (request_of poll.span) (pdu_of frame))
     else Malformed WrongUnit
 
--- A frame of Modbus with the poll's transaction identifier.
+-- The frame is of Modbus and has the poll's transaction identifier.
 abbrev pub is_for : Poll → List ℕ → Bool
 is_for poll frame = (tid_of frame == poll.id) && (protocol_of frame == 0)
 
--- The frames that the event completes, after these events.
+-- The frames that the bytes of the event complete, if they arrive after those of the events
+-- `before`.
 unfoldable pub frames_at : List Event → Event → List (List ℕ)
 frames_at before event =
     drop (length (frames (stream before))) (frames (stream before ++ bytes_of event))
 
--- The cause by which the event ends the session, if it does: it garbles the stream, or closes.
+-- The cause by which the event ends the session after the events `before`: it garbles the stream,
+-- or closes the session. `None` if it does neither.
 unfoldable pub ending_at : List Event → Event → Option LostCause
 ending_at before event =
     if is_garbled (stream before ++ bytes_of event) && not (is_garbled (stream before))
     then Some Garbled
     else closing_of event
 
--- What settles a poll at an event after these: its timeout, else the first frame with its
--- transaction identifier, else the end of the session.
+-- The outcome of a pending poll at an event after the events `before`, if the event settles it:
+-- its timeout, else that of the first frame with its transaction identifier, else its loss.
 unfoldable pub settled_by : List Event → Event → Poll → Option Settlement
 settled_by before event poll =
     if is_start event then None
@@ -112,13 +115,14 @@ settled_by before event poll =
     else option_or (option_map (answer poll) (find (is_for poll) (frames_at before event)))
     (option_map Lost (ending_at before event))
 
--- The outcome by the first of the later events that settles the poll.
+-- The outcome of a poll by the first of the later events that settles it; `None` if none of them
+-- does.
 abbrev pub outcome : List Event → List Event → Poll → Option Settlement
 outcome before [] poll = None
 outcome before (event ∷ later) poll =
     option_or (settled_by before event poll) (outcome (before ++ event ∷ []) later poll)
 
--- The poll that the event starts, if it is a start.
+-- The poll that the event starts after the events `before`, or `None` if it is no start.
 abbrev pub started : ℕ → List Event → Event → Option Poll
 started timeout before (Start moment poll unit span) =
     Some (record {
@@ -132,49 +136,52 @@ started timeout before (Piece moment bytes) = None
 started timeout before (Tick moment) = None
 started timeout before (Close moment closing) = None
 
--- A started poll, with its outcome by the later events.
+-- The poll that an event started, with its outcome by the later events; an empty list without a
+-- start.
 abbrev pub result_of : List Event → List Event → Option Poll → List (Poll × Option Settlement)
 result_of before later None = []
 result_of before later (Some poll) = (poll, outcome before later poll) ∷ []
 
--- All started polls, in the order of the starts, each with its outcome by the later events.
+-- All polls that the later events start, in the order of the starts. Each has its outcome by the
+-- events after its start.
 abbrev pub results : ℕ → List Event → List Event → List (Poll × Option Settlement)
 results timeout before [] = []
 results timeout before (event ∷ later) =
     result_of (before ++ event ∷ []) later (started timeout before event)
     ++ results timeout (before ++ event ∷ []) later
 
--- The pending polls: those without an outcome.
+-- The polls that are pending after the events: started ones without an outcome.
 unfoldable pub pending : ℕ → List Event → List Poll
 pending timeout events =
     map (λ result. result.0) (filter (λ result. is_none result.1) (results timeout [] events))
 
--- The timeouts of these polls, in the order of their starts.
+-- The outcomes of these polls if all time out, in the order of their starts.
 abbrev pub silences : List Poll → List (ℕ × Settlement)
 silences polls = map (λ poll. (poll.number, Silent)) polls
 
--- The outcomes by these frames, frame by frame.
+-- The outcomes of these polls by these frames, in the order of the frames.
 abbrev pub by_frame : List (List ℕ) → List Poll → List (ℕ × Settlement)
 by_frame [] polls = []
 by_frame (frame ∷ later) polls =
     map (λ poll. (poll.number, answer poll frame)) (filter (λ poll. is_for poll frame) polls)
     ++ by_frame later (filter (λ poll. not (is_for poll frame)) polls)
 
--- The polls whose transaction identifier no frame has.
+-- Of these polls, those whose transaction identifier none of the frames has.
 abbrev pub unmatched : List (List ℕ) → List Poll → List Poll
 unmatched frames polls = filter (λ poll. is_none (find (is_for poll) frames)) polls
 
--- The losses of these polls, in the order of their starts, if the session ended.
+-- The outcomes of these polls if the session ended for a cause, in the order of their starts;
+-- none if it did not end.
 abbrev pub losses : Option LostCause → List Poll → List (ℕ × Settlement)
 losses None polls = []
 losses (Some cause) polls = map (λ poll. (poll.number, Lost cause)) polls
 
--- The polls whose deadline has not come.
+-- Of these polls, those whose deadline is after this time.
 abbrev pub alive : ℕ → List Poll → List Poll
 alive moment polls = filter (λ poll. not (due moment poll)) polls
 
--- The outcomes of one event, in order: timeouts by start, then answers frame by frame, then losses
--- by start.
+-- The outcomes that one event settles, in order: timeouts by start, then answers frame by frame,
+-- then losses by start.
 unfoldable pub outcomes_at : ℕ → List Event → Event → List (ℕ × Settlement)
 outcomes_at timeout before event =
     if is_start event then []

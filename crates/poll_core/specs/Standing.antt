@@ -24,17 +24,17 @@ pub record State : Type 0 where
   pub ending : Option LostCause
   pub settling : Option Call
 
--- The time of the latest event, or 0.
+-- The time of the latest event, or 0 without events.
 abbrev pub last_moment : List Event → ℕ
 last_moment [] = 0
 last_moment (event ∷ []) = moment_of event
 last_moment (event ∷ next ∷ events) = last_moment (next ∷ events)
 
--- The session was closed.
+-- One of the events closed the session.
 unfoldable pub is_closed : List Event → Bool
 is_closed events = list_any (λ event. is_some (closing_of event)) events
 
--- The stream is garbled, or the session was closed.
+-- After the events, the stream is garbled, or the session was closed.
 unfoldable pub is_over : List Event → Bool
 is_over events = is_garbled (stream events) || is_closed events
 
@@ -50,8 +50,8 @@ pub record Stands (session : State) (events : List Event) : Type 0 where
   -- until its end, the session has read the stream up to its rest
   pub buffered : session.ending ≡ None → session.reader.rest ≡ rest (stream events)
 
--- The outcomes that the session has yet to report: the timeouts, and the losses of the other polls
--- if the session ended.
+-- The outcomes that a session still has to report for these polls: the timeouts, and the losses
+-- of the other polls if the session ended.
 abbrev pub owed_by : ℕ → Option LostCause → List Poll → List (ℕ × Settlement)
 owed_by moment ending polls =
     silences (filter (due moment) polls) ++ losses ending (alive moment polls)
@@ -60,13 +60,13 @@ owed_by moment ending polls =
 abbrev pub owed : State → List (ℕ × Settlement)
 owed session = owed_by session.last session.ending session.polls
 
--- The polls that stay pending: none once the session is over.
+-- Of these polls, those that stay pending: none if the session ended, otherwise all.
 abbrev pub if_going : Option LostCause → List Poll → List Poll
 if_going None polls = polls
 if_going (Some cause) polls = []
 
--- The session is within an event after these: it has reported these outcomes of the event, and has
--- yet to report the others.
+-- The session is processing an event after the earlier events. It has reported the outcomes
+-- `told` of this event, and still has to report the others.
 pub record Within (session : State) (events : List Event) (event : Event)
     (told : List (ℕ × Settlement)) : Type 0 where
   pub last : session.last ≡ moment_of event
@@ -78,20 +78,22 @@ pub record Within (session : State) (events : List Event) (event : Event)
   pub none_after : is_closed events ≡ true → pending session.timeout events ≡ []
   pub buffered : session.ending ≡ None → session.reader.rest ≡ rest (stream (events ++ event ∷ []))
 
--- The call that brings the event.
+-- The kind of call that brings the event, or `None` for a start.
 abbrev pub call_of : Event → Option Call
 call_of (Start moment poll unit span) = None
 call_of (Piece moment bytes) = Some call.Piece
 call_of (Tick moment) = Some call.Tick
 call_of (Close moment closing) = Some (call.Close closing)
 
--- Before a call: the session has processed nothing of the event, or the call continues.
+-- The state before a call for this event: the session has processed nothing of it, or the call
+-- continues after the outcomes `told`.
 abbrev pub Before : State → List Event → Event → List (ℕ × Settlement) → Type 0
 Before session events event told =
     (Stands session events × (bytes_of event ≡ []) × (told ≡ []))
     ⊎ ((session.settling ≡ call_of event) × Within session events event told)
 
--- After a call: it reported one more outcome, or all outcomes of the event had been reported.
+-- The state after a call for this event: it reported one more outcome, or all outcomes had been
+-- reported.
 abbrev pub After : State → List Event → Event → List (ℕ × Settlement) → Option (ℕ × Settlement)
     → Type 0
 After session events event told None =
@@ -99,18 +101,19 @@ After session events event told None =
 After session events event told (Some settled) =
     (session.settling ≡ call_of event) × Within session events event (told ++ settled ∷ [])
 
--- A start keeps the state consistent with its events.
+-- After a successful start, the session's state is that of its events followed by the start.
 abbrev pub StartsOn : {X E : Type 0} → Result X E → (old new : State) → Event → Type 0
 StartsOn result old new start =
     (events : List Event) → Stands old events → OnOk result (After new events start [] None)
 
--- A call for an event keeps the state consistent with its events.
+-- A call for an event leads from a state `Before` the call to a state `After` it.
 abbrev pub StepsOn : (old new : State) → Event → Option (ℕ × Settlement) → Type 0
 StepsOn old new event settled =
     (events : List Event) (told : List (ℕ × Settlement)) →
     Before old events event told → After new events event told settled
 
--- A call for more bytes of a piece keeps the state consistent with its events.
+-- A call that takes more bytes of a piece leads from a state `Before` the call to a state `After`
+-- it.
 abbrev pub TakesOn : (old new : State) → (moment : ℕ) → (taken : List ℕ)
     → Option (ℕ × Settlement) → Type 0
 TakesOn old new moment taken settled =

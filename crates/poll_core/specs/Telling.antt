@@ -14,12 +14,12 @@ use Rattle.poll_core.specs.declared.answers.ClockBack.{ClockBack}
 use Rattle.poll_core.specs.declared.answers.Settled.{Settled}
 use Rattle.poll_core.specs.declared.answers.Turn.{Turn}
 
--- The registers of a borrowed response.
+-- The registers of a `Reply` that the session lends out; none without a reply.
 abbrev pub lent_words : Option Reply → List ℕ
 lent_words None = []
 lent_words (Some reply) = words_in (answer_of reply)
 
--- An outcome with the registers of its response.
+-- The outcome that the program reports, together with the registers of its reply.
 abbrev pub outcome_of : plain.Outcome → Option Reply → Settlement
 outcome_of Answered reply = told.Answered (lent_words reply)
 outcome_of (Exception code) reply = told.Exception code
@@ -31,22 +31,22 @@ outcome_of (Lost cause) reply = told.Lost cause
 abbrev pub settled_of : Settled → ℕ × Settlement
 settled_of settled = (settled.poll, outcome_of settled.outcome settled.reply)
 
--- The poll was answered.
+-- The poll was answered with registers.
 abbrev pub is_answered : plain.Outcome → Bool
 is_answered Answered = true
 is_answered _ = false
 
--- A response is lent exactly if the poll was answered.
+-- A reply is present exactly if the poll was answered.
 abbrev pub LendsReply : Settled → Type 0
 LendsReply settled = is_some settled.reply ≡ is_answered settled.outcome
 
--- No call is in progress, or this call is, at the same time.
+-- No call is in progress, or the call in progress is of this kind and at this time.
 abbrev pub IsCall : Call → State → ℕ → Type 0
 IsCall call session moment =
     (session.settling ≡ None) ⊎ ((session.settling ≡ Some call) × (session.last ≡ moment))
 
--- The effect of a call that brings an event, or more bytes of a piece. If it reports an outcome,
--- fewer polls are pending.
+-- The effect of a call that brings an event, or more bytes of a piece. `before` and `after` give
+-- the event with the bytes so far. If the call reports an outcome, fewer polls are pending.
 pub record TellsOfCall (old new : State) (before after : List ℕ → Event)
     (settled : Option (ℕ × Settlement)) : Type 0 where
   pub timeout : new.timeout ≡ old.timeout
@@ -57,7 +57,8 @@ pub record TellsOfCall (old new : State) (before after : List ℕ → Event)
   pub told : (events : List Event) (bytes : List ℕ) (told : List (ℕ × Settlement))
       → Before old events (before bytes) told → After new events (after bytes) told settled
 
--- The effect of a call that brings a piece at this time, and takes these bytes of it.
+-- The effect of a call that brings a piece at this time, and takes the bytes `taken` of the
+-- piece.
 abbrev pub TellsPiece : State → State → ℕ → List ℕ → Option (ℕ × Settlement) → Type 0
 TellsPiece old new moment taken =
     TellsOfCall old new (λ bytes. Piece moment bytes) (λ bytes. Piece moment (bytes ++ taken))
@@ -66,7 +67,7 @@ TellsPiece old new moment taken =
 abbrev pub TellsEvent : State → State → Event → Option (ℕ × Settlement) → Type 0
 TellsEvent old new event = TellsOfCall old new (λ _. event) (λ _. event)
 
--- The call takes bytes of a piece, or is refused and changes nothing.
+-- The call takes bytes of the piece, or is refused with `ClockBack` and changes nothing.
 abbrev pub TakesPiece : State → (moment : ℕ) → (piece : List ℕ) → Result Turn ClockBack → State
     → Type 0
 TakesPiece old moment piece result new =
@@ -74,7 +75,7 @@ TakesPiece old moment piece result new =
     × IfOk result (λ turn. TellsPiece old new moment (take turn.taken piece)
     (option_map settled_of turn.settled))
 
--- The call brings an event, or is refused and changes nothing.
+-- The call brings the event, or is refused with `ClockBack` and changes nothing.
 abbrev pub TakesEvent : State → Event → Result (Option Settled) ClockBack → State → Type 0
 TakesEvent old event result new =
     OnErr result (new ≡ old)

@@ -11,14 +11,15 @@ pub struct Settled<'a> {
     pub reply: Option<Reply<'a>>,
 }
 
-/// The number of bytes taken from a piece, and the poll that they settled, if any.
+/// The number of bytes that a call took from its piece, and the poll that they settled, if any.
 #[derive(Drop)]
 pub struct Turn<'a> {
     pub taken: usize,
     pub settled: Option<Settled<'a>>,
 }
 
-/// The next transaction identifier, and how many starts in a row would now succeed.
+/// The next transaction identifier, and how many starts in a row would now succeed at a time that
+/// is not before the latest.
 #[derive(Clone, Copy, Debug, PartialEq, Eq)]
 pub struct Ready {
     pub id: u16,

@@ -33,14 +33,15 @@ pub struct Inner {
     pub settling: Option<Call>,
 }
 
-/// The result of a step: the bytes taken, and the poll that was settled.
+/// The result of a step: how many bytes of the piece it took, and the poll that it settled, if
+/// any.
 #[derive(Drop)]
 pub struct Step {
     pub taken: usize,
     pub settled: Option<SettledPoll>,
 }
 
-// Writes the frame of a request for a span of registers.
+// Writes the frame that requests a span of registers, and returns its length in bytes.
 fn write_request(id: u16, unit: u8, span: ReadSpan, out: &mut [u8; MAX_ADU]) -> usize
     ensures size { result ≡ 12 }
     ensures written { take result out.new
@@ -51,7 +52,8 @@ fn write_request(id: u16, unit: u8, span: ReadSpan, out: &mut [u8; MAX_ADU]) -> 
     write_frame(id, unit, &pdu[..count], out)
 }
 
-// Returns the call that continues as long as it reports outcomes.
+// Returns the call that is in progress after it returned this poll. A call that returned none is
+// complete.
 fn call_while(taken: &Option<SettledPoll>, call: Call) -> Option<Call>
     ensures { result ≡ call_if taken.now call }
 {
@@ -61,7 +63,7 @@ fn call_while(taken: &Option<SettledPoll>, call: Call) -> Option<Call>
     }
 }
 
-// Returns the cause by which a garbled stream ends the session.
+// Returns the cause by which a garbled stream ends the session, or `None` if it is not garbled.
 fn ending_if(is_garbled: bool) -> Option<LostCause>
     ensures { result ≡ garbled_end is_garbled }
 {
@@ -72,7 +74,8 @@ fn ending_if(is_garbled: bool) -> Option<LostCause>
     }
 }
 
-// Returns how many bytes were taken: all of the piece, unless an outcome was reported.
+// Returns how many bytes of the piece were taken: `taken` if an outcome was reported, otherwise
+// all.
 fn taken_if(lost: &Option<SettledPoll>, taken: usize, all: usize) -> usize
     ensures { result ≡ (if is_some lost.now then taken else all) }
 {
@@ -124,7 +127,7 @@ impl Inner {
         Ok(size)
     }
 
-    /// Returns how many starts in a row would succeed.
+    /// Returns how many starts in a row are now possible at a time that is not before the latest.
     pub fn room(&self) -> usize
         requires { IsSound self.now }
         ensures few { result ≤ self.now.window }

@@ -11,8 +11,8 @@ ghost use Rattle.poll_core.specs.Laws.{outcomes_by_event, outcomes_by_poll};
 
 use mb_wire::one_reading;
 
-/// Theorem: each started poll is settled once, or is pending. The outcomes that the events settle,
-/// event by event, are the outcomes of the polls.
+/// Theorem: each started poll is settled once, or is pending. The outcomes that the events
+/// settle, event by event, are those of the polls.
 pub fn each_once()
     ensures polls { (timeout : ℕ) (events : List Event) → SettledOrPending timeout events }
     ensures outcomes { (timeout : ℕ) (events : List Event) →

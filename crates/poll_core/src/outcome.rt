@@ -2,7 +2,7 @@
 
 use mb_wire::ReplyFault;
 
-/// The call that settles polls, while it has outcomes left to report.
+/// The kind of call that settles polls, as the session keeps it while the call is in progress.
 #[derive(Clone, Copy, Debug, PartialEq, Eq)]
 pub enum Call {
     Piece,

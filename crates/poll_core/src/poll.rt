@@ -59,7 +59,7 @@ impl PendingPoll {
         self.span.request()
     }
 
-    /// Returns whether the deadline has come.
+    /// Returns whether the poll's deadline is at or before this time.
     pub fn is_due(&self, moment: u64) -> bool
         ensures { result ≡ due moment self.now }
     {

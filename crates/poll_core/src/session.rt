@@ -70,7 +70,8 @@ impl Session {
         }
     }
 
-    /// Returns whether a call has outcomes left to report.
+    /// Returns whether a call is in progress: it reported an outcome, and may have more to
+    /// report.
     pub fn settling(&self) -> bool
         ensures { result ≡ is_some self.now.settling }
     {
@@ -120,8 +121,8 @@ impl Session {
         self.inner.start(moment, poll, unit, span, out)
     }
 
-    /// Processes bytes of the piece, up to the first outcome. Call again with the rest until no
-    /// poll is settled.
+    /// Processes bytes of the piece, up to the first outcome. Call `next` again with the rest of
+    /// the piece until it returns no settled poll.
     pub fn next(&mut self, moment: u64, piece: &[u8]) -> Result<Turn<'_>, ClockBack>
         requires limit { moment ≤ LAST_MOMENT }
         requires call { IsCall Call.Piece self.old moment }
@@ -155,8 +156,8 @@ impl Session {
         Ok(self.inner.next(moment, piece))
     }
 
-    /// Processes a timer event: no input arrived before this time. Call again until no poll is
-    /// settled.
+    /// Processes a timer event: no input arrived before this time. Call `tick` again until it
+    /// returns no settled poll.
     pub fn tick(&mut self, moment: u64) -> Result<Option<Settled<'_>>, ClockBack>
         requires limit { moment ≤ LAST_MOMENT }
         requires call { IsCall Call.Tick self.old moment }
@@ -181,7 +182,7 @@ impl Session {
         Ok(self.inner.tick(moment))
     }
 
-    /// Ends the session. Call again until no poll is settled.
+    /// Ends the session. Call `close` again until it returns no settled poll.
     pub fn close(&mut self, moment: u64, closing: Closing) -> Result<Option<Settled<'_>>, ClockBack>
         requires limit { moment ≤ LAST_MOMENT }
         requires call { IsCall (Call.Close closing) self.old moment }
@@ -211,7 +212,7 @@ impl Session {
     }
 }
 
-// Returns the settled poll, if any, with the registers in the reader's frame.
+// Returns the settled poll, if there is one, with its reply from the reader's frame.
 fn tell_any(taken: Option<SettledPoll>, reader: &FrameReader) -> Option<Settled<'_>>
     requires { CanTell taken reader.now.frame }
     ensures told { option_map settled_of result ≡ told_of taken reader.now.frame }
@@ -224,7 +225,7 @@ fn tell_any(taken: Option<SettledPoll>, reader: &FrameReader) -> Option<Settled<
     }
 }
 
-// Returns the settled poll, with the registers in the reader's frame.
+// Returns the settled poll, with its reply from the reader's frame.
 fn tell(settled: SettledPoll, reader: &FrameReader) -> Settled<'_>
     requires { HasFrame settled.by reader.now.frame }
     ensures told { settled_of result ≡ told_by settled reader.now.frame }
@@ -258,7 +259,7 @@ fn silent<'a>(poll: u64) -> Settled<'a>
     }
 }
 
-// Returns the outcome of a poll from the frame with its transaction identifier.
+// Returns the outcome that the frame with the poll's transaction identifier gives, and its reply.
 fn answered<'a>(poll: &PendingPoll, frame: Frame<'a>) -> Settled<'a>
     ensures told { (bytes : List ℕ) → spelled frame.entry ≡ fields_of bytes
         → settled_of result ≡ (poll.now.number, answer poll.now bytes) }

@@ -15,7 +15,7 @@ use mb_wire::{FrameReader, Framing};
 
 pub type Table = ArrayVec<PendingPoll, MAX_WINDOW>;
 
-// Returns the index of the first poll whose deadline has come.
+// Returns the index of the first poll whose deadline is at or before this time, or `None`.
 fn first_due(polls: &[PendingPoll], moment: u64) -> Option<usize>
     ensures { FindsFirst (due moment) polls.now result }
 {
@@ -27,7 +27,7 @@ fn first_due(polls: &[PendingPoll], moment: u64) -> Option<usize>
     None
 }
 
-// Returns the index of the poll with this transaction identifier.
+// Returns the index of the poll with this transaction identifier, or `None`.
 fn first_with_id(polls: &[PendingPoll], id: u16) -> Option<usize>
     ensures { FindsFirst (has_id id) polls.now result }
 {
@@ -39,7 +39,8 @@ fn first_with_id(polls: &[PendingPoll], id: u16) -> Option<usize>
     None
 }
 
-/// Returns how many identifiers in a row, from `next`, no poll has. The result is at most `room`.
+/// Returns how many transaction identifiers in a row, from `next`, no poll has. The result is at
+/// most `room`.
 pub fn free_ids(polls: &[PendingPoll], next: u16, room: usize) -> usize
     requires { room ≤ MAX_WINDOW }
     ensures room { result ≤ room }
@@ -61,7 +62,7 @@ pub fn has_poll(polls: &[PendingPoll], id: u16) -> bool
     polls.iter().any(|poll| poll.has_id(id))
 }
 
-// Removes and returns the first poll whose deadline has come.
+// Removes and returns the first poll whose deadline is at or before this time, if any.
 pub fn take_due(polls: &mut Table, moment: u64) -> Option<PendingPoll>
     ensures taken { TakesOut (due moment) polls.old.items result polls.new.items }
     ensures apart { AreApart polls.old.items → AreApart polls.new.items }
@@ -72,7 +73,7 @@ pub fn take_due(polls: &mut Table, moment: u64) -> Option<PendingPoll>
     }
 }
 
-// Removes and returns the poll with this transaction identifier.
+// Removes and returns the poll with this transaction identifier, if any.
 pub fn take_by_id(polls: &mut Table, id: u16) -> Option<PendingPoll>
     ensures taken { TakesOut (has_id id) polls.old.items result polls.new.items }
     ensures apart { AreApart polls.old.items → AreApart polls.new.items }
@@ -83,7 +84,8 @@ pub fn take_by_id(polls: &mut Table, id: u16) -> Option<PendingPoll>
     }
 }
 
-// Removes and returns the next poll that has timed out, or else that the end of the session loses.
+// Removes and returns the first poll that has timed out. If none has and the session ended,
+// removes and returns the first poll as lost.
 pub fn take_owed(polls: &mut Table, ending: Option<LostCause>, moment: u64) -> Option<SettledPoll>
     ensures told { TellsOwed moment ending polls.old.items result polls.new.items }
     ensures by_itself { (frame : Option (List ℕ)) → CanTell result frame }
@@ -109,7 +111,7 @@ pub fn take_owed(polls: &mut Table, ending: Option<LostCause>, moment: u64) -> O
     }
 }
 
-// Removes and returns the poll that the reader's frame settles.
+// Removes and returns the poll that has the transaction identifier of the reader's frame, if any.
 fn take_framed(reader: &FrameReader, polls: &mut Table) -> Option<PendingPoll>
     requires buffered { IsSome reader.now.frame }
     requires apart { AreApart polls.old.items }
@@ -124,7 +126,8 @@ fn take_framed(reader: &FrameReader, polls: &mut Table) -> Option<PendingPoll>
     take_by_id(polls, frame.tid)
 }
 
-/// The result of feeding a piece: the bytes taken, and the poll that a frame settles.
+/// The result of `feed_until`: the bytes that it took, whether the stream is garbled, and the
+/// poll that a frame settled.
 #[derive(Drop)]
 pub struct Found {
     pub taken: usize,
@@ -132,7 +135,8 @@ pub struct Found {
     pub poll: Option<PendingPoll>,
 }
 
-// Feeds the piece up to the first frame that settles a poll, and removes that poll.
+// Feeds the piece to the reader, up to the first frame that settles a poll, and removes that
+// poll.
 pub fn feed_until(reader: &mut FrameReader, polls: &mut Table, piece: &[u8]) -> Found
     requires { AreApart polls.old.items }
     ensures apart { AreApart polls.new.items }

@@ -54,7 +54,7 @@ same-between a l x (inr (inr h)) never s = h.0
 pub not-before : (a x : Run) → ¬ ComesBefore x a → SameArea a x → a.first ≤ x.first
 not-before a x never s = elim (cases_lt x.first a.first) [ inl l ↦ absurd (never (inr (inr (same_area-sym a x s, l)))) | inr ge ↦ ge ]
 
--- A front of an ordered list, and the element after it.
+-- In an ordered list, the element after a front comes before no element of the front.
 pub in-front : (sorted : List Run) (n : ℕ) (x : Run) → n < length sorted → x ≡ get_or sorted n x → AllPairs (λ a b. ¬ ComesBefore b a) sorted
     → (a : Run) → Contains (take n sorted) a → ¬ ComesBefore x a
 in-front sorted n x within is ordered a w less =

@@ -171,7 +171,7 @@ module _ (items begins reads : List Run) (readable : All IsReadable items) (from
         );
   }
 
--- The same result for items in any order, and for reads paired with the beginnings.
+-- The reads follow the rule for items in any order, if each read begins at one of the beginnings.
 pub rule-of-sorted : (items sorted ended begins reads : List Run) → IsPermutation items sorted → IsPermutation items ended → All IsReadable items → AreBeginnings sorted begins
     → AllZip (ReadsFrom ended) begins reads → FollowsRule items reads
 rule-of-sorted items sorted ended begins reads same-sorted same-ended readable from zipped =

@@ -7,7 +7,7 @@ use Rattle.read_plan.specs.Items.{items_of}
 use Rattle.read_plan.specs.PlannedReads.{read_runs}
 use Rattle.read_plan.specs.Plans.{FollowsRule}
 
--- A point list, and the reads of its plan.
+-- A list of points, and the reads of its plan.
 pub record Planned : Type 0 where
   pub points : List ListedPoint
   pub reads : List PlannedRead
@@ -17,6 +17,6 @@ pub record IsPlanned (list : Planned) : Type 0 where
   pub points : IsPointList list.points
   pub rule : FollowsRule (items_of list.points) (read_runs list.reads)
 
--- A list has exactly one plan.
+-- Theorem: each list of points has exactly one plan.
 abbrev pub ListsArePlannedOnce : Type 0
 ListsArePlannedOnce = (a b : Planned) → IsPlanned a → IsPlanned b → a.points ≡ b.points → a ≡ b

@@ -6,7 +6,7 @@ use Rattle.read_plan.specs.declared.planned_reads.PlannedRead.{PlannedRead}
 use Rattle.read_plan.specs.declared.run.Run.{Run}
 use Rattle.read_plan.specs.Plans.{FollowsRule, Holds, IsContained, IsReadable}
 
--- The registers of a read.
+-- The run of registers that a read requests.
 abbrev pub read_run : PlannedRead → Run
 read_run read =
     record {
@@ -16,21 +16,22 @@ read_run read =
       end = read.span.address + read.span.count;
     }
 
--- The registers of each read.
+-- The runs of these reads, in their order.
 abbrev pub read_runs : List PlannedRead → List Run
 read_runs reads = map read_run reads
 
--- A plan: the first register and the item of each point, and the reads.
+-- The content of a plan: the first register and the item of each point, and the reads.
 pub record Planned : Type 0 where
   pub starts : List ℕ
   pub items : List Run
   pub reads : List PlannedRead
 
--- A point begins inside its item.
+-- A point whose first register is `start` begins inside this item.
 abbrev pub BeginsInside : Run → ℕ → Type 0
 BeginsInside item start = (item.first ≤ start) × (start < item.end)
 
--- The invariant of every plan.
+-- The invariant of every plan: each point begins inside its item, each item fits in one read, and
+-- the reads are those of the planning rule.
 pub record IsPlan (plan : Planned) : Type 0 where
   pub each : length plan.starts ≡ length plan.items
   pub begun : (k : ℕ) (d : Run) → k < length plan.items
@@ -39,12 +40,13 @@ pub record IsPlan (plan : Planned) : Type 0 where
   pub inside : All (λ item. item.end ≤ ADDRESSES) plan.items
   pub rule : FollowsRule plan.items (read_runs plan.reads)
 
--- Point number `point` begins `offset` registers after the first register of read number `read`.
+-- The point with index `point` begins `offset` registers after the first register of the read
+-- with index `read`.
 abbrev pub StandsAt : Planned → (point read offset : ℕ) → Type 0
 StandsAt plan point read offset = (d : PlannedRead)
     → (slice_index_or plan.reads read d).span.address + offset ≡ slice_index plan.starts point
 
--- The first read that holds the item.
+-- The read with index `place` is the first of these reads that holds the item.
 pub record IsFirstHolding (reads : List Run) (item : Run) (place : ℕ) : Type 0 where
   pub within : place < length reads
   pub holds : (d : Run) → Holds (slice_index_or reads place d) item

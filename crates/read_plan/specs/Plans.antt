@@ -5,51 +5,53 @@ use Rattle.mb_wire.specs.Spans.{code_of}
 use Rattle.read_plan.specs.declared.run.Run.{Run}
 use Rattle.read_plan.specs.declared.run.TheConstants.{READ_LIMIT}
 
--- The runs have the same function and area number.
+-- Both runs have the same function and area number.
 pub record SameArea (a b : Run) : Type 0 where
   pub function : a.function ≡ b.function
   pub area : a.area ≡ b.area
 
--- A read holds exactly the items of the same area that lie inside it.
+-- A read holds an item if both are in one area and the item lies inside the read.
 pub record Holds (read item : Run) : Type 0 where
   pub same_area : SameArea read item
   pub from_first : read.first ≤ item.first
   pub to_end : item.end ≤ read.end
 
--- Some read of the list holds the item.
+-- At least one of the reads holds the item.
 abbrev pub IsContained : List Run → Run → Type 0
 IsContained reads item = Any (λ read. Holds read item) reads
 
--- A run of 1 to 125 registers.
+-- One read can request the run: it has 1 to 125 registers.
 abbrev pub IsReadable : Run → Type 0
 IsReadable run = (run.first < run.end) × (run.end ≤ run.first + READ_LIMIT)
 
--- A run inside its area. The area extends from the first to the last register of the points of one
--- function and area number.
+-- The run is inside its area, which extends from the first to the last register of the points of
+-- its function and area number.
 pub record IsInArea (points : List Run) (run : Run) : Type 0 where
   pub after_first : Any (λ point. SameArea point run × point.first ≤ run.first) points
   pub before_last : Any (λ point. SameArea point run × run.end ≤ point.end) points
 
--- A lawful plan for points and their items. Each read has 1 to 125 registers inside its area, and
--- each item lies in one read.
+-- The reads are a lawful plan for the points and their items. Each read has 1 to 125 registers
+-- inside its area, and each item lies in one read.
 pub record IsLawful (points items reads : List Run) : Type 0 where
   pub readable : All IsReadable reads
   pub in_areas : All (IsInArea points) reads
   pub contained : All (IsContained reads) items
 
--- Every lawful plan has at least `count` reads.
+-- Every lawful plan for these points and items has at least `count` reads.
 abbrev pub AreFewest : (points items : List Run) → (count : ℕ) → Type 0
 AreFewest points items count =
     (reads : List Run) → IsLawful points items reads → count ≤ length reads
 
--- The order by function, then by area number, then by first register.
+-- Run `a` comes before run `b` in the order by function, then by area number, then by first
+-- register.
 abbrev pub ComesBefore : Run → Run → Type 0
 ComesBefore a b =
     (code_of a.function < code_of b.function)
     ⊎ ((a.function ≡ b.function) × (a.area < b.area))
     ⊎ (SameArea a b × a.first < b.first)
 
--- The order by function, then by area number, then by last register.
+-- Run `a` comes before run `b` in the order by function, then by area number, then by last
+-- register.
 abbrev pub EndsBefore : Run → Run → Type 0
 EndsBefore a b =
     (code_of a.function < code_of b.function)
@@ -62,7 +64,7 @@ pub record LiesWithinReach (read item : Run) : Type 0 where
   pub from_first : read.first ≤ item.first
   pub in_reach : item.end ≤ read.first + READ_LIMIT
 
--- A read begins at the first register of the first item of its area that no earlier read holds.
+-- The read begins at the first register of the first item of its area that no earlier read holds.
 pub record BeginsAtFirstUnheld (items earlier : List Run) (read : Run) : Type 0 where
   pub at_item : Any (λ item. SameArea read item × (item.first ≡ read.first)
       × ¬ IsContained earlier item)
@@ -70,12 +72,12 @@ pub record BeginsAtFirstUnheld (items earlier : List Run) (read : Run) : Type 0 
   pub first : All (λ item. SameArea read item → item.first < read.first
       → IsContained earlier item) items
 
--- A read ends at the greatest last register of the items within its reach.
+-- The read ends at the greatest last register of the items within its reach.
 pub record EndsAtLastInReach (items : List Run) (read : Run) : Type 0 where
   pub at_item : Any (λ item. LiesWithinReach read item × (item.end ≡ read.end)) items
   pub last : All (λ item. LiesWithinReach read item → item.end ≤ read.end) items
 
--- The reads that the rule gives for items.
+-- The reads are those that the planning rule gives for these items, in order.
 pub record FollowsRule (items reads : List Run) : Type 0 where
   pub ordered : AllPairs ComesBefore reads
   pub begins : (k : ℕ) (d : Run) → k < length reads

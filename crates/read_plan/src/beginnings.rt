@@ -20,7 +20,8 @@ fn lies_within_reach(begin: &Run, item: &Run) -> bool
         && item.end.saturating_sub(READ_LIMIT) <= begin.first
 }
 
-// Only the last beginning is compared, because the items are in order.
+// Returns whether a read from one of the beginnings reaches the item. Only the last beginning is
+// compared, because the items are in order.
 fn is_reached(found: &[Run], item: &Run) -> bool
     ensures reached { OnTrue result (Any (λ begin. LiesWithinReach begin item.now) found.now) }
     ensures beyond { OnFalse result ((d : Run) → 0 < length found.now

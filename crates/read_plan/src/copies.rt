@@ -4,7 +4,7 @@ ghost use Rattle.std.specs.Prelude.{◌≡◌, IfOk};
 use point_list::{ListedPoint, PointList, PointName, PointScale};
 use std::alloc::{AllocError, Global};
 
-/// Copies a name.
+/// Copies the name of a point.
 fn copy_name(alloc: Global, name: &PointName) -> Result<PointName, AllocError>
     ensures { IfOk result (λ copy. copy ≡ name.now) }
 {
@@ -15,7 +15,7 @@ fn copy_name(alloc: Global, name: &PointName) -> Result<PointName, AllocError>
     }
 }
 
-/// Copies a scale.
+/// Copies the scale of a point.
 fn copy_scale(alloc: Global, scale: &PointScale) -> Result<PointScale, AllocError>
     ensures { IfOk result (λ copy. copy ≡ scale.now) }
 {
@@ -40,7 +40,7 @@ fn copy_point(alloc: Global, point: &ListedPoint) -> Result<ListedPoint, AllocEr
     })
 }
 
-/// Copies points.
+/// Copies the points of a list.
 fn copy_points(alloc: Global, points: &[ListedPoint]) -> Result<Vec<ListedPoint>, AllocError>
     ensures { IfOk result (λ copies. copies.items ≡ points.now) }
 {

@@ -24,7 +24,7 @@ fn run_of_point(point: &ListedPoint) -> Run
     }
 }
 
-// The runs are of one area.
+// Returns the smallest run that holds both runs, which are in one area.
 fn join(a: Run, b: Run) -> Run
     ensures { result ≡ joined a b }
 {
@@ -41,7 +41,8 @@ fn is_scale(point: &ListedPoint) -> bool
     matches!(point.kind, PointType::Sunssf)
 }
 
-// If two sunssf points have one name, the map holds the first of them.
+// Returns the runs of the scale points of a list, by name. If two sunssf points have one name,
+// the map has the first of them.
 fn scale_runs<'a>(alloc: Global, points: &'a [ListedPoint]) -> Result<ScaleRuns<'a>, AllocError>
     ensures { IfOk result (λ runs. AreScaleRuns points.now runs) }
 {
@@ -54,8 +55,8 @@ fn scale_runs<'a>(alloc: Global, points: &'a [ListedPoint]) -> Result<ScaleRuns<
     Ok(runs)
 }
 
-/// Returns the smallest run that holds a point and its scale point. `runs` are the scale points of
-/// the point's list.
+/// Returns the smallest run that holds a point and its scale point. `runs` has the scale points
+/// of the point's list.
 pub fn item(runs: &ScaleRuns<'_>, point: &ListedPoint) -> Run
     ensures { (points : List ListedPoint) → AreScaleRuns points runs.now
         → result ≡ item_of points point.now }

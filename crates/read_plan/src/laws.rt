@@ -10,7 +10,7 @@ pub fn rule_is_least()
         → IsLawful points items other → length reads ≤ length other }
 {}
 
-/// Proves that a list has exactly one plan.
+/// Proves that each list of points has exactly one plan.
 pub fn lists_are_planned_once()
     ensures { ListsArePlannedOnce }
 {}

@@ -6,12 +6,12 @@ use crate::planned_reads::PlannedRead;
 use crate::run::Run;
 use std::marker::Model;
 
-/// The location of a point in a plan.
+/// Where a plan has a point.
 #[derive(Clone, Copy, Debug, PartialEq, Eq)]
 pub struct Place {
     /// The index of the read, from 0.
     pub read: usize,
-    /// The number of registers of the read before the point's first register.
+    /// The number of registers in the read before the point's first register.
     pub offset: u16,
 }
 

@@ -1,4 +1,4 @@
-//! Makes the reads of the rule.
+//! Makes the reads that the planning rule gives.
 ghost use Rattle.std.specs.Prelude.{◌<◌, IfOk};
 ghost use Rattle.std.specs.List.{All, AllPairs, AllZip, Contains};
 ghost use Rattle.read_plan.specs.Beginnings.{ReadsFrom};
@@ -10,7 +10,7 @@ use crate::run::Run;
 use mb_wire::ADDRESSES;
 use std::alloc::{AllocError, Global};
 
-// The items are in order of their ends.
+// Returns a read from each of the beginnings. The items are in order of their ends.
 fn reads_from(alloc: Global, items: &[Run], begins: &[Run]) -> Result<Vec<Run>, AllocError>
     requires ordered { AllPairs (λ a b. ¬ EndsBefore b a) items.now }
     requires among { All (Contains items.now) begins.now }
@@ -26,7 +26,7 @@ fn reads_from(alloc: Global, items: &[Run], begins: &[Run]) -> Result<Vec<Run>, 
     Ok(reads)
 }
 
-/// Returns the reads that the rule gives for items of 1 to 125 registers.
+/// Returns the reads that the planning rule gives for items of 1 to 125 registers.
 pub fn rule_reads(alloc: Global, items: &[Run]) -> Result<Vec<Run>, AllocError>
     requires readable { All IsReadable items.now }
     requires inside { All (λ item. item.first < ADDRESSES) items.now }

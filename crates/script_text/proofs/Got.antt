@@ -27,7 +27,7 @@ pub got_both : {X E : Type 0} (result : Result X E) (a b c : Option (List ℕ)) 
 got_both (Ok done) a b c x y z first second joined = appends_both a b c x y z first second joined
 got_both (Err error) a b c x y z first second joined = part_after a b c x y z first second joined
 
--- A part of the first text is a part of both.
+-- If writing the first of two texts failed, the writer received a part of both.
 pub got_first : {X E : Type 0} (result : Result X E) (a b : Option (List ℕ)) (x y z : List ℕ) → IsErr result → GotPart x a b → x ++ y ≡ z → GotText result z a b
 got_first (Ok done) a b x y z failed first joined = cc failed
 got_first (Err error) a b x y z failed first joined =
@@ -60,7 +60,7 @@ pub got_at : {X Y E : Type 0} (f : X → List ℕ) (xs : List X) (i : ℕ) (d : 
 got_at f xs i d result a b c inside failed first second =
     got_some f xs i (get_or xs i d) result a b c inside (same_inside xs i d (get_or xs i d) inside) failed first second
 
--- The same text in another form.
+-- A writer that received a text received any equal text.
 pub got_this : {X E : Type 0} (result : Result X E) (a b : Option (List ℕ)) (x y : List ℕ) → x ≡ y → GotText result x a b → GotText result y a b
 got_this result a b x y same got = rw same at got
 

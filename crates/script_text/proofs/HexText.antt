@@ -15,7 +15,7 @@ encode_lower-append [] ys = refl
 encode_lower-append (x ∷ xs) ys =
     ap (λ (more : List ℕ). slice_index lower_digits (x / 16) ∷ slice_index lower_digits (x % 16) ∷ more) (encode_lower-append xs ys)
 
--- The writer received nothing yet.
+-- Before the first piece, the writer received no bytes.
 pub none_got : (a : Option (List ℕ)) → Appends a a (encode_lower [])
 unfolding encode_with
 none_got a = Appends-nil a
@@ -41,7 +41,7 @@ piece_failed result a b c bytes done piece after failed is first second =
     (ap (λ (front : List ℕ). front ++ encode_lower after) (sym (encode_lower-append done piece)) ∙ sym (encode_lower-append (done ++ piece) after)
     ∙ ap encode_lower (sym is))
 
--- Nothing is left.
+-- If no bytes are left, the writer received the hex text of all bytes.
 pub all_got : (a b : Option (List ℕ)) (bytes done rest : List ℕ) → bytes ≡ done ++ rest → rest ≡ [] → Appends a b (encode_lower done) → Appends a b (encode_lower bytes)
 all_got a b bytes done rest split none got =
     appends_this a b (encode_lower done) (encode_lower bytes)

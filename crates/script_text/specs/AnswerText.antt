@@ -1,4 +1,5 @@
--- The text that a script prints for the office's answers and notifications.
+-- The lines that a script prints for the answers and notifications of the office, the program's
+-- state over one store.
 use Rattle.std.specs.Prelude.{ℕ, Bool, true, false, List, ◌++◌, flat_map, Some, None, codes}
 use Rattle.std.specs.declared.option.Option.{Option}
 use Rattle.std.specs.Fmt.{decimal, signed_decimal}
@@ -20,7 +21,7 @@ use Rattle.poll_core.specs.Outcomes.{cause_number as loss_number, malformation_n
 use Rattle.poll_core.specs.declared.outcome.Outcome.{Outcome}
 use Rattle.poll_core.specs.declared.outcome.Outcome.TheVariants.{Answered, Exception, Silent, Malformed, Lost}
 
--- The outcome of a poll.
+-- The words for the outcome of a poll.
 abbrev pub outcome_text : Outcome → List ℕ
 outcome_text Answered = codes "answered"
 outcome_text (Exception code) = codes "exception " ++ decimal code
@@ -28,41 +29,42 @@ outcome_text Silent = codes "silent"
 outcome_text (Malformed wrong) = codes "malformed " ++ decimal (malformation_number wrong)
 outcome_text (Lost cause) = codes "lost " ++ decimal (loss_number cause)
 
--- The state of a poll: its outcome, or `pending`.
+-- The words for the state of a poll: its outcome, or `pending` while it has none.
 abbrev pub ending_text : Option EndedPoll → List ℕ
 ending_text None = codes "pending"
 ending_text (Some ended) = outcome_text ended.outcome
 
--- The line of a poll's outcome.
+-- The line for the outcome of the poll with this number.
 abbrev pub outcome_line : ℕ → Outcome → List ℕ
 outcome_line poll outcome =
     codes "poll " ++ decimal poll ++ codes " " ++ outcome_text outcome ++ codes "\n"
 
--- The count of a meter, its rollovers, and the energy of the step in mWh.
+-- The rest of the line of an accepted reading: the meter's count, its rollovers, and the energy
+-- of the step in mWh.
 abbrev pub reading_text : ℕ → ℕ → ℕ → List ℕ
 reading_text raw rolls step =
     codes " " ++ decimal raw ++ codes " rolls " ++ decimal rolls ++ codes " step " ++ decimal step
     ++ codes "\n"
 
--- The count of a rejected reading, and the number of its cause.
+-- The rest of the line of a rejected reading: the meter's count, and the number of the cause.
 abbrev pub held_text : ℕ → ℕ → List ℕ
 held_text raw cause = codes " " ++ decimal raw ++ codes " cause " ++ decimal cause ++ codes "\n"
 
--- The line of a notification.
+-- The line for a notification.
 abbrev pub note_line : Note → List ℕ
 note_line (note.Outcome poll outcome) = outcome_line poll outcome
 note_line (note.Reading meter raw rolls step) =
     codes "reading " ++ meter ++ reading_text raw rolls step
 note_line (note.Held meter raw cause) = codes "held " ++ meter ++ held_text raw (cause_number cause)
 
--- The number of the first poll, the number of polls that were started, and the number of reads in
--- the plan.
+-- The rest of the line of a start: the number of the first poll, the number of polls that were
+-- started, and the number of reads in the plan.
 abbrev pub counts_text : ℕ → ℕ → ℕ → List ℕ
 counts_text first count of =
     codes "started " ++ decimal first ++ codes " " ++ decimal count ++ codes " " ++ decimal of
     ++ codes " "
 
--- The line of an answer. A start prints its polls and the frames to send.
+-- The line for an answer. The line for a start also has the frames to send, in hex.
 abbrev pub answer_line : Answer → List ℕ → List ℕ
 answer_line Noted frames = codes "ok\n"
 answer_line (Done kind) frames = codes "ok\n"
@@ -70,41 +72,42 @@ answer_line (Again kind) frames = codes "ok\n"
 answer_line (Started first count of) frames =
     counts_text first count of ++ encode_lower frames ++ codes "\n"
 
--- The text of an accepted event: its notifications, and then its answer.
+-- The lines for an accepted event: its notifications, and then its answer.
 abbrev pub accepted_text : Answer → List Note → List ℕ → List ℕ
 accepted_text answer notes frames = flat_map note_line notes ++ answer_line answer frames
 
--- The line of a refusal.
+-- The line for a refusal, with its number.
 abbrev pub refused_line : Refusal → List ℕ
 refused_line refusal = codes "refused " ++ decimal (refusal_number refusal) ++ codes "\n"
 
--- The last word of a meter's line.
+-- The last word of a meter's line: `open`, or `ended` for a closed meter.
 abbrev pub end_word : Bool → List ℕ
 end_word true = codes " ended\n"
 end_word false = codes " open\n"
 
--- The state of a meter's counter, its total energy in mWh, and whether it was closed.
+-- The rest of a meter's line: its counter's state, its total energy in mWh, and whether it was
+-- closed.
 abbrev pub standing_text : Last → ℕ → Bool → List ℕ
 standing_text last total ended =
     codes " last " ++ decimal last.raw ++ codes " sf " ++ signed_decimal last.sf ++ codes " at "
     ++ decimal last.at
     ++ codes " total " ++ decimal total ++ end_word ended
 
--- The line of a meter.
+-- The line for a meter.
 abbrev pub meter_line : Installation → List ℕ
 meter_line row = codes "meter " ++ row.opening.meter ++ standing_text row.last row.total row.ended
 
--- The line of a poll.
+-- The line for a poll.
 abbrev pub poll_line : PollRow → List ℕ
 poll_line row =
     codes "poll " ++ decimal row.poll.number ++ codes " " ++ ending_text row.ended ++ codes "\n"
 
--- The line of an invalid row of a point list. The header is row 1.
+-- The line for an invalid row of a point list. The header is row 1.
 abbrev pub fault_line : FaultyRow → List ℕ
 fault_line faulty =
     codes "row " ++ decimal faulty.row ++ codes " fault " ++ decimal (fault_number faulty.fault)
     ++ codes "\n"
 
--- The line for an input line without a valid form. Input lines are numbered from 1.
+-- The line that reports an input line without a valid form. Input lines are numbered from 1.
 abbrev pub bad_line : ℕ → List ℕ
 bad_line number = codes "bad line " ++ decimal number ++ codes "\n"

@@ -1,4 +1,4 @@
-//! Writes the text of an accepted event.
+//! Writes the lines for an accepted event.
 ghost use Rattle.std.specs.Prelude.{◌≡◌, ◌++◌, codes, flat_map};
 ghost use Rattle.hex.specs.Hex.{encode_lower};
 ghost use Rattle.sun_points.specs.Writing.{GotText};
@@ -10,8 +10,8 @@ use crate::row_lines::Line;
 use office_events::{Answer, Note};
 use std::io::{self, Write};
 
-/// Writes the notifications of an accepted event, and then its answer. `frames` are the bytes to
-/// send.
+/// Writes a line for each notification of an accepted event, and then a line for its answer.
+/// `frames` are the bytes to send.
 pub fn write_accepted<W: Write>(
     answer: &Answer,
     notes: &[Note],
@@ -36,7 +36,8 @@ pub fn write_notes<W: Write>(notes: &[Note], output: &mut W) -> io::Result<()>
     Ok(())
 }
 
-/// Writes `ok`, or for a start `started FIRST COUNT OF HEX`. HEX are the frames to send.
+/// Writes the line `ok`, or for a start the line `started FIRST COUNT OF HEX`. HEX are the frames
+/// to send.
 pub fn write_answer<W: Write>(answer: &Answer, frames: &[u8], output: &mut W) -> io::Result<()>
     ensures { GotText result (text.answer_line answer.now frames.now)
         (W.contents output.old) (W.contents output.new) }

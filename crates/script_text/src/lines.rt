@@ -1,4 +1,4 @@
-//! Writes single lines.
+//! Writes the lines for a refusal, a meter, a poll, and faults of input.
 ghost use Rattle.std.specs.Prelude.{◌≡◌, ◌≤◌, ◌+◌, ◌++◌, flat_map, length};
 ghost use Rattle.sun_points.specs.Writing.{GotText};
 ghost use Rattle.script_text.specs.AnswerText as text;
@@ -11,7 +11,7 @@ use office_events::{EndedPoll, Installation, PollRow, Refusal};
 use point_list::FaultyRow;
 use std::io::{self, Write};
 
-/// Writes `refused N`.
+/// Writes the line `refused N`, where N is the number of the refusal.
 pub fn write_refusal<W: Write>(refusal: Refusal, output: &mut W) -> io::Result<()>
     ensures { GotText result (text.refused_line refusal)
         (W.contents output.old) (W.contents output.new) }
@@ -62,7 +62,7 @@ fn end_word(ended: bool) -> &'static [u8]
     if ended { b" ended\n" } else { b" open\n" }
 }
 
-/// Writes `poll N OUTCOME`. The outcome of a pending poll is `pending`.
+/// Writes the line `poll N OUTCOME`. The outcome of a pending poll is `pending`.
 pub fn write_poll<W: Write>(row: &PollRow, output: &mut W) -> io::Result<()>
     ensures { GotText result (text.poll_line row.now)
         (W.contents output.old) (W.contents output.new) }
@@ -92,7 +92,7 @@ fn push_ending(line: &mut Line, ended: &Option<EndedPoll>)
     }
 }
 
-/// Writes `row R fault N` for each faulty row. The header is row 1.
+/// Writes the line `row R fault N` for each faulty row of a point list. The header is row 1.
 pub fn write_faults<W: Write>(faults: &[FaultyRow], output: &mut W) -> io::Result<()>
     ensures { GotText result (flat_map text.fault_line faults.now)
         (W.contents output.old) (W.contents output.new) }
@@ -120,7 +120,7 @@ fn fault_line(faulty: &FaultyRow) -> Line
     line
 }
 
-/// Writes `bad line N`, for an input line without a valid form.
+/// Writes the line `bad line N`, for the input line N without a valid form.
 pub fn write_bad_line<W: Write>(number: u64, output: &mut W) -> io::Result<()>
     ensures { GotText result (text.bad_line number)
         (W.contents output.old) (W.contents output.new) }

@@ -9,7 +9,8 @@ use office_events::Note;
 use poll_core::Outcome;
 use std::io::{self, Write};
 
-/// Writes `poll N OUTCOME`, `reading METER RAW rolls R step MWH` or `held METER RAW cause N`.
+/// Writes the line for a notification: `poll N OUTCOME`, `reading METER RAW rolls R step MWH` or
+/// `held METER RAW cause N`.
 pub fn write_note<W: Write>(note: &Note, output: &mut W) -> io::Result<()>
     ensures { GotText result (text.note_line note.now)
         (W.contents output.old) (W.contents output.new) }
@@ -51,7 +52,7 @@ fn outcome_line(poll: u64, outcome: Outcome) -> Line
     line
 }
 
-/// Appends the outcome of a poll.
+/// Appends the words for the outcome of a poll.
 pub(crate) fn push_outcome(line: &mut Line, outcome: Outcome)
     requires { length line.old ≤ 64 }
     ensures bytes { line.new ≡ line.old ++ text.outcome_text outcome }

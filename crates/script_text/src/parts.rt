@@ -1,4 +1,4 @@
-//! Writes texts one after another.
+//! Writes the parts of a line one after another.
 ghost use Rattle.std.specs.Prelude.{◌≡◌, ◌++◌, ◌*◌, ◌≤◌, length};
 ghost use Rattle.hex.specs.Hex.{encode_lower};
 ghost use Rattle.sun_points.specs.Writing.{GotText};
@@ -66,11 +66,11 @@ fn write_piece<W: Write>(bytes: &[u8], output: &mut W) -> io::Result<()>
     write_text(text, output)
 }
 
-/// The text has two digits for each byte.
+/// Writes the bytes in hex to `text`, which has two digits for each byte.
 fn put_digits(bytes: &[u8], text: &mut [u8])
     requires { length text.old ≡ 2 * length bytes.now }
     ensures { text.new ≡ encode_lower bytes.now }
 {
-    // Any other length is the only error, and the contract excludes it.
+    // A text of any other length is the only error, and the contract excludes it.
     let _ = hex::encode_to_slice(bytes, text);
 }

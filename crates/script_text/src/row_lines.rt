@@ -1,4 +1,4 @@
-//! The lines of interval rows and days. No call allocates memory.
+//! Writes the lines for interval rows and for days. No call allocates memory.
 
 mod line;
 mod rows;

@@ -14,7 +14,7 @@ pub trait Clock {
         ensures { TellsMoment (moments self.old) (moments self.new) result };
 }
 
-/// The system's clock. It may be set back.
+/// The system's clock. A person or the system may set it back.
 #[derive(Drop)]
 pub struct SystemClock<R: std::rt::Clock + Drop> {
     rt: R,

@@ -5,8 +5,8 @@ ghost use Rattle.socket_link.specs.Beginnings.{CountsNothing};
 
 use mb_wire::{LastTake, LinkFailed, Took};
 
-/// The numbers of failed calls, of reads and of reads that found the end, and the last read. The
-/// numbers saturate at 2^64 - 1.
+/// The counts of a link's calls: failed calls, reads, and reads that found the end of the input.
+/// `last` is the last read. The numbers saturate at 2^64 - 1.
 #[derive(Drop)]
 pub struct Counts {
     pub failures: u64,
@@ -27,7 +27,7 @@ impl Counts {
         }
     }
 
-    /// Counts a read into a buffer of `room` bytes.
+    /// Counts a read into a buffer of `room` bytes with this result.
     pub fn take(&mut self, room: usize, answer: Result<Took, LinkFailed>)
         ensures failures { self.new.failures ≡ risen (is_err answer) self.old.failures }
         ensures takes { self.new.takes ≡ risen true self.old.takes }
@@ -43,7 +43,7 @@ impl Counts {
         self.last = Some(LastTake { room, answer });
     }
 
-    /// Counts a write of these bytes.
+    /// Counts a write of these bytes with this result.
     pub fn give(&mut self, bytes: &[u8], answer: Result<usize, LinkFailed>)
         ensures failures { self.new.failures ≡
             risen (is_failed_give answer bytes.now) self.old.failures }

@@ -3,8 +3,8 @@ use crate::clock::Clock;
 use crate::counts::Counts;
 use mb_wire::{LastTake, Link, LinkFailed, Took};
 
-/// A link whose calls fail after a given time. That each call reads the clock is tested, not
-/// proved.
+/// A link whose calls fail after a given time. A test shows that each call reads the clock; no
+/// proof does.
 #[derive(Drop)]
 pub struct DeadlineLink<'l, L: Link, C: Clock> {
     link: &'l mut L,
@@ -31,7 +31,7 @@ impl<'l, L: Link, C: Clock> DeadlineLink<'l, L, C> {
         }
     }
 
-    // Returns whether the clock has passed the deadline.
+    // Returns whether the clock's time is after the deadline.
     fn is_late(&mut self) -> bool
         ensures late { IfSome (C.moments self.old.clock.now) (TellsLate self.old.until result) }
         ensures link { self.new.link.now ≡ self.old.link.now }

@@ -42,11 +42,11 @@ impl<S: Read + Write + OpenStream + Drop> SocketLink<S> {
         })
     }
 
-    /// Closes a connection on which the peer may still send unwanted bytes.
+    /// Closes a connection on which the peer may still send bytes that nobody reads.
     ///
-    /// Shuts down the sending side, and then discards input: until its end, until a read times out,
-    /// or ten reads. Closing a socket with unread bytes resets it, and the peer may then lose what
-    /// was sent to it.
+    /// Shuts down the sending side, and then discards input until it ends, a read times out, or
+    /// ten reads were made. Closing a socket with unread bytes would reset the connection, and
+    /// the peer might lose what was sent to it.
     pub fn end(mut self) {
         if self.stream.shutdown(Shutdown::Write).is_err() {
             return;

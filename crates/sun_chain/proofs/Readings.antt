@@ -24,7 +24,7 @@ nothing_after : (found : Option ℕ) → option_and_then (λ first. option_map (
 nothing_after None = refl
 nothing_after (Some word) = refl
 
--- One word, and the words after it.
+-- Consecutive words are the first word, and the words after it.
 words_in-suc : (word : Words) (start count : ℕ) → words_in word start (suc count) ≡ option_and_then (λ first. option_map (λ rest. first ∷ rest) (words_in word (start + 1) count)) (word start)
 unfolding words_in
 words_in-suc word start count = refl

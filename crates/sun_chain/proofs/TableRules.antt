@@ -30,7 +30,7 @@ in_order_from_less from later (point ∷ points) below stand =
     let first : later ≤ point.address = stand.0 in
     (omega (arith, first), stand.1)
 
--- One more point, if it exists, before the others.
+-- Points stay in order with one more point before them, if that point exists.
 one_before : (model : Model) (from : ℕ) (row : Row) (scale : PointScale) (found : Option Value) (following : List Named) → from ≤ row.offset →
     StandInOrder (model.address + end_of_row row) following →
     StandInOrder (model.address + from)

@@ -1,11 +1,11 @@
--- The chain of SunSpec models in the words of a device.
+-- The chain of SunSpec models in the words that were read from a device.
 use Rattle.std.specs.Prelude.{◌≡◌, ◌≢◌, ℕ, ◌+◌, ◌≤◌, ◌<◌, Bool, false, ◌&&◌, ◌==◌, List, [], ◌∷◌, length, Some, option_map, unwrap_or, find, MatchOption}
 use Rattle.std.specs.declared.option.Option.{Option}
 use Rattle.sun_chain.specs.Image.{Words, word_in}
 use Rattle.sun_chain.specs.declared.chain.Chain.{Chain}
 use Rattle.sun_chain.specs.declared.model.Model.{Model}
 
--- A word that was read, and equals this value.
+-- The word was read, and equals this value.
 abbrev pub is_word : Option ℕ → ℕ → Bool
 is_word found value = unwrap_or (option_map (λ word. word == value) found) false
 
@@ -13,12 +13,12 @@ is_word found value = unwrap_or (option_map (λ word. word == value) found) fals
 abbrev pub is_marked : Words → ℕ → Bool
 is_marked word address = is_word (word address) 0x5375 && is_word (word (address + 1)) 0x6E53
 
--- The first of the base addresses 40000, 50000 and 0 that holds the mark.
+-- The first of the base addresses 40000, 50000 and 0 that holds the mark, or `None`.
 abbrev pub base_in : Words → Option ℕ
 base_in word = find (is_marked word) (40000 ∷ 50000 ∷ 0 ∷ [])
 
--- The words hold this model: its ID, which is not the end's, and its length. All of its registers
--- lie below 65536.
+-- The words hold this model: its ID, other than 0xFFFF, and its length. All of its registers have
+-- addresses below 65536.
 pub record Stands (word : Words) (model : Model) : Type 0 where
   pub id : word model.address ≡ Some model.id
   pub no_end : model.id ≢ 0xFFFF
@@ -36,25 +36,27 @@ Follow word from [] next = from ≡ next
 Follow word from (model ∷ models) next =
     (model.address ≡ from) × Stands word model × Follow word (next_after model) models next
 
--- The walk's finding at an address after `count` models: another model, or the end of the chain.
+-- What comes at an address after `count` models: `found` is a model there, or `None` at the end
+-- of the chain.
 abbrev pub IsNext : Words → (count address : ℕ) → Option Model → Type 0
 IsNext word count address found =
     MatchOption found ((word address ≡ Some 0xFFFF) × (address ≤ 65535))
     (λ model. (model.address ≡ address) × Stands word model × (count < 64))
 
--- At most 64 consecutive models after the mark.
+-- The models follow the mark at `base` without a gap, and are at most 64. `next` is the address
+-- after the last of them.
 pub record IsLawful (word : Words) (base : ℕ) (models : List Model) (next : ℕ) : Type 0 where
   pub marked : base_in word ≡ Some base
   pub follow : Follow word (base + 2) models next
   pub few : length models ≤ 64
 
--- A complete chain: its models, and the address of the end's ID after them.
+-- A complete chain: the models, and the address `end` of the ID 0xFFFF after them.
 pub record IsChain (word : Words) (base : ℕ) (models : List Model) (end : ℕ) : Type 0 where
   pub lawful : IsLawful word base models end
   pub ends : word end ≡ Some 0xFFFF
   pub inside : end ≤ 65535
 
--- The words in which a walk found its chain.
+-- The words of the image in which `walk` found the chain.
 abbrev pub words_of : Chain → Words
 words_of chain = word_in chain.image.now
 
@@ -66,6 +68,6 @@ base_of chain = chain.base
 abbrev pub models_of : Chain → List Model
 models_of chain = chain.models.items
 
--- The address of the end's ID.
+-- The address of the ID 0xFFFF that ends the chain.
 abbrev pub end_of : Chain → ℕ
 end_of chain = chain.end

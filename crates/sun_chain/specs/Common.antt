@@ -9,7 +9,8 @@ use Rattle.sun_chain.specs.Points.{registers_in}
 use Rattle.sun_chain.specs.declared.model.Model.{Model}
 use Rattle.sun_chain.specs.declared.common.Common.{Common}
 
--- The fields of a common model, each text as its words, without the memory that the text borrows.
+-- The fields of a common model, each text as its words, without the image that the program's
+-- texts borrow.
 pub record Said : Type 0 where
   pub manufacturer : List ℕ
   pub model : List ℕ
@@ -18,7 +19,7 @@ pub record Said : Type 0 where
   pub serial : List ℕ
   pub device_address : Option ℕ
 
--- The fields that a `Common` of the program represents.
+-- The fields of a `Common` of the program, as values.
 abbrev pub said : Common → Said
 said common = record {
   manufacturer = common.manufacturer.words.now;
@@ -29,7 +30,7 @@ said common = record {
   device_address = common.device_address;
 }
 
--- The words of a text. An absent text has none.
+-- The words of a text. Any other value has none.
 abbrev pub text_words : Value → List ℕ
 text_words Absent = []
 text_words (Signed value) = []
@@ -37,18 +38,18 @@ text_words (Unsigned value) = []
 text_words (Bits bits) = []
 text_words (WordsOf words) = words
 
--- The words of a text that may be missing.
+-- The words of a text that may be missing; none if it is missing.
 abbrev pub words_or_none : Option Value → List ℕ
 words_or_none None = []
 words_or_none (Some value) = text_words value
 
--- The words of a text at an offset of a model. A text that is not fully inside the model and read
--- has none.
+-- The words of a text at an offset of a model; none if the text is not fully inside the model or
+-- was not read.
 abbrev pub text_in : Words → Model → ℕ → ℕ → List ℕ
 text_in word model offset count =
     words_or_none (option_map (value_of (Text count)) (registers_in word model offset count))
 
--- The number of an unsigned value, if it is implemented.
+-- The number of an unsigned value, or `None` if the point is not implemented.
 abbrev pub number_of : Value → Option ℕ
 number_of Absent = None
 number_of (Signed value) = None
@@ -72,6 +73,6 @@ common_in word model = record {
   device_address = device_address_in word model;
 }
 
--- The first common model of a chain.
+-- The first model of a chain with ID 1, or `None`.
 abbrev pub first_common : List Model → Option Model
 first_common models = find (λ model. model.id == 1) models

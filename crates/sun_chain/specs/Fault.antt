@@ -1,16 +1,16 @@
--- The numbers of the faults.
+-- The numbers of the crate's faults.
 use Rattle.std.specs.Prelude.{ℕ}
 use Rattle.sun_chain.specs.declared.fault.ImageFault.{ImageFault}
 use Rattle.sun_chain.specs.declared.fault.ImageFault.TheVariants as image
 use Rattle.sun_chain.specs.declared.fault.ChainFault.{ChainFault}
 use Rattle.sun_chain.specs.declared.fault.ChainFault.TheVariants as chain
 
--- The number of a refused write into an image.
+-- The number of each fault of a write into an image.
 abbrev pub image_fault_number : ImageFault → ℕ
 image_fault_number image.PastEnd = 1
 image_fault_number image.Memory = 2
 
--- The number that `chain` prints for a fault.
+-- The number that the command `chain` prints for each fault.
 abbrev pub chain_fault_number : ChainFault → ℕ
 chain_fault_number chain.NoMark = 1
 chain_fault_number (chain.Unreadable address) = 2

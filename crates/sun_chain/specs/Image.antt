@@ -1,9 +1,9 @@
--- The words of a device, by address.
+-- The words that were read from a device, by address.
 use Rattle.std.specs.Prelude.{ℕ, zero, suc, ◌+◌, ◌-◌, false, ◌&&◌, nat_le, nat_lt, if◌then◌else◌, List, [], ◌∷◌, length, slice_index, slice_index_or, Some, None, option_map, option_and_then}
 use Rattle.std.specs.declared.option.Option.{Option}
 use Rattle.sun_chain.specs.declared.image.Image.{Image}
 
--- The word that was read at each address, if any.
+-- The word at each address, or `None` where no word was read.
 abbrev pub Words : Type 0
 Words = ℕ → Option ℕ
 
@@ -14,13 +14,13 @@ word_in image address =
     then Some (slice_index image.words.items address)
     else None
 
--- The words after new words are written at consecutive addresses.
+-- The words after these new words were written at consecutive addresses from an address on.
 abbrev pub put_words : Words → ℕ → List ℕ → Words
 put_words word address words at =
     if nat_le address at && nat_lt at (address + length words)
     then Some (slice_index words (at - address)) else word at
 
--- The `count` words from an address, if all of them were read.
+-- The `count` words from an address on, or `None` unless all of them were read.
 unfoldable pub words_in : Words → ℕ → ℕ → Option (List ℕ)
 words_in word address zero = Some []
 words_in word address (suc count) =

@@ -7,7 +7,7 @@ use Rattle.sun_chain.specs.declared.model.Model.{Model}
 use Rattle.sun_chain.specs.declared.fault.ChainFault.{ChainFault}
 use Rattle.sun_chain.specs.declared.fault.ChainFault.TheVariants.{Memory}
 
--- The words hold a complete chain.
+-- The words hold a complete chain of models.
 abbrev pub HasChain : Words → Type 0
 HasChain word = (base : ℕ) × (models : List Model) × (end : ℕ) × IsChain word base models end
 
@@ -15,22 +15,22 @@ HasChain word = (base : ℕ) × (models : List Model) × (end : ℕ) × IsChain 
 abbrev pub HasFault : Words → Type 0
 HasFault word = (fault : ChainFault) × (fault ≢ Memory) × Fails word fault
 
--- Every device's words have a chain or a fault.
+-- Theorem: any words have a chain, or have a fault.
 abbrev pub ChainOrFault : Type 0
 ChainOrFault = (word : Words) → HasChain word ⊎ HasFault word
 
--- No words have two chains.
+-- Theorem: no words have two different chains.
 abbrev pub ChainIsOne : Type 0
 ChainIsOne = (word : Words) (base other_base : ℕ) (models others : List Model) (end other_end : ℕ)
     → IsChain word base models end → IsChain word other_base others other_end
     → (base ≡ other_base) × (models ≡ others) × (end ≡ other_end)
 
--- Words with a chain have no fault except lack of memory.
+-- Theorem: words with a chain have no fault except lack of memory.
 abbrev pub ChainHasNoFault : Type 0
 ChainHasNoFault = (word : Words) (base : ℕ) (models : List Model) (end : ℕ) (fault : ChainFault)
     → IsChain word base models end → Fails word fault → fault ≡ Memory
 
--- No words have two faults, apart from lack of memory.
+-- Theorem: no words have two different faults, apart from lack of memory.
 abbrev pub FaultIsOne : Type 0
 FaultIsOne = (word : Words) (fault other : ChainFault) → fault ≢ Memory → other ≢ Memory
     → Fails word fault → Fails word other → fault ≡ other

@@ -14,7 +14,7 @@ use Rattle.sun_chain.specs.declared.named_point.PointScale.{PointScale}
 use Rattle.sun_chain.specs.declared.named_point.PointScale.TheVariants.{Unscaled, Scaled, Faulty}
 use Rattle.sun_chain.specs.declared.named_point.NamedPoint.{NamedPoint}
 
--- A point of a model, without the memory that its name and its text borrow.
+-- A point of a model as a value, without the memory that the program's name and text borrow.
 pub record Named : Type 0 where
   pub name : List ℕ
   pub address : ℕ
@@ -22,21 +22,21 @@ pub record Named : Type 0 where
   pub value : Value
   pub scale : PointScale
 
--- The scale of a point whose scale factor is this exponent, or out of range.
+-- The scale for an exponent, or `Faulty` without one.
 abbrev pub scaled_or_faulty : Option ℤ → PointScale
 scaled_or_faulty None = Faulty
 scaled_or_faulty (Some exponent) = Scaled exponent
 
--- The scale of a point whose scale point holds this word.
+-- The scale of a point, by the word in the register of its scale point.
 abbrev pub scale_said : ℕ → PointScale
 scale_said word = scaled_or_faulty (scale_of word)
 
--- The scale of a point with or without a scale point.
+-- The scale of a point, by the word of its scale point; `Unscaled` if it has no scale point.
 abbrev pub point_scale : Option ℕ → PointScale
 point_scale None = Unscaled
 point_scale (Some word) = scale_said word
 
--- The point that a `NamedPoint` of the program represents.
+-- A `NamedPoint` of the program, as a value.
 abbrev pub seen : NamedPoint → Named
 seen point = record {
   name = point.name.now;
@@ -46,29 +46,32 @@ seen point = record {
   scale = point_scale point.scale_word;
 }
 
--- The `count` registers at an offset of a model, if they lie inside the model and were read.
+-- The `count` registers at an offset of a model, or `None` unless they lie inside the model and
+-- were read.
 abbrev pub registers_in : Words → Model → ℕ → ℕ → Option (List ℕ)
 registers_in word model offset count =
     if nat_le (offset + count) (2 + model.length) then words_in word (model.address + offset) count
     else None
 
--- The register at an offset of a model, if it lies inside the model and was read.
+-- The register at an offset of a model, or `None` unless it lies inside the model and was read.
 abbrev pub register_in : Words → Model → ℕ → Option ℕ
 register_in word model offset =
     if nat_le (offset + 1) (2 + model.length) then word (model.address + offset) else None
 
--- The word of a scale point at its offset. A scale point that is missing or was not read counts as
--- 0.
+-- The word of the scale point at this offset of a model. A scale point outside the model or not
+-- read counts as 0. `None` if the point has no scale point.
 abbrev pub scale_word_in : Words → Model → Option ℕ → Option ℕ
 scale_word_in word model scale =
     option_map (λ offset. unwrap_or (register_in word model offset) 0) scale
 
--- The value of a point of the table, if all of its registers lie inside the model and were read.
+-- The value of a table's point in a model, or `None` unless all its registers lie inside the
+-- model and were read.
 abbrev pub value_in : Words → Model → Row → Option Value
 value_in word model row =
     option_map (value_of row.ty) (registers_in word model row.offset (registers_of row.ty))
 
--- A point of the table in a model, with its value and its scale, if its registers were read.
+-- A table's point in a model, with its value and its scale, or `None` unless its registers were
+-- read.
 abbrev pub point_in : Words → Model → Row → Option Named
 point_in word model row =
     option_map
@@ -81,11 +84,11 @@ point_in word model row =
     })
     (value_in word model row)
 
--- The points of a model, in the order of its table.
+-- The points of a model that were read, in the order of the model's table.
 abbrev pub points_in : Words → Model → List Named
 points_in word model = filter_map (point_in word model) (table_of model.id)
 
--- The text of a value whose scale factor is out of range.
+-- The text of a value whose scale is `Faulty`: `absent` for an absent value, otherwise `faulty`.
 abbrev pub faulty_text : Value → List ℕ
 faulty_text Absent = codes "absent"
 faulty_text (Signed value) = codes "faulty"

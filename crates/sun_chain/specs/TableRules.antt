@@ -1,4 +1,4 @@
--- The invariants of the model tables, and the order of points.
+-- The invariants of the model tables, and the order of a model's points.
 use Rattle.std.specs.Prelude.{ℕ, ◌+◌, ◌≤◌, ◌==◌, ◌&&◌, nat_le, Bool, true, false, IsTrue, if◌then◌else◌, List, [], ◌∷◌, option_map, unwrap_or}
 use Rattle.std.specs.List.{list_all, list_any}
 use Rattle.sun_points.specs.PointType.{registers_of}
@@ -7,7 +7,7 @@ use Rattle.sun_points.specs.declared.point_type.PointType.TheVariants.{Int16, Ui
 use Rattle.sun_chain.specs.Tables.{Row, table_of}
 use Rattle.sun_chain.specs.Points.{Named}
 
--- The offset after a point's last register.
+-- The offset after the last register of a table's point.
 abbrev pub end_of_row : Row → ℕ
 end_of_row row = row.offset + registers_of row.ty
 
@@ -21,7 +21,7 @@ ascends_from from (row ∷ rows) = nat_le from row.offset && ascends_from (end_o
 abbrev pub lies_inside : ℕ → Row → Bool
 lies_inside length row = nat_le (end_of_row row) (2 + length)
 
--- The type of scale points.
+-- The type of this point is `sunssf`, which scale points have.
 abbrev pub is_sunssf : PointType → Bool
 is_sunssf Int16 = false
 is_sunssf Uint16 = false
@@ -33,7 +33,7 @@ is_sunssf Acc32 = false
 is_sunssf Sunssf = true
 is_sunssf (Text registers) = false
 
--- A scale point at this offset.
+-- The table's point is a scale point at this offset.
 abbrev pub is_scale_point : ℕ → Row → Bool
 is_scale_point offset row = is_sunssf row.ty && row.offset == offset
 
@@ -42,13 +42,14 @@ abbrev pub has_its_scale : List Row → Row → Bool
 has_its_scale rows row =
     unwrap_or (option_map (λ offset. list_any (is_scale_point offset) rows) row.scale) true
 
--- A lawful table for models of this length. After the ID and the length, its points are in order
--- and inside the model, with their scale points.
+-- The table is lawful for models of this length. Its points come after the ID and the length, are
+-- in order and lie inside the model. Their scale points are in the table.
 abbrev pub is_lawful_table : ℕ → List Row → Bool
 is_lawful_table length rows =
     ascends_from 2 rows && list_all (lies_inside length) rows && list_all (has_its_scale rows) rows
 
--- The length of a known model. Model 1 may have one more register, for padding.
+-- The length of the model with this ID, or 0 for an unknown model. Model 1 may have one more
+-- register, for padding.
 abbrev pub length_of_known : ℕ → ℕ
 length_of_known id =
     if id == 1 then 65
@@ -56,7 +57,7 @@ length_of_known id =
     else if nat_le 201 id && nat_le id 204 then 105
     else 0
 
--- The table of every model ID is lawful.
+-- Theorem: the table of every model ID is lawful.
 abbrev pub TablesAreLawful : Type 0
 TablesAreLawful = (id : ℕ) → IsTrue (is_lawful_table (length_of_known id) (table_of id))
 

@@ -18,7 +18,7 @@ pub record Row : Type 0 where
   pub ty : PointType
   pub scale : Option ℕ
 
--- A row of a table.
+-- The row of a table with this name, offset, type and offset of its scale point.
 abbrev pub row : List ℕ → ℕ → PointType → Option ℕ → Row
 row name offset ty scale = record { name = name; offset = offset; ty = ty; scale = scale }
 
@@ -158,7 +158,7 @@ meter_table =
     ∷ row (codes "Evt") 105 Bitfield32 None
     ∷ []
 
--- The points of a model by its ID. An unknown model has none.
+-- The table of the model with this ID; empty for an unknown model.
 abbrev pub table_of : ℕ → List Row
 table_of id =
     if id == 1 then common_table
@@ -181,16 +181,16 @@ type_of entry.String16 = Text 16
 abbrev pub row_of : Entry → Row
 row_of found = row found.name.now found.offset (type_of found.ty) found.scale
 
--- The offset of the scale point of the first point with a name.
+-- The offset of the scale point of the first point with this name, or `None`.
 abbrev pub scale_offset_in : List Row → List ℕ → Option ℕ
 scale_offset_in rows name =
     option_and_then (λ scaled. scaled.scale) (find (λ scaled. bytes_eq scaled.name name) rows)
 
--- The name of the first point at an offset.
+-- The name of the first point at this offset, or `None`.
 abbrev pub name_at_in : List Row → ℕ → Option (List ℕ)
 name_at_in rows offset =
     option_map (λ scaling. scaling.name) (find (λ scaling. scaling.offset == offset) rows)
 
--- The name of the scale point of the point with a name.
+-- The name of the scale point of the first point with this name, or `None`.
 abbrev pub scale_name_in : List Row → List ℕ → Option (List ℕ)
 scale_name_in rows name = option_and_then (name_at_in rows) (scale_offset_in rows name)

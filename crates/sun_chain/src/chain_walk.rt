@@ -63,7 +63,8 @@ fn is_marked_at(image: &Image, base: u16) -> bool
     image.word(base) == Some(0x5375) && image.word(base + 1) == Some(0x6E53)
 }
 
-// Returns the model at an address after `count` models, or `None` at the end of the chain.
+// Returns the model at an address after `count` models, or `None` at the end of the chain. On
+// error, returns the first fault there.
 fn model_at(image: &Image, count: usize, address: u32) -> Result<Option<Model>, ChainFault>
     ensures stands { IfOk result (IsNext (word_in image.now) count address) }
     ensures lack { IfErr result

@@ -73,14 +73,15 @@ impl Image {
         mark_at(&mut self.read, start, words.len());
     }
 
-    /// Returns the word at the address, if it was read.
+    /// Returns the word at the address, or `None` if it was not read.
     pub fn word(&self, address: u16) -> Option<u16>
         ensures { result ≡ word_in self.now address }
     {
         self.word_at(u32::from(address))
     }
 
-    /// Returns the word at an address, if it was read. The address may be past 65535.
+    /// Returns the word at an address, or `None` if it was not read. The address may be past
+    /// 65535.
     pub(crate) fn word_at(&self, address: u32) -> Option<u16>
         ensures { result ≡ word_in self.now address }
     {
@@ -90,7 +91,7 @@ impl Image {
         }
     }
 
-    /// Returns `count` words from an address, if all of them were read.
+    /// Returns `count` words from an address on, or `None` unless all of them were read.
     pub(crate) fn words_at(&self, address: u32, count: u16) -> Option<&[u16]>
         requires { 1 ≤ count }
         ensures words { option_map (λ words. words.now) result
@@ -114,7 +115,7 @@ fn is_all_true(marks: &[bool]) -> bool
     marks.iter().all(|mark| *mark)
 }
 
-// Extends a list to at least this size with the value.
+// Extends a list with copies of the value to at least this size.
 fn pad<T: Copy>(items: &mut Vec<T>, size: usize, value: T) -> Result<(), AllocError>
     ensures longer { OnOk result
         (items.new.items ≡ items.old.items ++ replicate (size - vec_len items.old) value) }

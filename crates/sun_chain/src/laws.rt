@@ -8,7 +8,7 @@ pub fn tables_are_lawful()
     ensures { TablesAreLawful }
 {}
 
-/// Proves that all words have exactly one chain or exactly one fault, apart from lack of memory.
+/// Proves that any words have exactly one chain or exactly one fault, apart from lack of memory.
 pub fn chain_or_fault_is_one()
     ensures chain_or_fault { ChainOrFault }
     ensures one_chain { ChainIsOne }

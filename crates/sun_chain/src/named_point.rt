@@ -49,14 +49,14 @@ impl<'a> NamedPoint<'a> {
         self.ty.point_type()
     }
 
-    /// Returns the value of the point, without its scale.
+    /// Returns the value of the point, to which its scale is not applied.
     pub fn value(&self) -> Point<'a>
         ensures { point_seen result ≡ (seen self.now).value }
     {
         self.value
     }
 
-    /// Returns the scale of the point. A scale point that is missing or was not read counts as 0.
+    /// Returns the scale of the point. A scale point outside the model or not read counts as 0.
     pub fn scale(&self) -> PointScale
         ensures { result ≡ (seen self.now).scale }
     {
@@ -66,8 +66,8 @@ impl<'a> NamedPoint<'a> {
         }
     }
 
-    /// Writes the value as `Point::write` does. A present value at a faulty scale is written as
-    /// `faulty`.
+    /// Writes the value as `Point::write` does. A value that is present and has a faulty scale is
+    /// written as `faulty`.
     pub fn write_value<S: Sink>(&self, output: &mut S) -> io::Result<()>
         ensures { let point = seen self.now in
             S.takes output.old (value_text point.value point.scale) result output.new }

@@ -17,7 +17,7 @@ use sun_points::{Point, read_point};
 
 impl<'a> Chain<'a> {
     /// Returns the points that lie fully inside the model and were read, in order of address. An
-    /// unknown model has none.
+    /// unknown model has no points.
     pub fn points(&self, model: &Model) -> Result<Vec<NamedPoint<'a>>, AllocError>
         ensures points { IfOk result
             (λ points. map seen points.items ≡ points_in (words_of self.now) model.now) }
@@ -59,8 +59,8 @@ impl<'a> Chain<'a> {
         Some(read_point(entry.ty.point_type(), words))
     }
 
-    /// Returns `count` registers at an offset of a model, if they lie inside the model and were
-    /// read.
+    /// Returns `count` registers at an offset of a model, or `None` unless they lie inside the
+    /// model and were read.
     pub(crate) fn registers(&self, model: &Model, offset: u16, count: u16) -> Option<&'a [u16]>
         requires { 1 ≤ count }
         ensures words { option_map (λ words. words.now) result
@@ -75,7 +75,7 @@ impl<'a> Chain<'a> {
             .words_at(u32::from(model.address) + u32::from(offset), count)
     }
 
-    // A scale point that is missing or was not read counts as 0.
+    // A scale point outside the model or not read counts as 0.
     fn scale_word(&self, model: &Model, scale: Option<u16>) -> Option<u16>
         ensures { result ≡ scale_word_in (words_of self.now) model.now scale }
     {

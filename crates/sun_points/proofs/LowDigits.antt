@@ -5,7 +5,7 @@ use Rattle.std.specs.Fmt.{digit_glyph}
 use Rattle.std.proofs.lemmas.Grind.{drop-set_at}
 use Rattle.sun_points.specs.Decimal.{low_digits}
 
--- One more digit before the lowest ones.
+-- Setting one more digit before the lowest digits gives one more of the number's lowest digits.
 pub drop-set_digit : (base : ℕ) (digits : List ℕ) (count place n : ℕ) → place < count → length digits ≡ count →
     drop (count - place) digits ≡ low_digits base place n →
     drop (count - (place + 1)) (set digits (count - 1 - place) (digit_glyph false (n / base ^ place % base))) ≡ low_digits base (place + 1) n

@@ -14,7 +14,7 @@ abbrev pub magnitude_text : ℕ → ℤ → List ℕ
 magnitude_text n (pos zeros) = decimal (n * 10 ^ zeros)
 magnitude_text n (negsuc k) = decimal (n / 10 ^ suc k) ++ codes "." ++ low_digits 10 (suc k) n
 
--- The sign of a number: `-` for a negative one, else nothing.
+-- The sign of a number as text: `-` for a negative number, otherwise nothing.
 abbrev pub sign_text : ℤ → List ℕ
 sign_text value = if is_negative value then codes "-" else []
 

@@ -8,7 +8,7 @@ use Rattle.sun_points.specs.declared.point_type.PointType.TheVariants as kind
 use Rattle.sun_points.specs.declared.point.Point.{Point}
 use Rattle.sun_points.specs.declared.point.Point.TheVariants as lent
 
--- The value of a point, without the memory that a text borrows.
+-- The value of a point, without the registers that a text of the program borrows.
 pub data Value : Type 0 where
   Absent : Value
   Signed : (value : ℤ) → Value
@@ -24,7 +24,7 @@ seen (lent.Unsigned value) = Unsigned value
 seen (lent.Bits bits) = Bits bits
 seen (lent.Text text) = Text text.words.now
 
--- The number in the first register.
+-- The 16-bit number in the first register.
 abbrev pub word : List ℕ → ℕ
 word words = slice_index words 0
 
@@ -44,7 +44,7 @@ is_absent kind.Acc32 words = long words == 0
 is_absent kind.Sunssf words = word words == 0x8000
 is_absent (kind.Text registers) words = list_all (λ w. w == 0) words
 
--- The value, if the point is implemented.
+-- The value of a point of this type, if the point is implemented.
 abbrev pub present_value : PointType → List ℕ → Value
 present_value kind.Int16 words = Signed (cast_signed w16 (word words))
 present_value kind.Uint16 words = Unsigned (word words)
@@ -56,6 +56,6 @@ present_value kind.Acc32 words = Unsigned (long words)
 present_value kind.Sunssf words = Signed (cast_signed w16 (word words))
 present_value (kind.Text registers) words = Text words
 
--- The value of a point of the type, or `Absent`.
+-- The value of a point of this type in its registers, or `Absent` if it is not implemented.
 abbrev pub value_of : PointType → List ℕ → Value
 value_of ty words = if is_absent ty words then Absent else present_value ty words

@@ -3,7 +3,7 @@ use Rattle.std.specs.Prelude.{ℕ}
 use Rattle.sun_points.specs.declared.point_type.PointType.{PointType}
 use Rattle.sun_points.specs.declared.point_type.PointType.TheVariants.{Int16, Uint16, Enum16, Int32, Uint32, Bitfield32, Acc32, Sunssf, Text}
 
--- The number of registers of a point of the type.
+-- The number of registers that a point of this type occupies.
 abbrev pub registers_of : PointType → ℕ
 registers_of Int16 = 1
 registers_of Uint16 = 1

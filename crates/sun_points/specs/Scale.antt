@@ -3,12 +3,12 @@ use Rattle.std.specs.Prelude.{ℕ, ℤ, pos, negsuc, Bool, ◌&&◌, ◌==◌, i
 use Rattle.std.specs.Int.{w16, cast_signed}
 use Rattle.std.specs.declared.option.Option.{Option}
 
--- The exponents that SunSpec allows for a scale factor: -10 to 10.
+-- SunSpec allows this exponent for a scale factor: it is from -10 to 10.
 abbrev pub is_exponent : ℤ → Bool
 is_exponent z = int_le (negsuc 9) z && int_le z (pos 10)
 
--- The scale of a sunssf register: 0 if not implemented, the register's signed value from -10 to 10,
--- else none.
+-- The scale factor in a sunssf register: 0 if not implemented, or a signed value from -10 to 10.
+-- `None` for any other word.
 abbrev pub scale_of : ℕ → Option ℤ
 scale_of word =
     if word == 0x8000 then Some (pos 0)

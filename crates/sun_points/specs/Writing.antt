@@ -1,5 +1,5 @@
--- The result of a call that writes a text to a writer, and the bytes that the writer received, if
--- the writer reports its contents.
+-- What a call that writes a text to a writer returns, and which bytes the writer received, if the
+-- writer reports them.
 use Rattle.std.specs.Prelude.{◌≡◌, ◌≢◌, ℕ, List, [], ◌++◌, Ok, Err, IfErr, IsOk}
 use Rattle.std.specs.Io.KnownBytes.{Appends}
 use Rattle.std.specs.IoError.{error_kind}
@@ -8,11 +8,12 @@ use Rattle.std.specs.declared.io.ErrorKind.TheVariants.{Interrupted}
 use Rattle.std.specs.declared.option.Option.{Option}
 use Rattle.std.specs.declared.result.Result.{Result}
 
--- The writer received a beginning of the text.
+-- The writer received a beginning of the text, possibly nothing or all of it.
 abbrev pub GotPart : List ℕ → Option (List ℕ) → Option (List ℕ) → Type 0
 GotPart text old new = (part unwritten : List ℕ) × (text ≡ part ++ unwritten) × Appends old new part
 
--- The writer received the complete text, or a beginning of it if the call failed.
+-- The writer received the complete text if the call succeeded, and a beginning of it if the call
+-- failed.
 abbrev pub GotText : {X E : Type 0} → Result X E → List ℕ → Option (List ℕ) → Option (List ℕ)
     → Type 0
 GotText (Ok done) text old new = Appends old new text

@@ -80,7 +80,7 @@ fn append_with_decimals(text: &mut NumberText, magnitude: u64, places: u8)
     append(text, decimals);
 }
 
-// A `u64` has at most twenty decimal digits.
+// Appends the decimal digits of a number. A `u64` has at most twenty of them.
 fn append_decimal(text: &mut NumberText, number: u64)
     requires { array_vec_len text.old ≤ 1 }
     ensures digits { text.new.items ≡ text.old.items ++ decimal number }

@@ -35,7 +35,7 @@ pub fn read_point(ty: PointType, words: &[u16]) -> Point<'_>
     }
 }
 
-// High word first.
+// Returns the 32-bit number in the first two registers, the high word first.
 fn long_in(words: &[u16]) -> u32
     requires { 2 ≤ length words.now }
     ensures { result ≡ long words.now }

@@ -19,8 +19,8 @@ pub trait Sink {
         ensures { takes self.old text.now result self.new };
 }
 
-/// A writer receives the text in as many writes as it needs, at most 2^64 - 1. A write of 0 bytes
-/// is the error `WriteZero`.
+/// Any writer is a sink. It receives the text in as many writes as it needs, at most 2^64 - 1. A
+/// write of 0 bytes is the error `WriteZero`.
 impl<W: Write> Sink for W {
     ghost takes = { λ old text result new.
         TakesText result text (W.contents old) (W.contents new) };

@@ -9,7 +9,7 @@ use crate::sink::Sink;
 use arrayvec::ArrayVec;
 use std::io;
 
-/// Appends bytes. The contract guarantees the room for them.
+/// Appends bytes to a text. The contract guarantees that they fit.
 pub(crate) fn append<const N: usize>(text: &mut ArrayVec<u8, N>, more: &[u8])
     requires { array_vec_len text.old + length more.now ≤ N }
     ensures bytes { text.new.items ≡ text.old.items ++ more.now }

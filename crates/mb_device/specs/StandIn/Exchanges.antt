@@ -3,6 +3,6 @@ use Rattle.std.specs.Prelude.{◌≡◌, ℕ, List}
 use Rattle.mb_device.specs.Maps.{Maps}
 use Rattle.mb_device.specs.Server.{maps_after_all}
 
--- The device has executed some frames.
+-- The register map `new` is `old` after the device executed some list of frames.
 abbrev pub Exchanged : (old new : Maps) → Type 0
 Exchanged old new = (frames : List (List ℕ)) × (new ≡ maps_after_all old frames)

@@ -33,7 +33,7 @@ record AreEntered (meter : Installed) (tables : Tables) : Type 0 where
   pub intervals : tables.intervals ≡ interval_rows meter (entering rows)
   pub ended : tables.ended ≡ has_closing (entering rows)
 
--- The tables of one fine file do.
+-- The tables of one fine file report what consecutive entries give.
 fine_entered : (meter : Installed) (tables : Tables) → AreFine meter tables → AreEntered meter tables
 fine_entered meter tables fine =
     let alone = fitting_rows_stand_alone meter fine.rows fine.fit in
@@ -57,7 +57,8 @@ entering_both : (new old : List EntryRow) → entering new ++ entering old ≡ e
 entering_both [] old = refl
 entering_both (row ∷ new) old = ap (λ (lines : Journal). Entered row.kind row.entry ∷ lines) (entering_both new old)
 
--- Each entry adds to the energy, so what is within the limit at the end is within it before.
+-- No entry lowers the energy. So if the energy at the end is within the limit, each earlier one
+-- is too.
 within : (meter : Installed) (lines : Journal) (rows : List EntryRow) → IsWellInstalled (carried meter lines)
     → AreFitting (carried meter lines) (entering rows)
     → total_in meter lines + total_in (carried meter lines) (entering rows) ≤ MAX_TOTAL
@@ -130,7 +131,7 @@ total_grows : (old : Tables) (later : List InFile) → old.total ≤ (told_by_al
 total_grows old [] = omega arith
 total_grows old (new ∷ later) = omega (arith, total_grows (told_by_both old new.tables) later)
 
--- The files so far are reported, and the last of them left the meter as that file says.
+-- What the files so far report together; the last of them left the meter as its tables say.
 all_entered : (meter : Installed) (so_far : Tables) (old : InFile) (later : List InFile) → IsWellInstalled meter
     → AreEntered meter so_far → so_far.last ≡ old.tables.last → so_far.ended ≡ old.tables.ended
     → old.meter.range ≡ meter.range → old.meter.ceiling ≡ meter.ceiling

@@ -81,12 +81,13 @@ total_of_both : total_in house (joined_journal old new) ≡ 400000
 unfolding unit_of
 total_of_both = refl
 
--- Number 2 of the new file is number 5 of both: the old one has three entries.
+-- The entry with number 2 in the new file has number 5 in the joined journal, because the old
+-- file has three entries.
 void_of_both : joined_journal old (Voided 2 ∷ new)
     ≡ Voided 5 ∷ read 3600 5400 ∷ read 2600 5310 ∷ Voided 4 ∷ read 2550 5305 ∷ read 2500 5300 ∷ read 1900 5200 ∷ []
 void_of_both = refl
 
--- The void is lawful in the new file, and so in the journal of both.
+-- The void is lawful in the new file, and therefore in the joined journal of both files.
 void_fits : AreFitting (installed 2500 5300) (Voided 2 ∷ new)
 unfolding unit_of
 void_fits = (
@@ -109,7 +110,7 @@ well_installed = record { raw = omega arith; scale = (grind (arith, ints), grind
 void_of_both_fits : AreFitting house (joined_journal old (Voided 2 ∷ new))
 void_of_both_fits = carried_journals_fit house old (Voided 2 ∷ new) well_installed old_fits refl void_fits stays_within
 
--- One step from 2500 to 3600 instead of two.
+-- After the void, one step from 2500 to 3600 replaces two steps.
 void_intervals : interval_rows house (joined_journal old (Voided 2 ∷ new)) ≡ share 900 177777 ∷ share 1800 140404 ∷ share 2700 81819 ∷ []
 unfolding unit_of
 void_intervals = refl
@@ -134,7 +135,7 @@ second_goes_on = record { unended = refl; range = refl; ceiling = refl; opening 
 third_goes_on : GoesOnAs second.meter second.tables.last second.tables.ended third.meter
 third_goes_on = record { unended = refl; range = refl; ceiling = refl; opening = refl }
 
--- One file is left out.
+-- The third file does not continue from the first if the file between them is left out.
 third_not_after_first : GoesOnAs house first.tables.last first.tables.ended third.meter → ⊥
 third_not_after_first h = let at : 3600 ≡ 2500 = ap (λ (l : Last). l.at) h.opening in omega (arith, at)
 

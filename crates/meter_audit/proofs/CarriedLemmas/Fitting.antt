@@ -41,7 +41,7 @@ use Rattle.meter_audit.proofs.CarriedLemmas.Over.{left_by, last_over, total_over
 abbrev pub terms_of : Installed → (total : ℕ) → Terms
 terms_of meter total = record { ceiling = meter.ceiling; total = total }
 
--- The energy of the journal of both with one more entry.
+-- With one more entry, the joined journal's energy stays within the limit.
 abbrev pub HasRoom : Installed → (es old : List Entry) → Entry → Type 0
 HasRoom meter es old e = total_after meter (es ++ old) + energy_of meter.range (last_after (left_by meter old) es) e ≤ 4 * 10 ^ 18
 
@@ -262,8 +262,8 @@ rolled_entry l n at raw rolls on reading is =
 reads : (k : EntryKind) (e : Entry) → is_read k e ≡ true → is_reading k ≡ true
 reads k e h = by_read (λ k e. is_reading k ≡ true) (λ at raw rolls. refl) k e h
 
--- The next entry is plausible in the journal of both too, since its energy without the voided one
--- stays within the limit.
+-- The next entry is also plausible in the joined journal, because its energy without the voided
+-- entry stays within the limit.
 plausible_over : (meter : Installed) (es old : List Entry) (n : EntryRow) (e : Entry) (later : List Entry) (whole : ℕ)
     → n.entry ≡ e → n.stands ≡ true → is_reading n.kind ≡ true
     → AllFollow meter.range (last_after meter old) (later ++ (rolled (last_after (left_by meter old) es) n).entry ∷ es)

@@ -18,7 +18,7 @@ use Rattle.meter_audit.specs.Carried.{carried, moved_line, moved_row}
 
 -- ---- entries after others
 
--- The meter after these entries.
+-- The meter as it is installed in the file after these entries.
 abbrev pub left_by : Installed → List Entry → Installed
 left_by meter old = record { range = meter.range; ceiling = meter.ceiling; opening = last_after meter old }
 

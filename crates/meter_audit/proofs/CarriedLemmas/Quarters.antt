@@ -45,7 +45,8 @@ same_rows s m n rows is = ap (λ x. let r : Share = record { start = s; mwh = x 
 through : (x y z : ℕ) (c : Bool) → x == y ≡ true → y == z ≡ c → x == z ≡ c
 through x y z c at is = ap (λ n. n == z) (eqb-true x y at) ∙ is
 
--- Three rows.
+-- Of three rows, merging the first two before the third gives the same rows as merging the last
+-- two before the first.
 three : (x y z : Share) (zs : List Share) (b c : Bool) → x.start == y.start ≡ b → y.start == z.start ≡ c
     → with_shares (cond b (one_of x y ∷ []) (x ∷ y ∷ [])) (z ∷ zs) ≡ joined x (cond c (one_of y z ∷ zs) (y ∷ z ∷ zs))
 three x y z zs true true at next =
@@ -55,7 +56,8 @@ three x y z zs true false at next = cond-false _ _ _ (through x.start y.start z.
 three x y z zs false true off next = ap (λ rs. x ∷ rs) (cond-true _ _ _ next) ∙ sym (cond-false _ _ _ off)
 three x y z zs false false off next = ap (λ rs. x ∷ rs) (cond-false _ _ _ next) ∙ sym (cond-false _ _ _ off)
 
--- A row, and at least two more.
+-- With at least two more rows, it does not matter whether the first two rows or the last row and
+-- the shares are merged first.
 longer : (x y next : Share) (ys zs : List Share) (b : Bool) → x.start == y.start ≡ b
     → with_shares (cond b (one_of x y ∷ next ∷ ys) (x ∷ y ∷ next ∷ ys)) zs ≡ joined x (y ∷ with_shares (next ∷ ys) zs)
 longer x y next ys zs true at = sym (cond-true _ _ _ at)
@@ -91,13 +93,14 @@ rows_of_both (step ∷ steps) old =
 abbrev pub passing : (ℕ → Bool) → List Share → List Share
 passing f rows = filter (λ (row : Share). f row.start) rows
 
--- The same energy, and the same starts, each counted once.
+-- Of the rows whose starts pass the test, both lists have the same energy and the same starts. A
+-- start that occurs twice counts once.
 pub record CountTheSame (f : ℕ → Bool) (xs ys : List Share) : Type 0 where
   pub energy : energy_of (passing f xs) ≡ energy_of (passing f ys)
   pub any : (p : ℕ → Bool) → list_any p (starts_of (passing f xs)) ≡ list_any p (starts_of (passing f ys))
   pub count : distinct_count (starts_of (passing f xs)) ≡ distinct_count (starts_of (passing f ys))
 
--- The same for the rows that pass.
+-- Both lists have the same energy and the same starts. A start that occurs twice counts once.
 abbrev Counts : (xs ys : List Share) → Type 0
 Counts xs ys = (energy_of xs ≡ energy_of ys)
     × ((p : ℕ → Bool) → list_any p (starts_of xs) ≡ list_any p (starts_of ys))
@@ -112,7 +115,7 @@ counted f xs ys h = record { energy = h.0; any = h.1; count = h.2 }
 count_same : (f : ℕ → Bool) (xs : List Share) → CountTheSame f xs xs
 count_same f xs = record { energy = refl; any = λ p. refl; count = refl }
 
--- One more row before both.
+-- If two lists count the same, they still do with one more row in front of each.
 one_before : (row : Share) (xs ys : List Share) → Counts xs ys → Counts (row ∷ xs) (row ∷ ys)
 one_before row xs ys h =
     let mwh : Share → ℕ = λ r. r.mwh in (
@@ -146,7 +149,7 @@ one_less : (b : Bool) (n : ℕ) → b ≡ true → n ≡ cond b 0 1 + n
 one_less true n h = omega arith
 one_less false n h = absurd (let f : false ≡ true = h in cc)
 
--- Two rows of the same quarter hour, and the row that they become.
+-- Two rows of one quarter hour count the same as the single row that has the energy of both.
 two_are_one : (s m n : ℕ) (rows : List Share) → Counts (share_from s (m + n) ∷ rows) (share_from s m ∷ share_from s n ∷ rows)
 two_are_one s m n rows =
     let mwh : Share → ℕ = λ r. r.mwh in
@@ -183,7 +186,7 @@ seam f row share shares true at =
     (seam_from f row.start row.mwh share.mwh shares (f row.start) refl)
 seam f row share shares false off = count_same f (row ∷ share ∷ shares)
 
--- Rows after rows count like both lists.
+-- Shares that are merged into rows count the same as the rows followed by the shares.
 pub both_count : (f : ℕ → Bool) (rows shares : List Share) → CountTheSame f (with_shares rows shares) (rows ++ shares)
 both_count f [] shares = count_same f shares
 both_count f (row ∷ []) [] = count_same f (row ∷ [])

@@ -182,7 +182,7 @@ next_there meter count before old (Some n) more h =
 
 -- ---- journals
 
--- The lines are those of a new file.
+-- The later lines are the lines of a new file, moved by the number of entries in the old file.
 record IsMoved (meter : Installed) (count : ℕ) (lines later : Journal) : Type 0 where
   more : Journal
   moved : map (moved_line count) more ≡ later

@@ -1,4 +1,4 @@
-//! Builds text in a fixed buffer.
+//! Builds a line of text in a fixed buffer.
 ghost use Rattle.std.specs.Prelude.{◌≡◌, ◌≤◌, ◌<◌, ◌+◌, ℕ, List, [], ◌++◌, length, replicate, take};
 ghost use Rattle.interval_core.specs.Report.{right};
 ghost use Rattle.jiff_fmt.specs.Text.{pad2};
@@ -54,7 +54,7 @@ impl<const N: usize> Text<N> {
         self.filled = end;
     }
 
-    /// Appends a key and a number.
+    /// Appends a key, and a number after it.
     pub fn push_number<I: Integer>(&mut self, key: &[u8], number: I)
         requires { length self.old + length key.now + I.MAX_STR_LEN ≤ N }
         ensures bytes { self.new ≡ self.old ++ key.now ++ I.text number }

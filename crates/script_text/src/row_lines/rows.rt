@@ -37,7 +37,7 @@ pub fn day_line(total: &DayTotal) -> Line
     line
 }
 
-/// Returns the line `end N`, which ends `N` rows.
+/// Returns the line `end N`, which comes after `N` rows.
 pub fn end_line(count: u64) -> Line
     ensures { result ≡ rows.end_line count }
 {
@@ -47,7 +47,7 @@ pub fn end_line(count: u64) -> Line
     line
 }
 
-/// Appends a year in four digits. A year before 0 has a sign and two zeros before them.
+/// Appends a year in four digits. A year before 0 has a sign and six digits.
 pub fn push_year(line: &mut Line, year: i16)
     requires room { length line.old ≤ 64 }
     requires few { IsYear year }
@@ -62,7 +62,7 @@ pub fn push_year(line: &mut Line, year: i16)
     line.push_pair((number % 100) as u8);
 }
 
-// A year before 0 has a sign and six digits.
+// Appends a day as `YYYY-MM-DD`. A year before 0 has a sign and six digits.
 fn push_day(line: &mut Line, day: Day)
     requires { length line.old ≤ 64 }
     ensures bytes { line.new ≡ line.old ++ date_text day }

@@ -8,7 +8,7 @@ use Rattle.std.proofs.lemmas.Int.{to_z_pos}
 use Rattle.interval_core.specs.Zone.{offset_of}
 use Rattle.interval_core.proofs.day.day_of.Goals as goal
 
--- Nanoseconds to whole days, by way of whole seconds.
+-- The whole days in a number of nanoseconds are those in its whole seconds.
 days : (s o : ℤ) → int_div_euclid (s *ℤ pos 1_000_000_000 +ℤ o *ℤ pos 1_000_000_000) (pos 86_400_000_000_000) ≡ int_div_euclid (s +ℤ o) (pos 86_400)
 days s o = omega (arith, signed_arith)
 
