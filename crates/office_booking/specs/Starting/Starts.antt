@@ -61,12 +61,12 @@ WhereSent device kept number at spans so =
     (events : List session.Event) → KeepsSession device kept events → last_moment events ≤ at
     → so events (sends_on number at device events spans)
 
--- The session is in the state after these further reads were started on it at this timestamp.
+-- The session is in the state after `events` and the start of these reads at timestamp `at`.
 abbrev pub KeepsStarts : (device : Device) (at : ℕ) (kept : State) → List session.Event → List Send
     → Type 0
 KeepsStarts device at kept events sends =
     KeepsSession device kept (events ++ map (start_by at device) sends)
 
--- No event on the session of the slot is later than this timestamp.
+-- No event of the slot's session is later than this timestamp.
 abbrev pub IsBefore : ℕ → Slot → Type 0
 IsBefore at slot = none_later at slot.present
