@@ -35,7 +35,8 @@ pub record HasNumbers (opening : Opening) : Type 0 where
 abbrev pub HaveAccount : Opening → List EntryRow → Type 0
 HaveAccount opening rows = HasAccount (installed opening) (entries_in (latest_first rows))
 
--- A lookup that returns only such installations, for all data in the store.
+-- A lookup of an installation changes nothing, and returns only an installation with all numbers in
+-- range, whatever the store holds.
 pub record ReadsInstallation (old new : Ledger) (result : Result (Option Installation) BooksFault) :
     Type 0 where
   pub reads : OnlyReads old new result
