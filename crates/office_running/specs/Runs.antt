@@ -92,7 +92,8 @@ pub record Turn (names : List (List ℕ)) : Type 0 where
   pub told : ℕ
   pub steps : List (Step names)
 
--- The latest time that the clock has returned, with `first` before the first turn.
+-- The latest time that the clock has returned in these turns; at least `first`, the time before
+-- them.
 abbrev pub latest_of : {names : List (List ℕ)} → (first : ℕ) → List (Turn names) → ℕ
 latest_of first [] = first
 latest_of first (turn ∷ earlier) = max (latest_of first earlier) turn.told
