@@ -152,8 +152,8 @@ pub trait Books: Drop {
             (λ known n. n ≡ length (openings_in known)) }
         ensures reads { OnlyReads (ledger self.old) (ledger self.new) result };
 
-    /// Returns the entry of a meter with a sequence number of at least 2, with the meter's state
-    /// before the entry and the next valid entry; `None` if there is none.
+    /// Returns the entry of a meter with a sequence number of at least 2; `None` if there is none.
+    /// The result also has the meter's state before the entry, and the next valid entry.
     fn entry(&mut self, meter: &Name, place: u64) -> Result<Option<EntryPlace>, BooksFault>
         ensures found { Finds (ledger self.old) (ledger self.new) result
             (λ known row. row ≡ entry_at known meter.now place) }

@@ -76,8 +76,8 @@ pub record HandsDaysWithin {S : Type 0} (takes : S → DayTotal → S → Type 0
   pub whole : OnOk result (TakesDaysWithin takes zone facts register range before after)
   pub none : OnErr result (after ≡ before)
 
--- A query for a range of days has the answer that the store's lawful records give, if the store
--- returned no wrong result that was taken as true.
+-- A query for a range of days has the answer that the store's lawful records give. No wrong result
+-- of the store was taken as true.
 abbrev pub DaysWithinIn : {S : Type 0} → (S → DayTotal → S → Type 0) → (old new : Ledger)
     → (before after : S) → Result (Unit {0}) Refusal → (register : Option (List ℕ))
     → DayRange → Type 0

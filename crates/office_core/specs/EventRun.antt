@@ -98,8 +98,8 @@ LeftByRun past opened fed before after =
     (between : List (List Fact)) × LeftOnceDone past (Opened opened) before between
     × LeftInTurn (Opened opened ∷ past) fed between after
 
--- `says` is true of each successful run over a store in the state of a past, if no wrong result of
--- the store was taken as true.
+-- `says` is true of each successful run over a store in the state of a past. No wrong result of the
+-- store was taken as true.
 abbrev pub Ran : {B : Type 0} → (B → Ledger) → (books : B)
     → Result (Run B) (B × Refusal) → (History → Run B → Type 0) → Type 0
 Ran ledger books result says = (past : History) → BooksStand (ledger books) past

@@ -55,8 +55,9 @@ StoreCounts before after store.Refused =
     StoreFailed store.Refused before after ⊎ (after ≡ before)
 StoreCounts before after why = StoreFailed why before after
 
--- An event is refused for a failure exactly if the store counted it, except for missing memory
--- outside the store and for poll numbers that ran out. This needs no premise on the store.
+-- An event is refused for a failure exactly if the store counted it. Two refusals are not counted:
+-- memory was missing outside the store, or no poll numbers are left. This needs no premise on the
+-- store.
 abbrev pub Counts : {T : Type 0} → (before after : Failures) → Result T Refusal → Type 0
 Counts before after (Ok x) = after ≡ before
 Counts before after (Err (refusal.Store why)) = StoreCounts before after why

@@ -56,8 +56,8 @@ meters_at facts register =
 abbrev pub meters_named : List Fact → (register : Option (List ℕ)) → Option (List Installation)
 meters_named facts register = option_and_then (meters_at facts) register
 
--- The result is these rows without a failure, or `NotFound` if the list does not exist, or a
--- failure of the store or of its memory.
+-- The result is these rows without a failure. Otherwise it is `NotFound` if the list does not
+-- exist, or a failure of the store or of its memory.
 abbrev pub IsListed : {T : Type 0} → Option (List T) → (before after : Failures)
     → Result (Vec T Global) Refusal → Type 0
 IsListed rows before after (Ok listed) = (rows ≡ Some listed.items) × (after ≡ before)

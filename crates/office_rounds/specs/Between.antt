@@ -127,8 +127,8 @@ module _ {L B C W : Type 0} (l : links.Ghosts L) (b : stores.Ghosts B) (c : cloc
       passage (desk_of b c w old before had) (desk_of b c w new after holds)
       (wire_of l from) (wire_of l to)
 
-  -- The type of a relation between the round, its link, the office, the clock and the writer before
-  -- and after a call, and the call's result.
+  -- The type of a relation between a call's result and the round, its link, the office, the clock
+  -- and the writer, each before and after the call.
   abbrev pub StepsBetween : Type 0 → Type 1
   StepsBetween X = (here there : Progress) → (from to : L) → Leaves b c w (Result X RoundFault)
 
@@ -139,8 +139,8 @@ module _ {L B C W : Type 0} (l : links.Ghosts L) (b : stores.Ghosts B) (c : cloc
       StepsFrom b.ledger (scene_of here from old before had) (scene_of there to new after holds)
       now result then
 
-  -- If `e` is the next event and its bytes were read from the link, then `e` was fed and the
-  -- office's frames were written to the link.
+  -- If `e` is the next event and its bytes were read from the link, then `e` was fed. The office's
+  -- frames were written to the link.
   abbrev pub Puts : Event → StepsBetween (Unit {0})
   Puts e here there from to old new before after had holds result =
       (device : Option (List ℕ)) (past : History) (begun : RoundState) (first : Wire)

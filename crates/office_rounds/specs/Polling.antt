@@ -125,8 +125,8 @@ is_over Starting = false
 is_over Waiting = false
 is_over (Leaving cause) = false
 
--- If a round is in the state after its events and feeds the next one, which is accepted, it is in
--- the state after that event too.
+-- If a round in the state after its events feeds the next event, and the office accepts it, the
+-- round is in the state after that event too.
 abbrev pub RoundsHold : Type 0
 RoundsHold = (device : Option (List ℕ)) (past : History) (fed : List Answered) (round : Round)
     (at : ℕ) (e : Event) (before after : Failures) (given : Answer)

@@ -25,8 +25,9 @@ abbrev pub JournalsFit : Type 0
 JournalsFit = (facts : List Fact) (opening : Opening) → AreLawful facts → IsRecorded facts opening
     → AreFitting (installed opening) (journal_of facts opening.meter)
 
--- The energy of a meter balances: its total, the value of its opening, and the values that changes
--- set, equal its last value, a full range for each rollover, and the values before changes.
+-- The energy of a meter balances. Its total, the value of its opening, and the values that changes
+-- set are one sum. The last value, a full range for each rollover, and the values before changes
+-- are an equal sum.
 --
 -- Also the account of its valid entries is sound, and the interval rows come from its steps and add
 -- up to its total.

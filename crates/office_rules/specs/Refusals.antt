@@ -218,8 +218,8 @@ is_crowded slots facts (command.Exchange c) = nat_le installation_limit (length 
 is_crowded slots facts (command.StartRound c) = length (spans_by facts (command.StartRound c)) == 0
 is_crowded slots facts _ = false
 
--- Limit: a field is out of range, a maximum is reached, or the count of the command's entry is not
--- below the range of the open meter.
+-- Limit: a field is out of range or a maximum is reached. Or the count of the command's entry is
+-- not below the range of the open meter.
 abbrev pub asks_beyond : List Slot → List Fact → (at : ℕ) → Command → Bool
 asks_beyond slots facts at c =
     asks_bad_field at c || is_crowded slots facts c || asks_faulty facts at fault.NotBelowRange c

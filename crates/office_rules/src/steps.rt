@@ -29,8 +29,8 @@ pub fn entries_move_on()
     entries_go_on();
 }
 
-/// Proves the effect of a void: it changes the rows of its entry and of the next valid entry, and
-/// the steps around the entry in the meter's installation and interval rows.
+/// Proves the effect of a void. It changes the rows of its entry and of the next valid entry. The
+/// steps around the entry change in the meter's installation and interval rows.
 pub fn voided_entries_give_way()
     ensures { VoidedEntriesGiveWay }
 {

@@ -275,7 +275,7 @@ impl Polling {
     }
 
     // Feeds the bytes of one device to the office. The events that its round then requests wait for
-    // the next turn, because a read that started at a past time would have a shorter timeout.
+    // the next turn: a read that started at a past time would have a shorter timeout.
     fn hear<B: Books>(
         &mut self,
         place: usize,

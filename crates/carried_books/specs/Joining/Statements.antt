@@ -155,7 +155,7 @@ rows_of_those zone range kept =
     map told_of (filter (λ one. was_there zone range one.stands) kept)
 
 -- `kept` has the statements that joined files give for the meters of an accounting register, on the
--- days of the range, by the clocks of the zone.
+-- days of the range. Days are those of the zone.
 pub record HasStated (zone : Zone) (range : DayRange) (register : List ℕ)
     (files : List (List Fact)) (kept : JoinedStatement) : Type 0 where
   pub recorded : kept.is_recorded ≡ is_recorded_in register files

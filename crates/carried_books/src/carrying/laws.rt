@@ -2,8 +2,8 @@
 ghost use Rattle.carried_books.specs.Carrying.Recorded.{CommandsRecordTheSame};
 ghost use Rattle.carried_books.specs.Carrying.Recorded.{MetersGoOnWhereTheyStand};
 
-/// Proves that the commands of a rollover record exactly the devices, point lists and accounting
-/// registers of the old office, and the openings of its meters.
+/// Proves that the commands of a rollover record exactly the old office's devices, point lists and
+/// accounting registers, and the openings of its meters.
 pub fn commands_record_the_same()
     ensures { CommandsRecordTheSame }
 {}

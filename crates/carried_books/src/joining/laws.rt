@@ -15,8 +15,8 @@ pub fn one_file_tells_its_days()
     ensures { OneFileTellsItsDays }
 {}
 
-/// Proves that two files report a meter's days as its complete journal gives them, if the meter was
-/// rolled over from one file into the other.
+/// Proves that if a meter was rolled over from one file into another, both files report its days as
+/// its complete journal gives them.
 pub fn both_files_tell_the_joined_days()
     ensures { BothFilesTellTheJoinedDays }
 {}
@@ -29,8 +29,8 @@ pub fn one_file_states_its_meters()
     names_are_distinct();
 }
 
-/// Proves that two files state a meter as one file with both journals would, if the meter was
-/// rolled over from one file into the other.
+/// Proves that if a meter was rolled over from one file into another, its statement over both is
+/// that of one file with both journals.
 pub fn both_files_state_the_joined_meter()
     ensures { BothFilesStateTheJoinedMeter }
 {}

@@ -94,7 +94,7 @@ pub record IsAskedAndAnswered (past : History) (before after : Failures) (one : 
     pub answer : IsAnswer past one.at one.event before after one.result
 
 -- The outcome is right after this past. A request has the defined answer or was refused for a
--- failure, a doubted entry is one by its definition, and an undecided line had a failure.
+-- failure. A doubted entry is doubted by its definition, and an undecided line had a failure.
 --
 -- The failure counts change accordingly.
 abbrev pub IsCameAnswered : History → (before after : Failures) → Came → Type 0
