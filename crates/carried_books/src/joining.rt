@@ -1,4 +1,4 @@
-//! Joins the files of one office at a register, in order.
+//! Joins the files of one office at an accounting register, in order.
 //!
 //! A meter continues from its state in the file before. The module reports the register's meters
 //! and its energy by day.

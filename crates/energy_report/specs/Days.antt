@@ -1,4 +1,4 @@
--- The day that a text spells.
+-- The text of a civil day, and the range of days that two words select.
 use Rattle.std.specs.Prelude.{◌≡◌, ℕ, ◌+◌, ◌<◌, pos, ◌≤ℤ◌, List, [], ◌∷◌, ◌++◌, codes, true, false, Option, Some, None}
 use Rattle.std.specs.Borrow.{Bor}
 use Rattle.jiff.specs.Words.{date_text}
@@ -10,41 +10,42 @@ use Rattle.energy_report.specs.declared.spelled_day.Parts.{Parts}
 use Rattle.energy_report.specs.declared.spelled_range.RangeFault.{RangeFault}
 use Rattle.energy_report.specs.declared.spelled_range.RangeFault.TheVariants as fault
 
--- The text is that of a day, as `2026-11-25`, whose year has four digits.
+-- The text is this day in the form `2026-11-25`; the year has four digits.
 abbrev pub Spells : List ℕ → Date → Type 0
 Spells text day = (date_text day ≡ text) × (pos 0 ≤ℤ day.year)
 
--- The result of parsing a day: the day of the text, or none if it spells no day.
+-- The result of parsing a text: the day that it spells, or `None` if it spells none.
 abbrev pub IsReadAs : List ℕ → Option Date → Type 0
 IsReadAs text (Some day) = Spells text day
 IsReadAs text None = (day : Date) → ¬ Spells text day
 
--- The end of a range that a word spells, if there is a word.
+-- The end of a range that a word selects: the day that it spells, or open without a word.
 abbrev pub IsEnd : Option (Bor (List ℕ)) → Option Date → Type 0
 IsEnd None None = Unit {0}
 IsEnd None (Some day) = ⊥
 IsEnd (Some word) None = ⊥
 IsEnd (Some word) (Some day) = Spells word.now day
 
--- There is a word, and it spells no day.
+-- The word exists and spells no day.
 abbrev pub IsNoEnd : Option (Bor (List ℕ)) → Type 0
 IsNoEnd None = ⊥
 IsNoEnd (Some word) = (day : Date) → ¬ Spells word.now day
 
--- The range from one day up to another.
+-- The two words select this range: its first day, and the day after its last.
 pub record IsRange (first last : Option (Bor (List ℕ))) (range : DayRange) : Type 0 where
   pub from : IsEnd first range.from
   pub till : IsEnd last range.till
   pub forward : is_backward range ≡ false
 
--- Two days; the second is before the first.
+-- Both words spell days, and the second day is before the first.
 pub record AreBackward (first last : Option (Bor (List ℕ))) : Type 0 where
   pub range : DayRange
   pub from : IsEnd first range.from
   pub till : IsEnd last range.till
   pub backward : is_backward range ≡ true
 
--- The reason why two words are no range.
+-- Why two words select no range: the first or the second spells no day, or the range ends before it
+-- begins.
 abbrev pub IsRangeFault : (from till : Option (Bor (List ℕ))) → RangeFault → Type 0
 IsRangeFault from till fault.From = IsNoEnd from
 IsRangeFault from till fault.Till = IsNoEnd till
@@ -52,17 +53,17 @@ IsRangeFault from till fault.Backward = AreBackward from till
 
 -- ---- digits
 
--- A digit spells a number below 10.
+-- The byte is a digit with this value, or no digit (`None`).
 abbrev pub DigitIs : (byte : ℕ) → Option ℕ → Type 0
 DigitIs byte (Some n) = (n < 10) × (byte ≡ 48 + n)
 DigitIs byte None = (n : ℕ) → n < 10 → ¬ (byte ≡ 48 + n)
 
--- Two digits spell a number below 100.
+-- Two bytes are digits of a number below 100, or not both digits (`None`).
 abbrev pub PairIs : (tens ones : ℕ) → Option ℕ → Type 0
 PairIs tens ones (Some n) = (n < 100) × (pad2 n ≡ tens ∷ ones ∷ [])
 PairIs tens ones None = (n : ℕ) → n < 100 → ¬ (pad2 n ≡ tens ∷ ones ∷ [])
 
--- The parts of a day, in two digits each.
+-- The text of a day's parts, in two digits each, with hyphens.
 abbrev pub parts_text : Parts → List ℕ
 parts_text parts =
     pad2 parts.century ++ pad2 parts.year ++ codes "-" ++ pad2 parts.month ++ codes "-"
@@ -75,7 +76,7 @@ pub record AreFew (parts : Parts) : Type 0 where
   pub month : parts.month < 100
   pub day : parts.day < 100
 
--- The parts of a text, or none if it has no such form.
+-- The parts of a text of the form `YYYY-MM-DD`; `None` if the text has another form.
 abbrev pub PartsAre : List ℕ → Option Parts → Type 0
 PartsAre text (Some parts) = AreFew parts × (parts_text parts ≡ text)
 PartsAre text None = (parts : Parts) → AreFew parts → ¬ (parts_text parts ≡ text)

@@ -12,15 +12,16 @@ use Rattle.energy_report.specs.declared.held_counts.HeldCount.{HeldCount}
 use Rattle.energy_report.specs.declared.held_counts.HeldCounts.{HeldCounts}
 use Rattle.energy_report.specs.RowLines.{counted, one_more_if}
 
--- The two are the same cause.
+-- Whether the two causes are equal.
 abbrev pub is_one : (one other : Cause) → Bool
 is_one one other = cause_number one == cause_number other
 
--- The reading was rejected for the cause, and its timestamp is in the range.
+-- Whether the reading was rejected for this cause at a time in the range.
 abbrev pub is_held_within : Zone → DayRange → (why : Cause) → HeldReading → Bool
 is_held_within zone range why held = has_moment zone range held.at && is_one held.cause why
 
--- The number of such readings; the count stays at 2^64 - 1.
+-- The number of readings that were rejected for this cause at a time in the range; the count stays
+-- at 2^64 - 1.
 abbrev pub held_for : Zone → DayRange → List HeldReading → (why : Cause) → ℕ
 held_for zone range holds why = counted (count_by (is_held_within zone range why) holds)
 
@@ -37,7 +38,7 @@ held_within zone range holds = record {
   not_below_range = held_for zone range holds cause.NotBelowRange;
 }
 
--- The counts with their causes, in order of the causes' numbers.
+-- The counts with their causes, in order of the numbers of the causes.
 abbrev pub by_cause : HeldCounts → List HeldCount
 by_cause counts =
     record { cause = cause.NotAccumulated; count = counts.not_accumulated }
@@ -52,7 +53,7 @@ by_cause counts =
 
 -- ---- readings that arrive one by one
 
--- The counts of no readings.
+-- The counts before any reading: all are 0.
 abbrev pub none_held : HeldCounts
 none_held = record {
   not_accumulated = 0;
@@ -65,7 +66,8 @@ none_held = record {
   not_below_range = 0;
 }
 
--- One more reading, if it counts: it counts for its cause, and for no other.
+-- The counts after one more reading. If `counts` is true, the count of its cause grows by one; no
+-- other count changes.
 abbrev pub with_one : HeldCounts → (counts : Bool) → (why : Cause) → HeldCounts
 with_one old counts why = record {
   not_accumulated = one_more_if (counts && is_one why cause.NotAccumulated) old.not_accumulated;

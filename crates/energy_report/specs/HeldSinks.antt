@@ -1,4 +1,4 @@
--- Rejected readings that are counted as they arrive.
+-- A sink that counts rejected readings as they arrive.
 use Rattle.std.specs.Prelude.{◌≡◌}
 use Rattle.interval_core.specs.declared.day_range.DayRange.{DayRange}
 use Rattle.interval_core.specs.declared.zone.Zone.{Zone}
@@ -7,13 +7,14 @@ use Rattle.office_events.specs.declared.facts.HeldReading.{HeldReading}
 use Rattle.energy_report.specs.declared.held_within.HeldWithin.{HeldWithin}
 use Rattle.energy_report.specs.Held.{none_held, with_one}
 
--- No readings yet.
+-- A new counter has this zone and range, and all counts are 0.
 pub record HasCountedNone (zone : Zone) (range : DayRange) (new : HeldWithin) : Type 0 where
   pub zone_is : new.zone ≡ zone
   pub range_is : new.range ≡ range
   pub none : new.counts ≡ none_held
 
--- A reading with a timestamp in the range is counted by its cause.
+-- The sink counts a reading with a timestamp in the range by its cause. Other readings change
+-- nothing.
 pub record CountsReading (old : HeldWithin) (held : HeldReading) (new : HeldWithin) : Type 0 where
   pub zone : new.zone ≡ old.zone
   pub range : new.range ≡ old.range

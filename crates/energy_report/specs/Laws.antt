@@ -1,4 +1,4 @@
--- Theorems on the rows of any days.
+-- Theorems on the rows of a report, for any list of days.
 use Rattle.std.specs.Prelude.{◌≡◌, ℕ, ◌+◌, ◌<◌, ◌^◌, false, List, [], ◌∷◌, map, filter, All, Option, Some, sum_by}
 use Rattle.jiff_core.specs.declared.civil.date.Date.{Date}
 use Rattle.interval_core.specs.Days.{account_of, AreInOrder}
@@ -14,42 +14,43 @@ use Rattle.energy_report.specs.Rows.{rows_by, rows_in, shown_rows}
 use Rattle.energy_report.specs.Texts.{report_text}
 use Rattle.energy_report.specs.Words.{plain_form}
 
--- The energy of days, in mWh.
+-- The energy of several days together, in mWh.
 abbrev pub energy_of_days : List DayTotal → ℕ
 energy_of_days days = sum_by (λ total. total.mwh) days
 
--- The number of intervals of days.
+-- The number of intervals of several days together.
 abbrev pub intervals_of_days : List DayTotal → ℕ
 intervals_of_days days = sum_by (λ total. total.count) days
 
--- The energy of rows, in mWh.
+-- The energy of several rows together, in mWh.
 abbrev pub energy_of_rows : List Row → ℕ
 energy_of_rows rows = sum_by (λ row. row.mwh) rows
 
--- The number of intervals of rows.
+-- The number of intervals of several rows together.
 abbrev pub intervals_of_rows : List Row → ℕ
 intervals_of_rows rows = sum_by (λ row. row.count) rows
 
--- For any period, the rows together have the energy and the intervals of the days in the range.
+-- For any period, the rows of a report together have the energy and the number of intervals of the
+-- days in the range.
 abbrev pub RowsAddUp : Type 0
 RowsAddUp = (form : ReportForm) (days : List DayTotal)
     → (energy_of_rows (rows_in form days) ≡ energy_of_days (days_in form.range days))
     × (intervals_of_rows (rows_in form days) ≡ intervals_of_days (days_in form.range days))
 
--- The printed rows are exact if the intervals of the days in the range fit 64 bits, and their
--- energy fits 128 bits.
+-- The printed rows are exact if the days in the range together have less than 2^64 intervals and
+-- less than 2^128 mWh.
 abbrev pub RowsAreShown : Type 0
 RowsAreShown = (form : ReportForm) (days : List DayTotal)
     → intervals_of_days (days_in form.range days) < 2 ^ 64
     → energy_of_days (days_in form.range days) < 2 ^ 128
     → shown_rows form days ≡ rows_in form days
 
--- The range from one day up to another.
+-- The range from one day up to, but not including, another; `None` is an open end.
 abbrev pub range : (from till : Option Date) → DayRange
 range from till = record { from = from; till = till }
 
--- If a range is cut at a day, its two parts together have its energy: no day is lost, and none is
--- counted twice.
+-- If a range is cut at a day, its two parts together have its energy: no day is lost or counted
+-- twice.
 abbrev pub RangesAddUp : Type 0
 RangesAddUp = (from till : Option Date) (cut : Date) (days : List DayTotal)
     → ends_before from (Some cut) ≡ false → ends_before (Some cut) till ≡ false
@@ -57,30 +58,32 @@ RangesAddUp = (from till : Option Date) (cut : Date) (days : List DayTotal)
     + energy_of_days (days_in (range (Some cut) till) days)
     ≡ energy_of_days (days_in (range from till) days)
 
--- The days of a list in a row's period.
+-- The days of a list that are in the period of a row.
 abbrev pub days_of_row : Period → Row → List DayTotal → List DayTotal
 days_of_row period row days = filter (λ total. is_same period row.first total.day) days
 
--- No two rows are of the same period.
+-- No two of these rows are of the same period.
 abbrev pub AreApart : Period → List Row → Type 0
 AreApart period [] = Unit {0}
 AreApart period (row ∷ rows) =
     All (λ later. is_same period row.first later.first ≡ false) rows × AreApart period rows
 
--- A row has the energy of all days of its period.
+-- The row has the energy of all days of the list that are in its period.
 abbrev pub HasItsDays : Period → List DayTotal → Row → Type 0
 HasItsDays period days row = row.mwh ≡ energy_of_days (days_of_row period row days)
 
--- For days in order, each period has one row, with the energy of all its days.
+-- If the days are in order, each period with days has exactly one row, with the energy of all its
+-- days.
 abbrev pub RowsAreWhole : Type 0
 RowsAreWhole = (period : Period) (days : List DayTotal) → AreInOrder (map account_of days)
     → All (HasItsDays period days) (rows_by period days) × AreApart period (rows_by period days)
 
--- The count of a day fits 32 bits, and its energy 128 bits.
+-- The number of intervals of the day fits in 32 bits, and its energy in 128 bits.
 abbrev pub IsHeld : DayTotal → Type 0
 IsHeld total = (total.count < 2 ^ 32) × (total.mwh < 2 ^ 128)
 
--- The report without a range, by day, in mWh and as text is the list of the days.
+-- The report of all days, a row a day, in mWh, in the format text, is the same text as the list of
+-- days.
 abbrev pub PlainReportsAreListsOfDays : Type 0
 PlainReportsAreListsOfDays = (days : List DayTotal) → AreInOrder (map account_of days)
     → All IsHeld days → report_text plain_form days ≡ days_text days

@@ -1,4 +1,4 @@
--- The civil days of one period of the calendar.
+-- The days of a calendar period: a day, a month or a year.
 use Rattle.std.specs.Prelude.{◌≡◌, ◌↔◌, ℤ, ◌≤ℤ◌, Bool, true, ◌&&◌, pos}
 use Rattle.std.specs.Ordering.{int_eq}
 use Rattle.jiff_core.specs.Calendar.{days_from_civil}
@@ -7,20 +7,20 @@ use Rattle.jiff.specs.Words.{epoch_day, month_length}
 use Rattle.energy_report.specs.declared.form.Period.{Period}
 use Rattle.energy_report.specs.declared.form.Period.TheVariants as period
 
--- One day, one month of a year, or one year.
+-- Whether two days are in the same period: equal, or in the same month or year.
 abbrev pub is_same : Period → (one other : Date) → Bool
 is_same period.Day one other = int_eq (epoch_day one) (epoch_day other)
 is_same period.Month one other =
     int_eq one.year other.year && int_eq (pos one.month) (pos other.month)
 is_same period.Year one other = int_eq one.year other.year
 
--- The last day of the period that contains a day, counted from 1970-01-01.
+-- The last day of the period that contains a day, as its number of days since 1970-01-01.
 abbrev pub last_day : Period → Date → ℤ
 last_day period.Day day = epoch_day day
 last_day period.Month day = days_from_civil day.year day.month (month_length day)
 last_day period.Year day = days_from_civil day.year 12 31
 
--- From a day on, its period contains the days up to its last day, and no others.
+-- A later day is in the period of a day exactly if it is not after the last day of the period.
 abbrev pub PeriodsEndWithTheirLastDay : Type 0
 PeriodsEndWithTheirLastDay = (period : Period) (day other : Date)
     → epoch_day day ≤ℤ epoch_day other

@@ -1,4 +1,4 @@
--- The rows that days are added up to.
+-- The rows of a report, which add up days by period.
 use Rattle.std.specs.Prelude.{◌+◌, ◌-◌, ◌^◌, min, List, [], ◌∷◌, map, if◌then◌else◌}
 use Rattle.interval_core.specs.declared.totals.DayTotal.{DayTotal}
 use Rattle.energy_report.specs.declared.form.Period.{Period}
@@ -11,7 +11,7 @@ use Rattle.energy_report.specs.Periods.{is_same}
 abbrev pub row_of : DayTotal → Row
 row_of total = record { first = total.day; count = total.count; mwh = total.mwh }
 
--- Two rows as one, the earlier first.
+-- One row for two rows of the same period, of which `earlier` comes first.
 abbrev pub joined : Row → Row → Row
 joined row next = record {
   first = row.first;
@@ -19,22 +19,23 @@ joined row next = record {
   mwh = row.mwh + next.mwh;
 }
 
--- A row before others: it joins the next row if both are of the same period.
+-- A row added before others: it is joined to the next row if both are of the same period.
 abbrev pub before : Period → Row → List Row → List Row
 before period row [] = row ∷ []
 before period row (next ∷ rows) =
     if is_same period row.first next.first then joined row next ∷ rows else row ∷ next ∷ rows
 
--- Consecutive days of one period are one row.
+-- The rows of a list of days by period: consecutive days of one period are one row.
 abbrev pub rows_by : Period → List DayTotal → List Row
 rows_by period [] = []
 rows_by period (total ∷ days) = before period (row_of total) (rows_by period days)
 
--- The rows of a report on a list of days.
+-- The rows of a report on a list of days: those of the days in the form's range, by the form's
+-- period.
 abbrev pub rows_in : ReportForm → List DayTotal → List Row
 rows_in form days = rows_by form.period (days_in form.range days)
 
--- A row in numbers of 64 and of 128 bits: a larger sum stays at the largest number.
+-- The row as it is printed: its count is at most 2^64 - 1, and its energy at most 2^128 - 1 mWh.
 abbrev pub shown : Row → Row
 shown row = record {
   first = row.first;

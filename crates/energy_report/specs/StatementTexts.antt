@@ -19,24 +19,24 @@ use Rattle.energy_report.specs.Texts.{ending_by, energy_text, separator_by, unit
 
 -- ---- the reading of a counter: its timestamp and its value
 
--- The text for a range without a valid entry.
+-- What is written in place of a reading if the range has no valid entry.
 abbrev pub nothing : Format → List ℕ
 nothing Text = codes "-"
 nothing Csv = []
 nothing Json = codes "null"
 
--- The quote around a value: only in JSON.
+-- The quotation mark around a value: only in JSON, otherwise empty.
 abbrev pub quote : Format → List ℕ
 quote Text = []
 quote Csv = []
 quote Json = codes "\""
 
--- The timestamp of a counter's reading.
+-- The timestamp of a counter's reading in this format; `nothing` without a reading.
 abbrev pub moment_text : Format → Option Last → List ℕ
 moment_text format None = nothing format
 moment_text format (Some stand) = decimal stand.at
 
--- The value of a counter's reading.
+-- The value of a counter's reading in this format and unit; `nothing` without a reading.
 abbrev pub worth_text : Format → EnergyUnit → Option Last → List ℕ
 worth_text format unit None = nothing format
 worth_text format unit (Some stand) =
@@ -56,37 +56,37 @@ count_mark Text = codes "="
 count_mark Csv = codes "="
 count_mark Json = codes ":"
 
--- The number of a cause, and its number of rejected readings.
+-- One count in this format: the number of its cause, and the number of rejected readings.
 abbrev pub count_text : Format → HeldCount → List ℕ
 count_text format one =
     quote format ++ decimal (cause_number one.cause) ++ quote format ++ count_mark format
     ++ decimal one.count
 
--- The counts, separated.
+-- Several counts in this format, separated from each other.
 abbrev pub counts_text : Format → List HeldCount → List ℕ
 counts_text format counts = join_by (count_text format) (held_mark format) counts
 
--- The causes with rejected readings, in order of their numbers.
+-- The counts that are not 0, in order of the numbers of their causes.
 unfoldable pub held_some : HeldCounts → List HeldCount
 held_some held = filter (λ one. not (one.count == 0)) (by_cause held)
 
--- The counts, or `0` if there are none.
+-- The counts in this format, or `0` if there are none.
 abbrev pub counts_or_zero : Format → List HeldCount → List ℕ
 counts_or_zero format [] = codes "0"
 counts_or_zero format (first ∷ counts) = counts_text format (first ∷ counts)
 
--- A field, or the object of a member.
+-- The counts of rejected readings: a field in a text or a table, an object in JSON.
 abbrev pub held_text : Format → HeldCounts → List ℕ
 held_text Text held = counts_or_zero Text (held_some held)
 held_text Csv held = counts_or_zero Csv (held_some held)
 held_text Json held = codes "{" ++ counts_text Json (held_some held) ++ codes "}"
 
--- Whether there are no counts.
+-- Whether the list of counts is empty.
 abbrev pub are_none : List HeldCount → Bool
 are_none [] = true
 are_none (first ∷ counts) = false
 
--- A count that is not 0, after a separator unless it is the first.
+-- A count with the separator before it, unless it is the first; empty if the count is 0.
 abbrev pub count_piece : Format → (is_first : Bool) → HeldCount → List ℕ
 count_piece format is_first one =
     if one.count == 0 then [] else
@@ -94,18 +94,18 @@ count_piece format is_first one =
 
 -- ---- fields with a separator before each but the first: a line of text, or a record of a table
 
--- The timestamp and the value of a counter's reading, as fields.
+-- The timestamp and the value of a counter's reading, as two fields after the separator `mark`.
 abbrev pub stand_fields : StatementForm → (mark : List ℕ) → Option Last → List ℕ
 stand_fields form mark stand =
     mark ++ moment_text form.format stand ++ mark ++ worth_text form.format form.unit stand
 
--- The counts of corrections, as fields.
+-- The counts of corrections, as fields after the separator `mark`.
 abbrev pub count_fields : (mark : List ℕ) → EntryTally → List ℕ
 count_fields mark tally =
     mark ++ decimal tally.by_hand ++ mark ++ decimal tally.resets ++ mark
     ++ decimal tally.rescales ++ mark ++ decimal tally.voids
 
--- A row as fields.
+-- The statement of a meter as fields with the separator `mark` between them.
 abbrev pub fields : StatementForm → (mark : List ℕ) → MeterStatement → List ℕ
 fields form mark row =
     row.meter ++ stand_fields form mark row.entries.first
@@ -115,20 +115,20 @@ fields form mark row =
 
 -- ---- an object
 
--- The timestamp and the value of a counter's reading, as members.
+-- The timestamp and the value of a counter's reading, as members of a JSON object.
 abbrev pub stand_members : EnergyUnit → (word : List ℕ) → Option Last → List ℕ
 stand_members unit word stand =
     codes "\"" ++ word ++ codes "\":" ++ moment_text Json stand ++ codes ",\"" ++ word ++ codes "_"
     ++ unit_word unit ++ codes "\":" ++ worth_text Json unit stand ++ codes ","
 
--- The counts of corrections, as members.
+-- The counts of corrections, as members of a JSON object.
 abbrev pub count_members : EntryTally → List ℕ
 count_members tally =
     codes ",\"by_hand\":" ++ decimal tally.by_hand ++ codes ",\"resets\":" ++ decimal tally.resets
     ++ codes ",\"rescales\":" ++ decimal tally.rescales ++ codes ",\"voids\":"
     ++ decimal tally.voids
 
--- A row as an object.
+-- The statement of a meter as a JSON object.
 abbrev pub object : EnergyUnit → MeterStatement → List ℕ
 object unit row =
     codes "{\"meter\":\"" ++ row.meter ++ codes "\","
@@ -140,45 +140,45 @@ object unit row =
 
 -- ---- rows, and the text around them
 
--- A row in a format.
+-- The statement of a meter as a row in this format.
 abbrev pub row_by : Format → StatementForm → MeterStatement → List ℕ
 row_by Text form row = fields form (codes " ") row ++ codes "\n"
 row_by Csv form row = fields form (codes ",") row ++ codes "\r\n"
 row_by Json form row = object form.unit row
 
--- A row in the form's format.
+-- The statement of a meter as a row in the form's format.
 abbrev pub row_text : StatementForm → MeterStatement → List ℕ
 row_text form row = row_by form.format form row
 
--- The header of a table.
+-- The header of a table in CSV.
 abbrev pub csv_header : EnergyUnit → List ℕ
 csv_header unit =
     codes "meter,first,first_" ++ unit_word unit ++ codes ",last,last_" ++ unit_word unit
     ++ codes ",energy_" ++ unit_word unit ++ codes ",by_hand,resets,rescales,voids,held\r\n"
 
--- The text before the rows, in a format.
+-- The text before the first row, in this format.
 abbrev pub opening_by : Format → EnergyUnit → List ℕ
 opening_by Text unit = []
 opening_by Csv unit = csv_header unit
 opening_by Json unit = codes "["
 
--- The text before the rows.
+-- The text before the first row, in the form's format.
 abbrev pub opening : StatementForm → List ℕ
 opening form = opening_by form.format form.unit
 
--- The text between two rows.
+-- The text between two rows, in the form's format.
 abbrev pub separator : StatementForm → List ℕ
 separator form = separator_by form.format
 
--- The text before a row.
+-- The text before a row: that before the first row, or that between two rows.
 abbrev pub lead : (is_first : Bool) → StatementForm → List ℕ
 lead true form = []
 lead false form = separator form
 
--- The text of the rows, with the text before them.
+-- The text of these rows, from the beginning of the statement on, without its end.
 abbrev pub begun_text : StatementForm → List MeterStatement → List ℕ
 begun_text form rows = opening form ++ join_by (row_text form) (separator form) rows
 
--- The text of a statement.
+-- The complete text of a statement.
 abbrev pub statement_text : StatementForm → List MeterStatement → List ℕ
 statement_text form rows = begun_text form rows ++ ending_by form.format (length rows)

@@ -1,4 +1,4 @@
--- What a report has written of the days that it took.
+-- What a report has written while its days arrive one by one.
 use Rattle.std.specs.Prelude.{◌≡◌, ℕ, ◌+◌, ◌-◌, ◌<◌, ◌^◌, ◌==◌, ◌++◌, ◌∷◌, min, Bool, true, false, List, [], map, length, Option, Some, None}
 use Rattle.std.specs.List.{join_by}
 use Rattle.std.specs.Io.KnownBytes.{Appends}
@@ -10,14 +10,14 @@ use Rattle.energy_report.specs.declared.report_rows.ReportRows.{ReportRows}
 use Rattle.energy_report.specs.Rows.{rows_in, shown}
 use Rattle.energy_report.specs.Texts.{lead, opening, report_text, row_text, separator}
 
--- The text was written, or a part of it if a write failed.
+-- The text was written completely; or, if a write failed, a part of it.
 abbrev pub GotUnless : (failed : Bool) → (text : List ℕ) → (old new : Option (List ℕ)) → Type 0
 GotUnless false text old new = Appends old new text
 GotUnless true text old new = GotPart text old new
 
 -- ---- one text
 
--- A text is written. After a failed write nothing is.
+-- The report writes a text, if no write has failed before; otherwise nothing.
 pub record WritesText {W : Type 0} (contents : W → Option (List ℕ)) (text : List ℕ)
     (old new : ReportRows W) : Type 0 where
   pub form : new.form ≡ old.form
@@ -28,7 +28,8 @@ pub record WritesText {W : Type 0} (contents : W → Option (List ℕ)) (text : 
       → GotUnless new.failed text (contents old.output.now) (contents new.output.now)
   pub dropped : old.failed ≡ true → (new.failed ≡ true) × (new.output.now ≡ old.output.now)
 
--- The same with a row and the text before it; the row is counted.
+-- The report writes a row with the text before it, and counts the row; after a failed write it
+-- writes nothing.
 pub record WritesRow {W : Type 0} (contents : W → Option (List ℕ)) (row : Row)
     (old new : ReportRows W) : Type 0 where
   pub form : new.form ≡ old.form
@@ -42,19 +43,20 @@ pub record WritesRow {W : Type 0} (contents : W → Option (List ℕ)) (row : Ro
 
 -- ---- the days that were passed
 
--- The text of the first rows while others may follow: nothing before the first row.
+-- The text of the rows that are written so far, if others may follow: empty before the first row.
 abbrev pub begun_text : ReportForm → List Row → List ℕ
 begun_text form [] = []
 begun_text form (row ∷ rows) =
     opening form ++ join_by (row_text form) (separator form) (map shown (row ∷ rows))
 
--- All rows but the last were written. The last row waits, since the next day may be of its period.
+-- All rows but the last one are written. The last one is held back, because the next day may be in
+-- its period.
 abbrev pub AreWritten : (rows done : List Row) → (pending : Option Row) → Type 0
 AreWritten rows done None = (rows ≡ []) × (done ≡ [])
 AreWritten rows done (Some pending) =
     (last : Row) × (rows ≡ done ++ last ∷ []) × (pending ≡ shown last)
 
--- All rows of the days but the last were written and counted; the last row waits.
+-- All rows of these days but the last one are written and counted, and the last one is held back.
 pub record IsWritten {W : Type 0} (contents : W → Option (List ℕ)) (days : List DayTotal)
     (old : W) (new : ReportRows W) : Type 0 where
   pub done : List Row
@@ -62,13 +64,13 @@ pub record IsWritten {W : Type 0} (contents : W → Option (List ℕ)) (days : L
   pub count : new.count ≡ length done
   pub text : Appends (contents old) (contents new.output.now) (begun_text new.form done)
 
--- A write failed: a part was written of any report that begins with these days.
+-- A write failed: what was written is a part of each report whose first days are these.
 abbrev pub IsBroken : {W : Type 0} → (W → Option (List ℕ)) → List DayTotal
     → (old : W) (new : ReportRows W) → Type 0
 IsBroken contents days old new = (more : List DayTotal)
     → GotPart (report_text new.form (days ++ more)) (contents old) (contents new.output.now)
 
--- These days, fewer than 2^64, were passed from the beginning on.
+-- The report has taken these days from its beginning on; they are fewer than 2^64.
 pub record HasTaken {W : Type 0} (contents : W → Option (List ℕ)) (days : List DayTotal)
     (from to : ReportRows W) : Type 0 where
   pub form : to.form ≡ from.form
@@ -76,14 +78,14 @@ pub record HasTaken {W : Type 0} (contents : W → Option (List ℕ)) (days : Li
       → IsWritten contents days from.output.now to
   pub broken : to.failed ≡ true → length days < 2 ^ 64 → IsBroken contents days from.output.now to
 
--- One more day is passed after the earlier ones.
+-- The report takes one more day after the days that it has taken.
 pub record TakesDay {W : Type 0} (contents : W → Option (List ℕ)) (old : ReportRows W)
     (total : DayTotal) (new : ReportRows W) : Type 0 where
   pub output : new.output.ghost_name ≡ old.output.ghost_name
   pub taken : (from : ReportRows W) (days : List DayTotal)
       → HasTaken contents days from old → HasTaken contents (days ++ total ∷ []) from new
 
--- No day was passed yet.
+-- The report has this form, and has taken no day yet.
 pub record IsFresh {W : Type 0} (contents : W → Option (List ℕ)) (asked : ReportForm)
     (writer : W) (new : ReportRows W) : Type 0 where
   pub form : new.form ≡ asked
@@ -91,13 +93,13 @@ pub record IsFresh {W : Type 0} (contents : W → Option (List ℕ)) (asked : Re
   pub works : new.failed ≡ false
   pub taken : HasTaken contents [] new new
 
--- The report on the days was written, or a part of it if a write failed.
+-- The complete report on these days was written, or a part of it if a write failed.
 abbrev pub IsFinished : {W : Type 0} → (W → Option (List ℕ)) → List DayTotal
     → (from to : ReportRows W) → Type 0
 IsFinished contents days from to = GotUnless to.failed (report_text from.form days)
     (contents from.output.now) (contents to.output.now)
 
--- The same for any days that were passed, fewer than 2^64.
+-- `IsFinished` holds for all days that the report has taken, if they are fewer than 2^64.
 pub record Finishes {W : Type 0} (contents : W → Option (List ℕ)) (old new : ReportRows W)
     : Type 0 where
   pub output : new.output.ghost_name ≡ old.output.ghost_name

@@ -1,4 +1,4 @@
-//! Adds up the energy of interval rows in a range.
+//! A sink that adds up the energy of interval rows in a range of days.
 ghost use Rattle.std.specs.Prelude.{◌≡◌, if◌then◌else◌};
 
 use interval_core::{DayRange, Share, Zone};
@@ -29,7 +29,7 @@ impl EnergyWithin {
         }
     }
 
-    /// Returns the energy, in mWh.
+    /// Returns the energy of the rows so far, in mWh.
     pub fn mwh(&self) -> u128
         ensures { result ≡ self.now.mwh }
     {

@@ -35,7 +35,7 @@ pub enum Format {
     Json,
 }
 
-/// The days of a report, and how it is written.
+/// The form of a report: its range of days, its period, its unit and its format.
 #[derive(Clone, Copy, Debug, PartialEq, Eq)]
 pub struct ReportForm {
     pub range: DayRange,
@@ -44,7 +44,7 @@ pub struct ReportForm {
     pub format: Format,
 }
 
-/// The days of a statement, and how it is written.
+/// The form of a statement: its range of days, its unit and its format.
 #[derive(Clone, Copy, Debug, PartialEq, Eq)]
 pub struct StatementForm {
     pub range: DayRange,
@@ -53,7 +53,7 @@ pub struct StatementForm {
 }
 
 impl ReportForm {
-    /// Returns the form of all days, a line a day, in mWh.
+    /// Returns the form of a report without options: all days, a row a day, in mWh.
     pub fn plain() -> ReportForm
         ensures { result ≡ plain_form }
     {
@@ -67,7 +67,7 @@ impl ReportForm {
 }
 
 impl Period {
-    /// Parses a period: `day`, `month` or `year`.
+    /// Parses a period: `day`, `month` or `year`; `None` for any other word.
     pub fn read(word: &str) -> Option<Period>
         ensures { result ≡ period_of word.now }
     {
@@ -103,7 +103,7 @@ impl Period {
 }
 
 impl EnergyUnit {
-    /// Parses a unit: `mwh` or `kwh`.
+    /// Parses a unit: `mwh` or `kwh`; `None` for any other word.
     pub fn read(word: &str) -> Option<EnergyUnit>
         ensures { result ≡ unit_of word.now }
     {
@@ -116,7 +116,7 @@ impl EnergyUnit {
 }
 
 impl Format {
-    /// Parses a format: `text`, `csv` or `json`.
+    /// Parses a format: `text`, `csv` or `json`; `None` for any other word.
     pub fn read(word: &str) -> Option<Format>
         ensures { result ≡ format_of word.now }
     {

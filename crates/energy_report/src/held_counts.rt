@@ -36,7 +36,7 @@ pub struct HeldCount {
 }
 
 impl HeldCounts {
-    /// Creates counts without readings.
+    /// Creates the counts before any reading: all are 0.
     pub fn none() -> HeldCounts
         ensures { result ≡ held.none_held }
     {
@@ -92,7 +92,7 @@ impl HeldCounts {
         ]
     }
 
-    // The counts with one more reading for a cause, if the reading counts.
+    // The counts after one more reading: that of its cause grows by one, if `counts` is true.
     pub(crate) fn with_one(&self, counts: bool, cause: Cause) -> HeldCounts
         ensures { result ≡ held.with_one self.now counts cause }
     {
@@ -119,7 +119,7 @@ impl HeldCounts {
     }
 }
 
-// One more, if the reading counts and has the cause of the count.
+// The count, plus one if `counts` is true and the reading has the cause of the count.
 fn one_more_for(count: u64, counts: bool, cause: Cause, counted_cause: Cause) -> u64
     ensures { result ≡ one_more_if (counts && held.is_one cause counted_cause) count }
 {

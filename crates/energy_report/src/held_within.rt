@@ -1,4 +1,4 @@
-//! Counts the rejected readings in a range.
+//! A sink that counts the rejected readings in a range of days by cause.
 
 use crate::held_counts::HeldCounts;
 use interval_core::{DayRange, Zone};
@@ -29,7 +29,7 @@ impl HeldWithin {
         }
     }
 
-    /// Returns the number of readings for each cause.
+    /// Returns the number of rejected readings so far, for each cause.
     pub fn counts(&self) -> HeldCounts
         ensures { result ≡ self.now.counts }
     {

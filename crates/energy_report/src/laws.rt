@@ -3,33 +3,34 @@
 ghost use Rattle.energy_report.specs.Laws.{PlainReportsAreListsOfDays, RangesAddUp, RowsAddUp, RowsAreShown, RowsAreWhole};
 ghost use Rattle.energy_report.specs.Periods.{PeriodsEndWithTheirLastDay};
 
-/// For any period, the rows together have the energy and the intervals of the days in the range.
+/// Proves for any period that the rows of a report together have the energy and the intervals of
+/// the days in the range.
 pub fn rows_add_up()
     ensures { RowsAddUp }
 {}
 
-/// If the days in the range have less than 2^64 intervals and 2^128 mWh together, the printed rows
-/// are exact.
+/// Proves that the printed rows are exact, if the days in the range together have less than 2^64
+/// intervals and 2^128 mWh.
 pub fn rows_are_shown()
     ensures { RowsAreShown }
 {}
 
-/// If a range is cut at a day, its two parts together have its energy.
+/// Proves that if a range is cut at a day, its two parts together have its energy.
 pub fn ranges_add_up()
     ensures { RangesAddUp }
 {}
 
-/// For days in order, a row contains all days of its period.
+/// Proves that a row has all days of its period, if the days are in order.
 pub fn rows_are_whole()
     ensures { RowsAreWhole }
 {}
 
-/// A period contains the days up to its last day, and no later ones.
+/// Proves that a period has all days up to its last day, and no later ones.
 pub fn periods_end_with_their_last_day()
     ensures { PeriodsEndWithTheirLastDay }
 {}
 
-/// A report without a range, by day, in mWh and as text is the list of the days.
+/// Proves that a report of all days, a row a day, in mWh and as text is the list of the days.
 pub fn plain_reports_are_lists_of_days()
     ensures { PlainReportsAreListsOfDays }
 {}

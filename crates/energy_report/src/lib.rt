@@ -1,5 +1,5 @@
-//! The rows of an energy report for a range of civil days, by period, and how reports and
-//! statements are written.
+//! The rows of an energy report on a range of civil days, by period, and the texts of reports and
+//! statements.
 #![tactic(auto)]
 
 mod energy_within;

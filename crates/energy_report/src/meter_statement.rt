@@ -7,8 +7,8 @@ use crate::tallies::EntryTally;
 use interval_core::{DayRange, Zone};
 use office_events::{Installation, Name};
 
-/// A meter in a range: its tally of entries, its energy in mWh, and its number of rejected
-/// readings.
+/// The statement of a meter on a range of days: its tally of entries, its energy in mWh, and the
+/// counts of its rejected readings.
 #[derive(Clone, Copy, Debug, PartialEq, Eq)]
 pub struct MeterStatement {
     pub meter: Name,

@@ -1,4 +1,4 @@
-//! Writes a report while its days arrive.
+//! Writes a report while its days arrive one by one.
 ghost use Rattle.std.specs.Prelude.{◌≡◌};
 
 use crate::form::ReportForm;
@@ -47,7 +47,7 @@ impl<'o, W: Write> ReportRows<'o, W> {
         self.failed
     }
 
-    /// Writes the rest of the report, once all its days were passed.
+    /// Writes the rest of the report, after all its days have arrived.
     pub fn finish(&mut self)
         ensures { Finishes W.contents self.old self.new }
     {

@@ -4,10 +4,10 @@ ghost use Rattle.energy_report.specs.Rows.{joined, row_of, shown};
 
 use interval_core::{Day, DayTotal};
 
-/// A row of a report: the days of one period.
+/// A row of a report: the sum of its days in one period.
 ///
-/// `first` is the first of the days, `count` the number of their intervals, and `mwh` their energy
-/// in mWh.
+/// `first` is the first of these days, `count` the number of their intervals, and `mwh` their
+/// energy in mWh.
 #[derive(Clone, Copy, Debug, PartialEq, Eq)]
 pub struct Row {
     pub first: Day,

@@ -1,4 +1,4 @@
-//! Writes rows while they arrive.
+//! Writes a line for each row while the rows arrive one by one.
 ghost use Rattle.std.specs.Prelude.{◌≡◌};
 
 use interval_core::{DayTotal, Share};

@@ -9,10 +9,10 @@ use crate::row::Row;
 use interval_core::Day;
 use script_text::{Line, Text, day_of_month, month_of, push_part, push_year};
 
-// The text of an energy, of at most 46 characters.
+// The text of an energy in either unit, of at most 46 characters.
 pub(crate) type Energy = Text<48>;
 
-/// A row, preceded by the text before the first row or between two rows.
+/// Returns a row with the text before it: that before the first row, or that between two rows.
 pub(crate) fn row_piece(form: &ReportForm, is_first: bool, row: &Row) -> Line
     ensures { result ≡ text.lead is_first form.now ++ text.row_text form.now row.now }
 {
@@ -22,7 +22,7 @@ pub(crate) fn row_piece(form: &ReportForm, is_first: bool, row: &Row) -> Line
     line
 }
 
-/// The text after `count` rows. Without rows it begins with the text before the first row.
+/// Returns the text after `count` rows. Without rows it begins with the text before the first row.
 pub(crate) fn last_piece(form: &ReportForm, count: u64) -> Line
     ensures { result ≡ text.last_text form.now count }
 {
@@ -201,7 +201,7 @@ pub(crate) fn energy(unit: EnergyUnit, mwh: u128) -> Energy
     energy
 }
 
-// A number below a million, in six digits.
+// Appends a number below a million, in six digits.
 fn push_decimals(energy: &mut Energy, number: u32)
     requires room { length energy.old ≤ 40 }
     requires few { number < 1_000_000 }
@@ -213,7 +213,7 @@ fn push_decimals(energy: &mut Energy, number: u32)
     energy.push_pair((number % 100) as u8);
 }
 
-// An energy, right-aligned in 24 columns.
+// Appends an energy, right-aligned in 24 columns.
 fn push_energy_right(line: &mut Line, unit: EnergyUnit, mwh: u128)
     requires { length line.old ≤ 70 }
     ensures bytes { line.new ≡ line.old ++ right 24 (text.energy_text unit mwh) }
@@ -227,7 +227,7 @@ fn push_energy_right(line: &mut Line, unit: EnergyUnit, mwh: u128)
     line.push(bytes);
 }
 
-// At most 24 spaces.
+// Appends this number of spaces, at most 24.
 fn push_spaces(line: &mut Line, count: usize)
     requires few { count ≤ 24 }
     requires room { length line.old + count ≤ 128 }

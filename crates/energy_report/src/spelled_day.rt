@@ -1,4 +1,4 @@
-//! Parses days.
+//! Parses the text of a civil day.
 ghost use Rattle.energy_report.specs.Days.{DigitIs, IsReadAs, PairIs, PartsAre};
 
 use interval_core::Day;
@@ -30,7 +30,8 @@ fn pair_of(tens: u8, ones: u8) -> Option<u8>
     Some(tens * 10 + ones)
 }
 
-// The parts of a text of ten characters, with hyphens between year, month and day.
+// The parts of a text of ten characters, with hyphens between year, month and day; `None` for any
+// other text.
 fn parts_of(text: &[u8]) -> Option<Parts>
     ensures { PartsAre text.now result }
 {
@@ -55,7 +56,7 @@ fn parts_of(text: &[u8]) -> Option<Parts>
     })
 }
 
-/// Parses a day as `YYYY-MM-DD`, in the years 0000 to 9999.
+/// Parses a day as `YYYY-MM-DD`, in the years 0000 to 9999; `None` if the text spells no day.
 pub fn read_day(text: &str) -> Option<Day>
     ensures { IsReadAs text.now result }
 {

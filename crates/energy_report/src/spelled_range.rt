@@ -1,16 +1,16 @@
-//! Parses ranges of days.
+//! Parses the range of days that two words select.
 ghost use Rattle.std.specs.Prelude.{MatchResult};
 ghost use Rattle.energy_report.specs.Days.{IsEnd, IsNoEnd, IsRange, IsRangeFault};
 
 use crate::spelled_day::read_day;
 use interval_core::{Day, DayRange};
 
-/// Why two words are no range.
+/// Why two words select no range.
 #[derive(Clone, Copy, Debug, PartialEq, Eq)]
 pub enum RangeFault {
-    /// The word for the first day is no day.
+    /// The word for the first day spells no day.
     From,
-    /// The word for the day after the last is no day.
+    /// The word for the day after the last spells no day.
     Till,
     /// The range ends before it begins.
     Backward,
@@ -19,7 +19,7 @@ pub enum RangeFault {
 #[derive(Clone, Copy)]
 struct NoDay;
 
-// The end of a range that a word spells; open if there is no word.
+// The end of a range that a word selects; open if there is no word.
 fn read_end(word: Option<&str>) -> Result<Option<Day>, NoDay>
     ensures { MatchResult result (IsEnd word.entry) (λ none. IsNoEnd word.entry) }
 {

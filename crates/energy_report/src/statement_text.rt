@@ -77,7 +77,7 @@ fn ending_page(form: &StatementForm, count: u64) -> Page
     page
 }
 
-// A row, preceded by the text between two rows.
+// A row with the text before it: that before the first row, or that between two rows.
 fn row_page(form: &StatementForm, is_first: bool, row: &MeterStatement) -> Page
     ensures { result ≡ text.lead is_first form.now ++ text.row_text form.now row.now }
 {

@@ -1,4 +1,4 @@
-//! Adds up the entries of a meter in a range.
+//! Tallies the entries of a meter in a range of days.
 ghost use Rattle.std.specs.Prelude.{◌≡◌, ◌&&◌, ◌++◌, ◌∷◌, [], List, Some, None, if◌then◌else◌};
 ghost use Rattle.std.specs.Option.{option_or};
 ghost use Rattle.office_books.specs.declared.entries.MeterEntry.{MeterEntry as Listed};
@@ -11,13 +11,13 @@ use interval_core::{DayRange, Zone};
 use meter_journal::EntryKind;
 use office_books::MeterEntry;
 
-/// The entries of a meter in a range of days: the first and the last, and the number of
-/// corrections.
+/// The tally of a meter's entries in a range of days: the counter at the first and the last entry,
+/// and the number of corrections.
 ///
 /// A count stays at 2^64 - 1.
 #[derive(Clone, Copy, Debug, PartialEq, Eq)]
 pub struct EntryTally {
-    /// The counter after the first and after the last valid entry.
+    /// The counter after the first and after the last valid entry; `None` without a valid entry.
     pub first: Option<Last>,
     pub last: Option<Last>,
     /// Valid readings by hand.
@@ -25,7 +25,7 @@ pub struct EntryTally {
     /// Valid resets and rescalings.
     pub resets: u64,
     pub rescales: u64,
-    /// Voided entries, by the timestamps of the entries.
+    /// Voided entries. Each counts at its own timestamp, not at that of its void.
     pub voids: u64,
 }
 
@@ -44,7 +44,7 @@ impl EntryTally {
         }
     }
 
-    /// Adds the next entries of the meter, in order.
+    /// Adds the next entries of the meter to the tally, in order.
     pub fn take_all(&mut self, zone: &Zone, range: &DayRange, entries: &[MeterEntry])
         ensures { (before : List Listed) → self.old ≡ tally_of zone.now range.now before
             → self.new ≡ tally_of zone.now range.now (before ++ entries.now) }
@@ -54,7 +54,7 @@ impl EntryTally {
         }
     }
 
-    // Adds the next entry.
+    // Adds the next entry of the meter to the tally.
     fn take(&mut self, zone: &Zone, range: &DayRange, entry: &MeterEntry)
         ensures { (before : List Listed) → self.old ≡ tally_of zone.now range.now before
             → self.new ≡ tally_of zone.now range.now (before ++ entry.now ∷ []) }
@@ -75,7 +75,7 @@ impl EntryTally {
 
 // ---- an entry
 
-// The counter after an entry.
+// The state of the counter after an entry.
 fn stand_of(entry: &MeterEntry) -> Last
     ensures { result ≡ statements.stand_of entry.now }
 {

@@ -1,10 +1,10 @@
--- The model of a store that refuses some calls before the store below is queried.
+-- The model of a store for tests, which refuses one call before it reaches the store below.
 use Rattle.std.specs.Prelude.{List, Contains}
 use Rattle.office_events.specs.declared.facts.Fact.{Fact}
 use Rattle.office_books.specs.declared.failures.Failures.{Failures}
 use Rattle.office_books.specs.Ledgers.{Ledger}
 
--- The store holds the records of the store below, with its failures counted here.
+-- The store holds the records of the store below it, but has failure counts of its own.
 abbrev pub refusing : Ledger → Failures → Ledger
 refusing beneath failures = record {
   holds = beneath.holds;

@@ -12,15 +12,15 @@ use office_events::{
     Device, EntryPlace, Fact, HeldReading, Installation, Name, PlannedList, Poll, PollRow, Register,
 };
 
-/// A store in memory that refuses the call with one number as a failed store does. Any other call
-/// fails only if memory runs out.
+/// A store in memory for tests. It refuses the call with one number, as a failed store does; any
+/// other call fails only if memory runs out.
 #[derive(Drop)]
 pub struct FailingBooks {
     pub(crate) books: ListBooks,
     pub(crate) calls: u64,
     pub(crate) failing: u64,
     pub(crate) failures: Failures,
-    /// Whether a call that passes rows to a sink is refused only after all rows.
+    /// Whether the refused call, if it passes rows to a sink, passes all rows before it is refused.
     pub(crate) rows_come_first: bool,
 }
 
@@ -29,8 +29,8 @@ impl FailingBooks {
     ghost use Rattle.office_events.specs.declared.facts.Fact.{Fact};
     ghost use Rattle.memory_books.specs.Listed.{ledger_of};
 
-    /// Creates a store that refuses call number `failing`. Calls count from 1. Calls that cannot
-    /// fail are not counted, and adding no records is not counted.
+    /// Creates a store that refuses call number `failing`. The first call has number 1. Calls that
+    /// cannot fail, and a booking of no records, are not counted.
     pub fn new(books: ListBooks, failing: u64) -> FailingBooks
         ensures holds { (known : List Fact) → (ledger_of books).holds known
             → (⟦<FailingBooks as Books>⟧.ledger result).holds known }
@@ -46,7 +46,7 @@ impl FailingBooks {
         }
     }
 
-    /// Counts a call, and refuses the call with the failing number.
+    /// Counts a call, and refuses it if it is the one with the failing number.
     fn called(&mut self) -> Result<(), BooksFault>
         ensures books { self.new.books ≡ self.old.books }
         ensures holds { (known : List Fact) → (ledger_of self.old.books).holds known

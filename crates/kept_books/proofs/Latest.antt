@@ -32,7 +32,7 @@ latest_stays law f facts meter row none same_one is = record {
   stands = is.stands ∙ sym (law f facts row.opening none).installation;
 }
 
--- It is the installation at its register.
+-- The cached installation of a meter is what a lookup by its accounting register finds.
 pub at_register : (facts : List Fact) (meter : List ℕ) (row : Installation) → IsLatest facts meter row
     → installation_at facts row.opening.register ≡ Some row
 at_register facts meter row is =

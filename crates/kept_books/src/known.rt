@@ -1,4 +1,4 @@
-//! The cache, and its changes by records.
+//! The cache of a store, and how records change it.
 ghost use Rattle.std.specs.Prelude.{◌≡◌, ◌∷◌, List, length, IfSome, Some};
 ghost use Rattle.std.specs.List.{filter};
 ghost use Rattle.office_events.specs.declared.facts.Fact.{Fact};
@@ -28,13 +28,14 @@ use std::alloc::Global;
 #[derive(Drop)]
 pub(crate) struct Known {
     alloc: Global,
-    /// Point lists, by their device.
+    /// Point lists, each by the name of its device.
     lists: Answers<PlannedList>,
-    /// Registers, by their device.
+    /// Accounting registers, each list by the name of their device.
     registers: Answers<Vec<Register>>,
-    /// Installations that are the latest at their register, by their meter.
+    /// The latest installation at an accounting register, by the name of its meter.
     standing: Answers<Installation>,
-    /// The meter that was the latest at a register. A later meter may have replaced it.
+    /// The name of the meter that was the latest at an accounting register when it was cached. A
+    /// later meter may have replaced it.
     meters: Answers<Name>,
     /// Pending polls, and the number of started polls.
     polls: Polls,
@@ -58,7 +59,8 @@ impl Known {
         }
     }
 
-    /// Returns the cached point list of a device, if there is memory for a copy.
+    /// Returns a copy of the cached point list of a device; `None` if it is not cached or memory
+    /// runs out.
     pub(crate) fn list(&self, device: &Name) -> Option<PlannedList>
         ensures { (known : List Fact) → AreTrue self.now known
             → IfSome result (λ list. list_of known device.now ≡ Some list) }
@@ -72,7 +74,7 @@ impl Known {
         }
     }
 
-    /// Returns the number of reads in the plan of a device, if its point list is cached.
+    /// Returns the number of reads in the plan of a device; `None` if its point list is not cached.
     pub(crate) fn read_count(&self, device: &Name) -> Option<usize>
         ensures { (known : List Fact) → AreTrue self.now known
             → IfSome result (λ n. read_count_of (list_of known device.now) ≡ Some n) }
@@ -83,8 +85,8 @@ impl Known {
         }
     }
 
-    /// Returns the registers of at most `most` reads from index `from`, if the point list is cached
-    /// and memory suffices.
+    /// Returns at most `most` reads of the device's plan from index `from` on; `None` if its point
+    /// list is not cached or memory runs out.
     pub(crate) fn reads(&self, device: &Name, from: u64, most: usize) -> Option<Vec<ReadSpan>>
         ensures { (known : List Fact) → AreTrue self.now known
             → IfSome result (λ v. v.items ≡ reads_from from most (list_of known device.now)) }
@@ -98,7 +100,7 @@ impl Known {
         }
     }
 
-    /// Caches the point list of a device, if it exists and memory suffices.
+    /// Caches the point list of a device, unless it has none or memory runs out.
     pub(crate) fn keep_list(&mut self, device: &Name, found: &Option<PlannedList>)
         ensures { (known : List Fact) → found.now ≡ list_of known device.now
             → AreTrue self.old known → AreTrue self.new known }
@@ -111,7 +113,8 @@ impl Known {
         }
     }
 
-    /// Returns the cached registers of a device, if there is memory for a copy.
+    /// Returns a copy of the cached accounting registers of a device; `None` if they are not cached
+    /// or memory runs out.
     pub(crate) fn registers(&self, device: &Name) -> Option<Vec<Register>>
         ensures { (known : List Fact) → AreTrue self.now known
             → IfSome result (λ v. v.items ≡ registers_of known device.now) }
@@ -125,8 +128,10 @@ impl Known {
         }
     }
 
-    /// Returns the cached registers of a device that a read of the span covers. The others are not
-    /// copied.
+    /// Returns those of the cached accounting registers of a device that a read of the span covers.
+    /// The others are not copied.
+    ///
+    /// Returns `None` if the registers are not cached or memory runs out.
     pub(crate) fn registers_read(&self, device: &Name, span: ReadSpan) -> Option<Vec<Register>>
         ensures { (known : List Fact) → AreTrue self.now known
             → IfSome result (λ v.
@@ -141,7 +146,7 @@ impl Known {
         }
     }
 
-    /// Returns the number of registers of a device, if they are cached.
+    /// Returns the number of accounting registers of a device; `None` if they are not cached.
     pub(crate) fn register_count(&self, device: &Name) -> Option<usize>
         ensures { (known : List Fact) → AreTrue self.now known
             → IfSome result (λ n. n ≡ length (registers_of known device.now)) }
@@ -152,7 +157,7 @@ impl Known {
         }
     }
 
-    /// Caches the registers of a device, if there are any and memory suffices.
+    /// Caches the accounting registers of a device, unless it has none or memory runs out.
     pub(crate) fn keep_registers(&mut self, device: &Name, found: &[Register])
         ensures { (known : List Fact) → found.now ≡ registers_of known device.now
             → AreTrue self.old known → AreTrue self.new known }
@@ -165,8 +170,8 @@ impl Known {
         }
     }
 
-    /// Returns the cached installation of the meter that was the latest at a register. The caller
-    /// must check its register.
+    /// Returns the cached installation of the meter that was the latest at an accounting register.
+    /// The caller must check whether it is still at this register.
     fn standing_at(&self, register: &Name) -> Option<&Installation>
         ensures { (known : List Fact) → AreTrue self.now known
             → IfSome result (λ row. installation_at known row.now.opening.register ≡ Some row.now) }
@@ -177,7 +182,7 @@ impl Known {
         }
     }
 
-    /// Returns the latest installation at a register, if it is cached.
+    /// Returns the latest installation at an accounting register; `None` if it is not cached.
     pub(crate) fn installation(&self, register: &Name) -> Option<Installation>
         ensures found { (known : List Fact) → AreTrue self.now known
             → IfSome result (λ row. installation_at known register.now ≡ Some row) }
@@ -195,7 +200,8 @@ impl Known {
         }
     }
 
-    /// Caches the latest installation at a register, if it exists and memory suffices.
+    /// Caches the latest installation at an accounting register, unless there is none or memory
+    /// runs out.
     pub(crate) fn keep_installation(&mut self, register: &Name, found: &Option<Installation>)
         ensures { (known : List Fact) → found.now ≡ installation_at known register.now
             → AreTrue self.old known → AreTrue self.new known }
@@ -207,7 +213,7 @@ impl Known {
         }
     }
 
-    /// Returns the poll with a number, if it is cached as pending.
+    /// Returns the poll with this number; `None` if it is not cached as pending.
     pub(crate) fn poll(&self, number: u64) -> Option<PollRow>
         ensures { (known : List Fact) → AreTrue self.now known
             → IfSome result (λ row. poll_row_of known number ≡ Some row) }
@@ -221,7 +227,7 @@ impl Known {
         }
     }
 
-    /// Returns how many polls were started, if the count is cached.
+    /// Returns how many polls were started; `None` if the count is not cached.
     pub(crate) fn poll_count(&self) -> Option<u64>
         ensures { (known : List Fact) → AreTrue self.now known
             → IfSome result (λ n. n ≡ length (polls_in known)) }
@@ -237,7 +243,7 @@ impl Known {
         self.polls.keep_started(found);
     }
 
-    /// Updates the cache for one more record, except the polls.
+    /// Updates the cache of point lists, registers and installations for one more record.
     fn change(&mut self, fact: &Fact)
         ensures changes { Changes fact.now self.old self.new }
         ensures polls { self.new.polls ≡ self.old.polls }
@@ -271,7 +277,7 @@ impl Known {
         self.polls.go_on(fact);
     }
 
-    /// Updates the cache for records that are added to the known ones.
+    /// Updates the cache for records that were added to the store.
     pub(crate) fn add_all(&mut self, facts: &[Fact])
         ensures { (known : List Fact) → AreLawful (with_facts facts.now known)
             → AreTrue self.old known → AreTrue self.new (with_facts facts.now known) }

@@ -8,7 +8,7 @@ use poll_core::MAX_WINDOW;
 use std::alloc::Global;
 use std::collections::BTreeMap;
 
-/// The cached pending polls, and the number of started polls, if known.
+/// The cached pending polls, and the number of started polls if it is known.
 #[derive(Drop)]
 pub(crate) struct Polls {
     waiting: BTreeMap<u64, Poll>,
@@ -27,14 +27,14 @@ impl Polls {
         }
     }
 
-    /// Returns the poll with a number, if it is cached as pending.
+    /// Returns the poll with this number; `None` if it is not cached as pending.
     pub(crate) fn get(&self, number: u64) -> Option<&Poll>
         ensures { option_copied result ≡ waiting_at self.now number }
     {
         self.waiting.get(&number)
     }
 
-    /// Returns the number of started polls, if known.
+    /// Returns the number of started polls; `None` if it is not known.
     pub(crate) fn started(&self) -> Option<u64>
         ensures { result ≡ self.now.started }
     {
@@ -49,7 +49,8 @@ impl Polls {
         self.started = Some(count);
     }
 
-    /// A full cache, or lack of memory, leaves the poll uncached. The count still rises.
+    /// Caches a started poll as pending, unless the cache is full or memory runs out. In any case
+    /// the count of started polls, if known, grows by one.
     fn start(&mut self, poll: &Poll)
         ensures waiting { MayWait poll.now self.old self.new }
         ensures started { GoesUp self.old.started self.new.started }

@@ -6,15 +6,16 @@ use Rattle.office_books.specs.declared.failures.Failures.{Failures}
 use Rattle.office_books.specs.declared.faults.BooksFault.{BooksFault}
 use Rattle.office_books.specs.declared.faults.BooksFault.TheVariants.{Memory}
 
--- The records, the latest first.
+-- The records of a list with the latest first.
 abbrev pub latest_first : List Fact → List Fact
 latest_first facts = reverse facts
 
--- The result of a call that allocates memory.
+-- The result of a call of the store, if the call fails only by running out of memory.
 abbrev pub told : {T : Type 0} → Result T AllocError → Result T BooksFault
 told (Ok answer) = Ok answer
 told (Err lacks) = Err Memory
 
--- The failures of a store in memory: none is counted, and the last one, if any, was lack of memory.
+-- The failure counts of a store in memory: none is counted, and the last failure, if any, was that
+-- memory ran out.
 abbrev pub failures_in : (last : Option BooksFault) → Failures
 failures_in last = record { count = 0; last = last }

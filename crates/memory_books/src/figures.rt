@@ -1,5 +1,4 @@
-//! Figures that are updated with each record, so that the queries for them need not read all
-//! records.
+//! Numbers that are updated with each record, so that queries for them need not read all records.
 ghost use Rattle.std.specs.Prelude.{◌<◌, ◌∷◌, List, [], length};
 ghost use Rattle.office_events.specs.declared.facts.Fact.{Fact};
 ghost use Rattle.memory_books.specs.Figures.{AreFigures, CountOn, most_facts};
@@ -7,7 +6,7 @@ ghost use Rattle.memory_books.specs.Figures.{AreFigures, CountOn, most_facts};
 use crate::kinds::{moment, openings};
 use office_events::Fact;
 
-/// The number of installed meters, and the greatest timestamp.
+/// The number of installed meters, and the greatest timestamp of the records.
 #[derive(Clone, Copy)]
 pub(crate) struct Figures {
     pub(crate) installations: usize,
@@ -15,7 +14,7 @@ pub(crate) struct Figures {
 }
 
 impl Figures {
-    /// Creates the figures of an empty list.
+    /// Creates the figures of a store without records.
     pub(crate) fn new() -> Figures
         ensures { AreFigures result [] }
     {
@@ -35,7 +34,7 @@ impl Figures {
         }
     }
 
-    /// Returns the figures after these records.
+    /// Returns the figures after these records are added.
     pub(crate) fn after_all(&self, facts: &[Fact]) -> Figures
         ensures { CountOn facts.now self.now result }
     {

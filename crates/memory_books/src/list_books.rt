@@ -26,7 +26,7 @@ pub struct ListBooks {
     zone: Zone,
     tables: Tables,
     figures: Figures,
-    /// The last failure, if any. It is always lack of memory.
+    /// The last failure, if any: memory ran out.
     last_failure: Option<BooksFault>,
 }
 
@@ -63,7 +63,7 @@ impl ListBooks {
         self.tables.catch_up(&self.facts)
     }
 
-    /// Updates the tables for a lookup, which fails if memory runs out.
+    /// Brings the tables up to date before a lookup. Fails if memory runs out.
     fn ready(&mut self) -> Result<(), BooksFault>
         ensures reads { OnlyReads (ledger_of self.old) (ledger_of self.new) result }
         ensures whole { (known : List Fact) → AreListed self.old known
@@ -94,7 +94,7 @@ impl ListBooks {
     }
 }
 
-/// Returns the result of a call that allocates memory, and notes lack of memory.
+/// Returns the result of a call that allocates memory, and notes the failure if memory ran out.
 fn told<T>(
     last_failure: &mut Option<BooksFault>,
     done: Result<T, AllocError>,
@@ -294,7 +294,8 @@ impl Books for ListBooks {
     fn book(&mut self, facts: Vec<Fact>) -> Result<(), BooksFault> {
         match self.add(facts) {
             Ok(()) => {
-                // The records are stored. A table without room is updated by the next lookup.
+                // The records are stored even if this fails: a table without memory is updated by
+                // the next lookup.
                 let _ = self.catch_up();
                 Ok(())
             }

@@ -1,6 +1,6 @@
-//! What an office executes: sessions, reads, the polls that events settle, commands and openings.
+//! Executes what an office accepts: device events, commands and its own opening.
 //!
-//! Each event, command or opening is recorded completely or not at all.
+//! The records of each are written completely or not at all.
 #![tactic(auto)]
 
 mod commands;

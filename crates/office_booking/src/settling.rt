@@ -1,4 +1,5 @@
-//! Settles the polls that events of devices end, and records their readings all at once.
+//! Settles the polls that device events end, and records the outcomes and readings of an event all
+//! at once.
 
 mod drafts;
 mod events;

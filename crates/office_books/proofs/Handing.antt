@@ -2,7 +2,7 @@
 use Rattle.std.proofs.Common.{List, [], ◌∷◌, ◌++◌, refl, subst}
 use Rattle.office_books.specs.Rows.{TakesAll}
 
--- One row after those that it received.
+-- A sink that received some rows and then one more has received all of them.
 pub takes_more : {S T : Type 0} (takes : S → T → S → Type 0) (before now after : S) (rows : List T) (row : T)
     → TakesAll takes before rows now → takes now row after → TakesAll takes before (rows ++ row ∷ []) after
 takes_more {S} takes before now after [] row took more =

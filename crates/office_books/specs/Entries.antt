@@ -1,4 +1,5 @@
--- The entries of a meter in order, from a sequence number, and the installations at a register.
+-- The entries of a meter in order, from a sequence number on, and the installations at an
+-- accounting register.
 use Rattle.std.specs.Prelude.{ℕ, ℤ, nat_le, List, [], ◌∷◌, map, reverse, take, Option, Some, None}
 use Rattle.std.specs.List.{filter}
 use Rattle.energy_core.specs.Account.{last_of}
@@ -18,34 +19,37 @@ abbrev pub place_of : MeterEntry → ℕ
 place_of (entry.Opening last) = 1
 place_of (entry.Later row sf) = row.place
 
--- The scale after the valid entries.
+-- The scale of the counter after the valid entries among these rows.
 abbrev pub scale_after : Opening → List EntryRow → ℤ
 scale_after opening rows = (last_of (opened opening) (entries_in rows)).sf
 
--- The opening and these rows after it, each with the scale after it, the latest first.
+-- The opening and these entry rows, the latest first, each with the counter's scale after it.
 abbrev pub listed_rows : Opening → List EntryRow → List MeterEntry
 listed_rows opening [] = entry.Opening (opened opening) ∷ []
 listed_rows opening (row ∷ rows) =
     entry.Later row (scale_after opening (row ∷ rows)) ∷ listed_rows opening rows
 
--- All entries of a meter, with the voided ones, in order.
+-- All entries of a meter in order: its opening, and then all entries, voided ones included. Empty
+-- for `None`.
 abbrev pub entries_at : List Fact → Option Opening → List MeterEntry
 entries_at facts None = []
 entries_at facts (Some opening) = reverse (listed_rows opening (rows_of facts opening))
 
--- All entries of the meter with a name.
+-- All entries of the meter with this name, its opening first; empty if no meter has the name.
 abbrev pub all_entries : List Fact → (meter : List ℕ) → List MeterEntry
 all_entries facts meter = entries_at facts (opening_of facts meter)
 
--- The first `most` entries from a sequence number.
+-- The entries with sequence number `from` or more, at most `most` of them.
 abbrev pub first_from : (from most : ℕ) → List MeterEntry → List MeterEntry
 first_from from most entries = take most (filter (λ e. nat_le from (place_of e)) entries)
 
--- The first `most` entries of a meter from a sequence number.
+-- The entries of the meter with this name that have sequence number `from` or more, at most `most`
+-- of them.
 abbrev pub entries_from : List Fact → (meter : List ℕ) → (from most : ℕ) → List MeterEntry
 entries_from facts meter from most = first_from from most (all_entries facts meter)
 
--- The installations at a register, with the closed ones, in the order in which they were installed.
+-- The installations at the accounting register with this name, closed ones included, in the order
+-- in which they were installed.
 abbrev pub installations_of : List Fact → (register : List ℕ) → List Installation
 installations_of facts register =
     map (installation_of facts) (installations_at facts register)

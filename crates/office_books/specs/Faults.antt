@@ -1,4 +1,4 @@
--- The answer and the count of failures if the store fails.
+-- The refusal and the failure counts after a failure of the store.
 use Rattle.std.specs.Prelude.{◌≡◌, ◌⊎◌, ◌+◌, min, Some, None, Result, Ok, Err}
 use Rattle.office_events.specs.declared.refusals.Refusal.{Refusal}
 use Rattle.office_events.specs.declared.refusals.Refusal.TheVariants as refusal
@@ -10,22 +10,22 @@ use Rattle.office_books.specs.declared.faults.StoreFault.TheVariants.{Refused, D
 use Rattle.office_books.specs.declared.faults.BooksFault.{BooksFault}
 use Rattle.office_books.specs.declared.faults.BooksFault.TheVariants.{Store, Memory}
 
--- The cause of a refusal, by the failure of the store.
+-- The cause in a refusal that reports this failure of the store.
 abbrev pub as_cause : StoreFault → StoreCause
 as_cause Refused = cause.Refused
 as_cause Damaged = cause.Damaged
 
--- The refusal after a failure.
+-- The refusal that reports this failure of the store or of its memory.
 abbrev pub as_refusal : BooksFault → Refusal
 as_refusal (Store fault) = refusal.Store (as_cause fault)
 as_refusal Memory = refusal.Memory
 
--- No failures yet.
+-- The failure counts of a store that never failed.
 abbrev pub no_failures : Failures
 no_failures = record { count = 0; last = None }
 
--- The failures after one more. The count includes only failures of the store, not of memory. It
--- stays at the greatest number of 64 bits.
+-- The failure counts after one more failure. The count includes failures of the store only, not of
+-- memory, and stays at 2^64 - 1.
 abbrev pub failed_by : BooksFault → Failures → Failures
 failed_by (Store fault) failures = record {
   count = min (failures.count + 1) 18446744073709551615;
@@ -33,14 +33,14 @@ failed_by (Store fault) failures = record {
 }
 failed_by Memory failures = record { count = failures.count; last = Some Memory }
 
--- The failures after a call of the store.
+-- The failure counts after one call of the store with this result.
 abbrev pub faults_after : {T : Type 0} → Result T BooksFault → Failures → Failures
 faults_after (Ok x) failures = failures
 faults_after (Err fault) failures = failed_by fault failures
 
--- The failures after several calls of the store and the work between them. The fault in the final
--- result is the fault of the store, and no other failure is counted. If memory ran out between the
--- calls, the store has not failed.
+-- The failure counts after several calls of the store and the work between them. On an error
+-- exactly the fault in the result was counted. Memory that ran out between the calls is not
+-- counted.
 abbrev pub FailuresAfterCalls : {T : Type 0} → Result T BooksFault → (old new : Failures) → Type 0
 FailuresAfterCalls (Ok x) old new = new ≡ old
 FailuresAfterCalls (Err (Store fault)) old new = new ≡ failed_by (Store fault) old

@@ -7,10 +7,10 @@ use Rattle.office_rules.specs.Facts.{holds_in, same}
 use Rattle.office_books.specs.declared.spans.Span.{Span}
 use Rattle.office_books.specs.Spans.{is_within}
 
--- The rejected readings of a meter, in the order in which they were recorded.
+-- The rejected readings of the meter with this name, in the order in which they were recorded.
 abbrev pub holds_of : List Fact → (meter : List ℕ) → List HeldReading
 holds_of facts meter = reverse (filter (λ held. same held.meter meter) (holds_in facts))
 
--- The rejected readings whose timestamps lie in the span, in order.
+-- The rejected readings whose timestamps lie in the span, in their order.
 abbrev pub holds_within : Span → List HeldReading → List HeldReading
 holds_within span holds = filter (λ held. is_within span held.at) holds

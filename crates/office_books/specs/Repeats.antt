@@ -1,4 +1,4 @@
--- The relation of a request to the kept request with the same caller and number.
+-- Comparing a request with the stored request of the same idempotency key.
 use Rattle.std.specs.Prelude.{ℕ, List, Option, if◌then◌else◌}
 use Rattle.std.specs.Option.{option_map}
 use Rattle.std.specs.Str.{bytes_eq}
@@ -8,11 +8,12 @@ use Rattle.office_rules.specs.Facts.{reply_of}
 use Rattle.office_books.specs.declared.books.Repeat.{Repeat}
 use Rattle.office_books.specs.declared.books.Repeat.TheVariants.{Same, Other}
 
--- A request has the same bytes as the kept one, or other bytes.
+-- `Same` with the kind of the stored command if both requests have equal bytes, otherwise `Other`.
 abbrev pub as_repeat : (request : List ℕ) → Reply → Repeat
 as_repeat request reply = if bytes_eq reply.request request then Same reply.kind else Other
 
--- The relation of a request to the kept request, if there is one.
+-- Compares a request with the stored request of the same caller and number; `None` if none is
+-- stored.
 abbrev pub repeat_of : List Fact → (caller : List ℕ) → (number : ℕ) → (request : List ℕ)
     → Option Repeat
 repeat_of facts caller number request =

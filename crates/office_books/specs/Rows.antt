@@ -1,4 +1,4 @@
--- Rows that a sink receives one by one.
+-- Rows that a query passes to a sink one by one.
 use Rattle.std.specs.Prelude.{◌≡◌, ℕ, List, [], ◌∷◌, take, Result, OnOk}
 use Rattle.office_events.specs.declared.facts.Fact.{Fact}
 use Rattle.office_books.specs.declared.faults.BooksFault.{BooksFault}
@@ -11,13 +11,13 @@ TakesAll takes before [] after = after ≡ before
 TakesAll {S} takes before (row ∷ rows) after =
     (next : S) × takes before row next × TakesAll takes next rows after
 
--- The sink received the first of these rows.
+-- The sink received the first rows of this list, in order; possibly none, possibly all.
 abbrev pub TakesFirst : {S T : Type 0} → (takes : S → T → S → Type 0) → (before : S) → List T
     → (after : S) → Type 0
 TakesFirst takes before rows after = (n : ℕ) × TakesAll takes before (take n rows) after
 
--- The sink received the first rows that the records give, and at Ok all of them. In any case it
--- received nothing but rows.
+-- A query passes rows to a sink. The sink received the first of the rows that the store's records
+-- give, and all of them on `Ok`. Whatever the store returned, the sink received nothing but rows.
 pub record HandsOn {S T : Type 0} (takes : S → T → S → Type 0) (old new : Ledger)
     (before after : S)
     (result : Result (Unit {0}) BooksFault) (rows : List Fact → List T) : Type 0 where

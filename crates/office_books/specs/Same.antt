@@ -1,4 +1,4 @@
--- Two lists of records with the same tables.
+-- When two lists of records have the same tables.
 use Rattle.std.specs.Prelude.{◌≡◌, ℕ, List, Contains}
 use Rattle.std.specs.List.Sorted.{IsPermutation}
 use Rattle.office_events.specs.declared.facts.Opening.{Opening}
@@ -7,8 +7,8 @@ use Rattle.office_rules.specs.Facts.{devices_in, registers_in, openings_in, hold
 use Rattle.office_rules.specs.Meters.{rows_of}
 use Rattle.office_books.specs.Ledgers.{Ledger}
 
--- Each table has the same rows, some tables in another order, and each installed meter has the same
--- rows.
+-- The two lists of records have the same rows in each table, in some tables in another order. Each
+-- installed meter has the same entry rows.
 pub record AreSame (facts others : List Fact) : Type 0 where
   pub devices : devices_in facts ≡ devices_in others
   pub lists : (device : List ℕ) → list_of facts device ≡ list_of others device
@@ -22,7 +22,7 @@ pub record AreSame (facts others : List Fact) : Type 0 where
   pub outcomes : IsPermutation (ended_in facts) (ended_in others)
   pub replies : IsPermutation (replies_in facts) (replies_in others)
 
--- While a store is clean and open, two lists of records that it holds have the same tables.
+-- If a clean and open store holds two lists of records, both have the same tables.
 abbrev pub AreKnown : Ledger → Type 0
 AreKnown books =
     (known others : List Fact) → books.is_clean → books.is_open → books.holds known

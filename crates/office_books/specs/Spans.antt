@@ -1,11 +1,11 @@
--- Ranges of time, and the interval rows in them.
+-- Spans of time, and the interval rows in a span.
 use Rattle.std.specs.Prelude.{ℕ, nat_le, nat_lt, Bool, true, ◌&&◌, List}
 use Rattle.std.specs.List.{filter}
 use Rattle.interval_core.specs.declared.shares.Share.{Share}
 use Rattle.office_books.specs.declared.spans.Span.{Span}
 use Rattle.office_books.specs.declared.spans.Span.TheVariants.{All, Between}
 
--- The timestamp lies in the span.
+-- Whether the timestamp lies in the span, whose end does not belong to it.
 abbrev pub is_within : Span → (moment : ℕ) → Bool
 is_within All moment = true
 is_within (Between from till) moment = nat_le from moment && nat_lt moment till

@@ -11,8 +11,10 @@ use energy_core::accounts_are_sound;
 use meter_journal::{EntryRow, checked_tally};
 use office_events::{Installation, Opening};
 
-/// Returns the installation after these rows, the oldest first. Returns `None` if a number of the
-/// opening is out of range or the valid entries have no account.
+/// Returns the installation with this opening after these entry rows, given oldest first.
+///
+/// Returns `None` if a number of the opening is out of range, or the valid entries cannot be added
+/// up.
 pub fn installation_after(opening: &Opening, rows: &[EntryRow], ended: bool) -> Option<Installation>
     ensures stands { IfSome result
         (λ row. row ≡ standing opening.now (entries_in (latest_first rows.now)) ended) }

@@ -13,7 +13,7 @@ use office_events::{
 /// A sink that receives rows one by one. It cannot fail. A sink that writes rows elsewhere keeps
 /// its own errors.
 pub trait RowSink<T> {
-    /// The relation between a sink, a row, and the sink after it received the row.
+    /// The relation between the sink before a row, the row, and the sink after it received the row.
     ghost takes: { Self → T → Self → Type 0 };
 
     /// Receives one more row.
@@ -21,22 +21,24 @@ pub trait RowSink<T> {
         ensures { takes self.old row self.new };
 }
 
-/// The relation of a request to the kept request with the same caller and number.
+/// How a request compares with the stored request of the same caller and number.
 #[derive(Clone, Copy, Debug, PartialEq, Eq)]
 pub enum Repeat {
-    /// The kept request has the same bytes. Its answer was that this command was executed.
+    /// The stored request has the same bytes. Its response was that this command was executed.
     Same(CommandKind),
-    /// The kept request has other bytes.
+    /// The stored request has other bytes.
     Other,
 }
 
-/// A store of lawful records, the latest first. A lookup answers by the records, and changes none.
-/// `book` adds all of its records, or none.
+/// A store of lawful records, the latest first.
 ///
-/// The promises on results hold where `is_clean` holds after the call: the store returned what was
-/// written to it. A store in memory is always clean. For a store that is not clean only a few
-/// promises remain. Failures are counted, a lookup keeps the known records, and the zone stays. The
-/// numbers of an installation are in range.
+/// A lookup answers from the records, and changes none. `book` adds all of its records, or none.
+///
+/// The postconditions on results hold if `is_clean` holds after the call: the store returned what
+/// was written to it. A store in memory is always clean.
+///
+/// For a store that is not clean only a few postconditions remain: failures are counted, a lookup
+/// keeps the records, the zone stays, and the numbers of an installation are in range.
 pub trait Books: Drop {
     ghost use Rattle.std.specs.Prelude.{◌≡◌, List, reverse, length};
     ghost use Rattle.std.specs.List.{filter};
@@ -61,7 +63,7 @@ pub trait Books: Drop {
     /// The model of the store.
     ghost ledger: { Self → Ledger };
 
-    /// Returns how often the store failed. The count stays at the greatest number.
+    /// Returns how often the store failed. The count stays at 2^64 - 1.
     fn faults(&self) -> u64
         ensures { result ≡ (ledger self.now).failures.count };
 
@@ -69,7 +71,7 @@ pub trait Books: Drop {
     fn zone(&self) -> Zone
         ensures { result ≡ (ledger self.now).zone };
 
-    /// Proves that two lists of records that the store holds have the same tables, while the store
+    /// Proves that two lists of records have the same tables if the store holds both of them, and
     /// is clean and open.
     fn tables_are_known(&self)
         ensures { AreKnown (ledger self.now) };
@@ -86,58 +88,59 @@ pub trait Books: Drop {
             (λ known list. list ≡ list_of known device.now) }
         ensures reads { OnlyReads (ledger self.old) (ledger self.new) result };
 
-    /// Returns the number of reads in the plan of a device, if it has a point list.
+    /// Returns the number of reads in the plan of a device; `None` if the device has no point list.
     fn read_count(&mut self, device: &Name) -> Result<Option<usize>, BooksFault>
         ensures found { Finds (ledger self.old) (ledger self.new) result
             (λ known n. n ≡ read_count_of (list_of known device.now)) }
         ensures reads { OnlyReads (ledger self.old) (ledger self.new) result };
 
-    /// Returns the registers of at most `most` reads of the plan from index `from`, in order. The
-    /// first read has index 0.
+    /// Returns at most `most` reads of the device's plan from index `from` on, in order. The first
+    /// read has index 0.
     fn reads(&mut self, device: &Name, from: u64, most: usize) -> Result<Vec<ReadSpan>, BooksFault>
         ensures found { Finds (ledger self.old) (ledger self.new) result
             (λ known v. v.items ≡ reads_from from most (list_of known device.now)) }
         ensures reads { OnlyReads (ledger self.old) (ledger self.new) result };
 
-    /// Returns the register with a name.
+    /// Returns the accounting register with the name; `None` if no register has it.
     fn register(&mut self, name: &Name) -> Result<Option<Register>, BooksFault>
         ensures found { Finds (ledger self.old) (ledger self.new) result
             (λ known row. row ≡ register_of known name.now) }
         ensures reads { OnlyReads (ledger self.old) (ledger self.new) result };
 
-    /// Returns the registers of a device, in the order in which they were added.
+    /// Returns the accounting registers of a device, in the order in which they were added.
     fn registers(&mut self, device: &Name) -> Result<Vec<Register>, BooksFault>
         ensures found { Finds (ledger self.old) (ledger self.new) result
             (λ known v. v.items ≡ registers_of known device.now) }
         ensures reads { OnlyReads (ledger self.old) (ledger self.new) result };
 
-    /// Returns the registers of a device that a read of the span covers, in the order in which they
-    /// were added.
+    /// Returns the accounting registers of a device that a read of `span` covers, in the order in
+    /// which they were added.
     fn registers_read(&mut self, device: &Name, span: ReadSpan) -> Result<Vec<Register>, BooksFault>
         ensures found { Finds (ledger self.old) (ledger self.new) result
             (λ known v. v.items ≡ filter (is_read_by span) (registers_of known device.now)) }
         ensures reads { OnlyReads (ledger self.old) (ledger self.new) result };
 
-    /// Returns the number of registers of a device.
+    /// Returns the number of accounting registers of a device.
     fn register_count(&mut self, device: &Name) -> Result<usize, BooksFault>
         ensures found { Finds (ledger self.old) (ledger self.new) result
             (λ known n. n ≡ length (registers_of known device.now)) }
         ensures reads { OnlyReads (ledger self.old) (ledger self.new) result };
 
-    /// Returns the installation of a meter.
+    /// Returns the installation of the meter with the name; `None` if no meter has it.
     fn meter(&mut self, name: &Name) -> Result<Option<Installation>, BooksFault>
         ensures found { Finds (ledger self.old) (ledger self.new) result
             (λ known row. row ≡ meter_of known name.now) }
         ensures reads { ReadsInstallation (ledger self.old) (ledger self.new) result };
 
-    /// Returns the latest installation at a register.
+    /// Returns the latest installation at an accounting register, open or closed; `None` if there
+    /// is none.
     fn installation(&mut self, register: &Name) -> Result<Option<Installation>, BooksFault>
         ensures found { Finds (ledger self.old) (ledger self.new) result
             (λ known row. row ≡ installation_at known register.now) }
         ensures reads { ReadsInstallation (ledger self.old) (ledger self.new) result };
 
-    /// Returns the installations at a register, with the closed ones, in the order in which they
-    /// were installed.
+    /// Returns the installations at an accounting register, closed ones included, in the order in
+    /// which they were installed.
     fn meters(&mut self, register: &Name) -> Result<Vec<Installation>, BooksFault>
         ensures found { Finds (ledger self.old) (ledger self.new) result
             (λ known v. v.items ≡ installations_of known register.now) }
@@ -149,28 +152,29 @@ pub trait Books: Drop {
             (λ known n. n ≡ length (openings_in known)) }
         ensures reads { OnlyReads (ledger self.old) (ledger self.new) result };
 
-    /// Returns the entry of a meter with a sequence number from 2, with the meter's state before it
-    /// and the next valid entry.
+    /// Returns the entry of a meter with a sequence number of at least 2; `None` if there is none.
+    /// The result also has the meter's state before the entry, and the next valid entry.
     fn entry(&mut self, meter: &Name, place: u64) -> Result<Option<EntryPlace>, BooksFault>
         ensures found { Finds (ledger self.old) (ledger self.new) result
             (λ known row. row ≡ entry_at known meter.now place) }
         ensures reads { ReadsPlace (ledger self.old) (ledger self.new) result };
 
-    /// Returns the same entry by the rows around it. It holds the total energy of the meter in
-    /// place of the energy before the entry. The total is never less.
+    /// Returns the entry as `entry` does, but reads only the rows around it. Instead of the energy
+    /// before the entry it has the meter's present total, which is never less.
     fn entry_near(&mut self, meter: &Name, place: u64) -> Result<Option<EntryPlace>, BooksFault>
         ensures found { Finds (ledger self.old) (ledger self.new) result
             (λ known row. TellsNear known meter.now place row) }
         ensures reads { ReadsPlace (ledger self.old) (ledger self.new) result };
 
-    /// Returns at most `most` entries of a meter from a sequence number, with the voided ones, in
-    /// order. The opening has number 1.
+    /// Returns at most `most` entries of a meter from sequence number `from` on, voided ones
+    /// included, in order. The opening has number 1.
     fn entries(&mut self, meter: &Name, from: u64, most: u32) -> Result<Vec<MeterEntry>, BooksFault>
         ensures found { Finds (ledger self.old) (ledger self.new) result
             (λ known v. v.items ≡ entries_from known meter.now from most) }
         ensures reads { OnlyReads (ledger self.old) (ledger self.new) result };
 
-    /// Returns the poll with a number, with its end if it has one.
+    /// Returns the poll with the number, with its outcome if it has one; `None` if it was not
+    /// started.
     fn poll(&mut self, number: u64) -> Result<Option<PollRow>, BooksFault>
         ensures found { Finds (ledger self.old) (ledger self.new) result
             (λ known row. row ≡ poll_row_of known number) }
@@ -188,14 +192,14 @@ pub trait Books: Drop {
             (λ known v. v.items ≡ pending_in known) }
         ensures reads { OnlyReads (ledger self.old) (ledger self.new) result };
 
-    /// Returns the greatest recorded timestamp, in seconds since 1970-01-01 UTC.
+    /// Returns the greatest recorded timestamp, in seconds since 1970-01-01 UTC; 0 without records.
     fn latest(&mut self) -> Result<u64, BooksFault>
         ensures found { Finds (ledger self.old) (ledger self.new) result
             (λ known n. n ≡ latest_in known) }
         ensures reads { OnlyReads (ledger self.old) (ledger self.new) result };
 
-    /// Returns the relation of a request to the kept request with the same caller and number, if
-    /// there is one.
+    /// Compares a request with the stored request of the same caller and number; `None` if none is
+    /// stored.
     fn repeat(
         &mut self,
         caller: &Name,
@@ -206,8 +210,8 @@ pub trait Books: Drop {
             (λ known kept. kept ≡ repeat_of known caller.now number request.now) }
         ensures reads { OnlyReads (ledger self.old) (ledger self.new) result };
 
-    /// Passes the energy of a meter to the sink, for each quarter hour in the span, in order of
-    /// their starts.
+    /// Passes the energy of a meter to the sink, one row for each quarter hour in the span, in
+    /// order of their starts.
     fn intervals<K: RowSink<Share>>(
         &mut self,
         meter: &Name,
@@ -218,8 +222,9 @@ pub trait Books: Drop {
             (λ known. rows_within span (rows_of_meter known meter.now)) }
         ensures reads { OnlyReads (ledger self.old) (ledger self.new) result };
 
-    /// Passes the energy of a register to the sink, for each quarter hour in the span. The meters
-    /// follow one another in the order in which they were installed.
+    /// Passes the energy of an accounting register to the sink, one row for each quarter hour in
+    /// the span. The rows of its meters follow one another, in the order in which the meters were
+    /// installed.
     fn register_intervals<K: RowSink<Share>>(
         &mut self,
         register: &Name,
@@ -242,7 +247,8 @@ pub trait Books: Drop {
             (λ known. holds_within span (holds_of known meter.now)) }
         ensures reads { OnlyReads (ledger self.old) (ledger self.new) result };
 
-    /// Adds records that may follow the known ones: all of them, or none.
+    /// Adds these records all at once, or none of them. Each must be lawful after the records
+    /// before it.
     fn book(&mut self, facts: Vec<Fact>) -> Result<(), BooksFault>
         ensures books { ledgers.Books (ledger self.old) (ledger self.new) facts.items result };
 }

@@ -11,8 +11,8 @@ use meter_journal::EntryRow;
 use office_events::Opening;
 use std::alloc::{AllocError, Global};
 
-/// An entry of a meter. A later void changes only whether the entry is valid, and the rollovers of
-/// the reading after it.
+/// An entry of a meter. A later void changes only whether the entry is valid, and, if the entry
+/// before it was voided, how many rollovers it counts.
 #[derive(Clone, Copy, Debug, PartialEq, Eq)]
 pub enum MeterEntry {
     /// The state of the counter when the meter was installed. The opening has sequence number 1,
@@ -34,7 +34,8 @@ impl MeterEntry {
     }
 }
 
-/// A voided change leaves the scale as it was.
+/// The scale after an entry row: a valid change sets it, a step or a voided change leaves it as it
+/// was.
 fn scale_with(sf: i16, row: &EntryRow) -> i16
     ensures { (opening : RecordedOpening) (rows : List JournalRow) → sf ≡ scale_after opening rows
         → result ≡ scale_after opening (row.now ∷ rows) }
@@ -45,7 +46,8 @@ fn scale_with(sf: i16, row: &EntryRow) -> i16
     }
 }
 
-/// Entries before `from`, or after the first `most`, are skipped.
+/// Lists the entries from sequence number `from` on, at most `most`. Entries outside this range are
+/// skipped.
 fn list(
     listed: &mut Vec<MeterEntry>,
     entry: MeterEntry,
@@ -61,8 +63,8 @@ fn list(
     Ok(())
 }
 
-/// Returns at most `most` entries of a meter from a sequence number. `rows` are the rows after the
-/// opening, the oldest first.
+/// Returns at most `most` entries of a meter from a sequence number on. `rows` are the entry rows
+/// after the opening, the oldest first.
 pub fn list_entries(
     alloc: Global,
     opening: &Opening,

@@ -4,17 +4,17 @@ ghost use Rattle.office_books.specs.Faults.{failed_by, faults_after, no_failures
 
 use crate::faults::BooksFault;
 
-/// The failures of a store so far: their count, and the last failure. The last failure may be lack
-/// of memory, which is not counted.
+/// The number of failures of a store so far, and the last failure. The last failure may be that
+/// memory ran out, which is not counted.
 #[derive(Clone, Copy, Debug, PartialEq, Eq)]
 pub struct Failures {
-    /// The number of failures of the store. It stays at the greatest number.
+    /// The number of failures of the store. It stays at 2^64 - 1.
     pub count: u64,
     pub last: Option<BooksFault>,
 }
 
 impl Failures {
-    /// Creates the state without failures.
+    /// Creates the counts of a store that never failed.
     pub fn new() -> Failures
         ensures { result ≡ no_failures }
     {
@@ -24,7 +24,7 @@ impl Failures {
         }
     }
 
-    /// Lack of memory is no failure of the store, so it is not counted.
+    /// Counts one failure. Memory that ran out is noted as the last failure, but not counted.
     fn note(&mut self, fault: BooksFault)
         ensures { self.new ≡ failed_by fault self.old }
     {

@@ -5,7 +5,7 @@ use std::error::Error;
 use std::fmt;
 use std::fmt::{Display, Formatter};
 
-/// The failure of a store.
+/// How a store failed.
 #[derive(Clone, Copy, Debug, PartialEq, Eq)]
 pub enum StoreFault {
     /// The store refused or failed.
@@ -25,7 +25,7 @@ impl Display for StoreFault {
 
 impl Error for StoreFault {}
 
-/// The reason why a call of the store failed.
+/// Why a call of the store failed.
 #[derive(Clone, Copy, Debug, PartialEq, Eq)]
 pub enum BooksFault {
     Store(StoreFault),

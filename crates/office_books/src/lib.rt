@@ -1,4 +1,4 @@
-//! The requirements of an office on the store of its records.
+//! What an office requires of the store that holds its records.
 #![tactic(auto)]
 
 mod accounts;

@@ -13,7 +13,7 @@ use mb_wire::ReadSpan;
 use office_events::{Installation, Name, PlannedList};
 use std::alloc::Global;
 
-/// Returns the point list of the device with a name. An invalid name finds none.
+/// Returns the point list of the device with the name. An invalid name (`None`) finds none.
 pub fn list_at<B: Books>(
     books: &mut B,
     given: &Option<Name>,
@@ -28,7 +28,8 @@ pub fn list_at<B: Books>(
     }
 }
 
-/// Returns the number of reads in the plan of the device with a name, if it has a point list.
+/// Returns the number of reads in the plan of the device with the name; `None` if it has no point
+/// list.
 pub fn read_count_at<B: Books>(
     books: &mut B,
     given: &Option<Name>,
@@ -43,7 +44,7 @@ pub fn read_count_at<B: Books>(
     }
 }
 
-/// Returns the registers of at most `most` reads of the plan from index `from`.
+/// Returns at most `most` reads of the device's plan from index `from` on.
 pub fn reads_at<B: Books>(
     alloc: Global,
     books: &mut B,
@@ -61,7 +62,8 @@ pub fn reads_at<B: Books>(
     }
 }
 
-/// Returns the latest installation at the register with a name. An invalid name finds none.
+/// Returns the latest installation at the accounting register with the name. An invalid name
+/// (`None`) finds none.
 pub fn meter_at<B: Books>(
     books: &mut B,
     given: &Option<Name>,

@@ -5,7 +5,7 @@ ghost use Rattle.office_rules.specs.Ranges.{IsSound};
 
 use office_events::{EntryPlace, Installation};
 
-/// Returns the entry with the total energy of its meter in place of the energy before the entry.
+/// Returns the entry with its meter's total energy instead of the energy before the entry.
 pub fn with_whole_energy(place: &EntryPlace, whole: &Installation) -> EntryPlace
     ensures same { result ≡ with_energy whole.now.total place.now }
     ensures sound { IsSound place.now.before → IsSound whole.now → IsSound result.before }

@@ -1,4 +1,4 @@
-//! Meters as they were installed.
+//! The state of a meter at its opening.
 ghost use Rattle.std.specs.Prelude.{◌≡◌, IsTrue};
 ghost use Rattle.office_rules.specs.Meters as meters;
 ghost use Rattle.office_books.specs.Sound.{HasNumbers, as_begun};
@@ -8,7 +8,7 @@ use energy_core::Last;
 use meter_journal::Installed;
 use office_events::{Installation, Opening};
 
-/// Returns the state of a meter's counter at its opening.
+/// Returns the state of a meter's counter at its opening: timestamp, count and scale.
 pub fn opened(opening: &Opening) -> Last
     ensures { result ≡ meters.opened opening.now }
 {
@@ -19,7 +19,7 @@ pub fn opened(opening: &Opening) -> Last
     }
 }
 
-/// Returns a meter as it was installed.
+/// Returns the range, the ceiling and the opening state of a meter.
 pub fn installed(opening: &Opening) -> Installed
     ensures { result ≡ meters.installed opening.now }
 {
@@ -30,7 +30,7 @@ pub fn installed(opening: &Opening) -> Installed
     }
 }
 
-/// Returns an installation that was just opened.
+/// Returns the state of an installation directly after its opening.
 pub fn begun(opening: &Opening) -> Installation
     ensures { result ≡ as_begun opening.now }
 {

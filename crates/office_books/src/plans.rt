@@ -1,4 +1,4 @@
-//! Selects reads of a plan.
+//! Selects reads of a point list's plan.
 ghost use Rattle.std.specs.Prelude.{◌≡◌, IfOk, Some, map};
 ghost use Rattle.office_books.specs.Plans.{read_count_of, reads_from};
 
@@ -13,14 +13,14 @@ fn spans_of(alloc: Global, reads: &[PlannedRead]) -> Result<Vec<ReadSpan>, Alloc
     reads.iter().map(|read| read.span).collect(alloc)
 }
 
-/// Returns the number of reads in the plan of a list.
+/// Returns the number of reads in the plan of a point list.
 pub fn read_count(list: &PlannedList) -> usize
     ensures { Some result ≡ read_count_of (Some list.now) }
 {
     list.reads().len()
 }
 
-/// Returns the registers of at most `most` reads from index `from`. The points are not copied.
+/// Returns at most `most` reads of the plan from index `from` on. The points are not copied.
 pub fn reads_from(
     alloc: Global,
     list: &PlannedList,

@@ -5,7 +5,8 @@ ghost use Rattle.office_rules.specs.Ranges.{IsSound};
 use energy_core::{MAX_CEILING, MAX_RANGE, MAX_SCALE, MAX_TOTAL, MIN_RANGE, MIN_SCALE};
 use office_events::Installation;
 
-/// Returns whether the numbers of an installation are in range.
+/// Returns whether all numbers of an installation are in range, so that its next reading can be
+/// judged.
 pub fn is_sound(row: &Installation) -> bool
     ensures so { IsTrue result → IsSound row.now }
     ensures if_so { IsSound row.now → IsTrue result }

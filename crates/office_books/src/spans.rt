@@ -1,4 +1,4 @@
-//! Ranges of time.
+//! Spans of time.
 ghost use Rattle.std.specs.Prelude.{◌≡◌};
 ghost use Rattle.office_books.specs.Spans.{is_within};
 

@@ -117,7 +117,8 @@ module _ {B : Type 0} (ledger : B → Ledger) where
   pub goes_on : {T : Type 0} (a b : Office B) (x : T) → OnlyAsks ledger a b (Ok x) → is_stopped a ≡ true → ⊥
   goes_on a b x asks stopped = let e = asks.stopped.1 stopped in cc e
 
-  -- The same state with another answer, while the office is running.
+  -- If an office is running and is left unchanged, it may be said to have answered a query with any
+  -- result.
   pub answered_as : {U : Type 0} (a b : Office B) (y : U) → (is_stopped a ≡ true → ⊥) → Keeps ledger a b → OnlyAsks ledger a b (Ok y)
   answered_as a b y goes kept = record {
     stands = kept.stands;
@@ -146,7 +147,8 @@ module _ {B : Type 0} (ledger : B → Ledger) where
     zone = kept.zone;
   }
 
-  -- The same refusal as that of another query.
+  -- A query that was refused leaves what any other query leaves that was refused for the same
+  -- reason.
   pub refused_as : {T U : Type 0} (a b : Office B) (why : Refusal) → OnlyAsks {T = T} ledger a b (Err why) → OnlyAsks {T = U} ledger a b (Err why)
   refused_as {T} {U} a b why asks = record {
     stands = asks.stands;
@@ -163,6 +165,6 @@ module _ {B : Type 0} (ledger : B → Ledger) where
     zone = asks.zone;
   }
 
-  -- The same state with another answer.
+  -- A query that succeeded leaves the same office, whatever its result is.
   pub now_as : {T U : Type 0} (a b : Office B) (x : T) (y : U) → OnlyAsks ledger a b (Ok x) → OnlyAsks ledger a b (Ok y)
   now_as a b x y asks = answered_as a b y (goes_on a b x asks) (asked a b x asks)

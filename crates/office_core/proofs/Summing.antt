@@ -51,7 +51,7 @@ may_follow done rest row folds =
           omega (arith, folds.energy, more, first);
     }
 
--- One row.
+-- The sink has added one more row after the rows `done`, or it has failed.
 add_one : (failed : Option DayFault) (done : List Share) (row : Share) (s next : DaySink) → s.fault ≡ failed → MayFollow done row
     → UnlessFailed failed (HasTaken s.zone done s.fold) → MatchOption failed (AddsRow s row next) (λ fault. next ≡ s)
     → (next.zone ≡ s.zone) × HasAdded next (done ++ row ∷ [])
@@ -62,7 +62,7 @@ add_one (Some fault.Memory) done row s next is may added step =
     subst Q (sym step) (refl, subst P (sym is) tt)
 add_one (Some fault.Zone) done row s next is may added step = absurd added
 
--- All rows.
+-- The sink has added all further rows after the rows `done`, or it has failed.
 add_all : (zone : Zone) (done rest : List Share) (s after : DaySink) → s.zone ≡ zone → CanBeFolded (done ++ rest) → HasAdded s done
     → TakesAll TakesShare s rest after → (after.zone ≡ zone) × HasAdded after (done ++ rest)
 add_all zone done [] s after is folds added took =

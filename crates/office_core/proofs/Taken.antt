@@ -123,7 +123,7 @@ connected_settles : (number at : ℕ) (given : Option (List ℕ)) (slots : List 
 connected_settles number at given [] = tt
 connected_settles number at given (slot ∷ slots) = (settled_none number at given slot.device slot.present, connected_settles number at given slots)
 
--- Such an event of a device settles nothing.
+-- An event that requests no command and may not settle polls settles nothing on any slot.
 pub unsettling : (e : Event) (number at : ℕ) (slots : List Slot) → is_command e ≡ false → may_settle e ≡ false → SettleNothing number at e slots
 unsettling (event.Connected given) number at slots device none = connected_settles number at given slots
 unsettling (event.Bytes given piece) number at slots device none = absurd (cc)

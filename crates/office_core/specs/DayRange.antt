@@ -1,4 +1,4 @@
--- The days of a register that are in a range.
+-- The civil days of an accounting register that lie in a range of days.
 use Rattle.std.specs.Prelude.{◌≡◌, ℕ, ◌*◌, ◌<◌, ◌^◌, ℤ, pos, negsuc, ◌+ℤ◌, ◌-ℤ◌, length, List, map, filter, Option, Some, None, Result, MatchResult, OnOk, OnErr}
 use Rattle.std.specs.Option.{option_and_then}
 use Rattle.std.specs.declared.alloc.Global.{Global}
@@ -26,35 +26,38 @@ use Rattle.office_core.specs.Failing.{IsOutside}
 use Rattle.office_core.specs.Standing.{After, books_in}
 use Rattle.office_core.specs.Taking.{failures_of}
 
--- Those of the days that are in the range, in their order.
+-- Those of the days that lie in the range, in their order.
 abbrev pub accounts_within : DayRange → List DayAccount → List DayAccount
 accounts_within range accounts = filter (λ account. has_day range account.day) accounts
 
--- The start of a UTC day, in seconds since 1970-01-01 UTC. Earlier days get 0.
+-- The start of the UTC day with this number, in seconds since 1970-01-01 UTC; 0 for days before
+-- 1970.
 abbrev pub utc_start : ℤ → ℕ
 utc_start (pos n) = n * 86_400
 utc_start (negsuc n) = 0
 
--- The timestamps around the days from `from` up to the day before `till`: two more days at each
--- end, since no UTC offset is larger. All timestamps if an end is open.
+-- The timestamps from two days before `from` to two days after `till`, in UTC. They cover the days
+-- of the range in every zone, since no UTC offset exceeds two days.
+--
+-- If an end is open, all timestamps.
 abbrev pub span_between : (from till : Option Date) → Span
 span_between (Some from) (Some till) =
     span.Between (utc_start (epoch_day from -ℤ pos 2)) (utc_start (epoch_day till +ℤ pos 2))
 span_between (Some from) None = span.All
 span_between None till = span.All
 
--- The timestamps around the days of a range.
+-- All timestamps that the days of a range may have in any zone.
 abbrev pub span_of : DayRange → Span
 span_of range = span_between range.from range.till
 
--- Those days of the register with the name that are in the range.
+-- These are the days, among all days of the register with the name, that lie in the range.
 pub record AreDaysWithin (zone : Zone) (facts : List Fact) (register : Option (List ℕ))
     (range : DayRange) (days : List DayAccount) : Type 0 where
   pub all : List DayAccount
   pub are : AreDaysNamed zone facts register all
   pub asked : days ≡ accounts_within range all
 
--- The sink took the days of the range, in order. Their number fits 64 bits.
+-- The sink took the register's days in the range, in order. Fewer than 2^64 days exist.
 pub record TakesDaysWithin {S : Type 0} (takes : S → DayTotal → S → Type 0) (zone : Zone)
     (facts : List Fact) (register : Option (List ℕ)) (range : DayRange) (before after : S) :
     Type 0 where
@@ -63,7 +66,8 @@ pub record TakesDaysWithin {S : Type 0} (takes : S → DayTotal → S → Type 0
   pub few : length days < 2 ^ 64
   pub took : TakesAll takes before days after
 
--- The answer to a query for the days of a range, as for all days.
+-- A query passes the days of a range to a sink. The sink took all of them on `Ok` and none on an
+-- error. The query needs memory outside the store only if a register has the name.
 pub record HandsDaysWithin {S : Type 0} (takes : S → DayTotal → S → Type 0) (zone : Zone)
     (facts : List Fact) (register : Option (List ℕ)) (range : DayRange) (old new : Failures)
     (before after : S) (result : Result (Unit {0}) Refusal) : Type 0 where
@@ -72,8 +76,8 @@ pub record HandsDaysWithin {S : Type 0} (takes : S → DayTotal → S → Type 0
   pub whole : OnOk result (TakesDaysWithin takes zone facts register range before after)
   pub none : OnErr result (after ≡ before)
 
--- What the store answers for a range, from the records that it holds. This assumes that no wrong
--- result of a store was taken as true.
+-- A query for a range of days has the answer that the store's lawful records give. No wrong result
+-- of the store was taken as true.
 abbrev pub DaysWithinIn : {S : Type 0} → (S → DayTotal → S → Type 0) → (old new : Ledger)
     → (before after : S) → Result (Unit {0}) Refusal → (register : Option (List ℕ))
     → DayRange → Type 0
@@ -82,7 +86,8 @@ DaysWithinIn takes old new before after result register range =
     → HandsDaysWithin takes old.zone known register range old.failures new.failures
     before after result
 
--- The same as a list, for a recorded register.
+-- The result is the list of a recorded register's days in the range, or a failure of the store or
+-- of memory. No wrong result of the store was taken as true.
 abbrev pub ListsDaysWithin : (old new : Ledger) → (register : List ℕ) → DayRange
     → Result (Vec DayTotal Global) Refusal → Type 0
 ListsDaysWithin old new register range result =
@@ -92,7 +97,8 @@ ListsDaysWithin old new register range result =
     × (new.failures ≡ old.failures))
     (IsOutside (Unit {0}) old.failures new.failures)
 
--- What the office answers for a range, from the records of the events that it accepted.
+-- A query of the office for a range of days has the answer that the records of all accepted events
+-- give.
 abbrev pub TellsDaysWithin : {B S : Type 0} → (S → DayTotal → S → Type 0) → (B → Ledger)
     → (old new : Office B) → (before after : S) → Result (Unit {0}) Refusal
     → (register : Option (List ℕ)) → DayRange → Type 0

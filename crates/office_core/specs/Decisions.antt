@@ -14,21 +14,21 @@ use Rattle.office_books.specs.Ledgers.{Ledger}
 use Rattle.office_core.specs.Refusing.Asking.{IsOfEvent}
 use Rattle.office_core.specs.Failing.{is_failure}
 
--- The decision on an event: `None` if it is accepted, otherwise its answer.
+-- The decision on an event after this past: `None` if it is accepted, otherwise its answer.
 abbrev pub Decides : History → (at : ℕ) → Event → Option (Result Answer Refusal) → Type 0
 Decides past at e None = IsAccepted past at e
 Decides past at e (Some given) = given ≡ decision_of past at e
 
--- The decision for every past that left these slots and records, if no wrong result of the store
--- was taken as true.
+-- The result decides the event after every past that left these slots and these records of the
+-- store. No wrong result of the store was taken as true.
 abbrev pub Decided : (old new : Ledger) → List Slot → (latest at : ℕ) → Event
     → Result (Option (Result Answer Refusal)) BooksFault → Type 0
 Decided old new kept latest at e result =
     (past : History) → latest ≡ latest_of past → KeepsSlots kept (slots_of past)
     → old.holds (facts_of past) → new.is_clean → IfOk result (Decides past at e)
 
--- An event of a device is decided without the store: it is accepted if no reason applies. Any other
--- answer is no failure.
+-- A device event is decided without a query of the store. If the result is `None`, no reason to
+-- refuse it applies. Any other result is an answer, and no failure.
 pub record DecidesAlone {B : Type 0} (old new : B) (kept : List Slot) (latest at : ℕ) (e : Event)
     (result : Result (Option (Result Answer Refusal)) BooksFault) : Type 0 where
   pub books : new ≡ old
@@ -37,7 +37,7 @@ pub record DecidesAlone {B : Type 0} (old new : B) (kept : List Slot) (latest at
       → IfOk result (λ given. given ≡ None → refusal_of past at e ≡ None)
   pub answers : IfOk result (λ given. IfSome given (λ r. is_failure r ≡ false))
 
--- The answer to an event that is not accepted: a retry, or a refusal.
+-- The answer leaves the office unchanged: it is the stored answer of a retry, or a refusal.
 abbrev pub IsNoChange : Result Answer Refusal → Type 0
 IsNoChange (Ok (answer.Again kind)) = Unit {0}
 IsNoChange (Ok _) = ⊥

@@ -26,114 +26,116 @@ pub record Answered : Type 0 where
   pub event : Event
   pub result : Result Answer Refusal
 
--- The events of a run, each with its answer, in order.
+-- Pairs each event with its answer, in order.
 abbrev pub in_turn : List (ℕ × Event) → List (Result Answer Refusal) → List Answered
 in_turn [] results = []
 in_turn (fed ∷ events) [] = []
 in_turn (fed ∷ events) (result ∷ results) =
     record { at = fed.0; event = fed.1; result = result } ∷ in_turn events results
 
--- The events of a run, each with its answer, in order.
+-- The events of a run, each paired with its answer from the run, in order.
 abbrev pub events_of : {B : Type 0} → List (ℕ × Event) → Run B → List Answered
 events_of events run = in_turn events run.results.items
 
--- What was accepted once these events were answered.
+-- The openings and events accepted so far, after these answered events.
 abbrev pub history_after : History → List Answered → History
 history_after past [] = past
 history_after past (fed ∷ later) =
     history_after (with_answer past fed.at fed.event fed.result) later
 
--- What was accepted by the end of a run: the past before it, its opening, and its accepted events.
+-- All that was accepted by the end of a run: the given past, then the run's opening, then its
+-- accepted events.
 abbrev pub accepted_by : {B : Type 0} → History → (opened : ℕ) → List (ℕ × Event) → Run B → History
 accepted_by past opened events run = history_after (Opened opened ∷ past) (events_of events run)
 
--- An event has the answer of the definition, and the store did not fail; or it failed outside. An
--- event that settles nothing does not fail.
+-- The event has the answer that `decision_of` gives and the store did not fail, or it was refused
+-- for a failure. An event that settles no poll does not fail.
 pub record IsAnswered (past : History) (before after : Failures) (fed : Answered) : Type 0 where
   pub answer : IsAnswer past fed.at fed.event before after fed.result
   pub quiet : SettlesNothing past fed.at fed.event → is_failure fed.result ≡ false
 
--- Each event is answered after what was accepted earlier.
+-- Each event has the right answer, given what was accepted before that event.
 abbrev pub AreAnswered : History → (before after : Failures) → List Answered → Type 0
 AreAnswered past before after [] = after ≡ before
 AreAnswered past before after (fed ∷ later) =
     (between : Failures) × IsAnswered past before between fed
     × AreAnswered (with_answer past fed.at fed.event fed.result) between after later
 
--- In the end the office reports the last event alone; nothing if there was no event.
+-- At its end the office holds the notifications and bytes of the last event only; none if no event
+-- arrived.
 abbrev pub TellsOfLast : {B : Type 0} → History → List Answered → Office B → Type 0
 TellsOfLast past [] office = (notes_in office ≡ []) × (outgoing_in office ≡ [])
 TellsOfLast past (fed ∷ []) office = IsTold past fed.at fed.event fed.result office
 TellsOfLast past (fed ∷ next ∷ later) office =
     TellsOfLast (with_answer past fed.at fed.event fed.result) (next ∷ later) office
 
--- An event is refused as stopped exactly if the office had stopped. The office stops if an event of
--- a device fails.
+-- The office refuses an event as stopped exactly if it had stopped before the event. It stops if an
+-- event that may settle polls fails.
 abbrev pub StopsInTurn : (before after : Bool) → List Answered → Type 0
 StopsInTurn before after [] = after ≡ before
 StopsInTurn before after (fed ∷ later) =
     ((fed.result ≡ Err refusal.Stopped) ↔ (before ≡ true))
     × StopsInTurn (before || stops fed.event fed.result) after later
 
--- Each answer advances the store's failure counts.
+-- The failure counts change with each answer as `Counts` describes.
 abbrev pub CountInTurn : (before after : Failures) → List Answered → Type 0
 CountInTurn before after [] = after ≡ before
 CountInTurn before after (fed ∷ later) =
     (between : Failures) × Counts before between fed.result × CountInTurn between after later
 
--- Each event advances what a crash leaves: the records with those of this event, or what it left
--- before.
+-- What a crash leaves changes with each event and its answer as `LeftByEvent` describes.
 abbrev pub LeftInTurn : History → List Answered → (before after : List (List Fact)) → Type 0
 LeftInTurn past [] before after = after ≡ before
 LeftInTurn past (fed ∷ later) before after =
     (between : List (List Fact)) × LeftByEvent past fed.at fed.event fed.result before between
     × LeftInTurn (with_answer past fed.at fed.event fed.result) later between after
 
--- A run begins with an opening, which was accepted.
+-- What a crash leaves changes with the opening of a run, which was accepted, and then with each
+-- event.
 abbrev pub LeftByRun : History → (opened : ℕ) → List Answered → (before after : List (List Fact))
     → Type 0
 LeftByRun past opened fed before after =
     (between : List (List Fact)) × LeftOnceDone past (Opened opened) before between
     × LeftInTurn (Opened opened ∷ past) fed between after
 
--- The statement is true of a run over a store in the state of a past. This assumes that no wrong
--- result of a store was taken as true.
+-- `says` is true of each successful run over a store in the state of a past. No wrong result of the
+-- store was taken as true.
 abbrev pub Ran : {B : Type 0} → (B → Ledger) → (books : B)
     → Result (Run B) (B × Refusal) → (History → Run B → Type 0) → Type 0
 Ran ledger books result says = (past : History) → BooksStand (ledger books) past
     → IfOk result (λ run. (ledger (books_in run.office)).is_clean → says past run)
 
--- The office is in the state after all that was accepted, and reports the last event.
+-- After a run the office is in the state after all accepted events, and reports the last event.
 pub record StandsAfter {B : Type 0} (ledger : B → Ledger)
     (begun : History) (events : List (ℕ × Event)) (run : Run B) : Type 0 where
   pub office : Stands ledger (history_after begun (events_of events run)) run.office
   pub told : TellsOfLast begun (events_of events run) run.office
 
--- The caller gets the store back with the reason: memory for the answers was missing, and the store
--- is unchanged; or the opening was refused or failed.
+-- A run that does not start returns the store with the reason: memory for the answers was missing
+-- and the store is unchanged, or the opening was refused or failed.
 abbrev pub HandsBack : {B : Type 0} → (B → Ledger) → (books : B) → (opened : ℕ) → History
     → B × Refusal → Type 0
 HandsBack ledger books opened past back =
     ((back.1 ≡ refusal.Memory) × (back.0 ≡ books))
     ⊎ HandsBackUnopened ledger books opened past back
 
--- What a crash leaves after a run depends on its events, and on what a crash left of the given
--- store.
+-- What a crash leaves after a run depends only on the events, their answers, and what a crash could
+-- leave before the run.
 abbrev pub LeavesInTurn : {B : Type 0} → (B → Ledger) → (books : B) → (opened : ℕ)
     → List (ℕ × Event) → History → Run B → Type 0
 LeavesInTurn ledger books opened events past run =
     Leaves (ledger books) (ledger (books_in run.office))
     (LeftByRun past opened (events_of events run))
 
--- The answers of a run, with the store's failure counts.
+-- Each event of a run has the right answer, and the failure counts change with each answer.
 abbrev pub AnswersEach : {B : Type 0} → (B → Ledger) → (books : B)
     → History → List (ℕ × Event) → Run B → Type 0
 AnswersEach ledger books begun events run =
     AreAnswered begun (ledger books).failures
     (ledger (books_in run.office)).failures (events_of events run)
 
--- The store holds the records of what was accepted, and the headline holds for them. Also, a voided
--- entry leaves no trace. A meter that is honest and read often enough has its true energy and
+-- The store holds the records of all that was accepted, and the headline is true of them. Voided
+-- entries leave no trace. Honest meters that are read often enough have their true energy and
 -- interval rows.
 pub record BooksRecord (books : Ledger) (history : History) : Type 0 where
   pub accepted : IsPast history
@@ -141,26 +143,30 @@ pub record BooksRecord (books : Ledger) (history : History) : Type 0 where
   pub headline : HeadlineHolds history
   pub laws : AreTrue history
 
--- The store after a run records what was accepted by its end.
+-- After a run the store holds the records of all that was accepted by its end, and the headline is
+-- true of them.
 abbrev pub RecordsAccepted : {B : Type 0} → (B → Ledger) → (opened : ℕ) → List (ℕ × Event)
     → History → Run B → Type 0
 RecordsAccepted ledger opened events past run =
     BooksRecord (ledger (books_in run.office)) (accepted_by past opened events run)
 
--- The same, if no wrong result of a store was taken as true.
+-- If no wrong result of the store was taken as true, the store holds the records of all that was
+-- accepted by the run's end.
 abbrev pub RecordsIfClean : {B : Type 0} → (B → Ledger) → (opened : ℕ) → List (ℕ × Event)
     → History → Run B → Type 0
 RecordsIfClean ledger opened events past run =
     (ledger (books_in run.office)).is_clean → RecordsAccepted ledger opened events past run
 
--- A wrong result that was taken as true before the run stays noted.
+-- A store that is clean after a run was clean before it.
 abbrev pub IsCleanOnlyIfWas : {B : Type 0} → (B → Ledger) → (books : B) → Run B → Type 0
 IsCleanOnlyIfWas ledger books run =
     (ledger (books_in run.office)).is_clean → (ledger books).is_clean
 
--- Properties of a run that need no premise on the store. Each event has its answer, and no refusal
--- says that a row has no civil day. Each answer advances the stop and the failure counts. A wrong
--- result that was taken as true stays noted, and the zone stays.
+-- Properties of every run, whatever the store returned. Each event has one answer, and no refusal
+-- says that a row has no civil day. The stop and the failure counts change with each answer as
+-- defined.
+--
+-- A store that is clean after the run was clean before it. The zone stays.
 pub record EndsInTurn {B : Type 0} (ledger : B → Ledger)
     (books : B) (events : List (ℕ × Event)) (run : Run B) : Type 0 where
   pub each : length run.results.items ≡ length events

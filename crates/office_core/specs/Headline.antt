@@ -33,7 +33,7 @@ first_reading meter = opened meter
 abbrev pub last_reading : List Fact → Opening → Last
 last_reading facts meter = last_of (first_reading meter) (entries_of facts meter)
 
--- The value of a reading, at its own scale.
+-- The energy value of a reading at its own scale, in mWh.
 abbrev pub value : Last → ℤ
 value reading = pos (value_of reading)
 
@@ -54,8 +54,8 @@ differences first (entry.Change at before after sf ∷ earlier) =
     pos (before * unit_of (last_of first earlier).sf) -ℤ pos (after * unit_of sf)
     +ℤ differences first earlier
 
--- The booked energy of a meter is its last accepted reading less its first, plus the full ranges
--- and the differences.
+-- The headline for one meter: its booked energy is its last accepted reading less its first, plus
+-- the full ranges and the differences.
 abbrev pub AddsUp : List Fact → Opening → Type 0
 AddsUp facts meter =
     pos (energy_booked facts meter)
@@ -63,8 +63,8 @@ AddsUp facts meter =
     +ℤ pos (full_ranges meter.range (first_reading meter) (entries_of facts meter))
     +ℤ differences (first_reading meter) (entries_of facts meter)
 
--- Each started poll has exactly one recorded outcome or is pending, and each installed meter's
--- booked energy adds up.
+-- The headline: each started poll has exactly one recorded outcome or is pending, and each
+-- installed meter's booked energy adds up.
 pub record HeadlineHolds (history : History) : Type 0 where
   pub polls : All (EndsOnce history) (polls_in (facts_of history))
   pub meters : All (AddsUp (facts_of history)) (openings_in (facts_of history))

@@ -1,5 +1,5 @@
--- Queries for a part: the quarter hours and rejected readings in a span, entries from an index on,
--- and the meters at a register.
+-- Queries for a part of a list: interval rows or rejected readings in a span, entries from an index
+-- on, and the meters at an accounting register.
 use Rattle.std.specs.Prelude.{◌≡◌, ◌⊎◌, ℕ, List, Option, Some, None, Result, Ok, Err}
 use Rattle.std.specs.Option.{option_map, option_and_then}
 use Rattle.std.specs.declared.alloc.Global.{Global}
@@ -25,38 +25,39 @@ use Rattle.office_core.specs.Failing.{IsOutside}
 use Rattle.office_core.specs.Standing.{After}
 use Rattle.office_core.specs.Taking.{failures_of}
 
--- The interval rows of a meter in a span, if a meter has the name.
+-- The interval rows in a span of the meter with the name; `None` if no meter has it.
 abbrev pub intervals_within : List Fact → (meter : Option (List ℕ)) → Span → Option (List Share)
 intervals_within facts meter span = option_map (rows_within span) (intervals_of facts meter)
 
--- The rejected readings of a meter with timestamps in a span, in the order in which they were
--- recorded.
+-- The rejected readings in a span of the meter with the name, in the order of their recording;
+-- `None` if no meter has it.
 abbrev pub holds_at : List Fact → (meter : List ℕ) → Span → Option (List HeldReading)
 holds_at facts meter span =
     option_map (λ opening. holds_within span (holds_of facts meter)) (opening_of facts meter)
 
--- The same by a name, which may be invalid.
+-- The rejected readings in a span of the meter with the name; `None` also if the name is invalid.
 abbrev pub holds_named : List Fact → (meter : Option (List ℕ)) → Span → Option (List HeldReading)
 holds_named facts meter span = option_and_then (λ name. holds_at facts name span) meter
 
--- At most `most` entries of a meter from index `from` on.
+-- The entries from index `from` on of the meter with the name, at most `most`; `None` if no meter
+-- has it.
 abbrev pub entries_within : List Fact → (meter : Option (List ℕ)) → (from most : ℕ)
     → Option (List MeterEntry)
 entries_within facts meter from most =
     option_map (λ opening. first_from from most (entries_at facts (Some opening)))
     (option_and_then (opening_of facts) meter)
 
--- The installations at a register, if a register has the name.
+-- The installations at the accounting register with the name; `None` if no register has it.
 abbrev pub meters_at : List Fact → (register : List ℕ) → Option (List Installation)
 meters_at facts register =
     option_map (λ row. installations_of facts register) (register_of facts register)
 
--- The same by a name, which may be invalid.
+-- The installations at the register with the name; `None` also if the name is invalid.
 abbrev pub meters_named : List Fact → (register : Option (List ℕ)) → Option (List Installation)
 meters_named facts register = option_and_then (meters_at facts) register
 
--- The answer has these rows, and the store did not fail. If nothing has the name, the answer is not
--- found. Otherwise the store failed or ran out of memory.
+-- The result is these rows without a failure. Otherwise it is `NotFound` if the list does not
+-- exist, or a failure of the store or of its memory.
 abbrev pub IsListed : {T : Type 0} → Option (List T) → (before after : Failures)
     → Result (Vec T Global) Refusal → Type 0
 IsListed rows before after (Ok listed) = (rows ≡ Some listed.items) × (after ≡ before)
@@ -64,14 +65,14 @@ IsListed None before after (Err why) =
     ((why ≡ refusal.NotFound) × (after ≡ before)) ⊎ IsOutside ⊥ before after why
 IsListed (Some rows) before after (Err why) = IsOutside ⊥ before after why
 
--- What the store answers, from the records that it holds. This assumes that no wrong result of a
--- store was taken as true.
+-- A query for a list has the answer that the store's records give, if no wrong result of the store
+-- was taken as true.
 abbrev pub ListsIn : {T : Type 0} → (old new : Ledger) → Result (Vec T Global) Refusal
     → (List Fact → Option (List T)) → Type 0
 ListsIn old new result rows = (known : List Fact) → old.holds known → new.is_clean
     → IsListed (rows known) old.failures new.failures result
 
--- What the office answers, from the records of the events that it accepted.
+-- A query of the office for a list has the answer that the records of all accepted events give.
 abbrev pub ListsAccepted : {B T : Type 0} → (B → Ledger) → (old new : Office B)
     → Result (Vec T Global) Refusal → (List Fact → Option (List T)) → Type 0
 ListsAccepted ledger old new result rows = After ledger old new (λ past.

@@ -1,4 +1,4 @@
--- What the opening of an office leaves of its store.
+-- What the opening of an office leaves of its store, if it succeeds or fails.
 use Rattle.std.specs.Prelude.{◌≡◌, ◌⊎◌, ℕ, max, List, ◌∷◌, None, Some, Result, Ok, Err, IfErr}
 use Rattle.std.specs.declared.alloc.Global.{Global}
 use Rattle.std.specs.declared.vec.Vec.{Vec}
@@ -14,10 +14,10 @@ use Rattle.office_core.specs.declared.office.Office.{Office}
 use Rattle.office_core.specs.Leaving.{BooksStand, Leaves, LeftByOpening}
 use Rattle.office_core.specs.Standing.{books_in}
 
--- An opening is refused by its definition, or it failed outside; the store's records are unchanged.
--- The opening needs memory outside the store only if no reason applies against it.
+-- The opening was refused for its timestamp, or it failed outside; the store's records are
+-- unchanged. The opening needs memory outside the store only if no reason to refuse it applies.
 --
--- A crash then leaves what it left before. If the opening failed, a crash may also leave the
+-- A crash leaves what it could leave before. If the opening failed, a crash may also leave the
 -- records with all that the opening would have recorded.
 pub record IsNotOpened (past : History) (at : ℕ) (old new : Ledger) (why : Refusal) : Type 0 where
   pub books : BooksStand new past
@@ -26,41 +26,43 @@ pub record IsNotOpened (past : History) (at : ℕ) (old new : Ledger) (why : Ref
       ((opening_refusal_of (facts_of past) at ≡ Some why) × (new.failures ≡ old.failures))
       ⊎ IsOutside (opening_refusal_of (facts_of past) at ≡ None) old.failures new.failures why
 
--- The caller gets the store of a refused opening back, if no wrong result of a store was taken as
--- true.
+-- A refused opening returns the store, in the state that `IsNotOpened` describes. This assumes that
+-- no wrong result of the store was taken as true.
 abbrev pub HandsBackUnopened : {B : Type 0} → (B → Ledger) → (books : B) → (at : ℕ) → History
     → B × Refusal → Type 0
 HandsBackUnopened ledger books at past back =
     (ledger back.0).is_clean → IsNotOpened past at (ledger books) (ledger back.0) back.1
 
--- A crash after an opening leaves the records with those of the opening. If it recorded nothing, a
--- crash leaves what it left before.
+-- After an opening a crash leaves the records with those of the opening. If the opening recorded
+-- nothing, a crash leaves what it could leave before.
 abbrev pub LeavesOpening : {B : Type 0} → (B → Ledger) → (books : B) → (at : ℕ) → History
     → Office B → Type 0
 LeavesOpening ledger books at past office = (ledger (books_in office)).is_clean
     → Leaves (ledger books) (ledger (books_in office)) (LeftByOpening past at (Ok office))
 
--- The timestamp of an opening for queries: the given one, or the latest recorded one if that is
--- later.
+-- The timestamp with which an office is opened for queries only: the given one, or the latest
+-- recorded one if that is later.
 abbrev pub asking_moment : History → (given : ℕ) → ℕ
 asking_moment past given = max given (latest_in (facts_of past))
 
--- The store is in the state after the opening, and each device has a slot.
+-- The office was opened at timestamp `at`: the store holds the records with those of the opening,
+-- and each device has a slot.
 pub record IsReopened (past : History) (at : ℕ) (old new : Ledger) (slots : List Slot) :
     Type 0 where
   pub books : BooksStand new (Opened at ∷ past)
   pub leaves : Leaves old new (LeftByOpening past at (Ok slots))
   pub keeps : KeepsSlots slots (slots_of (Opened at ∷ past))
 
--- The office is opened, or it is not.
+-- What holds after an opening: `IsReopened` on `Ok`, `IsNotOpened` on an error.
 abbrev pub Reopens : History → (at : ℕ) → (old new : Ledger) → Result (Vec Slot Global) Refusal
     → Type 0
 Reopens past at old new (Ok slots) = IsReopened past at old new slots.items
 Reopens past at old new (Err why) = IsNotOpened past at old new why
 
--- Properties of an opening that need no premise on the store. It reports the store's failures and
--- no others. A wrong result that was taken as true stays noted, and the zone stays. No refusal says
--- that an office had stopped, or that a row has no civil day.
+-- Properties of an opening, whatever the store returned. It reports exactly the store's failures. A
+-- store that is clean after it was clean before. The zone stays.
+--
+-- No refusal says that the office had stopped, or that a row has no civil day.
 pub record Passed {T : Type 0} (old new : Ledger) (result : Result T Refusal) : Type 0 where
   pub counts : CountsFailures old.failures new.failures result
   pub clean : new.is_clean → old.is_clean

@@ -1,4 +1,5 @@
-//! Filters the days of a range, and finds the span of quarter hours that contains them.
+//! Filters the days of a range, and finds the span of quarter hours that covers these days in every
+//! zone.
 ghost use Rattle.std.specs.Prelude.{◌≡◌, ℕ, true, pos, ◌+ℤ◌, ◌-ℤ◌};
 ghost use Rattle.jiff.specs.Words.{epoch_day};
 ghost use Rattle.interval_core.specs.Ranges.{days_in, has_day};
@@ -21,7 +22,7 @@ pub fn keep_within(days: &mut Vec<DayTotal>, range: &DayRange)
     days.retain(|total| range.has(total.day));
 }
 
-/// The start of a UTC day, in seconds since 1970-01-01 UTC; 0 for earlier days.
+/// The start of the UTC day, in seconds since 1970-01-01 UTC; 0 for days before 1970.
 fn begin_of(day: i32) -> u64
     ensures { result ≡ utc_start day }
 {
@@ -42,7 +43,8 @@ fn latest(day: Day) -> u64
     begin_of(day.to_plain().to_unix_epoch_day() + MARGIN)
 }
 
-/// The timestamps around the days from `from` up to the day before `till`; all if an end is open.
+/// The timestamps from two days before `from` to two days after `till`; all timestamps if an end is
+/// open.
 fn span_between(from: Option<Day>, till: Option<Day>) -> Span
     ensures { result ≡ range.span_between from till }
 {

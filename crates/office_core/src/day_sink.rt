@@ -23,7 +23,7 @@ impl DaySink {
     ghost use Rattle.interval_core.specs.Fold.{HasTaken};
     ghost use Rattle.office_core.specs.DaySums.{AddsRow, EndsAs};
 
-    /// Creates a sink without rows. The call allocates no memory.
+    /// Creates a sink that has no rows yet. The call allocates no memory.
     pub fn new(alloc: Global, zone: Zone) -> DaySink
         ensures zone { result.zone ≡ zone }
         ensures works { result.fault ≡ None }
@@ -37,8 +37,8 @@ impl DaySink {
         }
     }
 
-    /// Adds a row. A row that starts before an earlier row, or after the last timestamp, has no
-    /// day.
+    /// Adds a row. If it starts before an earlier row, or after the last timestamp, the sink fails:
+    /// the row has no civil day.
     fn add(&mut self, row: Share)
         requires works { self.old.fault ≡ None }
         ensures { AddsRow self.old row self.new }
@@ -53,7 +53,7 @@ impl DaySink {
         }
     }
 
-    /// Returns the days in order, or the first failure.
+    /// Returns the days in order; or, if the sink failed, its first failure as a refusal.
     pub fn into_days(self) -> Result<Vec<DayTotal>, Refusal>
         ensures { EndsAs self.fault self.fold.accounts result }
     {

@@ -1,4 +1,4 @@
-//! Decides on an event before anything is executed.
+//! Decides whether an event is accepted, before anything is executed.
 ghost use Rattle.std.specs.Prelude.{◌≡◌, None, false, IfOk, IfSome};
 ghost use Rattle.office_rules.specs.Sessions.{command_in};
 ghost use Rattle.office_booking.specs.Sessions.Places.{AsksOnSlot};
@@ -28,7 +28,8 @@ pub fn is_command(event: &Event) -> bool
     }
 }
 
-/// Whether an event may settle polls.
+/// Whether the event may settle polls: bytes from a device, the end of a connection, or a timer
+/// event.
 fn may_settle(event: &Event) -> bool
     ensures { result ≡ events.may_settle event.now }
 {
@@ -42,21 +43,22 @@ fn may_settle(event: &Event) -> bool
     }
 }
 
-/// Whether the store or memory failed.
+/// Whether the answer reports that the store or memory failed.
 fn is_failure(given: &Result<Answer, Refusal>) -> bool
     ensures { result ≡ failing.is_failure given.now }
 {
     matches!(given, Err(Refusal::Store(_)) | Err(Refusal::Memory))
 }
 
-/// Returns whether the office stops after this answer to the event.
+/// Returns whether the office stops after this answer: the event may have settled polls, and the
+/// store or memory failed.
 pub fn stops(event: &Event, given: &Result<Answer, Refusal>) -> bool
     ensures { result ≡ failing.stops event.now given.now }
 {
     may_settle(event) && is_failure(given)
 }
 
-/// Proves that the point list in an event, if any, is planned.
+/// Proves that if the event has a point list, the list has the reads of its plan.
 pub fn asks_planned(event: &Event)
     ensures { PutsPlanned (command_in event.now) }
 {

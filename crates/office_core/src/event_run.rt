@@ -13,12 +13,14 @@ use office_events::{Event, Refusal};
 use office_rules::books_are_true;
 use std::alloc::Global;
 
-/// Opens an office over a store and feeds it events, each at its timestamp.
+/// Opens an office over a store and feeds it these events, each at its timestamp.
 ///
 /// Timestamps are in seconds since 1970-01-01 UTC. Each event has one answer. In the end the store
-/// holds the records of the accepted events, and the headline holds for them. This assumes that no
-/// wrong result of the store was taken as true. The run allocates all answers first, and then opens
-/// the office. If either step fails, the caller gets the store back.
+/// holds the records of the accepted events, and the headline is true of them. This assumes that no
+/// wrong result of the store was taken as true.
+///
+/// The run allocates all answers first, and then opens the office. If either step fails, the caller
+/// gets the store back.
 pub fn run<B: Books>(
     alloc: Global,
     books: B,

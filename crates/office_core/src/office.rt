@@ -56,8 +56,8 @@ pub struct Office<B: Books> {
 impl<B: Books> Office<B> {
     /// Opens an office over a store, at a timestamp in seconds since 1970-01-01 UTC.
     ///
-    /// Each poll without an outcome is recorded as lost, and no device is connected. On a refusal
-    /// the caller gets the store back.
+    /// Each poll without an outcome is recorded as lost, and no device is connected. If the opening
+    /// is refused, the caller gets the store back.
     pub fn open(alloc: Global, mut books: B, moment: u64) -> Result<Office<B>, (B, Refusal)>
         ensures opened { (past : History) → BooksStand (B.ledger books) past
             → IfOk result (StandsIfClean B.ledger (Opened moment ∷ past)) }
@@ -87,7 +87,8 @@ impl<B: Books> Office<B> {
     /// Opens an office for queries, at `moment` or at the latest timestamp in the store, whichever
     /// is later.
     ///
-    /// Queries need no clock. Otherwise this is an opening like any other: pending polls are lost.
+    /// A clock that was set back therefore does not prevent queries. As with `open`, each poll
+    /// without an outcome is recorded as lost.
     pub fn open_to_ask(alloc: Global, mut books: B, moment: u64) -> Result<Office<B>, (B, Refusal)>
         ensures opened { (past : History) → BooksStand (B.ledger books) past
             → IfOk result (StandsIfClean B.ledger (Opened (asking_moment past moment) ∷ past)) }
@@ -106,7 +107,7 @@ impl<B: Books> Office<B> {
         }
     }
 
-    /// Settles an accepted event of a device.
+    /// Settles the polls that an accepted device event ends.
     fn settle(&mut self, moment: u64, event: &Event) -> Result<Answer, Refusal>
         requires settling { events.is_command event.now ≡ false }
         requires limit { moment ≤ moment_limit }
@@ -126,7 +127,7 @@ impl<B: Books> Office<B> {
         }
     }
 
-    /// Executes an accepted command.
+    /// Executes the command of an accepted event.
     fn obey(&mut self, moment: u64, event: &Event) -> Result<Answer, Refusal>
         requires asks { events.is_command event.now ≡ true }
         requires range { AsksInRange moment (command_in event.now) }
@@ -145,8 +146,8 @@ impl<B: Books> Office<B> {
         }
     }
 
-    /// Processes an event while the office is running: answers a retry, refuses the event, settles
-    /// polls, or executes a command.
+    /// Processes an event while the office is running. A retry gets its stored answer, and an
+    /// unacceptable event is refused; any other event settles polls or executes its command.
     fn take(&mut self, moment: u64, event: &Event) -> Result<Answer, Refusal>
         ensures takes { TakesAny B.ledger moment event.now self.old self.new result }
         ensures quiet { (past : History) → MayTake B.ledger past event.now self.old
@@ -210,7 +211,7 @@ impl<B: Books> Office<B> {
         questions::device(&mut self.books, name)
     }
 
-    /// Returns the register with the name. `None` is a name that no register can have.
+    /// Returns the accounting register with the name. `None` is a name that no register can have.
     pub fn register(&mut self, name: &Option<Name>) -> Result<Register, Refusal>
         ensures found { TellsRow B.ledger self.old self.new result
             (λ facts. option_and_then (register_of facts) name.now) }
@@ -223,8 +224,8 @@ impl<B: Books> Office<B> {
         questions::register(&mut self.books, name)
     }
 
-    /// Returns the installation of a meter in its current state. `None` is a name that no meter can
-    /// have.
+    /// Returns the installation of the meter with the name, in its present state. `None` is a name
+    /// that no meter can have.
     pub fn meter(&mut self, name: &Option<Name>) -> Result<Installation, Refusal>
         ensures found { TellsRow B.ledger self.old self.new result
             (λ facts. option_and_then (meter_of facts) name.now) }
@@ -237,8 +238,8 @@ impl<B: Books> Office<B> {
         questions::meter(&mut self.books, name)
     }
 
-    /// Returns the latest installation at a register, open or closed, in its current state. `None`
-    /// is a name that no register can have.
+    /// Returns the latest installation at an accounting register, open or closed, in its present
+    /// state. `None` is a name that no register can have.
     pub fn installation(&mut self, register: &Option<Name>) -> Result<Installation, Refusal>
         ensures found { TellsRow B.ledger self.old self.new result
             (λ facts. option_and_then (installation_at facts) register.now) }
@@ -251,10 +252,10 @@ impl<B: Books> Office<B> {
         questions::installation(&mut self.books, register)
     }
 
-    /// Compares a request with the stored request of the same caller and number: the same, or
-    /// another.
+    /// Compares a request with the stored request of the same caller and number: `Same` or `Other`.
     ///
-    /// The answer is `NotFound` if the store has no request with this caller and number.
+    /// The result is the refusal `NotFound` if the store has no request with this caller and
+    /// number.
     pub fn repeat(
         &mut self,
         caller: &Option<Name>,
@@ -272,7 +273,7 @@ impl<B: Books> Office<B> {
         questions::repeat(&mut self.books, caller, number, request)
     }
 
-    /// Returns the poll with the number, and its outcome if it has one.
+    /// Returns the poll with this number, and its outcome if it has one.
     pub fn poll(&mut self, number: u64) -> Result<PollRow, Refusal>
         ensures found { TellsRow B.ledger self.old self.new result
             (λ facts. poll_row_of facts number) }
@@ -285,7 +286,7 @@ impl<B: Books> Office<B> {
         questions::poll(&mut self.books, number)
     }
 
-    /// Passes the energy of a meter by quarter hour to the sink, in mWh, in order of start.
+    /// Passes the energy of a meter to the sink, in mWh: one row for each quarter hour, in order.
     pub fn intervals<K: RowSink<Share>>(
         &mut self,
         meter: &Option<Name>,
@@ -303,8 +304,8 @@ impl<B: Books> Office<B> {
         questions::intervals(&mut self.books, meter, sink)
     }
 
-    /// Passes the energy of a meter in the quarter hours of `span` to the sink, in mWh, in order of
-    /// start.
+    /// Passes the energy of a meter in the quarter hours of `span` to the sink, in mWh: one row for
+    /// each quarter hour, in order.
     pub fn intervals_within<K: RowSink<Share>>(
         &mut self,
         meter: &Option<Name>,
@@ -343,8 +344,9 @@ impl<B: Books> Office<B> {
         questions::holds(&mut self.books, meter, span, sink)
     }
 
-    /// Returns the installations at a register in their current state, closed ones included, in the
-    /// order in which they were installed. `None` is a name that no register can have.
+    /// Returns the installations at an accounting register in their present state, closed ones
+    /// included, in the order in which they were installed. `None` is a name that no register can
+    /// have.
     pub fn meters(&mut self, register: &Option<Name>) -> Result<Vec<Installation>, Refusal>
         ensures listed { ListsAccepted B.ledger self.old self.new result
             (λ facts. meters_named facts register.now) }
@@ -376,8 +378,8 @@ impl<B: Books> Office<B> {
         questions::entries(&mut self.books, meter, from, most)
     }
 
-    /// Passes the energy of a register by civil day of the store's zone to the sink, in mWh, in
-    /// order.
+    /// Passes the energy of an accounting register to the sink, in mWh: one row for each civil day
+    /// of the store's zone, in order.
     ///
     /// The sink gets the days once all of them are added up. A register at which no meter was ever
     /// installed has no days.
@@ -398,7 +400,7 @@ impl<B: Books> Office<B> {
         questions::days(self.alloc, &mut self.books, register, sink)
     }
 
-    /// Passes those days of a register that are in `range` to the sink, as `days` does.
+    /// Passes those days of an accounting register that are in `range` to the sink, as `days` does.
     ///
     /// If the range has both ends, the office reads only the quarter hours of the range's days, and
     /// of two more days at each end.
@@ -420,7 +422,8 @@ impl<B: Books> Office<B> {
         questions::days_within(self.alloc, &mut self.books, register, range, sink)
     }
 
-    /// Returns each register of each device with the latest meter at it, if any.
+    /// Returns each accounting register of each device with the latest meter at it, if there is
+    /// one.
     ///
     /// The devices, and the registers of each device, are in the order in which they were added.
     pub fn site(&mut self) -> Result<Vec<SiteRow>, Refusal>
@@ -434,7 +437,8 @@ impl<B: Books> Office<B> {
         site::rows(self.alloc, &mut self.books)
     }
 
-    /// Returns the bytes to send after the last event: the frames of the polls that it started.
+    /// Returns the bytes to send after the last event: the frames of the polls that the event
+    /// started.
     pub fn outgoing(&self) -> &[u8]
         ensures { result.now ≡ outgoing_in self.now }
     {
@@ -449,7 +453,7 @@ impl<B: Books> Office<B> {
         &self.notes
     }
 
-    /// Returns the store.
+    /// Returns the store, and ends the office.
     pub fn into_books(self) -> B
         ensures { result ≡ books_in self }
     {

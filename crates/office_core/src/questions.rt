@@ -1,4 +1,4 @@
-//! Queries of the store.
+//! Answers queries from the store.
 ghost use Rattle.std.specs.Prelude.{◌≡◌, ◌<◌, ◌^◌, length, find, reverse, IfErr};
 ghost use Rattle.std.specs.Option.{option_and_then};
 ghost use Rattle.office_rules.specs.Facts.{device_of, register_of, same};
@@ -22,7 +22,8 @@ use office_events::{Device, HeldReading, Installation, Name, PollRow, Refusal, R
 use office_rules::registers_are_in_turn;
 use std::alloc::Global;
 
-/// Turns the result of a lookup into an answer.
+/// The answer if the store's lookup has this result: the row, `NotFound`, or the store's failure as
+/// a refusal.
 fn found<T: Drop>(answer: Result<Option<T>, BooksFault>) -> Result<T, Refusal>
     ensures { result ≡ answered answer }
 {
@@ -33,7 +34,7 @@ fn found<T: Drop>(answer: Result<Option<T>, BooksFault>) -> Result<T, Refusal>
     }
 }
 
-/// The last device with the name.
+/// The last device with this name in a list; `None` if there is none.
 #[tactic(auto, using(office_rules::proofs::Lists::find_more))]
 fn last_named(devices: &[Device], name: &Name) -> Option<Device>
     ensures { result ≡ find (λ device. same device.name name.now) (reverse devices.now) }
@@ -47,7 +48,8 @@ fn last_named(devices: &[Device], name: &Name) -> Option<Device>
     last
 }
 
-/// The device with the name, searched among all devices: a store has at most 64.
+/// The device with this name in the store, found by a search of all devices; a store has at most
+/// 64.
 fn device_in<B: Books>(books: &mut B, name: &Name) -> Result<Option<Device>, BooksFault>
     ensures found { Finds (B.ledger books.old) (B.ledger books.new) result
         (λ known row. row ≡ device_of known name.now) }
@@ -59,7 +61,7 @@ fn device_in<B: Books>(books: &mut B, name: &Name) -> Result<Option<Device>, Boo
     }
 }
 
-/// Returns the device with the name.
+/// Returns the device with this name, or `NotFound`.
 pub fn device<B: Books>(books: &mut B, name: &Option<Name>) -> Result<Device, Refusal>
     ensures found { FoundIn (B.ledger books.old) (B.ledger books.new) result
         (λ known. option_and_then (device_of known) name.now) }
@@ -72,7 +74,7 @@ pub fn device<B: Books>(books: &mut B, name: &Option<Name>) -> Result<Device, Re
     found(device_in(books, name))
 }
 
-/// Returns the register with the name.
+/// Returns the accounting register with this name, or `NotFound`.
 pub fn register<B: Books>(books: &mut B, name: &Option<Name>) -> Result<Register, Refusal>
     ensures found { FoundIn (B.ledger books.old) (B.ledger books.new) result
         (λ known. option_and_then (register_of known) name.now) }
@@ -85,7 +87,7 @@ pub fn register<B: Books>(books: &mut B, name: &Option<Name>) -> Result<Register
     found(books.register(name))
 }
 
-/// Returns the installation of a meter in its current state.
+/// Returns the installation of a meter in its present state, or `NotFound`.
 pub fn meter<B: Books>(books: &mut B, name: &Option<Name>) -> Result<Installation, Refusal>
     ensures found { FoundIn (B.ledger books.old) (B.ledger books.new) result
         (λ known. option_and_then (meter_of known) name.now) }
@@ -98,7 +100,7 @@ pub fn meter<B: Books>(books: &mut B, name: &Option<Name>) -> Result<Installatio
     found(books.meter(name))
 }
 
-/// Returns the latest installation at a register, in its current state.
+/// Returns the latest installation at an accounting register in its present state, or `NotFound`.
 pub fn installation<B: Books>(
     books: &mut B,
     register: &Option<Name>,
@@ -114,7 +116,8 @@ pub fn installation<B: Books>(
     found(books.installation(name))
 }
 
-/// Compares a request with the stored request of the same caller and number.
+/// Compares a request with the stored request of the same caller and number; `NotFound` if none is
+/// stored.
 pub fn repeat<B: Books>(
     books: &mut B,
     caller: &Option<Name>,
@@ -142,7 +145,7 @@ pub fn poll<B: Books>(books: &mut B, number: u64) -> Result<PollRow, Refusal>
     found(books.poll(number))
 }
 
-/// Passes the energy of a meter by quarter hour to the sink, in order of start.
+/// Passes the energy of a meter to the sink: one row for each quarter hour, in order.
 pub fn intervals<B: Books, K: RowSink<Share>>(
     books: &mut B,
     meter: &Option<Name>,
@@ -157,7 +160,8 @@ pub fn intervals<B: Books, K: RowSink<Share>>(
     intervals_of_span(books, meter, Span::All, sink)
 }
 
-/// Passes the energy of a meter in the quarter hours of `span` to the sink, in order of start.
+/// Passes the energy of a meter in the quarter hours of `span` to the sink: one row for each
+/// quarter hour, in order.
 pub fn intervals_of_span<B: Books, K: RowSink<Share>>(
     books: &mut B,
     meter: &Option<Name>,
@@ -200,8 +204,8 @@ pub fn holds<B: Books, K: RowSink<HeldReading>>(
     Ok(())
 }
 
-/// Returns the installations at a register in their current state, closed ones included, in the
-/// order in which they were installed.
+/// Returns the installations at an accounting register in their present state, closed ones
+/// included, in the order in which they were installed.
 pub fn meters<B: Books>(
     books: &mut B,
     register: &Option<Name>,
@@ -248,7 +252,7 @@ fn hand_on<K: RowSink<DayTotal>>(days: &[DayTotal], sink: &mut K)
     }
 }
 
-/// The days of a recorded register, added up from its quarter hours in `span`.
+/// The civil days of a recorded register's interval rows in `span`, in order.
 fn days_of<B: Books>(
     alloc: Global,
     books: &mut B,
@@ -264,7 +268,8 @@ fn days_of<B: Books>(
     days.into_days()
 }
 
-/// Passes the energy of a register by civil day of the store's zone to the sink, in order.
+/// Passes the energy of an accounting register to the sink: one row for each civil day of the
+/// store's zone, in order.
 pub fn days<B: Books, K: RowSink<DayTotal>>(
     alloc: Global,
     books: &mut B,
@@ -285,7 +290,7 @@ pub fn days<B: Books, K: RowSink<DayTotal>>(
     Ok(())
 }
 
-/// Those days of a recorded register that are in the range.
+/// Those civil days of a recorded register that are in the range.
 fn days_in<B: Books>(
     alloc: Global,
     books: &mut B,
@@ -302,8 +307,8 @@ fn days_in<B: Books>(
     Ok(days)
 }
 
-/// Passes the energy of a register by civil day of the store's zone to the sink, in order, for the
-/// days of a range.
+/// Passes the energy of an accounting register on the days of a range to the sink: one row for each
+/// civil day of the store's zone, in order.
 pub fn days_within<B: Books, K: RowSink<DayTotal>>(
     alloc: Global,
     books: &mut B,

@@ -1,4 +1,4 @@
-//! Finds why the office refuses an event, and how it answers a retry.
+//! Finds why the office refuses an event, and whether an event is a retry.
 
 mod arrivals;
 mod commands;

@@ -1,4 +1,5 @@
-//! The results of a run. They are in a module apart from `run`: one module can't have both names.
+//! The result of a run. The type is in a module apart from the function `run`, because one module
+//! can't have both names.
 use crate::office::Office;
 use office_books::Books;
 use office_events::{Answer, Refusal};

@@ -1,4 +1,4 @@
-//! Queries the store for all registers and meters.
+//! Queries the store for all accounting registers and their meters.
 ghost use Rattle.std.specs.Prelude.{◌≡◌, ◌∷◌, [], IfErr};
 ghost use Rattle.office_books.specs.Ledgers.{Consults, Finds};
 ghost use Rattle.office_core.specs.Asking.{Asks};
@@ -10,15 +10,15 @@ use office_books::{Books, BooksFault};
 use office_events::{Device, Installation, Refusal, Register};
 use std::alloc::Global;
 
-/// A register with the latest meter that was installed at it, open or closed; `None` if there was
-/// none.
+/// An accounting register with the latest meter that was installed at it, open or closed; `None` if
+/// there was none.
 #[derive(Clone, Copy, Debug, PartialEq, Eq)]
 pub struct SiteRow {
     pub register: Register,
     pub meter: Option<Installation>,
 }
 
-/// Adds the row of a register.
+/// Appends the row of an accounting register.
 fn add_register<B: Books>(
     rows: &mut Vec<SiteRow>,
     books: &mut B,
@@ -36,7 +36,7 @@ fn add_register<B: Books>(
     Ok(())
 }
 
-/// Adds the rows of a list of registers.
+/// Appends the rows of these accounting registers, in order.
 fn add_registers<B: Books>(
     rows: &mut Vec<SiteRow>,
     books: &mut B,
@@ -52,7 +52,7 @@ fn add_registers<B: Books>(
     Ok(())
 }
 
-/// Adds the rows of a device.
+/// Appends the rows of a device's accounting registers.
 fn add_device<B: Books>(
     rows: &mut Vec<SiteRow>,
     books: &mut B,
@@ -66,7 +66,7 @@ fn add_device<B: Books>(
     add_registers(rows, books, &registers)
 }
 
-/// Adds the rows of a list of devices.
+/// Appends the rows of these devices' accounting registers, in order.
 fn add_devices<B: Books>(
     rows: &mut Vec<SiteRow>,
     books: &mut B,
@@ -82,7 +82,7 @@ fn add_devices<B: Books>(
     Ok(())
 }
 
-/// The rows of all devices.
+/// The rows of all accounting registers in the store.
 fn rows_in<B: Books>(alloc: Global, books: &mut B) -> Result<Vec<SiteRow>, BooksFault>
     ensures found { Finds (B.ledger books.old) (B.ledger books.new) result
         (λ known rows. rows.items ≡ site_of known) }
@@ -94,8 +94,8 @@ fn rows_in<B: Books>(alloc: Global, books: &mut B) -> Result<Vec<SiteRow>, Books
     Ok(rows)
 }
 
-/// Returns each register of each device with its meter. The devices, and the registers of each
-/// device, are in the order in which they were added.
+/// Returns each accounting register of each device with its latest meter. The devices, and the
+/// registers of each device, are in the order in which they were added.
 pub fn rows<B: Books>(alloc: Global, books: &mut B) -> Result<Vec<SiteRow>, Refusal>
     ensures found { SiteIn (B.ledger books.old) (B.ledger books.new) result }
     ensures asks { Asks (B.ledger books.old) (B.ledger books.new) result }

@@ -1,4 +1,4 @@
--- The energies of statements, and those of the report on the same days.
+-- The energies of meters' statements, compared with the report on the same days.
 use Rattle.std.specs.Prelude.{◌≡◌, ◌<◌, ◌≤◌, ◌^◌, List, map, All, sum_by}
 use Rattle.std.specs.List.{flat_map}
 use Rattle.interval_core.specs.Days.{account_of, AreAccounts}
@@ -11,12 +11,14 @@ use Rattle.interval_core.specs.declared.zone.Zone.{Zone}
 use Rattle.energy_report.specs.Laws.{energy_of_days}
 use Rattle.energy_report.specs.Statements.{energy_within}
 
--- A timestamp past the last has no day.
+-- The interval row starts by the last timestamp, so it has a civil day.
 abbrev pub HasDay : Share → Type 0
 HasDay row = row.start ≤ LAST_MOMENT
 
--- The rows of a register are those of its meters. The energies of the meters' statements on a range
--- add up to the energy of the report: that of all the rows' days in the range, below 2^128 mWh.
+-- The energies of the statements of a register's meters add up to the energy of the register's
+-- report, on any range of days.
+--
+-- The register's rows are those of its meters, and the report's energy is below 2^128 mWh.
 abbrev pub StatementsAddUp : Type 0
 StatementsAddUp = (zone : Zone) (range : DayRange) (meters : List (List Share))
     (days : List DayTotal) → let rows = flat_map (λ rows. rows) meters in

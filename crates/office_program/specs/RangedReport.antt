@@ -1,4 +1,5 @@
--- A report on a range of days, over a store.
+-- The report of an accounting register on a range of days, from an office that is opened over a
+-- store.
 use Rattle.std.specs.Prelude.{◌⊎◌, ℕ, List, Option}
 use Rattle.std.specs.declared.io.Write as writers
 use Rattle.socket_link.specs.declared.clock.Clock as clocks
@@ -16,8 +17,8 @@ use Rattle.office_program.specs.Texts.RangedReports.{RangePrints}
 use Rattle.office_program.specs.Texts.EndTexts.{TellsEnd}
 use Rattle.office_program.specs.Opened.{OverStanding, WithAsked}
 
--- All rows of the register's days in the form were printed, or why there are none. The office was
--- only queried.
+-- The register's days in the range were printed in the requested form, or the reason for a refusal.
+-- The office was only queried.
 pub record ReportsRange {B : Type 0} (ledger : B → Ledger) (register : Option (List ℕ))
     (form : ReportForm) (had holds : Option (List ℕ)) (status : ExitStatus) (following : History)
     (opened left : Office B) : Type 0 where
@@ -25,8 +26,8 @@ pub record ReportsRange {B : Type 0} (ledger : B → Ledger) (register : Option 
       (failures_of ledger opened) (failures_of ledger left)) status had holds
   pub stands : Stands ledger following left
 
--- Either the opening was refused and only that was printed, or the office was opened for queries
--- and reported.
+-- The opening was refused and only the refusal was printed, or the office was opened for queries
+-- and the report printed.
 abbrev pub TellsRange : {B : Type 0} → (B → Ledger) → (past : History) → (register : List ℕ)
     → ReportForm → (moments later : Option (List ℕ)) → (books back : B)
     → (had holds : Option (List ℕ)) → ExitStatus → Type 0
@@ -35,7 +36,8 @@ TellsRange ledger past register form moments later books back had holds status =
     ⊎ WithAsked ledger past moments later back
     (ReportsRange ledger (named register) form had holds status)
 
--- The same for the store, the clock and the writer, each before and after.
+-- `TellsRange` holds for every past in whose state the store was, with the clock and the writer
+-- before and after.
 abbrev pub RangeOver : {B C W : Type 0} → stores.Ghosts B → clocks.Ghosts C → writers.Ghosts W
     → (register : List ℕ) → ReportForm → (books back : B) → (before after : C) → (had holds : W)
     → ExitStatus → Type 0

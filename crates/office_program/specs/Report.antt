@@ -1,4 +1,4 @@
--- A report over a store.
+-- The report of an accounting register, from an office that is opened over a store.
 use Rattle.std.specs.Prelude.{◌⊎◌, ℕ, List, Option}
 use Rattle.std.specs.declared.io.Write as writers
 use Rattle.socket_link.specs.declared.clock.Clock as clocks
@@ -15,15 +15,15 @@ use Rattle.office_program.specs.Texts.Reports.{ReportPrints}
 use Rattle.office_program.specs.Texts.EndTexts.{TellsEnd}
 use Rattle.office_program.specs.Opened.{OverStanding, WithAsked}
 
--- All days of the register were printed, or why there are none. The office was only queried.
+-- All days of the register were printed, or the reason for a refusal. The office was only queried.
 pub record Reports {B : Type 0} (ledger : B → Ledger) (register had holds : Option (List ℕ))
     (status : ExitStatus) (following : History) (opened left : Office B) : Type 0 where
   pub prints : TellsEnd (ReportPrints (ledger (books_in opened)).zone following register
       (failures_of ledger opened) (failures_of ledger left)) status had holds
   pub stands : Stands ledger following left
 
--- Either the opening was refused and only that was printed, or the office was opened for queries
--- and reported.
+-- The opening was refused and only the refusal was printed, or the office was opened for queries
+-- and the report printed.
 abbrev pub TellsReport : {B : Type 0} → (B → Ledger) → (past : History) → (register : List ℕ)
     → (moments later : Option (List ℕ)) → (books back : B) → (had holds : Option (List ℕ))
     → ExitStatus → Type 0
@@ -31,7 +31,8 @@ TellsReport ledger past register moments later books back had holds status =
     TellsUnasked past moments later (ledger books) (ledger back) status had holds
     ⊎ WithAsked ledger past moments later back (Reports ledger (named register) had holds status)
 
--- The same for the store, the clock and the writer, each before and after.
+-- `TellsReport` holds for every past in whose state the store was, with the clock and the writer
+-- before and after.
 abbrev pub ReportsOver : {B C W : Type 0} → stores.Ghosts B → clocks.Ghosts C → writers.Ghosts W
     → (register : List ℕ) → (books back : B) → (before after : C) → (had holds : W) → ExitStatus
     → Type 0

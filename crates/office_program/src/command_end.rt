@@ -1,4 +1,4 @@
-//! The result of a command over an office.
+//! The result of a command that opens an office over a store.
 
 /// The store that a command returns, and how the command ended.
 #[derive(Drop)]

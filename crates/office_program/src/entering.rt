@@ -1,4 +1,4 @@
-//! Enters the lines of an input: each is a request to an office, with a caller and a number.
+//! Enters the lines of an input into an office: each line is a request with a caller and a number.
 
 mod asking;
 mod checking;

@@ -1,4 +1,4 @@
-//! Serves HTTP on a port.
+//! Serves HTTP on a port, for an office that is opened over a store.
 ghost use Rattle.http_request.specs.Hosts.{texts};
 ghost use Rattle.office_core.specs.Standing.{After};
 ghost use Rattle.office_http.specs.Serving as http;
@@ -16,7 +16,7 @@ use std::alloc::Global;
 use std::io::Write;
 use std::net::{Net, TcpListener};
 
-/// How serving ended.
+/// How the serving of a port ended.
 #[derive(Clone, Copy, Debug, PartialEq, Eq)]
 pub enum ServeEnd {
     /// The given number of connections was served.
@@ -62,9 +62,9 @@ fn serve_port<R: Net + std::rt::Clock, B: Books, C: Clock>(
 
 /// Opens an office over a store at the clock's time, and serves requests by HTTP/1.1 on a port.
 ///
-/// It serves `connections` connections on the port of a host, by these names, as `serve_named_on`
-/// does. If the opening is refused, the command prints `refused N` and leaves the port alone. It
-/// prints nothing else. Returns the store.
+/// It serves `connections` connections on the port of a host, by these host names, as
+/// `serve_named_on` does. If the opening is refused, the command prints `refused N` and does not
+/// open the port. It prints nothing else. Returns the store.
 pub fn serve_books<R: Net + std::rt::Clock, B: Books, C: Clock, W: Write>(
     rt: &R,
     alloc: Global,

@@ -1,4 +1,4 @@
-//! Polls a device at a port once.
+//! Polls a device once over TCP, for an office that is opened over a store.
 ghost use Rattle.office_rounds.specs.Passing as rounds;
 ghost use Rattle.office_program.specs.Texts.Passing.{Lasts};
 ghost use Rattle.office_program.specs.PortRound.{PollsOver, PollsPortOf};
@@ -26,11 +26,11 @@ pub enum PollEnd {
     Polled(Result<(), RoundFault>),
     /// The office was not opened. The command ends with this exit status.
     Unopened(ExitStatus),
-    /// The device was not connected.
+    /// No connection to the device was established.
     Unconnected,
 }
 
-// A link to the first address of the device's host that accepts a connection.
+// Connects to the first address of the device's host that accepts a connection.
 fn connect<R: Net>(net: &R, place: (&str, u16)) -> io::Result<SocketLink<R::Stream>> {
     for address in place.to_socket_addrs(net)? {
         if let Ok(stream) = TcpStream::connect_timeout(
@@ -67,8 +67,8 @@ fn poll_port<R: Net, B: Books, C: Clock, W: Write>(
 /// Opens an office over a store at the clock's time, and polls the complete plan of a device once.
 ///
 /// The device is at a port of a host, and is polled as by `poll_round`. If the opening is refused,
-/// the command prints only `refused N` and does not connect to the device. A text that is no name
-/// is an unknown device. Returns the store.
+/// the command prints only `refused N` and does not connect to the device. A text that is no valid
+/// name counts as an unknown device. Returns the store.
 pub fn poll_books<R: Net, B: Books, C: Clock, W: Write>(
     net: &R,
     alloc: Global,

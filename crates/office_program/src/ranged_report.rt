@@ -1,4 +1,4 @@
-//! Reports a register on a range of days.
+//! Reports an accounting register on a range of days.
 ghost use Rattle.office_program.specs.Texts.Passing.{Lasts};
 ghost use Rattle.office_program.specs.RangedReport.{RangeOver};
 
@@ -12,13 +12,15 @@ use socket_link::Clock;
 use std::alloc::Global;
 use std::io::Write;
 
-/// Opens an office for queries, as `report_books` does, and prints the energy of a register on a
-/// range.
+/// Opens an office for queries, as `report_books` does, and prints the energy of an accounting
+/// register on a range of days.
 ///
 /// The form gives the days of the range, the period, the unit and the format. If the range has both
 /// ends, the command reads only the quarter hours of the range's days, and of two more days at each
-/// end. If the opening or the report is refused, it prints only `refused N`. A text that is no name
-/// is an unknown register. Returns the store.
+/// end.
+///
+/// If the opening or the report is refused, it prints only `refused N`. A text that is no valid
+/// name counts as an unknown register. Returns the store.
 pub fn report_range_books<B: Books, C: Clock, W: Write>(
     alloc: Global,
     books: B,

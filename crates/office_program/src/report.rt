@@ -1,4 +1,4 @@
-//! Reports a register by civil day.
+//! Reports an accounting register by civil day.
 ghost use Rattle.office_program.specs.Texts.Passing.{Lasts};
 ghost use Rattle.office_program.specs.Report.{ReportsOver};
 
@@ -11,12 +11,14 @@ use socket_link::Clock;
 use std::alloc::Global;
 use std::io::Write;
 
-/// Opens an office for queries, and prints the energy of a register by civil day.
+/// Opens an office for queries, and prints the energy of an accounting register by civil day.
 ///
 /// Each day is a line, and the last line has the number of days. The office is opened at the
-/// clock's time, or at the latest timestamp in the store if that is later: a clock that was set
-/// back hides no energy. If the opening or the report is refused, the command prints only `refused
-/// N`. A text that is no name is an unknown register. Returns the store.
+/// clock's time, or at the latest timestamp in the store if that is later. So a clock that was set
+/// back hides no energy.
+///
+/// If the opening or the report is refused, the command prints only `refused N`. A text that is no
+/// valid name counts as an unknown register. Returns the store.
 pub fn report_books<B: Books, C: Clock, W: Write>(
     alloc: Global,
     books: B,

@@ -1,4 +1,5 @@
-//! Prints the statement of the meters at a register, over a store.
+//! Prints the statements of the meters at an accounting register, from an office that is opened
+//! over a store.
 ghost use Rattle.office_program.specs.Texts.Passing.{Lasts};
 ghost use Rattle.office_program.specs.Statement.{StatementOver};
 
@@ -12,11 +13,11 @@ use socket_link::Clock;
 use std::alloc::Global;
 use std::io::Write;
 
-/// Opens an office for queries, as `report_books` does, and prints the statement of a register's
-/// meters on the days of a range.
+/// Opens an office for queries, as `report_books` does, and prints the statements of a register's
+/// meters on a range of days.
 ///
-/// Days are those of the store's zone. If the opening or a query is refused, the command prints
-/// only `refused N`. A text that is no name is an unknown register. Returns the store.
+/// The days are those of the store's zone. If the opening or a query is refused, the command prints
+/// only `refused N`. A text that is no valid name counts as an unknown register. Returns the store.
 pub fn statement_books<B: Books, C: Clock, W: Write>(
     alloc: Global,
     books: B,

@@ -1,4 +1,5 @@
--- The event that a round feeds next, after the events that it fed.
+-- The next event of a round, given the events that the round fed to the office so far. Lists have
+-- the latest event first.
 use Rattle.std.specs.Prelude.{◌≡◌, ℕ, ◌+◌, ◌==◌, nat_lt, nat_le, Bool, false, List, [], ◌∷◌, Option, None, Some, Result, Ok, Err, IsOk, if◌then◌else◌}
 use Rattle.std.specs.List.{count_by}
 use Rattle.poll_core.specs.declared.outcome.Closing.TheVariants as closing
@@ -15,7 +16,8 @@ use Rattle.office_rules.specs.Notes.{notes_after}
 use Rattle.office_core.specs.EventRun.{Answered}
 use Rattle.office_rounds.specs.FedEvents.{history_with}
 
--- The number of the first poll, by an answer, or as known before.
+-- The number of the round's first poll: the known one, or else the one that the answer to a start
+-- reports.
 abbrev pub first_by : Option ℕ → Answer → Option ℕ
 first_by (Some first) given = Some first
 first_by None answer.Noted = None
@@ -23,74 +25,74 @@ first_by None (answer.Done kind) = None
 first_by None (answer.Again kind) = None
 first_by None (answer.Started first count of) = Some first
 
--- The number of reads that an answer starts.
+-- The number of polls that an answer reports as started; 0 for an answer that is not `Started`.
 abbrev pub started_by : Answer → ℕ
 started_by answer.Noted = 0
 started_by (answer.Done kind) = 0
 started_by (answer.Again kind) = 0
 started_by (answer.Started first count of) = count
 
--- The number of reads in the plan, by an answer, or as known before.
+-- The number of reads in the plan: as the answer to a start reports it, otherwise as known so far.
 abbrev pub planned_by : ℕ → Answer → ℕ
 planned_by planned answer.Noted = planned
 planned_by planned (answer.Done kind) = planned
 planned_by planned (answer.Again kind) = planned
 planned_by planned (answer.Started first count of) = of
 
--- The first poll after a result; a refusal changes nothing.
+-- The number of the round's first poll after one more result; a refusal changes nothing.
 abbrev pub first_after : Option ℕ → Result Answer Refusal → Option ℕ
 first_after first (Ok given) = first_by first given
 first_after first (Err why) = first
 
--- The number of reads that were started, after a result.
+-- The number of started reads after one more result; a refusal adds none.
 abbrev pub started_after : ℕ → Result Answer Refusal → ℕ
 started_after started (Ok given) = started + started_by given
 started_after started (Err why) = started
 
--- The number of reads in the plan, after a result.
+-- The number of reads in the plan after one more result; a refusal changes nothing.
 abbrev pub planned_after : ℕ → Result Answer Refusal → ℕ
 planned_after planned (Ok given) = planned_by planned given
 planned_after planned (Err why) = planned
 
--- The first poll of a round, once the round has started one.
+-- The number of the round's first poll; `None` until the round has started one.
 abbrev pub first_poll : List Answered → Option ℕ
 first_poll [] = None
 first_poll (one ∷ earlier) = first_after (first_poll earlier) one.result
 
--- The number of reads that the round has started.
+-- The number of reads that the round has started so far.
 abbrev pub reads_started : List Answered → ℕ
 reads_started [] = 0
 reads_started (one ∷ earlier) = started_after (reads_started earlier) one.result
 
--- The number of reads in the plan.
+-- The number of reads in the plan, as the answers so far report it; 0 at first.
 abbrev pub reads_planned : List Answered → ℕ
 reads_planned [] = 0
 reads_planned (one ∷ earlier) = planned_after (reads_planned earlier) one.result
 
--- The poll is not before the first of the round.
+-- Whether the poll belongs to the round: its number is at least that of the round's first poll.
 abbrev pub is_from : (first : Option ℕ) → ℕ → Bool
 is_from None poll = false
 is_from (Some first) poll = nat_le first poll
 
--- The notification reports the outcome of such a poll.
+-- Whether the notification reports the outcome of a poll of the round.
 abbrev pub is_ending : (first : Option ℕ) → Note → Bool
 is_ending first (note.Outcome poll outcome) = is_from first poll
 is_ending first (note.Reading meter raw rolls step) = false
 is_ending first (note.Held meter raw cause) = false
 
--- The number of polls of the round that ended with an event.
+-- The number of polls of the round that ended with this event.
 abbrev pub endings_of : (past : History) → (earlier : List Answered) → Answered → ℕ
 endings_of past earlier one =
     count_by (is_ending (first_poll earlier))
     (notes_after (history_with past earlier) one.at one.event one.result)
 
--- The number of polls of the round that have ended.
+-- The number of polls of the round that have ended so far.
 abbrev pub polls_ended : (past : History) → List Answered → ℕ
 polls_ended past [] = 0
 polls_ended past (one ∷ earlier) = polls_ended past earlier + endings_of past earlier one
 
--- What is next: the connection is fed; the reads from a number on are started; the device is gone,
--- since all polls have ended; an event is read from the link; or the round is over.
+-- The next action of a round: feed the connection; start the reads from an index on; feed that the
+-- device is gone; read an event from the link; or none, since the round is over.
 pub data Next : Type 0 where
   Connect : Next
   StartFrom : (read : ℕ) → Next
@@ -98,19 +100,22 @@ pub data Next : Type 0 where
   Take : Next
   Over : Next
 
--- The remaining reads are started. If none remains and all polls have ended, the device is gone.
+-- The next action after a poll ended: start the remaining reads. If none remains and all polls have
+-- ended, feed that the device is gone; otherwise read from the link.
 abbrev pub next_left : (started ended planned : ℕ) → Next
 next_left started ended planned =
     if nat_lt started planned then StartFrom started
     else if nat_le planned ended then Leave
     else Take
 
--- The same after an event that ended a poll of the round.
+-- The next action after an event: if it ended no poll of the round, read from the link; otherwise
+-- as `next_left`.
 abbrev pub next_after : (endings started ended planned : ℕ) → Next
 next_after endings started ended planned =
     if endings == 0 then Take else next_left started ended planned
 
--- After the connection the reads are started from the first on.
+-- The next action after this event: start the reads after the connection, none after the device is
+-- gone, otherwise `next`.
 abbrev pub next_by : Event → Next → Next
 next_by (event.Connected given) next = StartFrom 0
 next_by (event.Bytes given piece) next = next
@@ -119,14 +124,15 @@ next_by (event.Gone given closing) next = Over
 next_by (event.Command c) next = next
 next_by (event.Asked asked) next = next
 
--- What is next after these events.
+-- The next action of the round after these events.
 abbrev pub next_in : (past : History) → List Answered → Next
 next_in past [] = Connect
 next_in past (one ∷ earlier) = next_by one.event (next_after (endings_of past earlier one)
     (reads_started (one ∷ earlier)) (polls_ended past (one ∷ earlier))
     (reads_planned (one ∷ earlier)))
 
--- An event from the link: bytes, a timer event if nothing came, or the end.
+-- The event can come from a read of the link: bytes of the device, a timer event if the read timed
+-- out, or the end of the connection.
 abbrev pub IsTaken : (device : Option (List ℕ)) → Event → Type 0
 IsTaken device (event.Connected given) = ⊥
 IsTaken device (event.Bytes given piece) = given ≡ device
@@ -135,12 +141,12 @@ IsTaken device (event.Gone given cause) = (given ≡ device) × (cause ≡ closi
 IsTaken device (event.Command c) = ⊥
 IsTaken device (event.Asked asked) = ⊥
 
--- The event that starts the reads of a device from a number on.
+-- The command that starts the reads of a device's plan from index `read` on.
 abbrev pub start_from : (device : Option (List ℕ)) → ℕ → Event
 start_from device read =
     event.Command (command.StartRound (record { device = device; from = read }))
 
--- The event does what is next.
+-- The event `e` is the next action of the round.
 abbrev pub Does : (device : Option (List ℕ)) → Next → Event → Type 0
 Does device Connect e = e ≡ event.Connected device
 Does device (StartFrom read) e = e ≡ start_from device read
@@ -148,7 +154,7 @@ Does device Leave e = e ≡ event.Gone device closing.Gone
 Does device Take e = IsTaken device e
 Does device Over e = ⊥
 
--- Each event was next after the earlier ones, and was accepted.
+-- Each event was the next action after the earlier events, and the office accepted it.
 abbrev pub AreNext : (device : Option (List ℕ)) → (past : History) → List Answered → Type 0
 AreNext device past [] = Unit {0}
 AreNext device past (one ∷ earlier) =

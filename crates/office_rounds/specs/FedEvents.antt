@@ -1,5 +1,5 @@
--- The events that a round fed to an office, with their answers and effects. Lists have the latest
--- event first.
+-- The events that a round fed to an office, with their answers, texts and frames. Lists have the
+-- latest event first.
 use Rattle.std.specs.Prelude.{◌≡◌, ℕ, List, [], ◌∷◌, ◌++◌, Option, Result, Ok, Err}
 use Rattle.socket_link.specs.Clocks.{TellsMoment}
 use Rattle.script_text.specs.AnswerText.{accepted_text}
@@ -14,40 +14,41 @@ use Rattle.office_books.specs.declared.failures.Failures.{Failures}
 use Rattle.office_core.specs.EventRun.{Answered}
 use Rattle.office_core.specs.Taking.{IsAnswer}
 
--- What the office has accepted after these events, if it had accepted `past` earlier.
+-- What the office has accepted after these events, if it had accepted `past` before them.
 abbrev pub history_with : (past : History) → List Answered → History
 history_with past [] = past
 history_with past (one ∷ earlier) =
     with_answer (history_with past earlier) one.at one.event one.result
 
--- Each event has the answer of the definition after the earlier ones, or it failed outside, which
--- is counted.
+-- Each event has the answer that is defined after the earlier events, or it was refused for a
+-- failure. The failure counts change accordingly.
 abbrev pub AreAnswered : (past : History) → (before after : Failures) → List Answered → Type 0
 AreAnswered past before after [] = after ≡ before
 AreAnswered past before after (one ∷ earlier) =
     (between : Failures) × AreAnswered past before between earlier
     × IsAnswer (history_with past earlier) one.at one.event between after one.result
 
--- The printed text of an answer: as in a script for an accepted event, nothing for a refused one.
+-- The text that is printed for an event: notifications and answer as in a script if it is accepted,
+-- nothing if it is refused.
 abbrev pub told_text : History → (at : ℕ) → Event → Result Answer Refusal → List ℕ
 told_text past at e (Ok given) =
     accepted_text given (notes_after past at e (Ok given)) (outgoing_after past at e (Ok given))
 told_text past at e (Err why) = []
 
--- The printed text of these events.
+-- The text that is printed for all of these events, in order.
 abbrev pub text_after : (past : History) → List Answered → List ℕ
 text_after past [] = []
 text_after past (one ∷ earlier) =
     text_after past earlier ++ told_text (history_with past earlier) one.at one.event one.result
 
--- The frames that the office sends.
+-- The bytes of the frames that the office sends for all of these events, in order.
 abbrev pub frames_after : (past : History) → List Answered → List ℕ
 frames_after past [] = []
 frames_after past (one ∷ earlier) =
     frames_after past earlier
     ++ outgoing_after (history_with past earlier) one.at one.event one.result
 
--- The bytes of the device in an event.
+-- The bytes of a device in an event; none for any event but `Bytes`.
 abbrev pub piece_in : Event → List ℕ
 piece_in (event.Connected given) = []
 piece_in (event.Bytes given piece) = piece
@@ -56,12 +57,12 @@ piece_in (event.Gone given closing) = []
 piece_in (event.Command c) = []
 piece_in (event.Asked asked) = []
 
--- The bytes of the device in these events.
+-- The bytes of the device in all of these events, in order.
 abbrev pub pieces_after : List Answered → List ℕ
 pieces_after [] = []
 pieces_after (one ∷ earlier) = pieces_after earlier ++ piece_in one.event
 
--- Each event has the clock's time.
+-- Each event has the time that the clock gave, and the clock advanced from `begun` to `now`.
 abbrev pub AreTimed : (begun now : Option (List ℕ)) → List Answered → Type 0
 AreTimed begun now [] = now ≡ begun
 AreTimed begun now (one ∷ earlier) =

@@ -7,22 +7,22 @@ use Rattle.office_core.specs.declared.office.Office.{Office}
 use Rattle.office_rounds.specs.declared.fault.RoundFault.{RoundFault}
 use Rattle.office_rounds.specs.declared.fault.RoundFault.TheVariants.{Refused, Link, Output, TurnsUsed}
 
--- A wrong result that was taken as true stays noted, and the zone stays.
+-- A store that is clean after the call was clean before it, and its zone stays.
 pub record Lasts {B : Type 0} (ledger : B → Ledger) (old new : Office B) : Type 0 where
   pub clean : (ledger (books_in new)).is_clean → (ledger (books_in old)).is_clean
   pub zone : (ledger (books_in new)).zone ≡ (ledger (books_in old)).zone
 
--- The number of reads of the link, by a count that stays at 2^64 - 1.
+-- The count of reads of the link grew by `takes`; it stays at 2^64 - 1.
 abbrev pub AreTakes : (takes before after : ℕ) → Type 0
 AreTakes takes before after = (count : ℕ) → before ≡ min count (2 ^ 64 - 1)
     → after ≡ min (count + takes) (2 ^ 64 - 1)
 
--- At most `most` reads were made.
+-- The count of reads of the link grew by at most `most`.
 abbrev pub AreAtMost : (most before after : ℕ) → Type 0
 AreAtMost most before after = (takes : ℕ) × (takes ≤ most) × AreTakes takes before after
 
--- The link's failures grow by one if the link failed. Otherwise they grow only if printing failed
--- later.
+-- The count of the link's failures grew by one if the result is that the link failed. If the output
+-- failed, it may have grown by one; otherwise it stays.
 abbrev pub CountsFailures : {X : Type 0} → Result X RoundFault → (before after : ℕ) → Type 0
 CountsFailures (Ok x) before after = after ≡ before
 CountsFailures (Err (Refused why)) before after = after ≡ before

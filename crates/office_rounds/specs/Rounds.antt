@@ -1,4 +1,4 @@
--- What a round leaves: the office, and the bytes that were read, written and printed.
+-- What a round leaves: the state of the office, and the bytes that were read, written and printed.
 use Rattle.std.specs.Prelude.{◌≡◌, ◌⊎◌, ℕ, nat_lt, true, ◌||◌, List, [], ◌∷◌, Option, Some, Result, Ok, Err, if◌then◌else◌}
 use Rattle.std.specs.Io.KnownBytes.{Appends, Consumes}
 use Rattle.socket_link.specs.Clocks.{TellsMoment}
@@ -21,55 +21,58 @@ use Rattle.office_rounds.specs.FedEvents.{AreAnswered, AreTimed, frames_after, h
 use Rattle.office_rounds.specs.declared.fault.RoundFault.{RoundFault}
 use Rattle.office_rounds.specs.declared.fault.RoundFault.TheVariants.{Refused, Link, Output, TurnsUsed}
 
--- What is known of the writer and the clock, and the store's failure counts.
+-- What is known of the printed text and the clock, and the failure counts of the store.
 pub record RoundState : Type 0 where
   pub printed : Option (List ℕ)
   pub moments : Option (List ℕ)
   pub failures : Failures
 
--- The state with these parts.
+-- The `RoundState` with these parts.
 abbrev pub round_state : (printed moments : Option (List ℕ)) → (failures : Failures) → RoundState
 round_state printed moments failures =
     record { printed = printed; moments = moments; failures = failures }
 
--- What is known of the link.
+-- What is known of a link: the bytes that it has still to deliver, and the bytes written to it.
 pub record Wire : Type 0 where
   pub remaining : Option (List ℕ)
   pub given : Option (List ℕ)
 
--- The link with these parts.
+-- The `Wire` with these parts.
 abbrev pub wire : (remaining given : Option (List ℕ)) → Wire
 wire remaining given = record { remaining = remaining; given = given }
 
--- A round between its start and its end.
+-- What is known of writer, clock, store and link at the start and at the end of a round.
 pub record Passage : Type 0 where
   pub begun : RoundState
   pub ended : RoundState
   pub from : Wire
   pub to : Wire
 
--- The passage between these states.
+-- The `Passage` with these parts.
 abbrev pub passage : (begun ended : RoundState) → (from to : Wire) → Passage
 passage begun ended from to = record { begun = begun; ended = ended; from = from; to = to }
 
--- The office is in the state after the fed events, and each has the answer of the definition.
+-- The office is in the state after the fed events. Each has the defined answer, or was refused for
+-- a failure.
 pub record IsFed {B : Type 0} (ledger : B → Ledger) (past : History) (begun now : RoundState)
     (office : Office B)
     (fed : List Answered) : Type 0 where
   pub stands : Stands ledger (history_with past fed) office
   pub answered : AreAnswered past begun.failures now.failures fed
 
--- None of the device's polls is pending.
+-- None of the polls on the device's present session is pending.
 abbrev pub NoneWaits : (device : Option (List ℕ)) → History → Type 0
 NoneWaits device history = (slot : Slot) → slot_of (slots_of history) device ≡ Some slot
     → pending_on slot ≡ []
 
--- The same, unless the office has stopped because the store or memory failed.
+-- None of the device's polls is pending, unless the office has stopped because the store or memory
+-- failed.
 abbrev pub IsSettled : {B : Type 0} → (device : Option (List ℕ)) → History → Office B → Type 0
 IsSettled device history office = (is_stopped office ≡ true) ⊎ NoneWaits device history
 
--- The round ended: everything that was next was fed, and the device is gone. The bytes read are
--- those that were fed, the bytes written are the office's frames, and its reports were printed.
+-- The round ended regularly: each next event was fed, the last one that the device is gone. The
+-- bytes read are those that were fed, the bytes written are the office's frames, and its reports
+-- were printed.
 pub record IsRound {B : Type 0} (ledger : B → Ledger) (device : Option (List ℕ)) (past : History)
     (through : Passage)
     (office : Office B) : Type 0 where
@@ -83,7 +86,8 @@ pub record IsRound {B : Type 0} (ledger : B → Ledger) (device : Option (List �
   pub printed : Appends through.begun.printed through.ended.printed (text_after past fed)
   pub settled : IsSettled device (history_with past fed) office
 
--- The connection was refused: nothing else was fed, read, written or printed.
+-- The office refused the connection: nothing more was fed, and nothing was read, written or
+-- printed.
 pub record IsNotConnected {B : Type 0} (ledger : B → Ledger) (device : Option (List ℕ))
     (past : History) (through : Passage)
     (office : Office B) (why : Refusal) : Type 0 where
@@ -94,7 +98,7 @@ pub record IsNotConnected {B : Type 0} (ledger : B → Ledger) (device : Option 
   pub same : through.to ≡ through.from
   pub printed : Appends through.begun.printed through.ended.printed []
 
--- The latest of these events was next after the others, and was refused.
+-- The latest of these events was the next action after the others, and the office refused it.
 abbrev pub IsRefused : (device : Option (List ℕ)) → (past : History) → Refusal → List Answered
     → Type 0
 IsRefused device past why [] = ⊥
@@ -102,8 +106,8 @@ IsRefused device past why (one ∷ earlier) =
     AreNext device past earlier × Does device (next_in past earlier) one.event
     × (one.result ≡ Err why)
 
--- What was fed until the round was broken off: everything that was next, and the event that the
--- office refused. If memory for a chunk was missing, no event was refused.
+-- What was fed before a round was broken off: each next event and, if the office refused one, that
+-- event. If memory for a chunk was missing, no event was refused.
 abbrev pub BreaksOff : (device : Option (List ℕ)) → (past : History) → RoundFault → List Answered
     → Type 0
 BreaksOff device past (Refused why) fed =
@@ -112,13 +116,13 @@ BreaksOff device past Link fed = AreNext device past fed
 BreaksOff device past Output fed = AreNext device past fed
 BreaksOff device past TurnsUsed fed = AreNext device past fed
 
--- The timestamp at which the device is gone: the clock's time. If that was set back, or is past the
--- last timestamp, it is that of the latest event.
+-- The timestamp at which the device is gone: the clock's time. If the clock was set back or is past
+-- the last timestamp, it is that of the latest event.
 abbrev pub gone_at : (latest moment : ℕ) → ℕ
 gone_at latest moment =
     if nat_lt moment latest || nat_lt moment_limit moment then latest else moment
 
--- The device is gone at this timestamp, after the earlier events.
+-- The event that the device is gone has this timestamp, after these earlier events.
 pub record IsGoneAt (past : History) (begun now : Option (List ℕ)) (earlier : List Answered)
     (at : ℕ) : Type 0 where
   pub between : Option (List ℕ)
@@ -127,13 +131,13 @@ pub record IsGoneAt (past : History) (begun now : Option (List ℕ)) (earlier : 
   pub told : TellsMoment between now moment
   pub is : at ≡ gone_at (latest_of (history_with past earlier)) moment
 
--- The reported fault is the cause, or a later failed write.
+-- The reported fault: the cause for which the round was broken off, or a later failed write of the
+-- output.
 abbrev pub IsToldOf : (cause fault : RoundFault) → Type 0
 IsToldOf cause fault = (fault ≡ cause) ⊎ (fault ≡ Output)
 
--- The round was broken off. All events until then were next, and the last event says that the
--- device is gone, as after a failed read or write. The fault does not depend on the office's answer
--- to this event.
+-- The round was broken off after its next events were fed. Its last event says that the device is
+-- gone, as after a failed read or write. The reported fault does not depend on the answer to it.
 pub record IsBrokenOff {B : Type 0} (ledger : B → Ledger) (device : Option (List ℕ))
     (past : History) (through : Passage)
     (office : Office B) (fault : RoundFault) : Type 0 where
@@ -152,7 +156,7 @@ pub record IsBrokenOff {B : Type 0} (ledger : B → Ledger) (device : Option (Li
       through.begun.printed through.ended.printed
   pub settled : IsSettled device (history_with past (gone ∷ earlier)) office
 
--- The connection was refused with this fault.
+-- The fault is that the office refused the connection.
 abbrev pub IsNotConnectedBy : {B : Type 0} → (B → Ledger) → (device : Option (List ℕ)) → History
     → Passage → Office B
     → RoundFault → Type 0
@@ -162,7 +166,8 @@ IsNotConnectedBy ledger device past through office Link = ⊥
 IsNotConnectedBy ledger device past through office Output = ⊥
 IsNotConnectedBy ledger device past through office TurnsUsed = ⊥
 
--- What a round does.
+-- The result of a round: it ended regularly on `Ok`; on a fault its connection was refused, or it
+-- was broken off.
 abbrev pub Rounds : {B : Type 0} → (B → Ledger) → (device : Option (List ℕ)) → (past : History)
     → Passage → Office B
     → Result (Unit {0}) RoundFault → Type 0

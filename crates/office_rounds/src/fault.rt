@@ -15,7 +15,7 @@ pub enum RoundFault {
     Refused(Refusal),
     /// A read or a write of the link failed, or a write accepted no bytes.
     Link,
-    /// The output of the office could not be printed.
+    /// The office's report could not be printed.
     Output,
     /// The round used all of its 100,000 reads of the link.
     TurnsUsed,

@@ -1,4 +1,4 @@
-//! Feeds events to the office, and prints what it reports of them.
+//! Feeds events to the office, and prints their notifications and answers.
 ghost use Rattle.std.specs.Prelude.{◌≡◌};
 ghost use Rattle.office_core.specs.Standing.{is_stopped};
 ghost use Rattle.office_rounds.specs.Between.{FeedsAndPrints, PrintsTold, TellsFirst, TellsNext};
@@ -17,7 +17,8 @@ use script_text::write_accepted;
 use socket_link::Clock;
 use std::io::Write;
 
-// Prints what the office reports of an event that it has accepted.
+// Prints the notifications, the frames and the answer of an accepted event, as a script prints
+// them.
 fn print<B: Books, W: Write>(
     office: &Office<B>,
     answer: Answer,
@@ -32,7 +33,8 @@ fn print<B: Books, W: Write>(
     }
 }
 
-/// Feeds an event, and prints what the office reports of it if it is accepted.
+/// Feeds an event to the office. If the office accepts the event, prints its notifications, frames
+/// and answer.
 pub(crate) fn feed<B: Books, W: Write>(
     office: &mut Office<B>,
     at: u64,
@@ -51,7 +53,8 @@ pub(crate) fn feed<B: Books, W: Write>(
     }
 }
 
-/// The timestamp of the latest accepted event, after an event that broke the round off.
+/// The timestamp of the latest accepted event: `at` if the event was accepted and only its output
+/// failed, otherwise `latest`.
 pub(crate) fn latest_after(fault: RoundFault, at: u64, latest: u64) -> u64
     ensures { result ≡ stepping.latest_after fault at latest }
 {
@@ -63,7 +66,7 @@ pub(crate) fn latest_after(fault: RoundFault, at: u64, latest: u64) -> u64
     }
 }
 
-/// Feeds the next event of a round, at the clock's time.
+/// Feeds the next event of a round to the office, with the clock's time as its timestamp.
 pub(crate) fn tell<B: Books, C: Clock, W: Write>(
     progress: &mut Progress,
     event: &Event,

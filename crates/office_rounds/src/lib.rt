@@ -1,4 +1,4 @@
-//! Rounds: the complete plan of a device, polled once over a link.
+//! Rounds: each polls the complete plan of a device once over its link.
 #![tactic(auto)]
 
 mod device_rounds;

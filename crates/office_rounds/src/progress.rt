@@ -7,7 +7,7 @@ ghost use Rattle.office_rounds.specs.Stepping.{unfed};
 use crate::device_rounds::{Round, Stage};
 use office_events::{Answer, Event, Name, Note};
 
-/// The round of a device over a link.
+/// The round of a device over a link, with the timestamp of its latest accepted event.
 #[derive(Drop)]
 pub(crate) struct Progress {
     pub(crate) round: Round,
@@ -30,7 +30,7 @@ fn end_by(round: &mut Round, event: &Event)
 }
 
 impl Progress {
-    /// Creates the progress of a new connection; nothing was fed yet.
+    /// Creates the progress of a round that has fed no event yet.
     pub(crate) fn new(device: Option<Name>) -> Progress
         ensures { result ≡ unfed device }
     {
@@ -39,7 +39,7 @@ impl Progress {
         Progress { round, latest: 0 }
     }
 
-    /// Updates the round by an accepted event, and by what the office reported of it.
+    /// Updates the round after an accepted event, with the event's answer and notifications.
     pub(crate) fn note(&mut self, at: u64, event: &Event, answer: Answer, notes: &[Note])
         ensures round { self.new.round ≡ round_after event.now answer notes.now self.old.round }
         ensures latest { self.new.latest ≡ at }

@@ -23,7 +23,7 @@ use std::io::Write;
 /// The largest number of reads of the link in a round.
 pub const MOST_TAKES: u32 = 100_000;
 
-// Feeds the office the connection of the device.
+// Feeds the connection of the device to the office.
 fn connect<B: Books, C: Clock, W: Write>(
     progress: &mut Progress,
     office: &mut Office<B>,
@@ -90,7 +90,8 @@ fn poll_connected<L: Link, B: Books, C: Clock, W: Write>(
     }
 }
 
-// Polls a connected device. If the round is broken off, the office is fed that the device is gone.
+// Polls a connected device until the round is over. If the round is broken off, feeds that the
+// device is gone.
 fn poll_to_end<L: Link, B: Books, C: Clock, W: Write>(
     alloc: Global,
     progress: &mut Progress,
@@ -113,7 +114,8 @@ fn poll_to_end<L: Link, B: Books, C: Clock, W: Write>(
     }
 }
 
-// Feeds that the device is gone, unless the office refused its connection.
+// After a fault of the connection: feeds that the device is gone, unless the office refused the
+// connection.
 fn end_unconnected<B: Books, C: Clock, W: Write>(
     progress: &Progress,
     fault: RoundFault,
@@ -136,19 +138,23 @@ fn end_unconnected<B: Books, C: Clock, W: Write>(
 
 /// Polls the complete plan of a device once, over a new link to the device.
 ///
-/// The round feeds the office the connection, and starts the reads of the plan from the first on.
-/// It feeds the bytes of the link as they arrive, and a timer event for a read that times out.
-/// After each event that ends a poll of the round, it starts the next reads. Once all polls have
-/// ended, or the link has ended, it feeds that the device is gone. Each event has the clock's time.
+/// The round feeds the connection to the office, and starts the reads of the plan from the first
+/// on. It feeds the bytes of the link as they arrive, and a timer event if a read times out. After
+/// each event that ends a poll of the round, it starts the next reads.
+///
+/// Once all polls have ended, or the link has ended, the round feeds that the device is gone. Each
+/// event has the clock's time.
 ///
 /// Accepted events are printed as a script prints them: their notifications, and `ok` or what was
 /// started. Refusals are not printed.
 ///
 /// `None` is a name that no device can have. After a fault the round feeds that the device is gone,
-/// as after a failed read or write, and prints that too, unless printing failed. If the office
-/// refused the connection, nothing else is fed. If the clock was set back, or is past the last
-/// timestamp, the device is gone at the timestamp of the latest event. At the end none of the
-/// device's polls is pending, unless the store or memory failed and the office has stopped.
+/// as after a failed read or write. It prints that event too, unless printing failed. If the office
+/// refused the connection, nothing else is fed.
+///
+/// If the clock was set back, or is past the last timestamp, the device is gone at the timestamp of
+/// the latest event. At the end none of the device's polls is pending, unless the office has
+/// stopped because the store or memory failed.
 pub fn round_over<L: Link, B: Books, C: Clock, W: Write>(
     alloc: Global,
     link: &mut L,

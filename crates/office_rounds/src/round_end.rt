@@ -1,4 +1,4 @@
-//! Ends a round that was broken off.
+//! Ends a round that was broken off, with the event that its device is gone.
 ghost use Rattle.std.specs.Prelude.{◌≡◌};
 ghost use Rattle.office_rounds.specs.Between.{ClosesBroken, EndsAndPrints, EndsSilently};
 ghost use Rattle.office_rounds.specs.Passing.{Lasts};
@@ -16,8 +16,8 @@ use poll_core::{Closing, LAST_MOMENT};
 use socket_link::Clock;
 use std::io::Write;
 
-// The timestamp at which a device is gone: the clock's time. If that was set back, or is past the
-// last timestamp, it is that of the latest event.
+// The timestamp at which a device is gone: the clock's time `moment`. If the clock was set back or
+// is past the last timestamp, it is `latest`, that of the latest event.
 fn gone_at(latest: u64, moment: u64) -> u64
     ensures { result ≡ rounds.gone_at latest moment }
 {
@@ -28,7 +28,8 @@ fn gone_at(latest: u64, moment: u64) -> u64
     }
 }
 
-// The fault to report: a failed write now, or else the cause.
+// The fault to report: `Output` if the last event's write failed, otherwise the cause for which the
+// round was broken off.
 fn fault_after(cause: RoundFault, fault: RoundFault) -> RoundFault
     ensures { result ≡ stepping.fault_after cause fault }
 {
@@ -40,7 +41,7 @@ fn fault_after(cause: RoundFault, fault: RoundFault) -> RoundFault
     }
 }
 
-// Whether writing the output failed.
+// Whether the fault is that a write of the output failed.
 fn is_output(fault: RoundFault) -> bool
     ensures { result ≡ stepping.is_output fault }
 {
@@ -52,7 +53,7 @@ fn is_output(fault: RoundFault) -> bool
     }
 }
 
-// Feeds the end, and prints what the office reports of it.
+// Feeds that the device is gone, and prints the office's report of the event.
 fn end_printed<B: Books, W: Write>(
     at: u64,
     gone: &Event,
@@ -71,7 +72,7 @@ fn end_printed<B: Books, W: Write>(
     }
 }
 
-// Feeds the end, and prints nothing.
+// Feeds that the device is gone, and prints nothing.
 fn end_unprinted<B: Books>(at: u64, gone: &Event, office: &mut Office<B>)
     ensures ends { EndsSilently B.Books at gone.now office.old office.new }
     ensures lasts { Lasts B.ledger office.old office.new }
@@ -79,11 +80,10 @@ fn end_unprinted<B: Books>(at: u64, gone: &Event, office: &mut Office<B>)
     let _answer = office.feed(at, gone);
 }
 
-/// Feeds that the device is gone, as after a failed read or write, and prints what the office
-/// reports.
+/// Feeds that the device is gone, as after a failed read or write, and prints the office's report.
 ///
-/// Nothing is printed if writing the output was what failed. Returns the fault, or `Output` if
-/// writing failed now.
+/// Nothing is printed if the round was broken off because a write of the output failed. Returns the
+/// fault, or `Output` if a write failed now.
 pub(crate) fn close<B: Books, C: Clock, W: Write>(
     progress: &Progress,
     cause: RoundFault,

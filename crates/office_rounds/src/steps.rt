@@ -20,7 +20,7 @@ use socket_link::Clock;
 use std::alloc::Global;
 use std::io::Write;
 
-// Writes frames to the link.
+// Writes the office's frames to the link.
 fn send<L: Link>(link: &mut L, frames: &[u8]) -> Result<(), RoundFault>
     ensures given { AreGiven result frames.now (L.given link.old) (L.given link.new) }
     ensures kind { OnlyLink result }
@@ -60,7 +60,7 @@ pub(crate) fn take_event<L: Link>(
     }
 }
 
-// Feeds the next event of a round, and writes the frames that the office sends.
+// Feeds the next event of a round, and writes the frames that the office sends to the link.
 fn put<L: Link, B: Books, C: Clock, W: Write>(
     event: &Event,
     progress: &mut Progress,
@@ -82,7 +82,7 @@ fn put<L: Link, B: Books, C: Clock, W: Write>(
     }
 }
 
-/// Feeds the event that the round requests, if any.
+/// Feeds the event that the round requests, if it requests one.
 pub(crate) fn go_on<L: Link, B: Books, C: Clock, W: Write>(
     progress: &mut Progress,
     link: &mut L,
@@ -103,7 +103,8 @@ pub(crate) fn go_on<L: Link, B: Books, C: Clock, W: Write>(
     }
 }
 
-// After an event from the link: feeds what the round requests, and returns whether it is over.
+// After an event from the link: feeds the event that the round requests, if any. Returns whether
+// the round is over.
 fn follow<L: Link, B: Books, C: Clock, W: Write>(
     progress: &mut Progress,
     link: &mut L,
@@ -124,7 +125,8 @@ fn follow<L: Link, B: Books, C: Clock, W: Write>(
     }
 }
 
-// Feeds an event from the link, and then what the round requests.
+// Feeds an event from the link, and then the event that the round requests, if any. Returns whether
+// the round is over.
 fn feed_taken<L: Link, B: Books, C: Clock, W: Write>(
     event: &Event,
     progress: &mut Progress,
@@ -146,7 +148,8 @@ fn feed_taken<L: Link, B: Books, C: Clock, W: Write>(
     }
 }
 
-/// Takes a turn of a round: feeds an event from the link, and then what the round requests.
+/// Makes a turn of a round: feeds an event from the link, and then the event that the round
+/// requests, if any.
 ///
 /// Returns whether the round is over.
 pub(crate) fn turn<L: Link, B: Books, C: Clock, W: Write>(

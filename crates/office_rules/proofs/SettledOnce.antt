@@ -55,7 +55,7 @@ outcomes_at_most law n timeout before e =
       among_at_most n before e (pending timeout before),
     )
 
--- The same on the session of a device.
+-- A poll number is settled on the session of a device at most as often as it is pending there.
 single_at_most : SettlesPending → (n : ℕ) (b : Bool) (device : Device) (before : List Event) (h : Event)
     → times n (settled_numbers (settled_in device before (if b then h ∷ [] else []))) ≤ times n (numbers (pending device.timeout before))
 single_at_most law n false device before h = omega (arith, times-nil n)
@@ -80,7 +80,7 @@ on_slot : SettlesPending → (n number at : ℕ) (e : OfficeEvent) (device : Dev
 on_slot law n number at e device ended None = omega (arith, times-nil n)
 on_slot law n number at e device ended (Some before) = on_session law n number at e device before
 
--- The same over all sessions.
+-- A poll number is settled over all sessions at most as often as it is pending on them.
 pub settled_at_most : SettlesPending → (n number at : ℕ) (e : OfficeEvent) (slots : List Slot)
     → times n (settled_numbers (flat_map (settled_by number at e) slots)) ≤ times n (flat_map pending_on slots)
 settled_at_most law n number at e [] = omega (arith, times-nil n)

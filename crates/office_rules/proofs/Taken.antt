@@ -80,7 +80,7 @@ command_of_asked past at asked h =
     (λ why refused. both_false (is_mistimed (latest_of past) at why) (asks_wrongly (slots_of past) (facts_of past) at asked.command why) (is_bad_request asked why) refused)
     reasons h
 
--- Its idempotency key is valid.
+-- An event that is not refused has a valid idempotency key, if it has one.
 pub good_request : (past : History) (at : ℕ) (asked : Asked) → refusal_of past at (event.Asked asked) ≡ None → is_bad_request asked refusal.Limit ≡ false
 good_request past at asked h =
     let all = not_refused past at (event.Asked asked) h in

@@ -1,5 +1,4 @@
--- The records of the store, the latest first, and the lookups in them. Each lookup filters the
--- records.
+-- The records of the store, the latest first, and lookups that filter them.
 use Rattle.std.specs.Prelude.{ℕ, ◌==◌, max, Bool, false, ◌&&◌, List, [], ◌∷◌, reverse, length, Option, Some, None}
 use Rattle.std.specs.Option.{option_and_then}
 use Rattle.std.specs.List.{find, filter, filter_map}
@@ -38,12 +37,12 @@ request_limit = MAX_REQUEST
 abbrev pub same : List ℕ → List ℕ → Bool
 same a b = bytes_eq a b
 
--- A given name is this one. An invalid name (`None`) equals no name.
+-- Whether a given name is this name. An invalid given name (`None`) equals no name.
 abbrev pub is_named : Option (List ℕ) → List ℕ → Bool
 is_named None name = false
 is_named (Some given) name = same given name
 
--- A record as each kind, if it is of that kind.
+-- The content of a record if it is of the kind in the function's name; otherwise `None`.
 abbrev pub as_device : Fact → Option Device
 as_device (fact.Device device) = Some device
 as_device _ = None
@@ -84,7 +83,7 @@ abbrev pub as_ended : Fact → Option EndedPoll
 as_ended (fact.Outcome ended) = Some ended
 as_ended _ = None
 
--- The records of each kind, the latest first. They correspond to the tables.
+-- The contents of all records of one kind, the latest first. Each list corresponds to a table.
 abbrev pub devices_in : List Fact → List Device
 devices_in facts = filter_map as_device facts
 
@@ -115,7 +114,7 @@ polls_in facts = filter_map as_poll facts
 abbrev pub ended_in : List Fact → List EndedPoll
 ended_in facts = filter_map as_ended facts
 
--- The device, the register and the installation with a name.
+-- The device, the accounting register or the opening with a name; `None` if no record has it.
 abbrev pub device_of : List Fact → List ℕ → Option Device
 device_of facts name = find (λ device. same device.name name) (devices_in facts)
 
@@ -125,40 +124,41 @@ register_of facts name = find (λ register. same register.name name) (registers_
 abbrev pub opening_of : List Fact → List ℕ → Option Opening
 opening_of facts meter = find (λ opening. same opening.meter meter) (openings_in facts)
 
--- The registers of a device, in the order in which they were added.
+-- The accounting registers of the device with this name, in the order in which they were added.
 abbrev pub registers_of : List Fact → List ℕ → List Register
 registers_of facts device =
     reverse (filter (λ register. same register.device device) (registers_in facts))
 
--- The latest installation at a register.
+-- The opening of the latest meter at the accounting register with this name; `None` if none was
+-- installed.
 abbrev pub installed_at : List Fact → List ℕ → Option Opening
 installed_at facts register = find (λ opening. same opening.register register) (openings_in facts)
 
--- A list, unless it has no points.
+-- The list; `None` if it has no points.
 abbrev pub if_some : List ListedPoint → Planned → Option Planned
 if_some [] list = None
 if_some (point ∷ points) list = Some list
 
--- The latest list of a device. A list without points counts as none.
+-- The latest point list of the device with this name. A list without points counts as no list.
 abbrev pub list_of : List Fact → List ℕ → Option Planned
 list_of facts device =
     option_and_then (λ put. if_some put.list.points put.list)
     (find (λ put. same put.device device) (lists_in facts))
 
--- The answer that is kept for a caller and a number.
+-- The stored response of a request, by its idempotency key: caller and number.
 abbrev pub reply_of : List Fact → (caller : List ℕ) → (number : ℕ) → Option Reply
 reply_of facts caller number =
     find (λ reply. same reply.caller caller && (reply.number == number)) (replies_in facts)
 
--- The poll with a number.
+-- The poll with this number; `None` if it was not started.
 abbrev pub poll_of : List Fact → ℕ → Option Poll
 poll_of facts number = find (λ poll. poll.number == number) (polls_in facts)
 
--- All recorded ends of a poll.
+-- All recorded outcomes of the poll with this number.
 abbrev pub ends_of : List Fact → ℕ → List EndedPoll
 ends_of facts number = filter (λ ended. ended.poll == number) (ended_in facts)
 
--- The latest recorded end of a poll.
+-- The latest recorded outcome of the poll with this number, if there is one.
 abbrev pub end_of : List Fact → ℕ → Option EndedPoll
 end_of facts number = find (λ ended. ended.poll == number) (ended_in facts)
 
@@ -167,7 +167,7 @@ abbrev pub pending_in : List Fact → List Poll
 pending_in facts =
     filter (λ poll. length (ends_of facts poll.number) == 0) (reverse (polls_in facts))
 
--- The timestamp of a record. Devices, lists and registers have none, so it is 0.
+-- The timestamp of a record; 0 for devices, point lists and accounting registers, which have none.
 abbrev pub moment_in : Fact → ℕ
 moment_in (fact.Device device) = 0
 moment_in (fact.List list) = 0
@@ -180,7 +180,7 @@ moment_in (fact.Poll poll) = poll.at
 moment_in (fact.Outcome ended) = ended.at
 moment_in (fact.Reply reply) = reply.at
 
--- The greatest timestamp of the records.
+-- The greatest timestamp of all records; 0 without records.
 abbrev pub latest_in : List Fact → ℕ
 latest_in [] = 0
 latest_in (f ∷ facts) = max (moment_in f) (latest_in facts)

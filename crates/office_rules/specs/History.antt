@@ -1,4 +1,4 @@
--- The accepted events, and the records that they leave.
+-- The openings and events that an office accepted, and the records that they leave.
 use Rattle.std.specs.Prelude.{ℕ, ◌+◌, ◌==◌, List, [], ◌∷◌, ◌++◌, map, drop, reverse, Option, Some, None, length, if◌then◌else◌}
 use Rattle.std.specs.Option.{option_map, option_and_then, option_to_list}
 use Rattle.poll_core.specs.Settling as session
@@ -47,17 +47,18 @@ pub data Accepted : Type 0 where
 abbrev pub History : Type 0
 History = List Accepted
 
--- The timestamp of the latest opening or event.
+-- The timestamp of the latest accepted opening or event; 0 if there is none.
 abbrev pub latest_of : History → ℕ
 latest_of [] = 0
 latest_of (Opened at ∷ past) = at
 latest_of (Fed at e ∷ past) = at
 
--- The number of the next poll.
+-- The number that the next poll will have: one more than the number of polls so far.
 abbrev pub next_poll : List Fact → ℕ
 next_poll facts = length (polls_in facts) + 1
 
--- The outcome of a poll, without the words of its response.
+-- The recorded outcome of a poll: the kind of its settlement, without the register values of a
+-- response.
 abbrev pub outcome_of : session.Settlement → Outcome
 outcome_of (session.Answered words) = outcome.Answered
 outcome_of (session.Exception code) = outcome.Exception code
@@ -65,25 +66,25 @@ outcome_of session.Silent = outcome.Silent
 outcome_of (session.Malformed malformation) = outcome.Malformed malformation
 outcome_of (session.Lost cause) = outcome.Lost cause
 
--- The records after the words of a poll's response, if it was answered. Any other outcome changes
--- no meter.
+-- The records with the readings of a poll's response added, if the poll was answered. Any other
+-- settlement adds nothing.
 abbrev pub with_words : ℕ → (number : ℕ) → session.Settlement → List Fact → List Fact
 with_words at number (session.Answered words) facts =
     with_reply at (poll_of facts number) words facts
 with_words at number _ facts = facts
 
--- The records after a poll ended: its outcome, and then the readings of its response.
+-- The records with the outcome of a poll added, and then the readings of its response.
 abbrev pub with_outcome : ℕ → (ℕ × session.Settlement) → List Fact → List Fact
 with_outcome at settled facts =
     with_words at settled.0 settled.1
     (fact.Outcome (record { poll = settled.0; at = at; outcome = outcome_of settled.1 }) ∷ facts)
 
--- The records after several polls ended, one after another.
+-- The records with the outcomes of several polls added, each with its readings, in order.
 abbrev pub with_outcomes : ℕ → List (ℕ × session.Settlement) → List Fact → List Fact
 with_outcomes at [] facts = facts
 with_outcomes at (settled ∷ later) facts = with_outcomes at later (with_outcome at settled facts)
 
--- The outcomes that these events settle on a session, in order.
+-- The polls that these events settle on a session, in order, after the events `before`.
 abbrev pub settled_in : Device → List session.Event → List session.Event
     → List (ℕ × session.Settlement)
 settled_in device before [] = []
@@ -91,34 +92,35 @@ settled_in device before (happening ∷ later) =
     session.outcomes_at device.timeout before happening
     ++ settled_in device (before ++ happening ∷ []) later
 
--- The outcomes that an event settles on the session of a device, if it has one.
+-- The polls that an event of the office settles on the session of a device; none without a session.
 abbrev pub settled_on : (number at : ℕ) → Event → Device → Option (List session.Event)
     → List (ℕ × session.Settlement)
 settled_on number at e device None = []
 settled_on number at e device (Some before) =
     settled_in device before (reaches number at [] e device before)
 
--- The outcomes that an event settles on the session of a slot.
+-- The polls that an event of the office settles on the session of a slot's device.
 abbrev pub settled_by : (number at : ℕ) → Event → Slot → List (ℕ × session.Settlement)
 settled_by number at e slot = settled_on number at e slot.device slot.present
 
--- The records after an event settled polls, device by device, in the order in which the devices
--- were added.
+-- The records with the polls added that an event settles, device by device, in the order in which
+-- the devices were added.
 abbrev pub with_settled : (number at : ℕ) → Event → List Slot → List Fact → List Fact
 with_settled number at e [] facts = facts
 with_settled number at e (slot ∷ slots) facts =
     with_settled number at e slots (with_outcomes at (settled_by number at e slot) facts)
 
--- The read function of a command's number. An accepted command has 3 or 4.
+-- The read function of the function code in a command. An accepted command has code 3 or 4.
 abbrev pub function_by : ℕ → ReadFunction
 function_by function = if function == 3 then HoldingRegisters else InputRegisters
 
--- The scale's source in the record of a command.
+-- Where an accounting register's scale is, as the command gives it: a fixed scale, or a Modbus
+-- address.
 abbrev pub scale_by : GivenScale → ScaleSource
 scale_by (given.Fixed sf) = source.Fixed sf
 scale_by (given.Register address) = source.Register address
 
--- The record of a new register.
+-- The record of a new accounting register, with its name and the name of its device.
 abbrev pub register_by : AddRegister → (name device : List ℕ) → Fact
 register_by c name device =
     fact.Register
@@ -130,7 +132,7 @@ register_by c name device =
       scale = scale_by c.scale;
     })
 
--- The record of a new meter.
+-- The opening record of a new meter at the accounting register, at timestamp `at`.
 abbrev pub opening_by : ℕ → Install → (register meter : List ℕ) → Fact
 opening_by at c register meter =
     fact.Opening (record {
@@ -143,7 +145,7 @@ opening_by at c register meter =
       sf = c.sf;
     })
 
--- The installation that an exchange requests.
+-- The installation that an exchange requests after the closing of the old meter.
 abbrev pub installed_by : Exchange → Install
 installed_by c =
     record {
@@ -160,13 +162,14 @@ abbrev pub read_at : (at : ℕ) → Option ℕ → ℕ
 read_at at None = at
 read_at at (Some earlier) = earlier
 
--- The register, the kind and the entry of a command that makes an entry.
+-- The entry that a command makes: at which accounting register, of which kind, and its numbers.
 pub record Made : Type 0 where
   pub register : Option (List ℕ)
   pub kind : EntryKind
   pub entry : Entry
 
--- The entry that a command makes for a meter in this state, if it makes one.
+-- The entry that a command makes for a meter whose counter has this state; `None` if the command
+-- makes none.
 abbrev pub made_by : (at : ℕ) → Last → Command → Option Made
 made_by at last (command.Exchange c) =
     Some (record {
@@ -200,7 +203,8 @@ made_by at last (command.Close c) =
     })
 made_by at last _ = None
 
--- The register of a command that makes an entry.
+-- The accounting register at which a command makes an entry; `None` if it makes none, or the name
+-- is invalid.
 abbrev pub corrected_at : Command → Option (List ℕ)
 corrected_at (command.Exchange c) = c.register
 corrected_at (command.Reset c) = c.register
@@ -209,58 +213,59 @@ corrected_at (command.Manual c) = c.register
 corrected_at (command.Close c) = c.register
 corrected_at _ = None
 
--- The record of a command's entry for an installation.
+-- The record of the entry that a command makes for this installation; `None` if it makes none.
 abbrev pub made_on : (at : ℕ) → Command → Installation → Option Fact
 made_on at c row = option_map
     (λ made. fact.Entry
     (record { meter = row.opening.meter; kind = made.kind; entry = made.entry }))
     (made_by at row.last c)
 
--- The entry that a command makes for the open meter at its register.
+-- The record of the entry that a command makes for the open meter at its register; empty if it
+-- makes none or no meter is open.
 abbrev pub entries_by : (at : ℕ) → List Fact → Command → List Fact
 entries_by at facts c =
     option_to_list
     (option_and_then (made_on at c) (option_and_then (open_at facts) (corrected_at c)))
 
--- The opening that a command makes, if its names are valid.
+-- The opening record that an installation makes; empty if one of its names is invalid.
 abbrev pub openings_by : (at : ℕ) → Install → List Fact
 openings_by at c =
     option_to_list
     (option_and_then (λ register. option_map (λ meter. opening_by at c register meter) c.meter)
     c.register)
 
--- The reads of a list's plan.
+-- The reads in the plan of a point list, in order.
 abbrev pub reads_of : Planned → List ReadSpan
 reads_of list = map (λ read. read.span) list.reads
 
--- The reads of a round, from index `from`.
+-- The reads of a round from index `from` of the plan on; none without a point list.
 abbrev pub round_spans : (from : ℕ) → Option Planned → List ReadSpan
 round_spans from None = []
 round_spans from (Some list) = drop from (reads_of list)
 
--- The reads that a command requests.
+-- The reads that a command requests; none for a command that starts no polls.
 abbrev pub spans_by : List Fact → Command → List ReadSpan
 spans_by facts (command.StartPoll c) = c.span ∷ []
 spans_by facts (command.StartRound c) =
     round_spans c.from (option_and_then (list_of facts) c.device)
 spans_by facts _ = []
 
--- The reads that an event's command requests, if it has one.
+-- The reads that the command of an event requests; none if the event has no command.
 abbrev pub spans_in : List Fact → Option Command → List ReadSpan
 spans_in facts None = []
 spans_in facts (Some c) = spans_by facts c
 
--- The reads that are sent on the session of a slot.
+-- The reads that can be started on the session of a slot, from the first; none without a slot.
 abbrev pub sends_from : (number at : ℕ) → List ReadSpan → Option Slot → List Send
 sends_from number at spans None = []
 sends_from number at spans (Some slot) = sends_at number at slot.device slot.present spans
 
--- The reads that a command sends.
+-- The reads that a command starts on the session of its device.
 abbrev pub sends_by : (number at : ℕ) → List Slot → List Fact → Command → List Send
 sends_by number at slots facts c =
     sends_from number at (spans_by facts c) (slot_of slots (started_on c))
 
--- The record of a poll, for a read that is sent.
+-- The poll record of a read that is started on a device at timestamp `at`.
 abbrev pub poll_by : (at : ℕ) → Device → Send → Fact
 poll_by at device send =
     fact.Poll (record {
@@ -272,13 +277,14 @@ poll_by at device send =
       span = send.span;
     })
 
--- The records of the polls that are started on a slot.
+-- The poll records of the reads that can be started on a slot; none without a slot.
 abbrev pub polls_from : (number at : ℕ) → List ReadSpan → Option Slot → List Fact
 polls_from number at spans None = []
 polls_from number at spans (Some slot) =
     map (poll_by at slot.device) (sends_at number at slot.device slot.present spans)
 
--- The records that a command adds, in order. An accepted command has valid names.
+-- The records that a command adds, in order; none for an invalid name, which no accepted command
+-- has.
 abbrev pub added_by : (number at : ℕ) → List Slot → List Fact → Command → List Fact
 added_by number at slots facts (command.AddDevice c) =
     option_to_list (option_map fact.Device (device_by c))
@@ -304,7 +310,7 @@ added_by number at slots facts (command.StartRound c) =
     polls_from number at (round_spans c.from (option_and_then (list_of facts) c.device))
     (slot_of slots c.device)
 
--- The kind of a command, which is kept with its answer.
+-- The kind of a command, which is stored with the response to its request.
 abbrev pub kind_of : Command → CommandKind
 kind_of (command.AddDevice c) = done.Device
 kind_of (command.PutList c) = done.List
@@ -319,7 +325,7 @@ kind_of (command.Void c) = done.Void
 kind_of (command.StartPoll c) = done.Start
 kind_of (command.StartRound c) = done.Start
 
--- The record of a command's answer, if the caller's name is valid.
+-- The record of the response to a request; empty if the caller's name is invalid.
 abbrev pub reply_by : (at : ℕ) → Asked → List Fact
 reply_by at asked = option_to_list (option_map
     (λ caller. fact.Reply
@@ -332,7 +338,8 @@ reply_by at asked = option_to_list (option_map
     }))
     asked.caller)
 
--- The records after an event. `slots` is the state of the devices before it.
+-- The records after an event. `slots` is the state of the devices before the event, and `number`
+-- the number of the next poll.
 abbrev pub facts_after : (number at : ℕ) → Event → List Slot → List Fact → List Fact
 facts_after number at (event.Connected given) slots facts = facts
 facts_after number at (event.Bytes given piece) slots facts =
@@ -345,23 +352,24 @@ facts_after number at (event.Command c) slots facts =
 facts_after number at (event.Asked asked) slots facts =
     reverse (added_by number at slots facts asked.command ++ reply_by at asked) ++ facts
 
--- The outcome of a pending poll at an opening of the office: the poll is lost.
+-- The outcome record of a poll that was pending when the office was opened: the poll is lost.
 abbrev pub lost : ℕ → Poll → Fact
 lost at poll = fact.Outcome (record { poll = poll.number; at = at; outcome = outcome.Lost Restart })
 
--- The records after an opening: each pending poll is lost.
+-- The records after an opening of the office: each pending poll has the outcome lost.
 abbrev pub with_lost : ℕ → List Fact → List Fact
 with_lost at facts = reverse (map (lost at) (pending_in facts)) ++ facts
 
 abbrev mutual
-  -- The records that accepted events leave, the latest first.
+  -- The records that these accepted openings and events leave, the latest first.
   pub facts_of : History → List Fact
   facts_of [] = []
   facts_of (Opened at ∷ past) = with_lost at (facts_of past)
   facts_of (Fed at e ∷ past) =
       facts_after (next_poll (facts_of past)) at e (slots_of past) (facts_of past)
 
-  -- The devices after accepted events, with the events of their sessions.
+  -- The slots of the devices after these accepted openings and events, with the events of their
+  -- sessions.
   pub slots_of : History → List Slot
   slots_of [] = []
   slots_of (Opened at ∷ past) = map slot_restarted (slots_of past)

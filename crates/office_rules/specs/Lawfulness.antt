@@ -1,4 +1,4 @@
--- Theorems on the records of an office, for all accepted events.
+-- Theorems on the records that any accepted events leave.
 use Rattle.std.specs.Prelude.{◌≡◌, ◌≢◌, false, List, [], ◌∷◌, Option, Some, All}
 use Rattle.std.specs.List.{AllPairs}
 use Rattle.energy_core.specs.TrueRun.{Item}
@@ -19,30 +19,31 @@ use Rattle.office_rules.specs.Lawful.{AreLawful}
 use Rattle.office_rules.specs.Endings.{EachEndsOnce}
 use Rattle.office_rules.specs.Laws.{IsRecorded, IsKept, IsUntraced}
 
--- The list of a command has the reads of its plan. The type `PlannedList` guarantees this.
+-- If the command stores a point list, the list has the reads of its plan. The type `PlannedList`
+-- guarantees this.
 abbrev pub PutsPlanned : Option Command → Type 0
 PutsPlanned (Some (command.PutList c)) = IsPlanned c.list
 PutsPlanned _ = Unit {0}
 
--- All lists of accepted commands have the reads of their plans.
+-- All point lists of accepted commands have the reads of their plans.
 abbrev pub ListsArePlanned : History → Type 0
 ListsArePlanned [] = Unit {0}
 ListsArePlanned (Opened at ∷ past) = ListsArePlanned past
 ListsArePlanned (Fed at e ∷ past) = PutsPlanned (command_in e) × ListsArePlanned past
 
--- A possible past of an office: each event was accepted after those before it, and each list has
--- its plan.
+-- A possible past of an office: each opening and event was accepted after those before it, and each
+-- point list has the reads of its plan.
 pub record IsPast (history : History) : Type 0 where
   pub accepted : AreAccepted history
   pub planned : ListsArePlanned history
 
--- For all accepted events, each record may follow those before it.
+-- The records that accepted events leave are lawful.
 abbrev pub FactsAreLawful : Type 0
 FactsAreLawful = (history : History) → AreAccepted history → ListsArePlanned history
     → AreLawful (facts_of history)
 
 -- No two devices, registers or meters have the same name, so each is found by its name. The open
--- meter at a register is the latest there, so no two are open.
+-- meter at an accounting register is the latest there, so at most one is open.
 pub record AreDistinct (facts : List Fact) : Type 0 where
   pub devices : AllPairs (λ (a b : Device). a.name ≢ b.name) (devices_in facts)
   pub registers : AllPairs (λ (a b : Register). a.name ≢ b.name) (registers_in facts)
@@ -57,7 +58,7 @@ pub record AreDistinct (facts : List Fact) : Type 0 where
   pub latest : (opening : Opening) → IsRecorded facts opening → is_ended facts opening ≡ false
       → installed_at facts opening.register ≡ Some opening
 
--- The names in lawful records are distinct.
+-- The names of devices, accounting registers and meters in lawful records are distinct.
 abbrev pub NamesAreDistinct : Type 0
 NamesAreDistinct = (facts : List Fact) → AreLawful facts → AreDistinct facts
 
@@ -77,6 +78,6 @@ pub record AreTrue (history : History) : Type 0 where
       → ShowsTrueRun (installed opening) (journal_of (facts_of history) opening.meter) first items
       → IsKeptTruly (installed opening) (journal_of (facts_of history) opening.meter) first items
 
--- The records of each possible past have these properties.
+-- The records of each possible past are true in the sense of `AreTrue`.
 abbrev pub BooksAreTrue : Type 0
 BooksAreTrue = (history : History) → AreAccepted history → ListsArePlanned history → AreTrue history

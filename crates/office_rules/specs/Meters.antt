@@ -1,4 +1,5 @@
--- The meters: their journals, their accounts, and the installations at each register.
+-- The meters in the records: their journals, their accounts, and the installations at each
+-- accounting register.
 use Rattle.std.specs.Prelude.{ℕ, Bool, List, Option, Some, None, if◌then◌else◌}
 use Rattle.std.specs.List.{filter_map}
 use Rattle.std.specs.Option.{option_map, option_and_then}
@@ -17,11 +18,12 @@ use Rattle.office_events.specs.declared.questions.Installation.{Installation}
 use Rattle.office_events.specs.declared.questions.EntryPlace.{EntryPlace}
 use Rattle.office_rules.specs.Facts.{same, opening_of, installed_at}
 
--- A rejected reading, as a line of a journal.
+-- A rejected reading as a line of its meter's journal, with the cause of the rejection.
 abbrev pub held_line : HeldReading → journal.Line
 held_line held = journal.Held (record { at = held.at; raw = held.raw; sf = held.sf }) held.cause
 
--- The line of a record in the journal of a meter, if it has one there.
+-- The line of a record in this meter's journal; `None` for records of other meters and for records
+-- that have no line.
 abbrev pub line_of : (meter : List ℕ) → Fact → Option journal.Line
 line_of meter (fact.Entry booked) =
     if same booked.meter meter then Some (journal.Entered booked.kind booked.entry) else None
@@ -31,7 +33,7 @@ line_of meter (fact.Void voided) =
     if same voided.meter meter then Some (journal.Voided voided.place) else None
 line_of meter _ = None
 
--- The journal of a meter, the latest line first.
+-- The journal of the meter with this name, the latest line first.
 abbrev pub journal_of : List Fact → (meter : List ℕ) → journal.Journal
 journal_of facts meter = filter_map (line_of meter) facts
 
@@ -39,28 +41,28 @@ journal_of facts meter = filter_map (line_of meter) facts
 abbrev pub opened : Opening → Last
 opened opening = record { at = opening.at; raw = opening.raw; sf = opening.sf }
 
--- The meter as it was installed.
+-- The meter as it was installed: its range, its ceiling, and its counter at the opening.
 abbrev pub installed : Opening → Installed
 installed opening =
     record { range = opening.range; ceiling = opening.ceiling; opening = opened opening }
 
--- The rows of a meter's entries after its opening.
+-- The rows of a meter's entries after its opening, voided entries included.
 abbrev pub rows_of : List Fact → Opening → List EntryRow
 rows_of facts opening = journal.rows_of (opened opening) (journal_of facts opening.meter)
 
--- The valid entries of a meter.
+-- The valid entries of a meter, without its opening and its voided entries.
 abbrev pub entries_of : List Fact → Opening → List Entry
 entries_of facts opening = journal.entries_of (opened opening) (journal_of facts opening.meter)
 
--- The meter was closed.
+-- Whether the meter was closed.
 abbrev pub is_ended : List Fact → Opening → Bool
 is_ended facts opening = journal.is_ended (journal_of facts opening.meter)
 
--- The steps between the valid entries, the latest first.
+-- The steps between a meter's consecutive valid entries, the latest first.
 abbrev pub steps_in : List Fact → Opening → List Step
 steps_in facts opening = books.steps_in (installed opening) (journal_of facts opening.meter)
 
--- An installation with these entries.
+-- The state of a meter with this opening after these valid entries.
 abbrev pub standing : Opening → List Entry → (ended : Bool) → Installation
 standing opening es ended = record {
   opening = opening;
@@ -69,28 +71,28 @@ standing opening es ended = record {
   ended = ended;
 }
 
--- An installation: its opening, the state of its counter, its total energy, and whether it was
--- closed.
+-- The state of a meter: its opening, its counter, its total energy, and whether it was closed.
 abbrev pub installation_of : List Fact → Opening → Installation
 installation_of facts opening = standing opening (entries_of facts opening) (is_ended facts opening)
 
--- The installation of a meter.
+-- The state of the meter with this name; `None` if no meter has it.
 abbrev pub meter_of : List Fact → List ℕ → Option Installation
 meter_of facts meter = option_map (installation_of facts) (opening_of facts meter)
 
--- The latest installation at a register.
+-- The state of the latest meter at the accounting register with this name, open or closed; `None`
+-- if none was installed.
 abbrev pub installation_at : List Fact → List ℕ → Option Installation
 installation_at facts register = option_map (installation_of facts) (installed_at facts register)
 
--- The installation, if it is open.
+-- The installation if it is open; otherwise `None`.
 abbrev pub if_open : Installation → Option Installation
 if_open row = if row.ended then None else Some row
 
--- The open installation at a register, if any.
+-- The open installation at the accounting register with this name; `None` if there is none.
 abbrev pub open_at : List Fact → List ℕ → Option Installation
 open_at facts register = option_and_then if_open (installation_at facts register)
 
--- An entry with the meter's state before it, and with the next valid entry.
+-- An entry in its context: the meter's state before it, its row, and the next valid entry.
 abbrev pub place_in : List Fact → Opening → journal.Around → EntryPlace
 place_in facts opening around = record {
   before = standing opening (journal.entries_in around.before) (is_ended facts opening);
@@ -98,7 +100,7 @@ place_in facts opening around = record {
   next = around.next;
 }
 
--- The entry of a meter with a sequence number, from 2.
+-- The entry of a meter with this sequence number, which is at least 2; `None` if there is none.
 abbrev pub entry_at : List Fact → (meter : List ℕ) → (place : ℕ) → Option EntryPlace
 entry_at facts meter place =
     option_and_then

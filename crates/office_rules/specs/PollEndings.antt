@@ -1,4 +1,4 @@
--- The ends of the office's polls, by their sessions' events or by an opening.
+-- How the polls of an office end: by events of their sessions, or by an opening of the office.
 use Rattle.std.specs.Prelude.{◌≡◌, ℕ, ◌+◌, ◌==◌, Bool, true, false, List, [], ◌∷◌, ◌++◌, map, length, Option, Some, None}
 use Rattle.std.specs.Option.{option_and_then, option_to_list}
 use Rattle.std.specs.List.{find, flat_map}
@@ -13,59 +13,61 @@ use Rattle.office_rules.specs.Facts.{polls_in, ends_of, pending_in}
 use Rattle.office_rules.specs.Sessions.{Slot, EndedSession}
 use Rattle.office_rules.specs.History.{History, facts_of, slots_of, outcome_of}
 
--- The outcome of a poll: the settlement by its session's events. Without a settlement the poll is
--- lost if the office was reopened.
+-- The outcome of a poll: the settlement that its session's events give. Without a settlement the
+-- poll is lost if the office was opened again, and otherwise pending (`None`).
 abbrev pub end_by : (restarted : Bool) → Option session.Settlement → Option Outcome
 end_by restarted (Some settlement) = Some (outcome_of settlement)
 end_by true None = Some (Lost Restart)
 end_by false None = None
 
--- The polls that were started on a session, with their outcomes.
+-- The polls that were started on a session, each with its outcome or `None` if it is pending.
 abbrev pub polls_on : Device → (restarted : Bool) → List session.Event → List (ℕ × Option Outcome)
 polls_on device restarted events =
     map (λ result. (result.0.number, end_by restarted result.1))
     (session.results device.timeout [] events)
 
--- The polls of the present session, with their outcomes.
+-- The polls of a device's present session, each with its outcome or `None`; none without a session.
 abbrev pub polls_on_present : Device → Option (List session.Event) → List (ℕ × Option Outcome)
 polls_on_present device None = []
 polls_on_present device (Some events) = polls_on device false events
 
--- The polls of ended sessions, with their outcomes.
+-- The polls of a device's ended sessions, each with its outcome, which is `None` only without a
+-- settlement or a reopening.
 abbrev pub polls_on_ended : Device → List EndedSession → List (ℕ × Option Outcome)
 polls_on_ended device sessions =
     flat_map (λ ended. polls_on device ended.restarted ended.events) sessions
 
--- The polls of a device, with their outcomes.
+-- All polls of a device, each with its outcome or `None` if it is pending.
 abbrev pub polls_of_slot : Slot → List (ℕ × Option Outcome)
 polls_of_slot slot =
     polls_on_present slot.device slot.present ++ polls_on_ended slot.device slot.ended
 
--- The polls of all devices, with their outcomes.
+-- All polls of all devices, each with its outcome or `None` if it is pending.
 abbrev pub polls_of_slots : List Slot → List (ℕ × Option Outcome)
 polls_of_slots slots = flat_map polls_of_slot slots
 
--- The outcome of a poll, by the session on which it was started.
+-- The outcome of the poll with this number by its session's events; `None` if it is pending or
+-- unknown.
 abbrev pub outcome_in : List Slot → ℕ → Option Outcome
 outcome_in slots number =
     option_and_then (λ poll. poll.1) (find (λ poll. poll.0 == number) (polls_of_slots slots))
 
--- The pending polls of the present session of a device.
+-- The numbers of the pending polls in a device's present session; none without a session.
 abbrev pub waiting : Device → Option (List session.Event) → List ℕ
 waiting device None = []
 waiting device (Some events) = map (λ poll. poll.number) (session.pending device.timeout events)
 
--- The pending polls of a slot.
+-- The numbers of the pending polls in the present session of a slot's device.
 abbrev pub pending_on : Slot → List ℕ
 pending_on slot = waiting slot.device slot.present
 
--- The polls are numbered from 1, the latest first.
+-- The polls are numbered consecutively from 1; the list has the latest poll first.
 abbrev pub AreNumbered : List Poll → Type 0
 AreNumbered [] = Unit {0}
 AreNumbered (poll ∷ polls) = (poll.number ≡ length polls + 1) × AreNumbered polls
 
--- Each started poll has the outcome that its session gives, recorded exactly once. Otherwise it has
--- none, and is pending in the present session of its device.
+-- Each started poll has the outcome that follows from its session's events, recorded exactly once.
+-- Or it has no outcome, and is pending in the present session of its device.
 pub record PollsEndOnce (history : History) : Type 0 where
   pub numbered : AreNumbered (polls_in (facts_of history))
   pub started : IsPermutation (map (λ poll. poll.number) (polls_in (facts_of history)))

@@ -1,12 +1,13 @@
--- The rule for polls and outcomes: which of them may follow the records before it.
+-- The rule for polls, outcomes and rejected readings: which of them may be added to the records
+-- before it.
 use Rattle.std.specs.Prelude.{◌≡◌, true, List, [], ◌∷◌, is_some}
 use Rattle.office_events.specs.declared.facts.Fact.{Fact}
 use Rattle.office_events.specs.declared.facts.Fact.TheVariants as fact
 use Rattle.office_rules.specs.Facts.{poll_of}
 use Rattle.office_rules.specs.Lawful.{PollFits, EndFits}
 
--- A poll has the next number, and its device exists. An outcome belongs to a started poll without
--- an outcome. A rejected reading belongs to a started poll.
+-- The rule holds for all records: poll numbers are consecutive, the devices of polls exist, only
+-- pending polls end, and rejected readings belong to started polls.
 abbrev pub PollsFit : List Fact → Type 0
 PollsFit [] = Unit {0}
 PollsFit (fact.Poll poll ∷ facts) = PollFits facts poll × PollsFit facts

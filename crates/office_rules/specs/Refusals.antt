@@ -1,4 +1,5 @@
--- The refusals of events: the condition of each refusal, and the order of the checks.
+-- The refusals of events: when each reason applies, and the order in which the office checks the
+-- reasons.
 use Rattle.std.specs.Prelude.{◌≡◌, ℕ, ℤ, pos, negsuc, ◌+◌, ◌-◌, ◌==◌, nat_lt, nat_le, int_lt, Bool, true, false, not, ◌||◌, ◌&&◌, min, max, List, [], ◌∷◌, ◌++◌, map, Option, Some, None, is_none, is_some, length, Result, Ok, Err, if◌then◌else◌}
 use Rattle.std.specs.Option.{option_map, option_and_then}
 use Rattle.std.specs.List.{find}
@@ -48,26 +49,28 @@ use Rattle.office_rules.specs.History.{History, Opened, Fed, facts_of, slots_of,
 abbrev pub device_limit : ℕ
 device_limit = MAX_DEVICES
 
--- The maximum number of registers of a device.
+-- The maximum number of accounting registers of a device.
 abbrev pub register_limit : ℕ
 register_limit = MAX_REGISTERS
 
--- The maximum number of installations.
+-- The maximum number of installations, closed ones included.
 abbrev pub installation_limit : ℕ
 installation_limit = MAX_INSTALLATIONS
 
--- No meter was ever installed at the register.
+-- No meter was ever installed at the accounting register with the name, or no register has the
+-- name.
 abbrev pub has_no_meter : List Fact → Option (List ℕ) → Bool
 has_no_meter facts register = is_none (option_and_then (installation_at facts) register)
 
--- The sequence number belongs to an entry of the meter: 1 to the opening, 2 and above to its
--- entries.
+-- Whether the meter has something at the sequence number: its opening at 1, its entries from 2 on.
+-- False without a meter.
 abbrev pub has_place : List Fact → (place : ℕ) → Option Opening → Bool
 has_place facts place None = false
 has_place facts place (Some opening) =
     nat_le 1 place && nat_le place (length (rows_of facts opening) + 1)
 
--- NotFound: the command names a device, list, register, meter or entry that does not exist.
+-- NotFound: the command names a device, point list, accounting register, meter or entry that does
+-- not exist.
 abbrev pub asks_unknown : List Slot → List Fact → Command → Bool
 asks_unknown slots facts (command.AddDevice c) = false
 asks_unknown slots facts (command.PutList c) = is_none (slot_of slots c.device)
@@ -85,8 +88,8 @@ asks_unknown slots facts (command.StartPoll c) = is_none (slot_of slots c.device
 asks_unknown slots facts (command.StartRound c) =
     is_none (slot_of slots c.device) || is_none (option_and_then (list_of facts) c.device)
 
--- Exists: a device, a register or a meter has the new name already, or a meter is open at the
--- register.
+-- Exists: another device, register or meter already has the name that the command gives, or a meter
+-- is open at the register.
 abbrev pub asks_taken : List Slot → List Fact → Command → Bool
 asks_taken slots facts (command.AddDevice c) = is_some (slot_of slots c.name)
 asks_taken slots facts (command.AddRegister c) =
@@ -106,7 +109,7 @@ abbrev pub is_bad_scale : GivenScale → Bool
 is_bad_scale (given.Fixed sf) = is_off_scale sf
 is_bad_scale (given.Register address) = false
 
--- BadScale: a scale of the command is not from -3 to 3.
+-- BadScale: the scale in the command is not from -3 to 3.
 abbrev pub asks_bad_scale : Command → Bool
 asks_bad_scale (command.AddRegister c) = is_bad_scale c.scale
 asks_bad_scale (command.Install c) = is_off_scale c.sf
@@ -114,74 +117,77 @@ asks_bad_scale (command.Exchange c) = is_off_scale c.sf
 asks_bad_scale (command.Rescale c) = is_off_scale c.sf
 asks_bad_scale _ = false
 
--- NegativeStep, NotLater, SpanTooLong, TotalFull: the entry of the command has this fault at the
--- open meter. The numbers are as the caller gave them.
+-- NegativeStep, NotLater, SpanTooLong, TotalFull: the command's entry has this fault after the
+-- meter's last entry. False if the command makes no entry.
 abbrev pub has_fault : TermFault → Installation → Option Made → Bool
 has_fault why row None = false
 has_fault why row (Some made) = entering.refuses row.opening.range row.total row.last made.entry why
 
--- The command's entry has this fault at an installation, if there is one.
+-- Whether the command's entry has this fault at the installation; false if there is no
+-- installation.
 abbrev pub makes_fault : (at : ℕ) → TermFault → Command → Option Installation → Bool
 makes_fault at why c None = false
 makes_fault at why c (Some row) = has_fault why row (made_by at row.last c)
 
--- The command's entry has this fault at the open meter of its register.
+-- Whether the command's entry has this fault at the open meter of the command's accounting
+-- register.
 abbrev pub asks_faulty : List Fact → (at : ℕ) → TermFault → Command → Bool
 asks_faulty facts at why c = makes_fault at why c (option_and_then (open_at facts) (corrected_at c))
 
--- Ended: the latest meter at the register was closed.
+-- Ended: the latest meter at the register was closed; false if no meter was installed there.
 abbrev pub is_closed : Option Installation → Bool
 is_closed None = false
 is_closed (Some row) = row.ended
 
--- Ended: the latest meter at the command's register was closed.
+-- Ended: the latest meter at the accounting register in the command was closed.
 abbrev pub asks_ended : List Fact → Command → Bool
 asks_ended facts c = is_closed (option_and_then (installation_at facts) (corrected_at c))
 
--- Busy: the device is connected already or not connected, or its session can start no poll. A
--- session can't if its window is full, the next transaction identifier is pending, or its stream is
--- garbled.
+-- The opposite of Busy for a start: the device is connected, and its session can start a poll. A
+-- session can start none if its window is full, the next transaction identifier is pending, or its
+-- stream is garbled.
 abbrev pub is_ready : Option Slot → Bool
 is_ready None = false
 is_ready (Some slot) = is_startable slot.device slot.present
 
--- The session of the device can start a poll.
+-- Whether the device with the name is connected and its session can start a poll.
 abbrev pub can_start : List Slot → Option (List ℕ) → Bool
 can_start slots device = is_ready (slot_of slots device)
 
--- Busy: the command starts polls, and the session of its device can start none.
+-- Busy: the command starts polls, and its device is not connected or its session can start none.
 abbrev pub asks_busy : List Slot → Command → Bool
 asks_busy slots (command.StartPoll c) = not (can_start slots c.device)
 asks_busy slots (command.StartRound c) = not (can_start slots c.device)
 asks_busy slots _ = false
 
--- Limit: a name is invalid, or a number is out of range.
+-- Limit: the number is below `low` or above `high`.
 abbrev pub is_outside : (low high n : ℕ) → Bool
 is_outside low high n = nat_lt n low || nat_lt high n
 
--- The number of registers from the first to the last of a counter and its scale.
+-- The number of Modbus registers that one read needs to span a counter and its scale; 2 with a
+-- fixed scale.
 abbrev pub registers_spanned : (address : ℕ) → GivenScale → ℕ
 registers_spanned address (given.Fixed sf) = 2
 registers_spanned address (given.Register scale) = max (address + 2) (scale + 1) - min address scale
 
--- The address of the scale is past the last one.
+-- Limit: the Modbus address of the scale is past the last one.
 abbrev pub is_bad_address : GivenScale → Bool
 is_bad_address (given.Fixed sf) = false
 is_bad_address (given.Register address) = nat_lt LAST_ADDRESS address
 
--- An invalid meter: its name, its range or its ceiling is invalid, or its count is not below its
--- range.
+-- Limit: the meter's name is invalid, its range or ceiling is out of range, or its count is not
+-- below its range.
 abbrev pub is_bad_meter : (meter : Option (List ℕ)) → (range raw ceiling : ℕ) → Bool
 is_bad_meter meter range raw ceiling =
     is_none meter || is_outside MIN_RANGE MAX_RANGE range || nat_le range raw
     || is_outside 1 MAX_CEILING ceiling
 
--- The given time of a reading is later than the command.
+-- Limit: the stated time of a reading is later than the command.
 abbrev pub is_later : (at : ℕ) → Option ℕ → Bool
 is_later at None = false
 is_later at (Some given) = nat_lt at given
 
--- Limit: a field of the command is out of range.
+-- Limit: a name of the command is invalid or one of its numbers is out of range.
 abbrev pub asks_bad_field : (at : ℕ) → Command → Bool
 asks_bad_field at (command.AddDevice c) =
     is_none c.name || nat_lt LAST_UNIT c.unit || is_outside 1 MAX_TIMEOUT c.timeout
@@ -196,14 +202,14 @@ asks_bad_field at (command.Manual c) = nat_lt MAX_ROLLS c.rolls || is_later at c
 asks_bad_field at (command.Close c) = nat_lt MAX_ROLLS c.rolls
 asks_bad_field at _ = false
 
--- Limit: the maximum number of registers of the device is reached.
+-- Limit: the device already has the maximum number of accounting registers.
 abbrev pub is_full_of_registers : List Fact → Option (List ℕ) → Bool
 is_full_of_registers facts None = false
 is_full_of_registers facts (Some device) =
     nat_le register_limit (length (registers_of facts device))
 
--- Limit: the maximum number of devices, registers or installations is reached, or the plan has no
--- read at the index.
+-- Limit: the maximum number of devices, accounting registers or installations is reached, or a
+-- round starts at an index past the plan's end.
 abbrev pub is_crowded : List Slot → List Fact → Command → Bool
 is_crowded slots facts (command.AddDevice c) = nat_le device_limit (length slots)
 is_crowded slots facts (command.AddRegister c) = is_full_of_registers facts c.device
@@ -212,67 +218,70 @@ is_crowded slots facts (command.Exchange c) = nat_le installation_limit (length 
 is_crowded slots facts (command.StartRound c) = length (spans_by facts (command.StartRound c)) == 0
 is_crowded slots facts _ = false
 
--- Limit, for any of these reasons, or because the count of the entry is not below the range of the
--- open meter.
+-- Limit: a field is out of range or a maximum is reached. Or the count of the command's entry is
+-- not below the range of the open meter.
 abbrev pub asks_beyond : List Slot → List Fact → (at : ℕ) → Command → Bool
 asks_beyond slots facts at c =
     asks_bad_field at c || is_crowded slots facts c || asks_faulty facts at fault.NotBelowRange c
 
--- The command starts polls.
+-- Whether the command starts polls.
 abbrev pub is_start : Command → Bool
 is_start (command.StartPoll c) = true
 is_start (command.StartRound c) = true
 is_start _ = false
 
--- The number of polls that a command starts.
+-- The number of polls that the command starts; 0 for a command that starts none.
 abbrev pub sent_count : List Slot → List Fact → (at : ℕ) → Command → ℕ
 sent_count slots facts at c = length (sends_by (next_poll facts) at slots facts c)
 
--- Store: the number of the last poll that a command starts would exceed the greatest poll number.
+-- Store: the number of the last poll that the command starts would exceed the greatest poll number.
 abbrev pub asks_past_numbers : List Slot → List Fact → (at : ℕ) → Command → Bool
 asks_past_numbers slots facts at c =
     is_start c && nat_lt poll_limit (length (polls_in facts) + sent_count slots facts at c)
 
--- NotVoidable: the entry is void already or no reading from the device, or the next valid entry is
--- no reading from the device.
+-- NotVoidable: the entry does not exist, is void already, or is no reading from the device; or the
+-- next valid entry is no reading from the device.
 abbrev pub is_not_voidable : Option EntryPlace → Bool
 is_not_voidable None = true
 is_not_voidable (Some place) = not (is_voidable place.row place.next)
 
--- The entry that a command voids.
+-- The entry that the command voids; `None` if it voids none or the entry does not exist.
 abbrev pub voided_place : List Fact → Command → Option EntryPlace
 voided_place facts (command.Void c) =
     option_and_then (λ meter. entry_at facts meter c.place) c.meter
 voided_place facts _ = None
 
--- NotVoidable: the entry that the command voids may not be voided.
+-- NotVoidable: the command would void an entry that may not be voided.
 abbrev pub asks_unvoidable : List Fact → Command → Bool
 asks_unvoidable facts (command.Void c) = is_not_voidable (voided_place facts (command.Void c))
 asks_unvoidable facts _ = false
 
--- NotPlausible: without the voided entry, the verdict rejects the next entry.
+-- The verdict on a later entry, judged directly after the state `before`. An entry that sets the
+-- counter has no verdict.
 abbrev pub verdict_between : Installation → Entry → Option Verdict
 verdict_between before (entry.Step at raw rolls) =
     Some (judgement before (reading_at before.last at raw))
 verdict_between before (entry.Change at set_before after sf) = None
 
--- The verdict on the next entry after the entries before the voided one.
+-- The verdict on the entry after a voided one, judged without the voided entry; `None` if no valid
+-- entry follows.
 abbrev pub verdict_at : Option EntryPlace → Option Verdict
 verdict_at place =
     option_and_then
     (λ p. option_and_then (λ (next : EntryRow). verdict_between p.before next.entry) p.next) place
 
--- Two causes are equal if their numbers are.
+-- Whether two causes of rejection are equal, by their numbers.
 abbrev pub same_cause : Cause → Cause → Bool
 same_cause a b = cause_number a == cause_number b
 
--- The verdict rejects a reading for this cause.
+-- Whether the verdict rejects a reading for this cause; false without a verdict.
 abbrev pub is_held_for : Cause → Option Verdict → Bool
 is_held_for why None = false
 is_held_for why (Some (verdict.Accepted rolls step)) = false
 is_held_for why (Some (verdict.Held held)) = same_cause why held
 
--- The event is refused for this reason by its command, after these records.
+-- Whether this reason to refuse applies to the command, given the devices and the records before
+-- it.
 abbrev pub asks_wrongly : List Slot → List Fact → (at : ℕ) → Command → Refusal → Bool
 asks_wrongly slots facts at c refusal.NotFound = asks_unknown slots facts c
 asks_wrongly slots facts at c refusal.Exists = asks_taken slots facts c
@@ -290,8 +299,8 @@ asks_wrongly slots facts at c (refusal.NotPlausible why) =
     is_held_for why (verdict_at (voided_place facts c))
 asks_wrongly slots facts at c _ = false
 
--- The device event is refused for this reason: the device is unknown, connected already, or not
--- connected.
+-- Whether this reason to refuse applies to a device event: its device is unknown (`NotFound`), or
+-- is connected already or not connected (`Busy`).
 abbrev pub comes_wrongly : List Slot → Event → Refusal → Bool
 comes_wrongly slots (event.Connected d) refusal.NotFound = is_none (slot_of slots d)
 comes_wrongly slots (event.Connected d) refusal.Busy = is_some (present_of slots d)
@@ -301,37 +310,38 @@ comes_wrongly slots (event.Gone d closing) refusal.NotFound = is_none (slot_of s
 comes_wrongly slots (event.Gone d closing) refusal.Busy = is_none (present_of slots d)
 comes_wrongly slots _ _ = false
 
--- The caller's name is invalid, or the number of the request is too great.
+-- Limit: the caller's name of a request is invalid, or its number is past the limit.
 abbrev pub is_bad_request : Asked → Refusal → Bool
 is_bad_request asked refusal.Limit = is_none asked.caller || nat_lt request_limit asked.number
 is_bad_request asked _ = false
 
--- The event is refused for this reason by its content.
+-- Whether this reason to refuse applies to the event by its content, whatever its timestamp.
 abbrev pub is_wrong : List Slot → List Fact → (at : ℕ) → Event → Refusal → Bool
 is_wrong slots facts at (event.Command c) why = asks_wrongly slots facts at c why
 is_wrong slots facts at (event.Asked asked) why =
     asks_wrongly slots facts at asked.command why || is_bad_request asked why
 is_wrong slots facts at e why = comes_wrongly slots e why
 
--- The timestamp is before the latest accepted event, or exceeds the greatest timestamp.
+-- ClockBack: the timestamp is before the latest accepted event. Limit: it exceeds the greatest
+-- timestamp.
 abbrev pub is_mistimed : (latest at : ℕ) → Refusal → Bool
 is_mistimed latest at refusal.ClockBack = nat_lt at latest
 is_mistimed latest at refusal.Limit = nat_lt moment_limit at
 is_mistimed latest at _ = false
 
--- The event is refused for this reason, after these accepted events.
+-- Whether this reason to refuse applies to the event, after these accepted openings and events.
 abbrev pub refuses : History → (at : ℕ) → Event → Refusal → Bool
 refuses past at e why =
     is_mistimed (latest_of past) at why || is_wrong (slots_of past) (facts_of past) at e why
 
--- The causes of rejected readings, by number.
+-- All causes for which a reading may be rejected, in the order of their numbers.
 abbrev pub all_causes : List Cause
 all_causes = cause.NotAccumulated ∷ cause.ScaleChanged ∷ cause.NotLater ∷ cause.SpanTooLong
     ∷ cause.GapTooLong ∷ cause.TooFast
     ∷ cause.TotalFull ∷ cause.NotBelowRange ∷ []
 
--- The reasons of refusals, in the order of the checks. The check that the store has poll numbers
--- left comes last.
+-- All reasons to refuse an event, in the order in which the office checks them. The last one is
+-- that no poll numbers are left.
 abbrev pub reasons : List Refusal
 reasons = refusal.NotFound ∷ refusal.Exists ∷ refusal.ClockBack ∷ refusal.BadScale
     ∷ refusal.NegativeStep ∷ refusal.NotLater
@@ -339,85 +349,89 @@ reasons = refusal.NotFound ∷ refusal.Exists ∷ refusal.ClockBack ∷ refusal.
     ∷ refusal.NotVoidable
     ∷ map refusal.NotPlausible all_causes ++ refusal.Store store.Refused ∷ []
 
--- The answer to a retry, by what is kept of the request. The same request gets the kept answer, and
--- another one is refused.
+-- The answer to a request with a stored key: the kind of the stored command if the bytes of both
+-- requests are equal, otherwise `Reused`.
 abbrev pub by_reply : Asked → Reply → Result CommandKind Refusal
 by_reply asked reply =
     if bytes_eq reply.request asked.request then Ok reply.kind else Err refusal.Reused
 
--- The answer to an event whose caller and number have a kept answer.
+-- The answer to a request whose key is stored; `None` for any other event, which is then no retry.
 abbrev pub kept_of : List Fact → Event → Option (Result CommandKind Refusal)
 kept_of facts (event.Asked asked) =
     option_map (by_reply asked)
     (option_and_then (λ caller. reply_of facts caller asked.number) asked.caller)
 kept_of facts _ = None
 
--- The refusal of an event after these accepted events, if any. Retries are not considered.
+-- The first reason to refuse an event after these accepted events; `None` if none applies. Retries
+-- are not considered here.
 abbrev pub refusal_of : History → (at : ℕ) → Event → Option Refusal
 refusal_of past at e = find (refuses past at e) reasons
 
--- The refusal of an opening over a store with these records, if any. The timestamp is before that
--- of a record, or exceeds the greatest timestamp.
+-- The reason to refuse an opening over a store with these records: its timestamp is before that of
+-- a record, or exceeds the greatest timestamp.
 abbrev pub opening_refusal_of : List Fact → (at : ℕ) → Option Refusal
 opening_refusal_of facts at =
     if nat_lt at (latest_in facts) then Some refusal.ClockBack
     else if nat_lt moment_limit at then Some refusal.Limit
     else None
 
--- The event is no retry, and no refusal applies.
+-- The event is accepted after this past: it is no retry, and no reason to refuse it applies.
 pub record IsAccepted (past : History) (at : ℕ) (e : Event) : Type 0 where
   pub new : kept_of (facts_of past) e ≡ None
   pub right : refusal_of past at e ≡ None
 
--- Each of these events was accepted after those before it.
+-- Each of these openings and events was accepted after those before it.
 abbrev pub AreAccepted : History → Type 0
 AreAccepted [] = Unit {0}
 AreAccepted (Opened at ∷ past) = (opening_refusal_of (facts_of past) at ≡ None) × AreAccepted past
 AreAccepted (Fed at e ∷ past) = IsAccepted past at e × AreAccepted past
 
--- The number of reads of a command: of a round all reads of the plan, else 1.
+-- The number of reads that a command requests in all: those of the complete plan for a round,
+-- otherwise 1.
 abbrev pub reads_in_all : List Fact → Command → ℕ
 reads_in_all facts (command.StartRound c) =
     length (round_spans 0 (option_and_then (list_of facts) c.device))
 reads_in_all facts _ = 1
 
--- The answer to an accepted command. A start reports its first poll, the number of polls, and the
--- number of reads.
+-- The answer to an accepted command: its kind. A start instead reports its first poll, how many
+-- polls it started, and how many reads were requested.
 abbrev pub answer_to : List Slot → List Fact → (at : ℕ) → Command → Answer
 answer_to slots facts at c =
     if is_start c
     then answer.Started (next_poll facts) (sent_count slots facts at c) (reads_in_all facts c)
     else answer.Done (kind_of c)
 
--- The answer to an accepted event.
+-- The answer to an accepted event: that of its command, or `Noted` if it requests none.
 abbrev pub answer_of : List Slot → List Fact → (at : ℕ) → Event → Answer
 answer_of slots facts at (event.Command c) = answer_to slots facts at c
 answer_of slots facts at (event.Asked asked) = answer_to slots facts at asked.command
 answer_of slots facts at _ = answer.Noted
 
--- The answer to a retry.
+-- The answer to a retry: the stored kind, marked as given again, or a refusal.
 abbrev pub by_kept : Result CommandKind Refusal → Result Answer Refusal
 by_kept (Ok k) = Ok (answer.Again k)
 by_kept (Err why) = Err why
 
--- The answer, unless the event is refused.
+-- The given answer, or the refusal if there is one.
 abbrev pub unless_refused : Answer → Option Refusal → Result Answer Refusal
 unless_refused given None = Ok given
 unless_refused given (Some why) = Err why
 
--- The answer, unless a kept answer exists.
+-- The given answer, or the answer to a retry if one is stored.
 abbrev pub unless_kept : Result Answer Refusal → Option (Result CommandKind Refusal)
     → Result Answer Refusal
 unless_kept given None = given
 unless_kept given (Some kept) = by_kept kept
 
--- The answer to an event after these accepted events, if the store and memory do not fail.
+-- The office's answer to an event after these accepted events, if neither the store nor memory
+-- fails.
 abbrev pub decision_of : History → (at : ℕ) → Event → Result Answer Refusal
 decision_of past at e =
     unless_kept (unless_refused (answer_of (slots_of past) (facts_of past) at e)
     (refusal_of past at e)) (kept_of (facts_of past) e)
 
--- The accepted events after an answer. A refused event and a retry change nothing.
+-- The accepted openings and events after an event with this answer. A refused event and a retry add
+-- nothing.
 abbrev pub with_answer : History → (at : ℕ) → Event → Result Answer Refusal → History
 with_answer past at e (Ok (answer.Again k)) = past
 with_answer past at e (Ok given) = Fed at e ∷ past

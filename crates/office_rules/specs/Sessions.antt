@@ -1,4 +1,4 @@
--- The devices of the office in the order in which they were added, with all events of their
+-- The devices of the office in the order in which they were added, each with all events of its
 -- sessions.
 use Rattle.std.specs.Prelude.{ℕ, ◌+◌, Bool, true, false, List, [], ◌∷◌, ◌++◌, map, Option, Some, None, if◌then◌else◌}
 use Rattle.std.specs.Option.{option_map, option_and_then, is_none}
@@ -16,55 +16,59 @@ use Rattle.office_events.specs.declared.events.Event.{Event}
 use Rattle.office_events.specs.declared.events.Event.TheVariants as event
 use Rattle.office_rules.specs.Facts.{is_named}
 
--- A session that ended: by its last event, or because the office was reopened.
+-- A session that ended. `restarted`: it ended because the office was opened again, and not by its
+-- last event.
 pub record EndedSession : Type 0 where
   pub events : List session.Event
   pub restarted : Bool
 
--- A device: its ended sessions, the latest first, and its present session while it is connected. A
+-- A device with its ended sessions, the latest first, and its present session if it is connected. A
 -- session is the list of its events, in order.
 pub record Slot : Type 0 where
   pub device : Device
   pub ended : List EndedSession
   pub present : Option (List session.Event)
 
--- The slot of the device with this name.
+-- The slot of the device with this name; `None` if no device has the name.
 abbrev pub slot_of : List Slot → Option (List ℕ) → Option Slot
 slot_of slots given = find (λ slot. is_named given slot.device.name) slots
 
--- The present session of the device with this name.
+-- The present session of the device with this name; `None` if no device has the name, or it is not
+-- connected.
 abbrev pub present_of : List Slot → Option (List ℕ) → Option (List session.Event)
 present_of slots given = option_and_then (λ slot. slot.present) (slot_of slots given)
 
--- The command of an event, if any.
+-- The command that an event requests; `None` for an event of a device and a timer event.
 abbrev pub command_in : Event → Option Command
 command_in (event.Command c) = Some c
 command_in (event.Asked asked) = Some asked.command
 command_in _ = None
 
--- The device on which a command starts polls, if it starts any.
+-- The device on which a command starts polls; `None` if it starts none, or the name is invalid.
 abbrev pub started_on : Command → Option (List ℕ)
 started_on (command.StartPoll c) = c.device
 started_on (command.StartRound c) = c.device
 started_on _ = None
 
--- The device is connected, and its session would accept a start now.
+-- Whether the device is connected and its session can start a poll now.
 abbrev pub is_startable : Device → Option (List session.Event) → Bool
 is_startable device None = false
 is_startable device (Some events) =
     is_none (start_fault device.timeout device.window events (last_moment events))
 
--- A read that is sent: the number of its poll, its transaction identifier, and its registers.
+-- A read that is sent: the number of its poll, its transaction identifier, and the Modbus registers
+-- to read.
 pub record Send : Type 0 where
   pub number : ℕ
   pub id : ℕ
   pub span : ReadSpan
 
--- The session event of a read that is sent.
+-- The session event that starts a read at timestamp `at`.
 abbrev pub start_by : (at : ℕ) → Device → Send → session.Event
 start_by at device send = session.Start at send.number device.unit (span_view send.span)
 
--- The reads that are sent on a session, one after another, until the session would refuse the next.
+-- The reads that can be started on a session, from the first of `spans` until the session refuses
+-- one.
 abbrev pub sends_on : (number at : ℕ) → Device → List session.Event → List ReadSpan → List Send
 sends_on number at device before [] = []
 sends_on number at device before (span ∷ spans) =
@@ -73,13 +77,15 @@ sends_on number at device before (span ∷ spans) =
     then send ∷ sends_on (number + 1) at device (before ++ start_by at device send ∷ []) spans
     else []
 
--- The reads that are sent on the present session of a device, if it has one.
+-- The reads that can be started on the present session of a device; none if the device is not
+-- connected.
 abbrev pub sends_at : (number at : ℕ) → Device → Option (List session.Event) → List ReadSpan
     → List Send
 sends_at number at device None spans = []
 sends_at number at device (Some before) spans = sends_on number at device before spans
 
--- The starts of a command on the session of a device.
+-- The session events with which a command starts its reads on a device; none if the command starts
+-- polls on no or another device.
 abbrev pub starts_by : (number at : ℕ) → List ReadSpan → Option Command → Device
     → List session.Event → List session.Event
 starts_by number at spans None device before = []
@@ -87,9 +93,10 @@ starts_by number at spans (Some c) device before =
     if is_named (started_on c) device.name
     then map (start_by at device) (sends_on number at device before spans) else []
 
--- The events that an event of the office causes on the session of a device. A tick reaches each
--- session. Bytes and the end of a connection reach the session of their device, and starts that of
--- the polled device.
+-- The session events that an event of the office causes at a device. A timer event concerns each
+-- session. Bytes and the end of a connection concern the session of their device, and a start that
+-- of the polled device.
+--
 -- `number` is the number of the next poll, and `spans` are the reads that the event requests.
 abbrev pub reaches : (number at : ℕ) → List ReadSpan → Event → Device → List session.Event
     → List session.Event
@@ -104,17 +111,17 @@ reaches number at spans (event.Command c) device before =
 reaches number at spans (event.Asked asked) device before =
     starts_by number at spans (Some asked.command) device before
 
--- The event connects this device.
+-- Whether the event is a new connection of this device.
 abbrev pub connects : Event → Device → Bool
 connects (event.Connected given) device = is_named given device.name
 connects _ device = false
 
--- The session ends with this event.
+-- Whether the session event ends the session.
 abbrev pub is_close : session.Event → Bool
 is_close (session.Close moment closing) = true
 is_close _ = false
 
--- The slot after these events of its session.
+-- The slot after these further events of its present session. A close ends the session.
 abbrev pub with_happenings : Slot → List session.Event → List session.Event → Slot
 with_happenings slot before [] =
     record { device = slot.device; ended = slot.ended; present = Some before }
@@ -127,48 +134,50 @@ with_happenings slot before (happening ∷ later) =
     }
     else with_happenings slot (before ++ happening ∷ []) later
 
--- The slot after an event of the office, if the device has a session.
+-- The slot after an event of the office that is no connection; unchanged without a present session.
 abbrev pub slot_reached : (number at : ℕ) → List ReadSpan → Event → Slot
     → Option (List session.Event) → Slot
 slot_reached number at spans e slot None = slot
 slot_reached number at spans e slot (Some before) =
     with_happenings slot before (reaches number at spans e slot.device before)
 
--- The slot after an event of the office.
+-- The slot after an event of the office. A connection begins a new session.
 abbrev pub slot_after : (number at : ℕ) → List ReadSpan → Event → Slot → Slot
 slot_after number at spans e slot =
     if connects e slot.device
     then record { device = slot.device; ended = slot.ended; present = Some [] }
     else slot_reached number at spans e slot slot.present
 
--- The device that a command adds, if its name is valid.
+-- The device that a command adds; `None` if its name is invalid.
 abbrev pub device_by : AddDevice → Option Device
 device_by c =
     option_map (λ name.
     record { name = name; unit = c.unit; timeout = c.timeout; window = c.window })
     c.name
 
--- The slot of a new device.
+-- The slot of a new device, not yet connected; empty without a device.
 abbrev pub new_slot : Option Device → List Slot
 new_slot None = []
 new_slot (Some device) = (record { device = device; ended = []; present = None }) ∷ []
 
--- The slot that a command adds, if it adds a device.
+-- The slot of the device that a command adds; empty if it adds none.
 abbrev pub slots_added : Option Command → List Slot
 slots_added (Some (command.AddDevice c)) = new_slot (device_by c)
 slots_added _ = []
 
--- The slots after an event.
+-- The slots after an event: each existing slot, followed by that of a device that the event adds.
 abbrev pub slots_after : (number at : ℕ) → List ReadSpan → Event → List Slot → List Slot
 slots_after number at spans e slots =
     map (slot_after number at spans e) slots ++ slots_added (command_in e)
 
--- The session that a reopening of the office ends.
+-- The present session of a device as an ended one, when the office is opened again; empty without a
+-- session.
 abbrev pub ended_by_restart : Option (List session.Event) → List EndedSession
 ended_by_restart None = []
 ended_by_restart (Some events) = (record { events = events; restarted = true }) ∷ []
 
--- The slot after a reopening of the office. No device is connected.
+-- The slot after the office was opened again: its present session has ended, and the device is not
+-- connected.
 abbrev pub slot_restarted : Slot → Slot
 slot_restarted slot = record {
   device = slot.device;

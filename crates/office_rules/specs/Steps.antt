@@ -1,4 +1,4 @@
--- The change of an installation by one more lawful record.
+-- How one more lawful record changes an installation.
 use Rattle.std.specs.Prelude.{◌≡◌, ◌+◌, true, false, List, [], ◌∷◌, Some, None, if◌then◌else◌}
 use Rattle.energy_core.specs.declared.entries.Entry.{Entry}
 use Rattle.energy_core.specs.declared.entries.Step.{Step}
@@ -19,13 +19,13 @@ use Rattle.office_rules.specs.Intervals.{rows_of_opening}
 use Rattle.office_rules.specs.Lawful.{AreLawful}
 use Rattle.office_rules.specs.Meters.{line_of, opened, installed, journal_of, rows_of, installation_of}
 
--- The installation, its rows and its interval rows are unchanged.
+-- The record `f` changes neither the installation, nor its entry rows, nor its interval rows.
 pub record Stays (f : Fact) (facts : List Fact) (opening : Opening) : Type 0 where
   pub installation : installation_of (f ∷ facts) opening ≡ installation_of facts opening
   pub rows : rows_of (f ∷ facts) opening ≡ rows_of facts opening
   pub intervals : rows_of_opening (f ∷ facts) opening ≡ rows_of_opening facts opening
 
--- A record without a line in a meter's journal changes nothing of the meter.
+-- A record that has no line in a meter's journal changes nothing of this meter.
 abbrev pub OtherMetersStay : Type 0
 OtherMetersStay = (f : Fact) (facts : List Fact) (opening : Opening)
     → line_of opening.meter f ≡ None
@@ -36,8 +36,8 @@ abbrev pub HoldsChangeNothing : Type 0
 HoldsChangeNothing = (held : HeldReading) (facts : List Fact) (opening : Opening)
     → Stays (fact.Hold held) facts opening
 
--- A new installation is found by its name and at its register. Its counter has the state of the
--- opening, with no energy and no rows.
+-- After its opening a new installation is found by its name and at its accounting register. Its
+-- counter has the opening's state, and it has no energy and no rows.
 pub record Begins (facts : List Fact) (opening : Opening) : Type 0 where
   pub by_name : opening_of (fact.Opening opening ∷ facts) opening.meter ≡ Some opening
   pub at_register : installed_at (fact.Opening opening ∷ facts) opening.register ≡ Some opening
@@ -46,12 +46,12 @@ pub record Begins (facts : List Fact) (opening : Opening) : Type 0 where
   pub rows : rows_of (fact.Opening opening ∷ facts) opening ≡ []
   pub intervals : rows_of_opening (fact.Opening opening ∷ facts) opening ≡ []
 
--- Each lawful opening begins an installation.
+-- Each lawful opening record begins an installation, as `Begins` describes.
 abbrev pub OpeningsBegin : Type 0
 OpeningsBegin = (opening : Opening) (facts : List Fact) → AreLawful (fact.Opening opening ∷ facts)
     → Begins facts opening
 
--- An installation after one more entry of its meter.
+-- The state of an installation after one more entry of its meter.
 abbrev pub moved_by : EntryKind → Entry → Installation → Installation
 moved_by k e row = record {
   opening = row.opening;
@@ -60,14 +60,14 @@ moved_by k e row = record {
   ended = if is_closing k then true else row.ended;
 }
 
--- The step from the present state of an installation's counter to one more entry.
+-- The step from an installation's last entry to one more entry.
 abbrev pub step_from : Installation → Entry → Step
 step_from row e = step_to row.opening.range row.last e
 
--- One more entry continues the journal of a meter that is open. The installation advances by the
--- entry, and a row follows the others. The shares of the step extend the interval rows. There are
--- two equal definitions: the shares are joined to the last row, or each is added to the row of its
--- quarter hour.
+-- One more entry of an open meter advances the installation by its step, and adds one entry row.
+--
+-- The shares of the step extend the interval rows. Two equal definitions say how: they are joined
+-- to the last row, or each is added to the row of its quarter hour.
 pub record MovesOn (booked : BookedEntry) (facts : List Fact) (opening : Opening) : Type 0 where
   pub unended : (installation_of facts opening).ended ≡ false
   pub goes_on : journals.ContinuesJournal (installed opening) (journal_of facts opening.meter)
@@ -83,7 +83,7 @@ pub record MovesOn (booked : BookedEntry) (facts : List Fact) (opening : Opening
       rows_of_opening (fact.Entry booked ∷ facts) opening
       ≡ with_each shares (rows_of_opening facts opening)
 
--- Each lawful entry advances its installation.
+-- Each lawful entry record advances its meter's installation, as `MovesOn` describes.
 abbrev pub EntriesMoveOn : Type 0
 EntriesMoveOn = (booked : BookedEntry) (facts : List Fact) (opening : Opening)
     → AreLawful (fact.Entry booked ∷ facts)

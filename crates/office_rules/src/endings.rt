@@ -1,4 +1,4 @@
-//! Theorems on the ends of polls.
+//! Theorems on how polls end.
 ghost use Rattle.office_rules.specs.History.{History};
 ghost use Rattle.office_rules.specs.Refusals.{AreAccepted};
 ghost use Rattle.office_rules.specs.PollEndings.{PollsEndOnce};
@@ -6,8 +6,8 @@ ghost use Rattle.office_rules.specs.Endings.{EachEndsOnce};
 
 use poll_core::{each_once, one_event_more};
 
-/// Proves that each poll has the outcome that its session gives, recorded exactly once, or is
-/// pending. This holds for all accepted events.
+/// Proves for all accepted events that each poll has ended or is pending. A poll that ended has
+/// exactly one recorded outcome, which its session's events give.
 pub fn polls_end_once()
     ensures polls { (history : History) → AreAccepted history → PollsEndOnce history }
     ensures each { (history : History) → AreAccepted history → EachEndsOnce history }

@@ -5,7 +5,8 @@ use crate::endings::polls_end_once;
 use crate::laws::{meters_are_kept, truth_is_recorded, voids_leave_no_trace};
 use poll_core::one_event_more;
 
-/// Proves that each record may follow those before it, for all accepted events.
+/// Proves that the records that any accepted events leave are lawful: each may follow those before
+/// it.
 pub fn facts_are_lawful()
     ensures { FactsAreLawful }
 {

@@ -12,9 +12,10 @@ pub fn journals_fit()
     ensures { JournalsFit }
 {}
 
-/// Proves the energy of each installation in lawful records. It is the last value less the first,
-/// plus a full range for each recorded rollover, plus the recorded differences. Voided entries do
-/// not count, and the interval rows add up to the energy.
+/// Proves that the energy of each installation in lawful records balances. It is the last value
+/// less the first, plus a full range for each recorded rollover, plus the recorded differences.
+///
+/// Voided entries do not count, and the interval rows add up to the energy.
 pub fn meters_are_kept()
     ensures { MetersAreKept }
 {
@@ -33,7 +34,7 @@ pub fn truth_is_recorded()
     truth_is_kept();
 }
 
-/// Proves that voided entries leave no trace in a meter's account and its interval rows.
+/// Proves that voided entries leave no trace in a meter's account and interval rows.
 pub fn voids_leave_no_trace()
     ensures { VoidsLeaveNoTrace }
 {
@@ -41,7 +42,7 @@ pub fn voids_leave_no_trace()
     journal_voids();
 }
 
-/// Proves that no timestamp, poll number or request number of lawful records exceeds its limit.
+/// Proves that no timestamp, poll number or request number in lawful records exceeds its limit.
 pub fn facts_are_bounded()
     ensures { FactsAreBounded }
 {}

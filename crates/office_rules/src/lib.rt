@@ -1,4 +1,4 @@
-//! The definitions of an office's records, answers and refusals, which the crates above cite.
+//! Defines an office's records, answers and refusals, which the contracts of the crates above use.
 #![tactic(auto)]
 
 mod endings;

@@ -1,11 +1,11 @@
-//! Theorems on the change of meters by one more record.
+//! Theorems on how one more record changes a meter.
 ghost use Rattle.office_rules.specs.Steps.{EntriesMoveOn, HoldsChangeNothing, OpeningsBegin, OtherMetersStay};
 ghost use Rattle.office_rules.specs.Voids.{VoidedEntriesGiveWay};
 
 use meter_journal::{entries_go_on, voids_change_two_rows};
 
-/// Proves that a record without a line in a meter's journal changes nothing of its installation and
-/// rows.
+/// Proves that a record without a line in a meter's journal does not change this meter's
+/// installation and rows.
 pub fn other_meters_stay()
     ensures { OtherMetersStay }
 {}
@@ -16,7 +16,7 @@ pub fn holds_change_nothing()
 {}
 
 /// Proves that a new installation has the state of its opening, and is found by its name and at its
-/// register.
+/// accounting register.
 pub fn openings_begin()
     ensures { OpeningsBegin }
 {}
@@ -29,8 +29,8 @@ pub fn entries_move_on()
     entries_go_on();
 }
 
-/// Proves the effect of a void. It changes the row of its entry and that of the next entry. The
-/// steps around the entry change its meter's installation and interval rows.
+/// Proves the effect of a void. It changes the rows of its entry and of the next valid entry. The
+/// steps around the entry change in the meter's installation and interval rows.
 pub fn voided_entries_give_way()
     ensures { VoidedEntriesGiveWay }
 {

@@ -1,4 +1,5 @@
--- The effect of a run on an office.
+-- What a run does with its office: which events and requests the office processes, and at which
+-- times.
 use Rattle.std.specs.Prelude.{◌≡◌, ◌⊎◌, ℕ, max, List, [], ◌∷◌, ◌++◌, length, Option}
 use Rattle.socket_link.specs.Clocks.{TellsMoment}
 use Rattle.office_events.specs.declared.commands.Command.{Command}
@@ -19,19 +20,19 @@ use Rattle.office_running.specs.declared.leftovers.Left.{Left}
 
 -- ---- at one time
 
--- What happened to an office: an event of a device's round, with its answer, or the requests on a
--- connection. Requests may name the host by these names.
+-- One step of a run: the office processed an event of a device's round, or answered the requests on
+-- a client's connection. `names` are the host names that requests may give.
 pub data Step (names : List (List ℕ)) : Type 0 where
   Fed : Answered → Step names
   Asks : Connection names → Step names
 
--- The command of a round: to start the reads of its device.
+-- The command starts the reads of a device, so a round may request it.
 abbrev pub StartsRound : Command → Type 0
 StartsRound (command.StartRound start) = Unit {0}
 StartsRound _ = ⊥
 
--- An event of a round: a device was connected, sent bytes or is gone, a second has passed, or reads
--- are started.
+-- The event is one of a round: its device was connected, sent bytes or is gone, its reads are
+-- started; or it is a timer event.
 abbrev pub IsOfRound : Event → Type 0
 IsOfRound (event.Connected device) = Unit {0}
 IsOfRound (event.Bytes device piece) = Unit {0}
@@ -40,37 +41,36 @@ IsOfRound (event.Gone device closing) = Unit {0}
 IsOfRound (event.Command given) = StartsRound given
 IsOfRound (event.Asked asked) = ⊥
 
--- The step happened at this time.
+-- The step happened at time `at`; an event in it is one of a round.
 abbrev pub IsStepAt : {names : List (List ℕ)} → (at : ℕ) → Step names → Type 0
 IsStepAt at (Fed fed) = (fed.at ≡ at) × IsOfRound fed.event
 IsStepAt at (Asks one) = one.at ≡ at
 
--- Each of the steps happened at this time.
+-- Each of the steps happened at time `at`.
 abbrev pub AreAt : {names : List (List ℕ)} → (at : ℕ) → List (Step names) → Type 0
 AreAt at [] = Unit {0}
 AreAt at (one ∷ earlier) = IsStepAt at one × AreAt at earlier
 
--- The history of accepted events after this step.
+-- What the office has accepted after this step.
 abbrev pub with_step : {names : List (List ℕ)} → History → Step names → History
 with_step past (Fed fed) = with_answer past fed.at fed.event fed.result
 with_step past (Asks one) = with_asked past one.at one.asked
 
--- The history after several steps, the latest first.
+-- What the office has accepted after several steps; the list has the latest step first.
 abbrev pub history_with : {names : List (List ℕ)} → (past : History) → List (Step names)
     → History
 history_with past [] = past
 history_with past (one ∷ earlier) = with_step (history_with past earlier) one
 
--- The office has processed some events and requests at a time.
+-- The office is in the state after some steps, all at time `at`.
 pub record StandsAfterSteps {B : Type 0} (names : List (List ℕ)) (at : ℕ) (ledger : B → Ledger)
     (past : History) (office : Office B) : Type 0 where
   pub steps : List (Step names)
   pub each : AreAt at steps
   pub stands : Stands ledger (history_with past steps) office
 
--- For any input of the sockets at a time, the office processes only events of rounds and requests,
--- all at that time. A wrong result of a store that was taken as true stays recorded, and the zone
--- is unchanged.
+-- Whatever the sockets deliver, the office processes only events of rounds and requests, all at
+-- time `at`. A store that is clean after the call was clean before it, and its zone stays.
 pub record Goes {B : Type 0} (names : List (List ℕ)) (at : ℕ) (ledger : B → Ledger)
     (old new : Office B) : Type 0 where
   pub stands : After ledger old new (λ past. StandsAfterSteps names at ledger past new)
@@ -79,25 +79,27 @@ pub record Goes {B : Type 0} (names : List (List ℕ)) (at : ℕ) (ledger : B �
 
 -- ---- from time to time
 
--- The clock is read. The latest time is then the later one of its time and the latest before.
+-- The clock was read once. `latest` is the later one of the time that it returned and the latest
+-- time before.
 pub record ReadsClock (before latest : ℕ) (begun now : Option (List ℕ)) : Type 0 where
   pub told : ℕ
   pub tells : TellsMoment begun now told
   pub is_latest : latest ≡ max before told
 
--- A turn of the loop: the time that the clock returned, and the steps at that time, the latest
+-- A turn of the run's loop: the time that the clock returned, and the turn's steps, the latest
 -- first.
 pub record Turn (names : List (List ℕ)) : Type 0 where
   pub told : ℕ
   pub steps : List (Step names)
 
--- The latest time that the clock has returned, with `first` before the first turn.
+-- The latest time that the clock has returned in these turns; at least `first`, the time before
+-- them.
 abbrev pub latest_of : {names : List (List ℕ)} → (first : ℕ) → List (Turn names) → ℕ
 latest_of first [] = first
 latest_of first (turn ∷ earlier) = max (latest_of first earlier) turn.told
 
--- The clock was read in each turn. The steps of a turn have the latest time that the clock has
--- returned.
+-- The clock was read once in each turn. All steps of a turn have the latest time that the clock had
+-- returned by then.
 abbrev pub AreTurns : {names : List (List ℕ)} → (first : ℕ) → (begun now : Option (List ℕ))
     → List (Turn names) → Type 0
 AreTurns first begun now [] = now ≡ begun
@@ -105,12 +107,13 @@ AreTurns first begun now (turn ∷ earlier) =
     (between : Option (List ℕ)) × AreTurns first begun between earlier
     × TellsMoment between now turn.told × AreAt (latest_of first (turn ∷ earlier)) turn.steps
 
--- The steps of all turns, the latest first.
+-- The steps of all turns; the latest step is first.
 abbrev pub steps_of : {names : List (List ℕ)} → List (Turn names) → List (Step names)
 steps_of [] = []
 steps_of (turn ∷ earlier) = turn.steps ++ steps_of earlier
 
--- The office has processed some turns.
+-- The office is in the state after some turns. `latest` is the latest time that the clock has
+-- returned.
 pub record StandsAfterTurns {B : Type 0} (names : List (List ℕ)) (first latest : ℕ)
     (begun now : Option (List ℕ)) (ledger : B → Ledger) (past : History)
     (office : Office B) : Type 0 where
@@ -119,7 +122,8 @@ pub record StandsAfterTurns {B : Type 0} (names : List (List ℕ)) (first latest
   pub is_latest : latest ≡ latest_of first turns
   pub stands : Stands ledger (history_with past (steps_of turns)) office
 
--- Turns are taken, and nothing else is done with the office.
+-- The office processed some turns and nothing else. A store that is clean after them was clean
+-- before, and its zone stays.
 pub record TakesTurns {B : Type 0} (names : List (List ℕ)) (ledger : B → Ledger)
     (first latest : ℕ) (begun now : Option (List ℕ)) (old new : Office B) : Type 0 where
   pub stands : After ledger old new
@@ -127,13 +131,13 @@ pub record TakesTurns {B : Type 0} (names : List (List ℕ)) (ledger : B → Led
   pub clean : (ledger (books_in new)).is_clean → (ledger (books_in old)).is_clean
   pub zone : (ledger (books_in new)).zone ≡ (ledger (books_in old)).zone
 
--- Turns are taken from a time on.
+-- The office processed some turns, beginning at time `first`.
 pub record TurnsFrom {B : Type 0} (names : List (List ℕ)) (ledger : B → Ledger) (first : ℕ)
     (begun now : Option (List ℕ)) (old new : Office B) : Type 0 where
   pub latest : ℕ
   pub turns : TakesTurns names ledger first latest begun now old new
 
--- The clock is read, and then turns are taken.
+-- The clock was read, and then the office processed some turns.
 pub record RunsOn {B : Type 0} (names : List (List ℕ)) (ledger : B → Ledger)
     (begun now : Option (List ℕ)) (old new : Office B) : Type 0 where
   pub first : ℕ
@@ -143,7 +147,7 @@ pub record RunsOn {B : Type 0} (names : List (List ℕ)) (ledger : B → Ledger)
 
 -- ---- a run
 
--- The store holds the history of an opening at a time of the clock, and then of turns.
+-- The store holds the records of an opening, at a time of the clock, and of the turns after it.
 pub record StandAfterOpening (names : List (List ℕ)) (begun now : Option (List ℕ))
     (ledger : Ledger) (past : History) : Type 0 where
   pub at : ℕ
@@ -156,13 +160,13 @@ pub record StandAfterOpening (names : List (List ℕ)) (begun now : Option (List
   pub are : AreTurns first between now turns
   pub stand : BooksStand ledger (history_with (Opened at ∷ past) (steps_of turns))
 
--- The store is unchanged, or holds the history of an opening and then of turns.
+-- The store is in its earlier state, or holds the records of an opening and of the turns after it.
 abbrev pub BooksRun : (names : List (List ℕ)) → (begun now : Option (List ℕ)) → Ledger
     → (past : History) → Type 0
 BooksRun names begun now ledger past =
     BooksStand ledger past ⊎ StandAfterOpening names begun now ledger past
 
--- What a store has pending: the time of its latest record, and the number of its pending polls.
+-- `left` has the time of the store's latest record, and the number of its pending polls.
 pub record IsLeft (past : History) (left : Left) : Type 0 where
   pub latest : left.latest ≡ latest_in (facts_of past)
   pub waiting : left.waiting ≡ length (pending_in (facts_of past))

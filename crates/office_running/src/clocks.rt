@@ -9,7 +9,8 @@ use run_schedule::{RunTime, SteadyClock};
 use socket_link::Clock;
 use std::time::{SystemTime, UNIX_EPOCH};
 
-// Returns how many milliseconds of the current second have passed, by the clock that gives times.
+// Returns how many milliseconds of the present second have passed, by the clock that gives the
+// times of events.
 fn part_of_second<R: std::rt::Clock>(rt: &R) -> u64 {
     let Ok(now) = SystemTime::now(rt) else {
         return 0;
@@ -31,7 +32,7 @@ pub(crate) fn time_from<R: std::rt::Clock>(rt: &R, moment: u64) -> RunTime {
     RunTime::new(base, even_milliseconds(rt))
 }
 
-/// Returns how many milliseconds are left of the current second.
+/// Returns how many milliseconds remain until the next second of the run.
 pub(crate) fn to_next_second<R: std::rt::Clock>(rt: &R, time: &mut RunTime) -> u64 {
     time.read(even_milliseconds(rt));
     time.to_next_second()

@@ -1,22 +1,22 @@
-//! How many descriptors a run may open.
+//! How many file descriptors a run may open.
 use mio::Poll;
 use run_schedule::{MOST_PEERS, clients_for, needed_limit, wanted_descriptors};
 use std::alloc::{AllocError, Global};
 use std::net::Net;
 
-/// The recommended limit of descriptors suffices for at least this many devices.
+/// The recommended limit of file descriptors suffices for at least this many devices.
 const MOST_DEVICES: usize = 64;
 
-/// The number of clients that a run accepts at once if it may open few descriptors.
+/// The number of clients that a run accepts at once if it may open only few file descriptors.
 #[derive(Clone, Copy)]
 pub(crate) struct FewClients {
     pub(crate) clients: usize,
-    /// The limit of descriptors that would allow a client in each slot.
+    /// The limit of file descriptors that would allow a client in each slot.
     pub(crate) limit: usize,
 }
 
-// Counts the descriptors that the process may still open, up to `most`: opens them, and closes them
-// again.
+// Counts the file descriptors that the process may still open, up to `most`: opens them, and closes
+// them again.
 fn count_descriptors<R: Net>(rt: &R, alloc: Global, most: usize) -> Result<usize, AllocError> {
     let mut opened = Vec::new(alloc);
     for _descriptor in 0..most {

@@ -16,12 +16,12 @@ use run_schedule::Phase;
 use std::alloc::{AllocError, Global};
 use std::net::Net;
 
-/// The most pieces of a device's bytes that are read before the time advances: more than its
+/// The largest number of chunks that are read from a device before the time advances: more than its
 /// pending responses have.
 const MOST_PIECES: u32 = 64;
 
-// Passes what the office did with a device's bytes to the rounds. The device's round gets the
-// answer, unless it is about to start reads: the answer is not to those.
+// Passes the office's answer and notifications for a device's bytes to the rounds. The device's
+// round gets the answer, unless it is about to start reads, to which it is no answer.
 fn tell_rounds(
     rounds: &mut [Round],
     place: usize,
@@ -36,7 +36,7 @@ fn tell_rounds(
     }
 }
 
-/// The devices: the connection to each, and the state of its round.
+/// The devices of a run: the connection to each, and the state of its round.
 #[derive(Drop)]
 pub(crate) struct Polling {
     every: u64,
@@ -45,7 +45,7 @@ pub(crate) struct Polling {
 }
 
 impl Polling {
-    /// Creates the devices. Each rests until the first multiple of `every` after now.
+    /// Creates the devices. Each rests until the first multiple of `every` seconds after now.
     pub(crate) fn new(
         alloc: Global,
         sites: &[Site],
@@ -70,19 +70,19 @@ impl Polling {
         self.slots.len()
     }
 
-    /// Marks the device in a slot as ready: it may have sent something.
+    /// Marks the device in a slot as ready: it may have sent bytes.
     pub(crate) fn mark(&mut self, place: usize) {
         if place < self.slots.len() {
             self.slots[place].ready = true;
         }
     }
 
-    /// Returns whether a device is ready.
+    /// Returns whether any device is ready.
     pub(crate) fn is_ready(&self) -> bool {
         self.slots.iter().any(|slot| slot.ready)
     }
 
-    // Records that the connection in a slot failed, and reports it.
+    // Marks the connection in a slot as failed, and reports the failure.
     fn fail(&mut self, place: usize, voice: &mut Voice, now: Now) {
         if place < self.slots.len() {
             let every = self.every;
@@ -95,7 +95,7 @@ impl Polling {
         }
     }
 
-    // Begins the connection in a slot, if it is due.
+    // Begins a connection to the device in a slot, if one is due.
     fn begin<R: Net>(
         &mut self,
         rt: &R,
@@ -114,7 +114,7 @@ impl Polling {
         }
     }
 
-    /// Begins the connections that are due. The token of the first device is `first`.
+    /// Begins all connections that are due. The token of the first device is `first`.
     pub(crate) fn begin_all<R: Net>(
         &mut self,
         rt: &R,
@@ -161,7 +161,7 @@ impl Polling {
         }
     }
 
-    /// Processes one device event, and then the queued actions of each round.
+    /// Feeds a device event to the office, and then the events that the rounds request.
     pub(crate) fn feed<B: Books>(
         &mut self,
         device_event: DeviceEvent,
@@ -176,7 +176,8 @@ impl Polling {
         self.settle_all(voice, now);
     }
 
-    // Handles what a new connection in a slot shows. Returns the event for the office, if any.
+    // Handles what was seen of a new connection in a slot. Returns the event for the office, if
+    // there is one.
     fn joined(
         &mut self,
         place: usize,
@@ -200,7 +201,8 @@ impl Polling {
         }
     }
 
-    // Looks at the connection in a slot. Returns the event for the office, if any.
+    // Looks what has arrived on the connection in a slot. Returns the event for the office, if
+    // there is one.
     fn look(&mut self, place: usize, voice: &mut Voice, now: Now) -> Option<DeviceEvent> {
         if place >= self.slots.len() {
             return None;
@@ -218,7 +220,8 @@ impl Polling {
         }
     }
 
-    // Handles a device that has exceeded its time. Returns the event for the office, if any.
+    // Handles a device that took longer than its time. Returns the event for the office, if there
+    // is one.
     fn expire(&mut self, place: usize, voice: &mut Voice, now: Now) -> Option<DeviceEvent> {
         if place < self.slots.len() && self.slots[place].timing.phase == Phase::Connecting {
             self.fail(place, voice, now);
@@ -227,7 +230,7 @@ impl Polling {
         Some(DeviceEvent::Closed(place, Closing::Failed))
     }
 
-    // Polls the device in a slot for its next event.
+    // Looks for the next event of the device in a slot.
     fn device_event(&mut self, place: usize, voice: &mut Voice, now: Now) -> Option<DeviceEvent> {
         if place >= self.slots.len() {
             return None;
@@ -241,8 +244,8 @@ impl Polling {
         None
     }
 
-    // Returns the name of the device in a slot, if it has pending responses or its round is about
-    // to start more reads.
+    // Returns the name of the device in a slot, if its round has pending responses or is about to
+    // start more reads.
     fn waiting_at(&self, place: usize) -> Option<Option<Name>> {
         if place >= self.rounds.len() {
             return None;
@@ -260,7 +263,7 @@ impl Polling {
         }
     }
 
-    // Reads at most one piece from a device with pending responses. Returns the device's name and
+    // Reads at most one chunk from a device with pending responses. Returns the device's name and
     // the bytes.
     fn listen(&mut self, place: usize) -> Option<(Option<Name>, Vec<u8>)> {
         let device = self.waiting_at(place)?;
@@ -271,8 +274,8 @@ impl Polling {
         Some((device, bytes))
     }
 
-    // Feeds the bytes of one device only. The next actions of its round wait for the next turn,
-    // since a read that started at a past time would have a shorter timeout.
+    // Feeds the bytes of one device to the office. The events that its round then requests wait for
+    // the next turn: a read that started at a past time would have a shorter timeout.
     fn hear<B: Books>(
         &mut self,
         place: usize,
@@ -299,7 +302,7 @@ impl Polling {
         );
     }
 
-    // Feeds at most one piece from a device with pending responses. Returns whether there was none.
+    // Feeds at most one chunk from a device with pending responses. Returns whether there was none.
     #[tactic(auto, using(crate::proofs::Going::goes_none))]
     fn hear_piece<B: Books>(
         &mut self,
@@ -320,7 +323,7 @@ impl Polling {
         }
     }
 
-    /// Feeds what a device with pending responses has sent, before the time advances.
+    /// Feeds the bytes that a device with pending responses has sent, before the time advances.
     pub(crate) fn hear_device<B: Books>(
         &mut self,
         place: usize,
@@ -339,8 +342,8 @@ impl Polling {
         }
     }
 
-    /// Feeds the next event in a slot, with at most one piece of bytes. Returns whether there was
-    /// one.
+    /// Feeds the next event of the device in a slot, with at most one chunk of bytes. Returns
+    /// whether there was an event.
     #[tactic(auto, using(crate::proofs::Going::goes_none, crate::proofs::Going::goes_both))]
     pub(crate) fn attend<B: Books>(
         &mut self,

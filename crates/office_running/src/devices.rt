@@ -12,10 +12,10 @@ use std::alloc::Global;
 use std::io::Read;
 use std::net::Net;
 
-/// What a look at a connection showed.
+/// What was seen on a connection.
 #[derive(Drop)]
 pub(crate) enum Seen {
-    /// Nothing yet.
+    /// Nothing has happened yet.
     Nothing,
     /// The connection is established.
     Stands,
@@ -27,18 +27,18 @@ pub(crate) enum Seen {
     Failed,
 }
 
-/// A device: its connection, its unsent bytes, and the timing of its rounds.
+/// A device: its connection, its unsent bytes, and when its next round is due.
 #[derive(Drop)]
 pub(crate) struct Slot {
     pub(crate) site: Site,
     pub(crate) timing: Timing,
-    /// Whether the device may have sent something that was not read yet.
+    /// Whether the device may have sent bytes that were not read yet.
     pub(crate) ready: bool,
     pub(crate) standing: Standing,
     alloc: Global,
     stream: Option<TcpStream>,
     unsent: Outbox,
-    /// How the connection ended, if that was seen and is not reported yet.
+    /// How the connection ended, if that was seen but not yet reported to the office.
     ended: Option<Closing>,
 }
 
@@ -54,7 +54,7 @@ fn stands(stream: &TcpStream) -> Option<bool> {
     Some(true)
 }
 
-// Limits the time between rounds to its range.
+// Limits the time between rounds to the range from 1 to 86,400 seconds.
 fn spacing(every: u64) -> u64
     ensures some { 0 < result }
     ensures few { result ≤ 86400 }
@@ -62,7 +62,7 @@ fn spacing(every: u64) -> u64
     every.max(1).min(MOST_EVERY)
 }
 
-// Limits a time so that the time between rounds can be added to it.
+// Limits a time so that adding the time between rounds cannot overflow.
 fn bounded(time: u64) -> u64
     ensures { result ≤ 2 ^ 62 }
 {
@@ -70,7 +70,7 @@ fn bounded(time: u64) -> u64
 }
 
 impl Slot {
-    /// Creates a device that rests until the first multiple of `every` after now.
+    /// Creates a device that rests until the first multiple of `every` seconds after now.
     pub(crate) fn new(alloc: Global, site: Site, every: u64, now: u64) -> Slot {
         Slot {
             site,
@@ -84,7 +84,7 @@ impl Slot {
         }
     }
 
-    // Begins a connection. Returns whether that succeeded.
+    // Begins a connection to the device. Returns whether that succeeded.
     fn connect<R: Net>(&mut self, rt: &R, registry: &Registry, token: Token) -> bool {
         let Ok(mut stream) = TcpStream::connect(rt, self.site.addr) else {
             return false;
@@ -98,7 +98,7 @@ impl Slot {
         true
     }
 
-    /// Begins a connection, and its timing. Returns whether that succeeded.
+    /// Begins a connection, and measures its time from now on. Returns whether that succeeded.
     pub(crate) fn begin<R: Net>(
         &mut self,
         rt: &R,
@@ -132,7 +132,7 @@ impl Slot {
         self.timing.fail(spacing(every), bounded(time));
     }
 
-    // Looks whether the connection is established.
+    // Looks whether a new connection is established.
     fn connection(&self) -> Seen {
         match &self.stream {
             Some(stream) => match stands(stream) {
@@ -144,7 +144,7 @@ impl Slot {
         }
     }
 
-    // Copies bytes that arrived.
+    // Returns a copy of bytes that arrived.
     fn piece(&self, bytes: &[u8]) -> Seen {
         match bytes.to_vec(self.alloc) {
             Ok(bytes) => Seen::Bytes(bytes),
@@ -152,7 +152,7 @@ impl Slot {
         }
     }
 
-    // Reads what arrived, at most one piece.
+    // Reads the bytes that arrived, at most one chunk.
     fn take(&self) -> Seen {
         let mut room = [0u8; 260];
         let got = match &self.stream {
@@ -175,7 +175,8 @@ impl Slot {
         }
     }
 
-    // Sends unsent bytes, as far as the socket accepts them. Returns whether the connection works.
+    // Sends the unsent bytes, as far as the socket accepts them. Returns whether the connection
+    // still works.
     fn send(&mut self) -> bool {
         match &self.stream {
             Some(stream) => self.unsent.write_all(stream) != Went::Over,
@@ -183,7 +184,8 @@ impl Slot {
         }
     }
 
-    /// Sends frames after the unsent bytes. If that fails, the next look reports it.
+    /// Queues frames after the unsent bytes, and sends what the socket accepts. If that fails, the
+    /// next look reports it.
     pub(crate) fn send_more(&mut self, frames: &[u8]) {
         let done = self.unsent.put(frames);
         if done.is_err() || !self.send() {
@@ -191,7 +193,7 @@ impl Slot {
         }
     }
 
-    // Returns what a look at the connection shows.
+    // Looks what has happened on the connection.
     fn see(&mut self) -> Seen {
         match self.ended {
             Some(Closing::Gone) => return Seen::Closed,
@@ -211,16 +213,16 @@ impl Slot {
         }
     }
 
-    /// Looks at the connection. It stays ready if the look showed bytes or an established
-    /// connection.
+    /// Looks what has happened on the connection. The connection stays ready if the look showed
+    /// bytes or that it is established.
     pub(crate) fn look(&mut self) -> Seen {
         let seen = self.see();
         self.ready = matches!(seen, Seen::Stands | Seen::Bytes(_));
         seen
     }
 
-    /// Reads at most one piece from a device that is being polled. The next look reports the end of
-    /// the connection.
+    /// Reads at most one chunk from a device that is being polled. If the connection has ended, the
+    /// next look reports it.
     pub(crate) fn listen(&mut self) -> Option<Vec<u8>> {
         if !self.ready || self.timing.phase != Phase::Polling {
             return None;

@@ -33,10 +33,11 @@ use std::time::Duration;
 /// The token of the first device.
 const FIRST_DEVICE: usize = PORT_TOKEN + 1;
 
-/// The milliseconds until accepting a connection is tried again.
+/// After a failed accept: the milliseconds until accepting a connection is tried again.
 const RETRY: u64 = 100;
 
-// The end of a run: by its own time, or by the clock that gives the times of events.
+// When a run ends: at a time of its own clock, or at a time of the clock that gives the times of
+// events.
 #[derive(Clone, Copy)]
 struct End {
     time: u64,
@@ -49,27 +50,27 @@ impl End {
     }
 }
 
-/// The process: its sockets, and its output.
+/// The state of a running process: its port, its devices and its output.
 #[derive(Drop)]
 struct Running {
     poll: Poll,
     polling: Polling,
     port: HttpPort,
     voice: Voice,
-    /// The lines of events, and the messages to people.
+    /// The lines that report events, and the messages to people.
     lines: Outlet,
     sayings: Outlet,
     files: FileWatch,
-    /// The time of the run at which a file of the office was found missing.
+    /// The time of the run at which a file of the office was found missing; `None` if none is.
     lost_at: Option<u64>,
-    /// The time of this turn.
+    /// The time of the present turn.
     time: u64,
-    /// Whether this turn has a timer event: a second has passed since the turn before, or the clock
-    /// returned a later time.
+    /// Whether the present turn has a timer event: a second has passed since the turn before, or
+    /// the clock returned a later time.
     ticks: bool,
 }
 
-// Creates the voice for these devices, and reports what they lack.
+// Creates the observer of the office for these devices, and reports what the devices lack.
 fn voice_of(
     alloc: Global,
     sites: &[Site],
@@ -93,7 +94,7 @@ fn descriptors_of(settings: &Settings<'_>) -> (Option<RawFd>, Option<RawFd>) {
     }
 }
 
-// Opens a port, and registers it for new connections.
+// Opens a port, and registers it so that new connections wake the loop.
 fn listen<R: Net>(rt: &R, registry: &Registry, addr: SocketAddr) -> Result<TcpListener, RunFault> {
     let Ok(mut listener) = TcpListener::bind(rt, addr) else {
         return Err(RunFault::Port);
@@ -153,7 +154,7 @@ impl Running {
         })
     }
 
-    // Prints the pending lines and messages without waiting for a reader. Errors while writing to
+    // Prints the queued lines and messages without waiting for a reader. Errors while writing to
     // standard error are ignored.
     fn print<W: Write, E: Write>(
         &mut self,
@@ -173,7 +174,8 @@ impl Running {
         }
     }
 
-    // Looks for a missing file of the office, and reports it. From then on no command is executed.
+    // Looks whether a file of the office is missing, and reports it. From then on no command is
+    // executed.
     fn find_loss<R: Files>(&mut self, rt: &R) {
         if let Some(lost) = self.files.look(rt) {
             self.voice.say_lost(self.files.path(lost.index), lost.loss);
@@ -219,7 +221,7 @@ impl Running {
         }
     }
 
-    // Attends to each client connection, also new ones.
+    // Attends to each client connection, new ones included.
     fn attend_peers<R: std::rt::Clock + Files, B: Books>(
         &mut self,
         rt: &R,
@@ -244,7 +246,8 @@ impl Running {
         }
     }
 
-    // Forgets cached responses after a device event, which may have recorded something.
+    // Discards cached responses after a device event, because the event may have recorded
+    // something.
     fn note_fed(&mut self, has_fed: bool) {
         if has_fed {
             self.port.forget_replies();
@@ -289,7 +292,7 @@ impl Running {
         }
     }
 
-    // Attends to all connections.
+    // Attends to the devices and the clients.
     fn go_on<R: Net + std::rt::Clock + Files, B: Books>(
         &mut self,
         rt: &R,
@@ -307,7 +310,7 @@ impl Running {
         self.attend_peers(rt, names, earlier, office, now);
     }
 
-    // Ends the rounds in progress.
+    // Ends the rounds that are in progress.
     fn end_rounds<B: Books>(&mut self, office: &mut Office<B>, now: Now)
         ensures { (names : List (List ℕ))
             → Goes names now.moment B.ledger office.old office.new }
@@ -322,8 +325,8 @@ impl Running {
         }
     }
 
-    // Attends to all connections, and ends the rounds if the run's time is up. Returns whether it
-    // is.
+    // Attends to the devices and the clients, and ends the rounds if the run's time is up. Returns
+    // whether the time is up.
     fn act<R: Net + std::rt::Clock + Files, B: Books>(
         &mut self,
         rt: &R,
@@ -344,8 +347,7 @@ impl Running {
         true
     }
 
-    // Returns how many milliseconds to wait for the sockets: none if a second has passed in this
-    // turn.
+    // Returns how many milliseconds to wait for the sockets; 0 if a second has passed in this turn.
     fn patience<R: std::rt::Clock>(&self, rt: &R, time: &mut RunTime) -> u64 {
         if self.polling.is_ready() || self.port.is_ready() {
             return 0;
@@ -361,7 +363,8 @@ impl Running {
         }
     }
 
-    // Waits at most this long until a socket is ready, and marks those that are.
+    // Waits at most this many milliseconds until a socket is ready, and marks the devices and
+    // clients that are.
     fn look(&mut self, events: &mut Events<Global>, milliseconds: u64) -> Result<(), RunFault> {
         match self
             .poll
@@ -393,7 +396,7 @@ impl Running {
         self.look(events, milliseconds)
     }
 
-    // Prints the pending output, and waits unless the run's time is up.
+    // Prints the queued output, and waits for the sockets unless the run's time is up.
     fn rest<R: std::rt::Clock + Files, W: Write, E: Write>(
         &mut self,
         rt: &R,
@@ -415,7 +418,7 @@ impl Running {
         self.wait(rt, time, events)
     }
 
-    // Feeds what devices have sent. Reads from each device with pending responses.
+    // Feeds the bytes that devices have sent. Only devices with pending responses are read.
     fn hear_devices<B: Books>(&mut self, office: &mut Office<B>, now: Now)
         ensures { (names : List (List ℕ))
             → Goes names now.moment B.ledger office.old office.new }
@@ -427,7 +430,7 @@ impl Running {
         }
     }
 
-    // Takes one turn of the loop. Returns whether the run's time is up.
+    // Makes one turn of the loop. Returns whether the run's time is up.
     fn turn<R: Net + std::rt::Clock + Files, B: Books, W: Write, E: Write>(
         &mut self,
         rt: &R,
@@ -479,7 +482,7 @@ impl Running {
         moment
     }
 
-    // Takes turns until the run's time is up.
+    // Makes turns until the run's time is up.
     fn turns<R: Net + std::rt::Clock + Files, B: Books, C: Clock, W: Write, E: Write>(
         &mut self,
         rt: &R,
@@ -515,7 +518,7 @@ impl Running {
     }
 }
 
-// Returns the end of a run that begins now.
+// Returns when a run that begins now ends.
 fn end_of(settings: &Settings<'_>, now: u64) -> End {
     End {
         time: match settings.lasts {
@@ -549,7 +552,7 @@ fn open<R: Net + Files, W: Write>(
     }
 }
 
-// Opens the port, and takes turns from a time on until the run's time is up.
+// Opens the port, and makes turns from time `moment` on until the run's time is up.
 fn run_from<R: Net + std::rt::Clock + Files, B: Books, C: Clock, W: Write, E: Write>(
     rt: &R,
     alloc: Global,

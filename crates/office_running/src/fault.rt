@@ -8,13 +8,13 @@ use std::fmt::{Display, Formatter};
 /// Why a run ended early.
 #[derive(Clone, Copy, Debug, PartialEq, Eq)]
 pub enum RunFault {
-    /// The office was not opened. The reason was printed, and the command ends with this status.
+    /// The office was not opened. The refusal was printed, and the command ends with this status.
     Unopened(ExitStatus),
     /// The port cannot be opened.
     Port,
     /// The system cannot report which sockets are ready.
     Sockets,
-    /// Printing failed.
+    /// Printing the lines of the run failed.
     Output,
     /// The office has stopped: its store failed, or memory ran out, while it settled a device's
     /// event.

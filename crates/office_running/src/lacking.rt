@@ -9,14 +9,14 @@ use office_books::Books;
 use run_status::{DeviceLack, add_lacks};
 use std::alloc::Global;
 
-// Adds what a device lacks. If the store or memory fails, adds only what was found before.
+// Adds what a device lacks. If the store or memory fails, only what was found by then is added.
 fn add_of_site<B: Books>(lacks: &mut Vec<DeviceLack>, books: &mut B, site: &Site)
     ensures { LooksUp (B.ledger books.old) (B.ledger books.new) }
 {
     let _found = add_lacks(lacks, books, &site.name);
 }
 
-/// Returns what the devices lack according to the store.
+/// Returns what the devices lack, by the records of the store.
 pub(crate) fn lacks_in<B: Books>(alloc: Global, books: &mut B, sites: &[Site]) -> Vec<DeviceLack>
     ensures stands { (past : History) → BooksStand (B.ledger books.old) past
         → BooksStand (B.ledger books.new) past }

@@ -1,4 +1,4 @@
-//! What a store has pending before an office opens it.
+//! What a store has pending before an office is opened over it.
 ghost use Rattle.std.specs.Prelude.{◌≡◌, false, nat_lt, IfSome};
 ghost use Rattle.office_core.specs.Leaving.{BooksStand};
 ghost use Rattle.office_rules.specs.History.{History};
@@ -19,7 +19,7 @@ pub(crate) struct Left {
     pub(crate) waiting: usize,
 }
 
-/// Returns what a store has pending, or `None` if the store fails.
+/// Returns what a store has pending; `None` if the store fails.
 pub(crate) fn left_in<B: Books>(books: &mut B) -> Option<Left>
     ensures stands { (past : History) → BooksStand (B.ledger books.old) past
         → BooksStand (B.ledger books.new) past }
@@ -39,7 +39,7 @@ pub(crate) fn left_in<B: Books>(books: &mut B) -> Option<Left>
     }
 }
 
-/// Prints what a store has pending.
+/// Prints what a store has pending; nothing for `None`.
 pub(crate) fn print_left<W: Write>(left: Option<Left>, output: &mut W) -> Result<(), RunFault> {
     let Some(left) = left else {
         return Ok(());
@@ -67,7 +67,8 @@ pub fn say_ahead<E: Write>(latest: u64, now: u64, errors: &mut E) -> bool
     is_ahead
 }
 
-/// Reports that an office cannot be opened since its latest record is later than the clock.
+/// Reports that an office cannot be opened because its latest record is later than the clock;
+/// reports nothing if it is not.
 pub(crate) fn say_unopened<C: Clock, E: Write>(left: Option<Left>, clock: &mut C, errors: &mut E) {
     let Some(left) = left else {
         return;

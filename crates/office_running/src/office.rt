@@ -1,4 +1,4 @@
-//! A run over a store.
+//! Runs an office over a store, with a schedule of polls and an HTTP port.
 ghost use Rattle.http_request.specs.Hosts.{texts};
 ghost use Rattle.office_core.specs.Leaving.{BooksStand};
 ghost use Rattle.office_rules.specs.History.{History};

@@ -8,11 +8,11 @@ use std::net::Net;
 use std::os::fd::RawFd;
 use std::time::Duration;
 
-/// The bytes of one write to an output whose reader may block it. Any pipe or terminal that is
-/// writable accepts them.
+/// The number of bytes in one write to an output whose reader may block it. Any pipe or terminal
+/// that is writable accepts them.
 const PIECE: usize = 512;
 
-/// The most writes of one turn.
+/// The largest number of writes in one turn.
 const MOST_PIECES: u32 = 128;
 
 // Determines whether a descriptor can be written without waiting.
@@ -67,8 +67,8 @@ impl Gauge {
     }
 }
 
-/// Lines that are written without waiting. Unread lines wait in a queue, and are dropped when the
-/// queue is full.
+/// An output whose lines are written without waiting. Lines that the reader does not accept yet
+/// wait in a queue, and are dropped when the queue is full.
 #[derive(Drop)]
 pub(crate) struct Outlet {
     queue: LineQueue,
@@ -76,7 +76,7 @@ pub(crate) struct Outlet {
 }
 
 impl Outlet {
-    /// Opens an output. Without a descriptor, a write never waits.
+    /// Opens an output on a descriptor. Without a descriptor, a write is assumed not to wait.
     pub(crate) fn open<R: Net>(rt: &R, alloc: Global, descriptor: Option<RawFd>) -> Outlet {
         Outlet {
             queue: LineQueue::new(alloc),
@@ -95,7 +95,7 @@ impl Outlet {
         }
     }
 
-    // Returns how many bytes can be written now.
+    // Returns how many bytes can be written now without waiting.
     fn room(&mut self) -> usize {
         let waiting = self.queue.waiting().len();
         if waiting == 0 {

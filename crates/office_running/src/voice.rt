@@ -1,4 +1,4 @@
-//! What a run reports and remembers of the events of its office.
+//! What a run reports of the events of its office, and what it remembers to report only once.
 use crate::descriptors::FewClients;
 use crate::leftovers::Left;
 use office_events::{Answer, Event, Name, Note, Observer, Refusal};
@@ -13,7 +13,7 @@ use script_text::write_note;
 use std::alloc::{AllocError, Global};
 use std::{io, mem};
 
-/// The state of a device at its last poll.
+/// The state of a device after its last round.
 #[derive(Clone, Copy, Debug, PartialEq, Eq)]
 pub(crate) enum Standing {
     Unknown,
@@ -32,7 +32,7 @@ pub(crate) struct Voice {
     pub(crate) monitor: RunMonitor,
     /// Whether the office has stopped.
     pub(crate) stopped: bool,
-    /// What the devices lacked when the run began.
+    /// What the devices lacked when the run began, such as a point list.
     pub(crate) lacks: Vec<DeviceLack>,
     alloc: Global,
     names: Vec<Option<Name>>,
@@ -40,11 +40,11 @@ pub(crate) struct Voice {
     lines: Vec<u8>,
     said: Vec<u8>,
     told: Told,
-    /// Whether the run has reported that it accepts no more commands.
+    /// Whether the run has already reported that it accepts no more commands.
     is_full: bool,
 }
 
-// Returns the state of a device after a round with these outcomes.
+// Returns the state of a device after a round with these outcomes of its polls.
 fn standing_by(sum: Sum) -> Standing {
     if sum.answered > 0 {
         Standing::Answers
@@ -66,7 +66,7 @@ fn word_of(standing: Standing) -> &'static [u8] {
     }
 }
 
-// Returns how a file of the office was lost. The text follows the file's path.
+// Returns the text for how a file of the office was lost, which follows the file's path.
 fn how_lost(loss: FileLoss) -> &'static [u8] {
     match loss {
         FileLoss::Missing => b"removed or renamed while in use",
@@ -75,7 +75,8 @@ fn how_lost(loss: FileLoss) -> &'static [u8] {
     }
 }
 
-// Returns whether every round has such an event.
+// Returns whether every round has such an event, so that it needs no report: an accepted
+// connection, or an accepted end after the last poll.
 fn is_usual(event: &Event, answer: Result<Answer, Refusal>) -> bool {
     match event {
         Event::Connected(_) => answer.is_ok(),
@@ -84,7 +85,7 @@ fn is_usual(event: &Event, answer: Result<Answer, Refusal>) -> bool {
     }
 }
 
-// Writes a poll that ended, or a reading that was accepted.
+// Appends the line of a poll that ended, or of a reading that was accepted.
 fn put_poll(text: &mut Vec<u8>, at: u64, name: &Option<Name>, note: &Note) -> io::Result<()> {
     if matches!(note, Note::Held { .. }) {
         return Ok(());
@@ -115,7 +116,7 @@ impl Voice {
         })
     }
 
-    // Reports what a device lacks. Refusals for the same reason are not reported again.
+    // Reports what a device lacks. Later refusals for the same reason are not reported again.
     fn say_lack(&mut self, lack: &DeviceLack) {
         let _done = put_lack(&mut self.said, lack);
         let topic = match lack.lack {
@@ -140,7 +141,7 @@ impl Voice {
         }
     }
 
-    // Returns the name of the device in a slot.
+    // Returns the name of the device in a slot; `None` if there is none.
     fn name(&self, place: Option<usize>) -> Option<Name> {
         let place = place?;
         if place < self.names.len() {
@@ -170,7 +171,7 @@ impl Voice {
         let _done = put(&mut self.lines, b"\n");
     }
 
-    /// Reports that the clock is this many seconds before the latest time.
+    /// Reports that the clock is this many seconds before the latest time of the run.
     pub(crate) fn tell_set_back(&mut self, moment: u64, seconds: u64) {
         let _done = put_number(&mut self.lines, b"", moment);
         let _done = put_number(&mut self.lines, b" clock set back ", seconds);
@@ -185,8 +186,8 @@ impl Voice {
         let _done = put(&mut self.said, b"\n");
     }
 
-    /// Reports that the clock went from one time to another, further than a run allows between two
-    /// readings.
+    /// Reports that the clock went from one time to a much later one, further than a run allows
+    /// between two readings.
     pub(crate) fn tell_ahead(&mut self, before: u64, moment: u64) {
         let _done = put_number(&mut self.said, b"sunreg: the clock jumped from ", before);
         let _done = put_number(&mut self.said, b" to ", moment);
@@ -297,7 +298,7 @@ impl Voice {
     }
 }
 
-// Returns whether an event is a device's connection or part of its round.
+// Returns whether the event is a device's connection or part of its round.
 fn topic_of(event: &Event) -> Topic {
     match event {
         Event::Connected(_) => Topic::Connection,

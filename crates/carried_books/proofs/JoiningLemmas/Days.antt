@@ -56,7 +56,7 @@ still_out done row out = record {
   is = out.is;
 }
 
--- One row.
+-- The sink has added one more row after the rows `done`, or it has failed.
 add_one : (failed : Option DayFault) (done : List Share) (row : Share) (s next : JoinedDays) → s.fault ≡ failed → HasNumber (done ++ row ∷ [])
     → AddUp failed s.zone done s.fold → MatchOption failed (AddsRow s row next) (λ fault. next ≡ s)
     → (next.zone ≡ s.zone) × AddUp next.fault s.zone (done ++ row ∷ []) next.fold
@@ -71,7 +71,7 @@ add_one (Some fault.Memory) done row s next is fits added step =
     let P : Option DayFault → Type 0 = λ f. AddUp f s.zone (done ++ row ∷ []) s.fold in
     subst Q (sym step) (refl, subst P (sym is) tt)
 
--- All rows.
+-- The sink has added all further rows after the rows `done`, or it has failed.
 pub add_all : (zone : Zone) (done rest : List Share) (s after : JoinedDays) → s.zone ≡ zone → HasNumber (done ++ rest) → AddUp s.fault zone done s.fold
     → TakesAll TakesShare s rest after → (after.zone ≡ zone) × AddUp after.fault zone (done ++ rest) after.fold
 add_all zone done [] s after is fits added took =

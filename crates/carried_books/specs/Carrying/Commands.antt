@@ -1,4 +1,5 @@
--- The commands that set up an office like another.
+-- The commands that set up a new office with the devices, point lists, registers and meters of an
+-- old one.
 use Rattle.std.specs.Prelude.{ℕ, List, [], ◌∷◌, ◌++◌, map, Some}
 use Rattle.std.specs.Option.{option_map, option_to_list}
 use Rattle.std.specs.List.{flat_map}
@@ -36,12 +37,12 @@ device_command device = command.AddDevice (record {
 abbrev pub list_command : (device : List ℕ) → Planned → Command
 list_command device list = command.PutList (record { device = Some device; list = list })
 
--- The scale of a register, as a command gives it.
+-- Where an accounting register's scale is, as a command gives it.
 abbrev pub scale_given : ScaleSource → GivenScale
 scale_given (source.Fixed sf) = given.Fixed sf
 scale_given (source.Register address) = given.Register address
 
--- The command that adds a register.
+-- The command that adds an accounting register.
 abbrev pub register_command : Register → Command
 register_command register = command.AddRegister (record {
   name = Some register.name;
@@ -72,41 +73,42 @@ add_device at device = timed at (device_command device)
 abbrev pub put_list : (at : ℕ) → (device : List ℕ) → Planned → TimedCommand
 put_list at device list = timed at (list_command device list)
 
--- The command for a device's point list, if it has one.
+-- The command for a device's point list, with its timestamp; empty if the device has none.
 abbrev pub put_lists : (at : ℕ) → List Fact → Device → List TimedCommand
 put_lists at facts device =
     option_to_list (option_map (put_list at device.name) (list_of facts device.name))
 
--- The command for a register, with its timestamp.
+-- The command for an accounting register, with its timestamp.
 abbrev pub add_register : (at : ℕ) → Register → TimedCommand
 add_register at register = timed at (register_command register)
 
--- The commands for a device's registers.
+-- The commands for the accounting registers of a device, in their order.
 abbrev pub add_registers : (at : ℕ) → List Fact → Device → List TimedCommand
 add_registers at facts device = map (add_register at) (registers_of facts device.name)
 
--- The commands for a device, its list and its registers.
+-- The commands that set up a device: the device, its point list if it has one, and its accounting
+-- registers.
 abbrev pub set_up_device : (at : ℕ) → List Fact → Device → List TimedCommand
 set_up_device at facts device =
     add_device at device ∷ (put_lists at facts device ++ add_registers at facts device)
 
--- The commands for several devices.
+-- The commands that set up several devices, in their order.
 abbrev pub set_up_devices : (at : ℕ) → List Fact → List Device → List TimedCommand
 set_up_devices at facts devices = flat_map (set_up_device at facts) devices
 
 -- ---- a meter, at the timestamp of its opening
 
--- The command for a meter, with its timestamp.
+-- The command that installs a meter, with the timestamp of its opening.
 abbrev pub install : Opening → TimedCommand
 install opening = timed opening.at (install_command opening)
 
--- Devices are set up at the timestamp of the first opening. Without openings it is the latest
--- recorded one.
+-- The timestamp at which devices are set up: that of the first opening, or the latest recorded one
+-- if there is no opening.
 abbrev pub first_moment : List Fact → List Opening → ℕ
 first_moment facts [] = latest_in facts
 first_moment facts (opening ∷ openings) = opening.at
 
--- The commands for these devices, followed by those for these openings.
+-- The commands that set up these devices, followed by those that install these meters.
 abbrev pub commands_for : List Fact → List Device → List Opening → List TimedCommand
 commands_for facts devices openings =
     set_up_devices (first_moment facts openings) facts devices ++ map install openings

@@ -10,33 +10,34 @@ use Rattle.office_core.specs.Standing.{After, Stands, books_in}
 use Rattle.office_core.specs.Taking.{IsAnswer, failures_of}
 use Rattle.carried_books.specs.declared.carrying.commands.TimedCommand.{TimedCommand}
 
--- A command as the office's event.
+-- The event that requests the command.
 abbrev pub event_of : TimedCommand → Event
 event_of timed = event.Command timed.command
 
--- The command as an accepted event.
+-- The command as an event that an office accepted at the command's timestamp.
 abbrev pub accepted : TimedCommand → Accepted
 accepted timed = Fed timed.at (event_of timed)
 
--- The past, extended by each of these commands.
+-- What an office has accepted after it executed these commands.
 abbrev pub history_with : History → List TimedCommand → History
 history_with past [] = past
 history_with past (timed ∷ later) = history_with (accepted timed ∷ past) later
 
--- The office is in the state after its past and each of these commands, and its store did not fail.
+-- The office executed all of these commands, and its store did not fail.
 pub record AreFed {B : Type 0} (ledger : B → Ledger) (past : History)
     (commands : List TimedCommand) (old new : Office B) : Type 0 where
   pub stands : Stands ledger (history_with past commands) new
   pub failures : failures_of ledger new ≡ failures_of ledger old
 
--- The office gave this answer to a command, and is in its earlier state.
+-- The office refused the command with this reason, and is in its earlier state.
 pub record IsRefused {B : Type 0} (ledger : B → Ledger) (past : History) (timed : TimedCommand)
     (old new : Office B) (why : Refusal) : Type 0 where
   pub stands : Stands ledger past new
   pub answer : IsAnswer past timed.at (event_of timed)
       (failures_of ledger old) (failures_of ledger new) (Err why)
 
--- The office executed some of these commands and refused the next; the later ones were not fed.
+-- The office executed the first of these commands, and refused the next one; the commands after it
+-- were not fed.
 pub record AreFedUpTo {B : Type 0} (ledger : B → Ledger) (past : History)
     (commands : List TimedCommand) (old new : Office B) (why : Refusal) : Type 0 where
   pub given : List TimedCommand
@@ -45,32 +46,32 @@ pub record AreFedUpTo {B : Type 0} (ledger : B → Ledger) (past : History)
   pub are : commands ≡ given ++ next ∷ later
   pub refused : IsRefused ledger (history_with past given) next old new why
 
--- The office executed the command, or refused it.
+-- The office executed the command on `Ok`, and refused it on an error.
 abbrev pub IsFedOr : {B : Type 0} → (B → Ledger) → History → TimedCommand
     → (old new : Office B) → Result (Unit {0}) Refusal → Type 0
 IsFedOr ledger past timed old new (Ok done) = AreFed ledger past (timed ∷ []) old new
 IsFedOr ledger past timed old new (Err why) = IsRefused ledger past timed old new why
 
--- The office executed the commands, or refused one of them.
+-- The office executed all commands on `Ok`, and refused one of them on an error.
 abbrev pub AreFedOr : {B : Type 0} → (B → Ledger) → History → List TimedCommand
     → (old new : Office B) → Result (Unit {0}) Refusal → Type 0
 AreFedOr ledger past commands old new (Ok done) = AreFed ledger past commands old new
 AreFedOr ledger past commands old new (Err why) = AreFedUpTo ledger past commands old new why
 
--- One command is fed, for every past that the office was in the state of.
+-- `IsFedOr` holds for every past in whose state the office was.
 abbrev pub FeedsOne : {B : Type 0} → (B → Ledger) → TimedCommand → (old new : Office B)
     → Result (Unit {0}) Refusal → Type 0
 FeedsOne ledger timed old new result =
     After ledger old new (λ past. IsFedOr ledger past timed old new result)
 
--- Several commands are fed, for every past that the office was in the state of.
+-- `AreFedOr` holds for every past in whose state the office was.
 abbrev pub Feeds : {B : Type 0} → (B → Ledger) → List TimedCommand → (old new : Office B)
     → Result (Unit {0}) Refusal → Type 0
 Feeds ledger commands old new result =
     After ledger old new (λ past. AreFedOr ledger past commands old new result)
 
--- A wrong result that was taken as true stays noted, and the zone stays. This needs no premise on
--- the store.
+-- A store that is clean after the call was clean before it, and its zone stays, whatever the store
+-- returned.
 pub record Passes {B : Type 0} (ledger : B → Ledger) (old new : Office B) : Type 0 where
   pub clean : (ledger (books_in new)).is_clean → (ledger (books_in old)).is_clean
   pub zone : (ledger (books_in new)).zone ≡ (ledger (books_in old)).zone

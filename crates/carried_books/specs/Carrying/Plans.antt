@@ -1,4 +1,4 @@
--- The commands of a rollover.
+-- The commands with which an office is rolled over into a new file.
 use Rattle.std.specs.Prelude.{◌≡◌, ℕ, ◌≤◌, List, length, reverse, Option}
 use Rattle.std.specs.List.{AllPairs}
 use Rattle.std.specs.List.Sorted.{IsPermutation}
@@ -17,12 +17,12 @@ use Rattle.carried_books.specs.declared.carrying.plans.Plan.TheVariants.{Ready, 
 abbrev pub devices_of : List Fact → List Device
 devices_of facts = reverse (devices_in facts)
 
--- The open meters at the registers of all devices.
+-- The open meters at the accounting registers of all devices.
 abbrev pub open_meters : List Fact → List Installation
 open_meters facts = open_at_devices facts (devices_of facts)
 
--- The commands set up these devices. Then they install the meters of these openings in the order of
--- the timestamps, `meters` in number.
+-- The commands set up these devices, and then install `meters` meters with these openings, in the
+-- order of the openings' timestamps.
 pub record AreCommandsFor (facts : List Fact) (devices : List Device) (opened : List Opening)
     (commands : List TimedCommand) (meters : ℕ) : Type 0 where
   pub openings : List Opening
@@ -31,22 +31,22 @@ pub record AreCommandsFor (facts : List Fact) (devices : List Device) (opened : 
   pub are : commands ≡ commands_for facts devices openings
   pub count : meters ≡ length openings
 
--- The commands of a rollover of an office with these facts. They set up each device with its list
--- and its registers, and each open meter, opened at its last valid entry up to a timestamp. The
--- commands install `meters` meters.
+-- The commands of a rollover. They set up each device of the old office, and install each of its
+-- open meters at the meter's last valid entry up to `until`.
 pub record AreCarried (facts : List Fact) (until : Option ℕ) (commands : List TimedCommand)
     (meters : ℕ) : Type 0 where
   pub opened : List Opening
   pub each : AreOpeningsOf facts until (open_meters facts) opened
   pub so : AreCommandsFor facts (devices_of facts) opened commands meters
 
--- A plan for these devices and openings.
+-- The plan has the commands for these devices and openings.
 abbrev pub IsPlanFor : List Fact → List Device → List Opening → Plan → Type 0
 IsPlanFor facts devices opened (Ready commands meters) =
     AreCommandsFor facts devices opened commands.items meters
 IsPlanFor facts devices opened (NotYet meter) = ⊥
 
--- Such commands, or an open meter that has no valid entry up to the timestamp.
+-- The plan has the commands of a rollover, or names an open meter that has no valid entry up to
+-- `until`.
 abbrev pub IsPlan : List Fact → (until : Option ℕ) → Plan → Type 0
 IsPlan facts until (Ready commands meters) = AreCarried facts until commands.items meters
 IsPlan facts until (NotYet meter) = IsNotYet facts until (open_meters facts) meter

@@ -1,4 +1,4 @@
--- What the store of a new office records after a rollover.
+-- The records in the store of a new office after a rollover.
 use Rattle.std.specs.Prelude.{◌≡◌, ℕ, List, ◌∷◌, ◌++◌, map, reverse, Some, None}
 use Rattle.std.specs.List.{flat_map}
 use Rattle.std.specs.Option.{option_map, option_to_list}
@@ -19,27 +19,29 @@ use Rattle.carried_books.specs.Carrying.Standings.{last_until}
 abbrev pub list_fact : (device : List ℕ) → Planned → Fact
 list_fact device list = fact.List (record { device = device; list = list })
 
--- The records of a device, its list if it has one, and its registers, in this order.
+-- The records of a device, its point list if it has one, and its accounting registers, in this
+-- order.
 abbrev pub device_facts : List Fact → Device → List Fact
 device_facts facts device =
     fact.Device device
     ∷ (option_to_list (option_map (list_fact device.name) (list_of facts device.name))
     ++ map fact.Register (registers_of facts device.name))
 
--- All devices, followed by the openings of the meters.
+-- The records after a rollover: the devices with their point lists and registers, followed by the
+-- openings of the meters.
 abbrev pub carried_facts : List Fact → List Device → List Opening → List Fact
 carried_facts facts devices openings =
     flat_map (device_facts facts) devices ++ map fact.Opening openings
 
--- The commands record exactly the devices, lists and registers of the old office, and these
--- openings.
+-- The commands of a rollover record exactly the devices, point lists and accounting registers of
+-- the old office, and these openings.
 abbrev pub CommandsRecordTheSame : Type 0
 CommandsRecordTheSame =
     (past : History) (facts : List Fact) (devices : List Device) (openings : List Opening)
     → facts_of (history_with past (commands_for facts devices openings))
     ≡ reverse (carried_facts facts devices openings) ++ facts_of past
 
--- Without a given timestamp, a meter is opened in its current state.
+-- Without a given timestamp, a meter continues in its present state.
 abbrev pub MetersGoOnWhereTheyStand : Type 0
 MetersGoOnWhereTheyStand =
     (facts : List Fact) (meter : List ℕ) (row : Installation)

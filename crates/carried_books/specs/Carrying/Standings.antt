@@ -1,4 +1,4 @@
--- The state of a meter at its last valid entry, up to a timestamp if one is given.
+-- The state of a meter's counter at its last valid entry, up to a timestamp if one is given.
 use Rattle.std.specs.Prelude.{ℕ, ℤ, nat_le, Bool, true, ◌&&◌, List, reverse, Option, Some, None}
 use Rattle.std.specs.Option.{option_map}
 use Rattle.std.specs.List.{find}
@@ -10,36 +10,36 @@ use Rattle.office_books.specs.declared.entries.MeterEntry.{MeterEntry}
 use Rattle.office_books.specs.declared.entries.MeterEntry.TheVariants as listed
 use Rattle.office_books.specs.Entries.{all_entries}
 
--- The timestamp is not after the given one, up to which entries count; without a given one, all
--- count.
+-- Whether `at` is not later than `until`; true for each timestamp if `until` is `None`.
 abbrev pub is_until : (until : Option ℕ) → (at : ℕ) → Bool
 is_until (Some until) at = nat_le at until
 is_until None at = true
 
--- The counter after an entry, at this scale.
+-- The state of the counter after an entry, with the scale `sf`.
 abbrev pub set_by : Entry → (sf : ℤ) → Last
 set_by (entry.Step at raw rolls) sf = record { at = at; raw = raw; sf = sf }
 set_by (entry.Change at before after scale) sf = record { at = at; raw = after; sf = sf }
 
--- The counter after an entry of a meter.
+-- The state of the counter after an entry of a meter; after its opening the opening's state.
 abbrev pub shown_by : MeterEntry → Last
 shown_by (listed.Opening last) = last
 shown_by (listed.Later row sf) = set_by row.entry sf
 
--- No void names the entry; the opening is always valid.
+-- Whether the entry is valid: no void names it, or it is the opening.
 abbrev pub stands : MeterEntry → Bool
 stands (listed.Opening last) = true
 stands (listed.Later row sf) = row.stands
 
--- The entry is valid and counts up to the timestamp.
+-- Whether the entry is valid and not later than `until`.
 abbrev pub counts : (until : Option ℕ) → MeterEntry → Bool
 counts until e = stands e && is_until until (shown_by e).at
 
--- The counter at the last valid entry that counts, of these entries in order.
+-- The state of the counter at the last of these entries, given in order, that is valid and not
+-- later than `until`; `None` if there is none.
 abbrev pub last_among : (until : Option ℕ) → List MeterEntry → Option Last
 last_among until entries = option_map shown_by (find (counts until) (reverse entries))
 
--- The same of all entries of the meter with a name. A meter that was installed after the timestamp
--- has none.
+-- The state of the meter's counter at its last valid entry up to `until`. `None` if the meter was
+-- installed later, or no meter has the name.
 abbrev pub last_until : List Fact → (until : Option ℕ) → (meter : List ℕ) → Option Last
 last_until facts until meter = last_among until (all_entries facts meter)

@@ -18,7 +18,7 @@ IsOutOfTurn rows row =
     ((earlier : ℕ) × Contains (starts_of rows) earlier × (row.start < earlier))
     ⊎ (LAST_MOMENT < row.start)
 
--- One of these rows is out of order after those before it.
+-- One of these rows is out of order after the rows before it.
 pub record AreOutOfTurn (rows : List Share) : Type 0 where
   pub before : List Share
   pub row : Share
@@ -28,46 +28,48 @@ pub record AreOutOfTurn (rows : List Share) : Type 0 where
 
 -- ---- rows that were added up
 
--- The total energy fits 128 bits.
+-- The energy of these rows together fits in 128 bits.
 abbrev pub HasNumber : List Share → Type 0
 HasNumber rows = energy_of rows < 2 ^ 128
 
--- The rows are added up, or one was out of order, or memory was missing.
+-- The rows are added up, unless the sink has failed: a row was out of order, or memory ran out.
 abbrev pub AddUp : Option DayFault → Zone → List Share → FoldState → Type 0
 AddUp None zone rows fold = HasTaken zone rows fold
 AddUp (Some fault.Zone) zone rows fold = AreOutOfTurn rows
 AddUp (Some fault.Memory) zone rows fold = Unit {0}
 
--- The same of a sink that was given these rows.
+-- If their energy fits in 128 bits, the sink has added up these rows, or has failed.
 abbrev pub HasAdded : JoinedDays → List Share → Type 0
 HasAdded sink rows = HasNumber rows → AddUp sink.fault sink.zone rows sink.fold
 
 -- ---- one more row
 
--- The sum with one more row, by the first failure.
+-- The rows and one more row are added up, unless the sink has failed: the new row was out of order,
+-- or memory ran out.
 abbrev pub AddsUp : Option DayFault → Zone → List Share → Share → FoldState → Type 0
 AddsUp None zone rows row fold = HasTaken zone (rows ++ row ∷ []) fold
 AddsUp (Some fault.Zone) zone rows row fold = IsOutOfTurn rows row
 AddsUp (Some fault.Memory) zone rows row fold = Unit {0}
 
--- The row is added after those before it, or is out of order, or memory is missing.
+-- The sink adds one more row after those that it has added, if the energy fits; or it fails. Its
+-- zone stays.
 pub record AddsRow (old : JoinedDays) (row : Share) (new : JoinedDays) : Type 0 where
   pub zone : new.zone ≡ old.zone
   pub added : (rows : List Share) → HasTaken old.zone rows old.fold
       → energy_of rows + row.mwh < 2 ^ 128
       → AddsUp new.fault old.zone rows row new.fold
 
--- The sink took a row. After an earlier failure the row is dropped.
+-- A sink takes a row: it adds the row, or drops it after an earlier failure.
 abbrev pub TakesShare : JoinedDays → Share → JoinedDays → Type 0
 TakesShare old row new = MatchOption old.fault (AddsRow old row new) (λ fault. new ≡ old)
 
 -- ---- the sum of earlier rows
 
--- The sum of these rows, if their energy fits 128 bits.
+-- `days` are the sum of these rows by civil day, if their energy fits in 128 bits.
 abbrev pub AreSumOf : Zone → List Share → EarlierDays → Type 0
 AreSumOf zone rows days = HasNumber rows → HasTaken zone rows days.fold
 
--- A sink continues from these days.
+-- The sink continues from these days: it has their sum, this zone, and no failure.
 pub record GoesOnFrom (zone : Zone) (days : EarlierDays) (sink : JoinedDays) : Type 0 where
   pub zone_is : sink.zone ≡ zone
   pub fold : sink.fold ≡ days.fold

@@ -1,5 +1,5 @@
--- A register over the files of one office, in order. A file is given by its facts, and lists of
--- files have the latest first.
+-- An accounting register over the files of one office, in order. A file is given by its records,
+-- and lists of files have the latest file first.
 use Rattle.std.specs.Prelude.{◌≡◌, ℕ, Bool, true, false, List, [], ◌∷◌, ◌++◌, Option, Some, None, is_some}
 use Rattle.std.specs.List.{list_any}
 use Rattle.interval_core.specs.Fold.{HasTaken}
@@ -23,27 +23,28 @@ use Rattle.carried_books.specs.declared.joining.files.Unjoined.TheVariants as un
 
 -- ---- the contents of files
 
--- A register with the name is recorded.
+-- Whether the file records an accounting register with this name.
 abbrev pub is_recorded : (register : List ℕ) → List Fact → Bool
 is_recorded register facts = is_some (register_of facts register)
 
--- The register is in one of these files.
+-- Whether one of these files records an accounting register with this name.
 abbrev pub is_recorded_in : (register : List ℕ) → (files : List (List Fact)) → Bool
 is_recorded_in register files = list_any (is_recorded register) files
 
--- The interval rows of a register: those of the first file, then those of the next, and so on.
+-- The interval rows of an accounting register in all files: those of the first file, then those of
+-- the next, and so on.
 abbrev pub rows_over : (register : List ℕ) → (files : List (List Fact)) → List Share
 rows_over register [] = []
 rows_over register (facts ∷ files) = rows_over register files ++ rows_of_register facts register
 
--- Those of the rows that are in a span.
+-- The interval rows of an accounting register in all files that lie in the span.
 abbrev pub rows_over_within : Span → (register : List ℕ) → (files : List (List Fact)) → List Share
 rows_over_within span register [] = []
 rows_over_within span register (facts ∷ files) =
     rows_over_within span register files ++ rows_within span (rows_of_register facts register)
 
--- The meters at a register, as each file has them: those of the first file, in the order of
--- installation, then those of the next, and so on.
+-- The meters at an accounting register as each file has them: those of the first file in the order
+-- of installation, then those of the next, and so on.
 abbrev pub meters_over : (register : List ℕ) → (files : List (List Fact)) → List Installation
 meters_over register [] = []
 meters_over register (facts ∷ files) =
@@ -51,22 +52,22 @@ meters_over register (facts ∷ files) =
 
 -- ---- files that join
 
--- A register of a file is in each later one.
+-- If a file records the accounting register, each later file does too.
 abbrev pub StaysRecorded : (register : List ℕ) → (files : List (List Fact)) → Type 0
 StaysRecorded register [] = Unit {0}
 StaysRecorded register (facts ∷ files) =
     (is_recorded_in register files ≡ true → is_recorded register facts ≡ true)
     × StaysRecorded register files
 
--- The files join at a register: it stays recorded, and its meters join one after another. Each
--- meter is as the last file has it that contains it.
+-- The files join at an accounting register, whose meters over all files are `meters`. The register
+-- stays recorded, and each meter continues from the file before or follows the meters there.
 pub record AreJoined (register : List ℕ) (files : List (List Fact)) (meters : List Installation) :
     Type 0 where
   pub recorded : StaysRecorded register files
   pub joined : AddMeters [] (meters_over register files) meters
 
--- What was stored of files that join: their meters, and the days of the interval rows in a span, by
--- the clocks of a zone. The days are known only if the rows' energy fits 128 bits.
+-- `kept` has what joined files contain of an accounting register: its meters, and the sum of its
+-- interval rows in a span by civil day. The days are right if the rows' energy fits in 128 bits.
 pub record HasJoined (zone : Zone) (span : Span) (register : List ℕ) (files : List (List Fact))
     (kept : JoinedFiles) : Type 0 where
   pub recorded : kept.is_recorded ≡ is_recorded_in register files
@@ -78,15 +79,15 @@ pub record HasJoined (zone : Zone) (span : Span) (register : List ℕ) (files : 
 
 -- ---- one more file
 
--- The rows of the file were added in order, or one was out of order.
+-- The file's rows were added to the days in order; or one was out of order.
 abbrev pub AddDays : (rows : List Share) → (old new : JoinedDays) → Option Unjoined → Type 0
 AddDays rows old new None = TakesAll TakesShare old rows new × (new.fault ≡ None)
 AddDays rows old new (Some unjoined.OutOfTurn) =
     TakesAll TakesShare old rows new × (new.fault ≡ Some OutOfTurn)
 AddDays rows old new (Some why) = ⊥
 
--- The file joins those before it. It records the register, if an earlier one did; its meters join
--- theirs; and its rows were added.
+-- The file joins those before it: it records the register if an earlier file does, its meters join
+-- theirs, and its rows were added.
 pub record JoinsFile (span : Span) (register : List ℕ) (facts : List Fact)
     (old new : JoinedFiles) : Type 0 where
   pub recorded : new.is_recorded ≡ is_recorded register facts
@@ -94,21 +95,23 @@ pub record JoinsFile (span : Span) (register : List ℕ) (facts : List Fact)
   pub meters : AddMeters old.meters.items (installations_of facts register) new.meters.items
   pub days : AddDays (rows_within span (rows_of_register facts register)) old.days new.days None
 
--- One of the file's rows is out of order after those before.
+-- One of the file's rows is out of order after the rows of the earlier files and of this file
+-- before it.
 pub record IsOutOfTurn (span : Span) (register : List ℕ) (facts : List Fact)
     (old : JoinedFiles) : Type 0 where
   pub days : JoinedDays
   pub added : AddDays (rows_within span (rows_of_register facts register)) old.days days
       (Some unjoined.OutOfTurn)
 
--- The meters and the rows of a file were added.
+-- The meters and the interval rows of a file were added to those of the earlier files.
 pub record AddsBoth (span : Span) (register : List ℕ) (facts : List Fact)
     (old new : JoinedFiles) : Type 0 where
   pub recorded : new.is_recorded ≡ old.is_recorded
   pub meters : AddMeters old.meters.items (installations_of facts register) new.meters.items
   pub days : AddDays (rows_within span (rows_of_register facts register)) old.days new.days None
 
--- The meters and the rows of a file were added, or the reason why they don't join.
+-- The meters and the interval rows of a file were added, or the reason is returned why they don't
+-- join.
 abbrev pub AddsRows : Span → (register : List ℕ) → (facts : List Fact) → (old new : JoinedFiles)
     → Option Unjoined → Type 0
 AddsRows span register facts old new None = AddsBoth span register facts old new
@@ -118,7 +121,7 @@ AddsRows span register facts old new (Some (unjoined.Apart apart)) =
 AddsRows span register facts old new (Some unjoined.OutOfTurn) =
     IsOutOfTurn span register facts old
 
--- The file joins those before it, or the reason why not.
+-- The file joins the earlier files, or the reason is returned why it does not.
 abbrev pub Joins : Span → (register : List ℕ) → (facts : List Fact) → (old new : JoinedFiles)
     → Option Unjoined → Type 0
 Joins span register facts old new None = JoinsFile span register facts old new
@@ -129,13 +132,13 @@ Joins span register facts old new (Some (unjoined.Apart apart)) =
 Joins span register facts old new (Some unjoined.OutOfTurn) =
     IsOutOfTurn span register facts old
 
--- The file does not join those before it, for this reason.
+-- The file does not join the earlier files, for this reason.
 abbrev pub DoesNotJoin : Span → (register : List ℕ) → (facts : List Fact) → (old : JoinedFiles)
     → Unjoined → Type 0
 DoesNotJoin span register facts old why =
     (new : JoinedFiles) × Joins span register facts old new (Some why)
 
--- If the files before joined, they join with this one.
+-- If the earlier files join, they also join with this file, or the reason is returned why not.
 abbrev pub AllJoin : Span → (register : List ℕ) → (facts : List Fact) → (old new : JoinedFiles)
     → Option Unjoined → Type 0
 AllJoin span register facts old new None = (zone : Zone) (files : List (List Fact))

@@ -1,10 +1,10 @@
--- What is stored of the files of one office, in order.
+-- A value that has the data of several files of one office, in order.
 use Rattle.std.specs.Prelude.{List, ◌∷◌, Option, Some, None}
 use Rattle.office_events.specs.declared.facts.Fact.{Fact}
 use Rattle.carried_books.specs.declared.joining.files.Unjoined.{Unjoined}
 
--- The stored value of some files becomes that of these files and one more, with these facts; or the
--- new file does not join.
+-- The value of some files becomes that of these files and one more file; or a reason is returned
+-- why the new file does not join.
 abbrev pub KeepsFile : {K : Type 0} → (keeps : List (List Fact) → K → Type 0) → List Fact
     → (old new : K) → Option Unjoined → Type 0
 KeepsFile keeps facts old new None =

@@ -35,11 +35,11 @@ use Rattle.carried_books.specs.declared.joining.days.JoinedDays.{JoinedDays}
 
 -- ---- the quarter hours of an office
 
--- The opening is what a search by its meter's name finds.
+-- The records have this opening, and a lookup by its meter's name finds it.
 abbrev pub IsInstalled : List Fact → Opening → Type 0
 IsInstalled facts opening = opening_of facts opening.meter ≡ Some opening
 
--- The quarter hours of these meters in a span were taken, one meter after another; or the store
+-- The sink took the interval rows of these meters in a span, one meter after another; or the store
 -- failed.
 abbrev pub TakesMeters : List Fact → List Opening → Span → (before after : Failures)
     → (from to : JoinedDays) → Result (Unit {0}) Refusal → Type 0
@@ -49,8 +49,8 @@ TakesMeters facts openings span before after from to result =
     (rows_within span (flat_map (rows_of_opening facts) openings)) to)
     (IsOutside ⊥ before after)
 
--- The same if these are the meters of recorded openings, in their state. The office was only
--- queried.
+-- The sink took the interval rows of these meters from the office, if the meters are in the
+-- office's records. The office was only queried.
 pub record AsksMeters {B : Type 0} (ledger : B → Ledger) (old new : Office B)
     (listed : List Installation) (span : Span) (from to : JoinedDays)
     (result : Result (Unit {0}) Refusal) : Type 0 where
@@ -61,8 +61,8 @@ pub record AsksMeters {B : Type 0} (ledger : B → Ledger) (old new : Office B)
       → TakesMeters (facts_of past) openings span
       (failures_of ledger old) (failures_of ledger new) from to result)
 
--- The quarter hours of a register in a span were taken, as the records have them; or no register
--- has the name, or the store failed.
+-- The sink took the interval rows of the accounting register in a span; or no register has the
+-- name, or the store failed.
 pub record TakesRegister (facts : List Fact) (register : List ℕ) (span : Span)
     (before after : Failures) (from to : JoinedDays) (result : Result (Unit {0}) Refusal) :
     Type 0 where
@@ -70,7 +70,8 @@ pub record TakesRegister (facts : List Fact) (register : List ℕ) (span : Span)
   pub whole : OnOk result (TakesAll TakesShare from
       (rows_within span (rows_of_register facts register)) to)
 
--- The same by what an office has accepted.
+-- The sink took the rows of the accounting register from the office, by the records of all accepted
+-- events. The office was only queried.
 abbrev pub AsksRegister : {B : Type 0} → (B → Ledger) → (old new : Office B)
     → (register : List ℕ) → Span → (from to : JoinedDays) → Result (Unit {0}) Refusal → Type 0
 AsksRegister ledger old new register span from to result = After ledger old new (λ past.
@@ -79,8 +80,8 @@ AsksRegister ledger old new register span from to result = After ledger old new 
 
 -- ---- the days of both
 
--- The days of these rows, or the reason why not: no register has the name; the store or memory
--- failed; the office had stopped; or one of the rows is out of order.
+-- The result is the list of days of these rows. Otherwise it says why not: no register has the
+-- name, the store or memory failed, the office had stopped, or a row is out of order.
 abbrev pub ListsOver : Zone → (rows : List Share) → (there : Option (Unit {0}))
     → (before after : Failures) → Result (Vec DayTotal Global) Refusal → Type 0
 ListsOver zone rows there before after (Ok days) =
@@ -89,14 +90,14 @@ ListsOver zone rows there before after (Err why) =
     IsFound {T = Unit {0}} (there ≡ Some tt) there before after (Err why)
     ⊎ ((why ≡ refusal.Store store.NoDay) × (after ≡ before) × AreOutOfTurn rows)
 
--- The rows of earlier files, and the rows in a span of an office with these facts.
+-- The interval rows of earlier files, followed by those of the office in a span.
 abbrev pub rows_of_both : Span → (earlier : List Share) → List Fact → (register : List ℕ)
     → List Share
 rows_of_both span earlier facts register =
     earlier ++ rows_within span (rows_of_register facts register)
 
--- The days of a register over earlier files and an office, by what the office has accepted. The
--- earlier days are the sum of the earlier rows, and the total energy fits 128 bits.
+-- The days of an accounting register over earlier files and the office's accepted events. The total
+-- energy must fit in 128 bits.
 abbrev pub TellsDaysOver : {B : Type 0} → (B → Ledger) → (old new : Office B) → Zone
     → (earlier : EarlierDays) → (register : List ℕ) → Span
     → Result (Vec DayTotal Global) Refusal → Type 0
@@ -107,8 +108,8 @@ TellsDaysOver ledger old new zone earlier register span result = After ledger ol
     (is_there (register_of (facts_of past) register))
     (failures_of ledger old) (failures_of ledger new) result)
 
--- No register has the name, the store failed, or the office had stopped; or the register exists,
--- and memory was missing.
+-- The refusal if memory ran out: no register has the name, the store failed, or the office had
+-- stopped; otherwise `Memory`.
 abbrev pub LacksMemory : {B : Type 0} → (B → Ledger) → (old new : Office B)
     → (register : List ℕ) → Refusal → Type 0
 LacksMemory ledger old new register why = After ledger old new (λ past.

@@ -1,4 +1,4 @@
--- The report of a register over the files of one office, on a range of days, in a form.
+-- The report of an accounting register over the files of one office, on a range of days, in a form.
 use Rattle.std.specs.Prelude.{◌≡◌, ◌↔◌, ℕ, List, [], ◌∷◌, ◌++◌, map, Option, Some}
 use Rattle.std.specs.declared.io.Write as writers
 use Rattle.command_io.specs.declared.status.ExitStatus.{ExitStatus}
@@ -18,28 +18,30 @@ use Rattle.carried_books.specs.Joining.Days.{HasNumber}
 use Rattle.carried_books.specs.Joining.Files.{HasJoined, rows_over}
 use Rattle.carried_books.specs.declared.joining.files.JoinedFiles.{JoinedFiles}
 
--- The days of the register's rows in all files that are in the range.
+-- `days` are the days in the range of the accounting register's rows in all files.
 pub record AreDaysOver (zone : Zone) (register : List ℕ) (files : List (List Fact))
     (range : DayRange) (days : List DayAccount) : Type 0 where
   pub all : List DayAccount
   pub are : AreAccounts zone (rows_over register files) all
   pub asked : days ≡ accounts_within range all
 
--- The rows of the register's days in the range, by the clocks of the zone, in the requested form.
+-- The text of the report over all files: the register's days in the range, by the clocks of the
+-- zone, in the requested form.
 abbrev pub IsReportOver : Zone → (register : List ℕ) → (files : List (List Fact)) → ReportForm
     → (text : List ℕ) → Type 0
 IsReportOver zone register files form text = (days : List DayTotal)
     × AreDaysOver zone register files form.range (map account_of days)
     × (text ≡ report_text form days)
 
--- The report was printed, or a part of it, since a write failed.
+-- The report over all files was printed, or a part of it if a write failed.
 pub record PrintsOver (zone : Zone) (register : List ℕ) (files : List (List Fact))
     (form : ReportForm) (status : ExitStatus) (had holds : Option (List ℕ)) : Type 0 where
   pub text : List ℕ
   pub is : IsReportOver zone register files form text
   pub told : IsTold text Fine status had holds
 
--- The same of files that join, by what was stored of them, if their total energy fits 128 bits.
+-- The report was printed from the data that were kept of joined files, if their total energy fits
+-- in 128 bits.
 abbrev pub ReportsJoined : {W : Type 0} → writers.Ghosts W → JoinedFiles → ReportForm
     → (had holds : W) → ExitStatus → Type 0
 ReportsJoined w joined form had holds status =
@@ -48,15 +50,15 @@ ReportsJoined w joined form had holds status =
     → HasNumber (rows_over register files)
     → PrintsOver zone register files form status (w.contents had) (w.contents holds)
 
--- For one file these are the days of its register.
+-- For one file the report over all files has the days of the register in this file.
 abbrev pub OneFileTellsItsDays : Type 0
 OneFileTellsItsDays = (zone : Zone) (register : List ℕ) (facts : List Fact) (range : DayRange)
     (days : List DayAccount)
     → AreDaysOver zone register (facts ∷ []) range days
     ↔ AreDaysWithin zone facts (Some register) range days
 
--- A meter was rolled over from the old file into the new one. The rows of both give the days of its
--- complete journal: those of one file without a rollover.
+-- If a meter was rolled over from one file into another, both files report the days that one file
+-- with the complete journal would report.
 abbrev pub BothFilesTellTheJoinedDays : Type 0
 BothFilesTellTheJoinedDays = (zone : Zone) (old new both : List Share) (accounts : List DayAccount)
     → AreCountedOnce old new both

@@ -1,5 +1,5 @@
--- The meters at a register over the files of one office, for their statement on a range of days. A
--- file is given by its facts, and lists of files have the latest first.
+-- The meters at an accounting register over the files of one office, for their statements on a
+-- range of days. A file is given by its records, and lists of files have the latest file first.
 use Rattle.std.specs.Prelude.{◌≡◌, ◌⊎◌, ℕ, ◌+◌, ◌-◌, ◌^◌, min, Bool, true, false, List, [], ◌∷◌, ◌++◌, map, filter, drop, All, Option, Some, None}
 use Rattle.std.specs.declared.io.Write as writers
 use Rattle.command_io.specs.declared.status.ExitStatus.{ExitStatus}
@@ -38,7 +38,7 @@ use Rattle.carried_books.specs.declared.joining.statements.JoinedStatement.{Join
 
 -- ---- a meter over several files
 
--- What files have of a meter: its state, its entries in order with voided ones, its quarter hours,
+-- What files have of a meter: its state, its entries in order with voided ones, its interval rows,
 -- and its rejected readings.
 pub record MeterOver : Type 0 where
   pub stands : Installation
@@ -46,7 +46,7 @@ pub record MeterOver : Type 0 where
   pub rows : List Share
   pub holds : List HeldReading
 
--- What one file has of a listed meter.
+-- What one file has of a meter that the file lists.
 abbrev pub meter_in : List Fact → Installation → MeterOver
 meter_in facts row = record {
   stands = row;
@@ -55,13 +55,14 @@ meter_in facts row = record {
   holds = holds_of facts row.opening.meter;
 }
 
--- The entries that only this file has: all entries of a meter that begins there. The opening of a
--- meter that continues is not one of them: it repeats the last valid entry before the rollover.
+-- The entries that only this file has. If the meter continues from an earlier file, its opening is
+-- left out, since it repeats the last valid entry before the rollover.
 abbrev pub own_entries : (goes_on : Bool) → List MeterEntry → List MeterEntry
 own_entries true entries = drop 1 entries
 own_entries false entries = entries
 
--- What files have of a meter, with the next file, in which it continues.
+-- What several files have of a meter, from `one` of the earlier files and `next` of the next file,
+-- in which the meter continues.
 abbrev pub both_of : (one next : MeterOver) → MeterOver
 both_of one next = record {
   stands = as_one one.stands next.stands;
@@ -72,7 +73,7 @@ both_of one next = record {
 
 -- ---- the meters at a register
 
--- The last of these meters continues as this one.
+-- `next` continues the last of these meters. `after` has the meter over all files in its place.
 pub record IsOneOver (known : List MeterOver) (next : MeterOver) (after : List MeterOver) :
     Type 0 where
   pub before : List MeterOver
@@ -81,26 +82,25 @@ pub record IsOneOver (known : List MeterOver) (next : MeterOver) (after : List M
   pub goes : GoesOn one.stands next.stands
   pub after_is : after ≡ before ++ both_of one next ∷ []
 
--- All of these meters were before this one, which follows them.
+-- All of these meters precede `next`, which is appended to them.
 pub record IsNextOver (known : List MeterOver) (next : MeterOver) (after : List MeterOver) :
     Type 0 where
   pub earlier : All (λ one. is_before one.stands next.stands ≡ true) known
   pub after_is : after ≡ known ++ next ∷ []
 
--- A meter joins those of the files before, and the earlier ones in its file, as for reports over
--- files.
+-- `next` continues the last of these meters, or is appended because all of them precede it.
 abbrev pub AddsOver : (known : List MeterOver) → MeterOver → (after : List MeterOver) → Type 0
 AddsOver known next after = IsOneOver known next after ⊎ IsNextOver known next after
 
--- What each file has of its meters: those of the first file, in the order of installation, then
--- those of the next, and so on.
+-- What each file has of its meters at an accounting register: those of the first file in the order
+-- of installation, then those of the next, and so on.
 abbrev pub parts_over : (register : List ℕ) → (files : List (List Fact)) → List MeterOver
 parts_over register [] = []
 parts_over register (facts ∷ files) =
     parts_over register files ++ map (meter_in facts) (installations_of facts register)
 
--- The files join at the register, and these are its meters over all of them. A meter that a file
--- does not have is as the files before have it.
+-- The files join at the accounting register, and `meters` are its meters over all files. A meter
+-- that the latest file does not have is as the earlier files have it.
 pub record AreMetersOver (register : List ℕ) (files : List (List Fact)) (meters : List MeterOver) :
     Type 0 where
   pub recorded : StaysRecorded register files
@@ -108,9 +108,8 @@ pub record AreMetersOver (register : List ℕ) (files : List (List Fact)) (meter
 
 -- ---- the statement
 
--- The statement of a meter, as in one file. It has the first and the last entry in the range and
--- the number of corrections. It also has the energy of the quarter hours that start in the range,
--- and the number of rejected readings there.
+-- The statement of a meter over all files: its first and last entry in the range, its corrections,
+-- the energy of the interval rows that start there, and the rejected readings there.
 abbrev pub statement_over : Zone → DayRange → MeterOver → MeterStatement
 statement_over zone range m = record {
   meter = m.stands.opening.meter;
@@ -119,12 +118,13 @@ statement_over zone range m = record {
   held = held_within zone range m.holds;
 }
 
--- The statements of the meters that were installed in the range, counted from the first opening.
+-- The statements of the meters that were installed in the range, by their openings in the first
+-- file.
 abbrev pub statements_over : Zone → DayRange → List MeterOver → List MeterStatement
 statements_over zone range meters =
     map (statement_over zone range) (filter (λ m. was_there zone range m.stands) meters)
 
--- The statement of the register's meters over the files.
+-- `rows` are the statements of the accounting register's meters over the files.
 abbrev pub IsStatementOver : Zone → (register : List ℕ) → (files : List (List Fact))
     → StatementForm → (text : List ℕ) → Type 0
 IsStatementOver zone register files form text = (meters : List MeterOver)
@@ -133,29 +133,29 @@ IsStatementOver zone register files form text = (meters : List MeterOver)
 
 -- ---- what is stored of a meter
 
--- The stored value of a meter.
+-- The value that is kept of a meter: its state, and its statement for the range.
 abbrev pub kept_of : Zone → DayRange → MeterOver → KeptMeter
 kept_of zone range m = record { stands = m.stands; told = statement_over zone range m }
 
--- Each value is stored of the meter at its index.
+-- Each kept value is that of the meter at its index.
 abbrev pub AreTold : Zone → DayRange → List KeptMeter → List MeterOver → Type 0
 AreTold zone range kept meters = kept ≡ map (kept_of zone range) meters
 
--- The state of a stored meter.
+-- The state of a kept meter.
 abbrev pub stands_of : KeptMeter → Installation
 stands_of kept = kept.stands
 
--- The statement of a stored meter.
+-- The statement of a kept meter.
 abbrev pub told_of : KeptMeter → MeterStatement
 told_of kept = kept.told
 
--- The rows of those meters that were installed in the range.
+-- The statements of those kept meters that were installed in the range.
 abbrev pub rows_of_those : Zone → DayRange → List KeptMeter → List MeterStatement
 rows_of_those zone range kept =
     map told_of (filter (λ one. was_there zone range one.stands) kept)
 
--- What was stored of files that join: the statements of their meters on the days of the range, by
--- the clocks of the zone.
+-- `kept` has the statements that joined files give for the meters of an accounting register, on the
+-- days of the range. Days are those of the zone.
 pub record HasStated (zone : Zone) (range : DayRange) (register : List ℕ)
     (files : List (List Fact)) (kept : JoinedStatement) : Type 0 where
   pub recorded : kept.is_recorded ≡ is_recorded_in register files
@@ -166,13 +166,13 @@ pub record HasStated (zone : Zone) (range : DayRange) (register : List ℕ)
 
 -- ---- one more file
 
--- Entries are added to an earlier tally.
+-- The tally of some entries becomes that of these and further entries.
 abbrev pub TalliesOn : Zone → DayRange → List MeterEntry → (old new : EntryTally) → Type 0
 TalliesOn zone range entries old new = (before : List MeterEntry)
     → old ≡ tally_of zone range before → new ≡ tally_of zone range (before ++ entries)
 
--- The part of a meter in a file, where the meter continues or begins: its entries are added to the
--- earlier tally, and the rest is of this file only.
+-- What a file adds to a meter that continues in it or begins there: the tally continues the earlier
+-- one, energy and rejected readings are of this file only.
 pub record TellsPart (zone : Zone) (range : DayRange) (meter : List ℕ) (goes_on : Bool)
     (facts : List Fact) (begun : EntryTally) (told : MeterStatement) : Type 0 where
   pub meter_is : told.meter ≡ meter
@@ -181,7 +181,7 @@ pub record TellsPart (zone : Zone) (range : DayRange) (meter : List ℕ) (goes_o
   pub energy : told.mwh ≡ energy_within zone range (rows_of_meter facts meter)
   pub held : told.held ≡ held_within zone range (holds_of facts meter)
 
--- The number of rejected readings in both; a count stays at the largest number of 64 bits.
+-- The counts of rejected readings of two parts added up; each count stays at 2^64 - 1.
 abbrev pub both_held : (one more : HeldCounts) → HeldCounts
 both_held one more = record {
   not_accumulated = counted (one.not_accumulated + more.not_accumulated);
@@ -194,7 +194,7 @@ both_held one more = record {
   not_below_range = counted (one.not_below_range + more.not_below_range);
 }
 
--- The stored meter with its part in the next file, where it continues.
+-- The kept meter with what the next file adds to it.
 abbrev pub with_part : KeptMeter → Installation → (part : MeterStatement) → KeptMeter
 with_part kept row part = record {
   stands = as_one kept.stands row;
@@ -206,8 +206,8 @@ with_part kept row part = record {
   };
 }
 
--- The stored value of some meters becomes that of these and of the listed meters of a file, which
--- join them, unless two are apart.
+-- The kept values of some meters become those of these and of the meters of one more file, if all
+-- of these join.
 abbrev pub TellsAll : Zone → DayRange → (facts : List Fact) → (listed : List Installation)
     → (old new : List KeptMeter) → Option Apart → Type 0
 TellsAll zone range facts listed old new None = (meters : List MeterOver)
@@ -216,15 +216,15 @@ TellsAll zone range facts listed old new None = (meters : List MeterOver)
     × AreTold zone range new after
 TellsAll zone range facts listed old new (Some apart) = Unit {0}
 
--- The meters were added, or two are apart.
+-- The meters of the file were added, or two meters are returned that don't join.
 abbrev pub AddsListed : Zone → DayRange → (facts : List Fact) → (listed : List Installation)
     → (old new : List KeptMeter) → Option Apart → Type 0
 AddsListed zone range facts listed old new apart =
     AddOrAreApart (map stands_of old) listed (map stands_of new) apart
     × TellsAll zone range facts listed old new apart
 
--- A file does not join those before it, for a reason that also applies to a report over files. The
--- order of quarter hours does not matter here: their energies are added up in any order.
+-- The file does not join the earlier files, for a reason that a report over files would also give.
+-- The order of interval rows does not matter here, since energies are added up in any order.
 abbrev pub DoesNotGoOn : (register : List ℕ) → (facts : List Fact) → (old : JoinedStatement)
     → Unjoined → Type 0
 DoesNotGoOn register facts old unjoined.NotRecorded =
@@ -235,20 +235,22 @@ DoesNotGoOn register facts old unjoined.OutOfTurn = ⊥
 
 -- ---- the printed text
 
--- The statement of these rows was printed, or a part of it if a write failed.
+-- The text of these statements was printed, or a part of it if a write failed.
 abbrev pub PrintsRows : {W : Type 0} → (contents : W → Option (List ℕ)) → StatementForm
     → List MeterStatement → ExitStatus → (had holds : W) → Type 0
 PrintsRows contents form rows status had holds =
     IsTold (statement_text form rows) Fine status (contents had) (contents holds)
 
--- The statement was printed, or a part of it, since a write failed.
+-- The statements of the register's meters over the files were printed, or a part of them if a write
+-- failed.
 pub record PrintsStatement (zone : Zone) (register : List ℕ) (files : List (List Fact))
     (form : StatementForm) (status : ExitStatus) (had holds : Option (List ℕ)) : Type 0 where
   pub text : List ℕ
   pub is : IsStatementOver zone register files form text
   pub told : IsTold text Fine status had holds
 
--- The same of files that join, by what was stored of them for the days of the form.
+-- The statements were printed from the data that were kept of joined files, for the days of the
+-- form.
 abbrev pub StatesJoined : {W : Type 0} → writers.Ghosts W → JoinedStatement → StatementForm
     → (had holds : W) → ExitStatus → Type 0
 StatesJoined w joined form had holds status =
@@ -258,7 +260,7 @@ StatesJoined w joined form had holds status =
 
 -- ---- one file
 
--- For one file that an office wrote, the result is the statement of its meters.
+-- For one file that an office wrote, the statements over all files are those of the file's meters.
 abbrev pub OneFileStatesItsMeters : Type 0
 OneFileStatesItsMeters = (zone : Zone) (range : DayRange) (register : List ℕ) (facts : List Fact)
     (meters : List MeterOver)
@@ -268,14 +270,14 @@ OneFileStatesItsMeters = (zone : Zone) (range : DayRange) (register : List ℕ) 
 
 -- ---- a meter that is rolled over
 
--- An entry with its index after `count` entries of the old file.
+-- An entry with its index in one file that has `count` entries of the old file before it.
 abbrev pub moved_entry : (count : ℕ) → MeterEntry → MeterEntry
 moved_entry count (entry.Opening last) = entry.Opening last
 moved_entry count (entry.Later row sf) = entry.Later (moved_row count row) sf
 
--- What two files have of a meter that is rolled over, and what one file with both journals has. In
--- the one file the new entries, without the opening, follow the old ones. Each quarter hour has the
--- energy of both, and the new rejected readings follow the old ones.
+-- `both` is the meter in one file that has the journals of the old and the new file. The new
+-- entries follow the old ones, each quarter hour has the energy of both, and the new rejected
+-- readings follow the old ones.
 pub record HaveOneJournal (old new both : MeterOver) : Type 0 where
   pub count : ℕ
   pub name : both.stands.opening.meter ≡ old.stands.opening.meter
@@ -284,7 +286,8 @@ pub record HaveOneJournal (old new both : MeterOver) : Type 0 where
   pub rows : AreCountedOnce old.rows new.rows both.rows
   pub holds : both.holds ≡ old.holds ++ new.holds
 
--- Both files state the meter as the one file does.
+-- If a meter was rolled over from one file into another, its statement over both is that of one
+-- file with both journals.
 abbrev pub BothFilesStateTheJoinedMeter : Type 0
 BothFilesStateTheJoinedMeter = (zone : Zone) (range : DayRange) (old new both : MeterOver)
     → HaveOneJournal old new both

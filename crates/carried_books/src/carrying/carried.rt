@@ -1,4 +1,4 @@
-//! Rolls an office over into a new one.
+//! Rolls an office over into a new file.
 ghost use Rattle.carried_books.specs.Carrying.Carried.{Carries, Follows, OnlyAsked};
 ghost use Rattle.carried_books.specs.Carrying.Feeding.{Passes};
 
@@ -10,7 +10,8 @@ use office_core::Office;
 use office_events::Refusal;
 use std::alloc::Global;
 
-// Sets up an office by a plan.
+// Feeds the commands of a plan to a new office. Returns the number of installed meters, or why the
+// plan could not be followed.
 fn follow<N: Books>(office: &mut Office<N>, plan: Plan) -> Result<u64, CarryFault>
     ensures follows { Follows N.ledger plan office.old office.new result }
     ensures passes { Passes N.ledger office.old office.new }

@@ -1,4 +1,4 @@
-//! The commands that set up an office like another.
+//! The commands that set up a new office with the contents of an old one.
 ghost use Rattle.std.specs.Prelude.{◌≡◌, ◌++◌, ◌∷◌, [], map, OnOk};
 ghost use Rattle.office_books.specs.Ledgers.{Consults, Finds};
 ghost use Rattle.carried_books.specs.Carrying.Adding.{Adds};
@@ -88,7 +88,7 @@ fn install(opening: &Opening) -> TimedCommand
 
 // ---- devices
 
-// Adds the point list of a device, if it has one.
+// Adds the command for a device's point list, if the device has one.
 fn add_list<B: Books>(
     added: &mut Vec<TimedCommand>,
     books: &mut B,
@@ -105,7 +105,7 @@ fn add_list<B: Books>(
     Ok(())
 }
 
-// Adds the commands of these registers.
+// Adds the commands for these accounting registers.
 fn add_each(
     added: &mut Vec<TimedCommand>,
     at: u64,
@@ -120,7 +120,7 @@ fn add_each(
     Ok(())
 }
 
-// Adds the commands of a device's registers.
+// Adds the commands for the accounting registers of a device.
 fn add_registers<B: Books>(
     added: &mut Vec<TimedCommand>,
     books: &mut B,
@@ -137,7 +137,7 @@ fn add_registers<B: Books>(
     Ok(())
 }
 
-// Adds the commands of a device, its list and its registers.
+// Adds the commands for a device, its point list and its accounting registers.
 fn set_up_device<B: Books>(
     added: &mut Vec<TimedCommand>,
     books: &mut B,
@@ -154,7 +154,7 @@ fn set_up_device<B: Books>(
     add_registers(added, books, at, device)
 }
 
-// Adds the commands of these devices.
+// Adds the commands for these devices, each with its point list and its accounting registers.
 fn set_up_devices<B: Books>(
     added: &mut Vec<TimedCommand>,
     books: &mut B,
@@ -174,7 +174,7 @@ fn set_up_devices<B: Books>(
 
 // ---- meters
 
-// Adds the commands of these meters.
+// Adds the commands that install meters with these openings.
 fn add_installs(added: &mut Vec<TimedCommand>, openings: &[Opening]) -> Result<(), AllocError>
     ensures { OnOk result
         (added.new.items ≡ added.old.items ++ map commands.install openings.now) }
@@ -198,7 +198,8 @@ fn first_moment<B: Books>(books: &mut B, openings: &[Opening]) -> Result<u64, Bo
     }
 }
 
-/// Returns the commands that set up these devices as in the store, and then these meters.
+/// Returns the commands that set up these devices as the store has them, and then install meters
+/// with these openings.
 pub fn commands_for<B: Books>(
     alloc: Global,
     books: &mut B,

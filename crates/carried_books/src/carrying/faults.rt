@@ -4,7 +4,7 @@ use office_events::{Name, Refusal};
 /// Why an office was not rolled over into a new one.
 #[derive(Clone, Copy, Debug, PartialEq, Eq)]
 pub enum CarryFault {
-    /// The old office's store failed, or memory ran out: its refusal.
+    /// The old office's store failed, or memory ran out. The refusal says which.
     Old(Refusal),
     /// The new office refused a command.
     New(Refusal),

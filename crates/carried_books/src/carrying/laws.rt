@@ -2,13 +2,13 @@
 ghost use Rattle.carried_books.specs.Carrying.Recorded.{CommandsRecordTheSame};
 ghost use Rattle.carried_books.specs.Carrying.Recorded.{MetersGoOnWhereTheyStand};
 
-/// The commands of a rollover record the office's devices, lists and registers unchanged, and the
-/// openings of its meters; nothing else.
+/// Proves that the commands of a rollover record exactly the old office's devices, point lists and
+/// accounting registers, and the openings of its meters.
 pub fn commands_record_the_same()
     ensures { CommandsRecordTheSame }
 {}
 
-/// Without a given timestamp, each meter is opened in its current state.
+/// Proves that without a given timestamp each meter is opened in its present state.
 pub fn meters_go_on_where_they_stand()
     ensures { MetersGoOnWhereTheyStand }
 {}

@@ -14,7 +14,7 @@ use office_books::{Books, BooksFault};
 use office_events::{Device, Installation, Name, Opening, Register};
 use std::alloc::{AllocError, Global};
 
-/// The openings of the open meters, or a meter that has none yet.
+/// The openings of all open meters, or a meter for which there is none yet.
 #[derive(Drop)]
 pub enum Openings {
     All(Vec<Opening>),
@@ -22,7 +22,7 @@ pub enum Openings {
     NotYet(Name),
 }
 
-// Adds the open meter of a register, if any.
+// Adds the open meter at an accounting register, if there is one.
 fn add_open<B: Books>(
     rows: &mut Vec<Installation>,
     books: &mut B,
@@ -41,7 +41,7 @@ fn add_open<B: Books>(
     Ok(())
 }
 
-// Adds the open meters of these registers.
+// Adds the open meters at these accounting registers.
 fn add_registers<B: Books>(
     rows: &mut Vec<Installation>,
     books: &mut B,
@@ -58,7 +58,7 @@ fn add_registers<B: Books>(
     Ok(())
 }
 
-// Adds the open meters of a device's registers.
+// Adds the open meters at a device's accounting registers.
 fn add_device<B: Books>(
     rows: &mut Vec<Installation>,
     books: &mut B,
@@ -72,7 +72,7 @@ fn add_device<B: Books>(
     add_registers(rows, books, &registers)
 }
 
-// Adds the open meters of these devices' registers.
+// Adds the open meters at these devices' accounting registers.
 fn add_devices<B: Books>(
     rows: &mut Vec<Installation>,
     books: &mut B,
@@ -89,7 +89,7 @@ fn add_devices<B: Books>(
     Ok(())
 }
 
-/// Returns the open meters at the registers of these devices, in their order.
+/// Returns the open meters at the accounting registers of these devices, in their order.
 pub fn open_meters<B: Books>(
     alloc: Global,
     books: &mut B,
@@ -104,7 +104,7 @@ pub fn open_meters<B: Books>(
     Ok(rows)
 }
 
-// The opening of a meter in the state `last`.
+// The opening of the same meter, with the counter in the state `last`.
 fn opened_at(opening: &Opening, last: Last) -> Opening
     ensures { result ≡ openings.opened_at opening.now last }
 {
@@ -116,7 +116,8 @@ fn opened_at(opening: &Opening, last: Last) -> Opening
     }
 }
 
-/// Returns the openings of these meters, each at its last valid entry up to a timestamp.
+/// Returns the openings of these meters, each at its last valid entry up to `until`; or a meter
+/// that has no such entry.
 pub fn openings_of<B: Books>(
     alloc: Global,
     books: &mut B,
@@ -137,7 +138,7 @@ pub fn openings_of<B: Books>(
     Ok(Openings::All(opened))
 }
 
-/// Returns openings in the order of their timestamps.
+/// Returns these openings in the order of their timestamps.
 pub fn in_order(opened: Vec<Opening>) -> Result<Vec<Opening>, AllocError>
     ensures same { IfOk result (λ v. IsPermutation opened.items v.items) }
     ensures ordered { IfOk result (λ v. AllPairs (λ (a b : Opened). a.at ≤ b.at) v.items) }

@@ -1,4 +1,4 @@
-//! Plans a rollover: queries the old office before the new one is given any command.
+//! Plans a rollover: queries the old store before the new office gets any command.
 ghost use Rattle.office_books.specs.Ledgers.{Consults, Finds};
 ghost use Rattle.carried_books.specs.Carrying.Plans as plans;
 
@@ -20,7 +20,7 @@ pub enum Plan {
     NotYet(Name),
 }
 
-// The plan for these devices and openings.
+// The plan that sets up these devices and installs meters with these openings.
 fn plan_for<B: Books>(
     alloc: Global,
     books: &mut B,

@@ -1,4 +1,4 @@
-//! Finds the state of a meter at its last entry up to a timestamp.
+//! Finds the state of a meter's counter at its last valid entry up to a timestamp.
 ghost use Rattle.std.specs.Prelude.{◌≡◌, ◌++◌, ◌∷◌, [], List};
 ghost use Rattle.office_books.specs.Entries.{all_entries};
 ghost use Rattle.office_books.specs.Ledgers.{Consults, Finds};
@@ -9,12 +9,13 @@ use energy_core::{Entry, Last};
 use office_books::{Books, BooksFault, MeterEntry};
 use office_events::Name;
 
-// The number of entries in a query, and the largest number of queries: indexes have 64 bits.
+// The number of entries in one query, and the largest number of queries. Entry indexes have 64
+// bits.
 const PIECE: u32 = 65536;
 
 const MOST_PIECES: u64 = 281_474_976_710_655;
 
-// Whether a timestamp is not after the given one, up to which entries count.
+// Whether `at` is not later than `until`; true for each timestamp without `until`.
 fn is_until(until: Option<u64>, at: u64) -> bool
     ensures { result ≡ standings.is_until until at }
 {
@@ -24,7 +25,7 @@ fn is_until(until: Option<u64>, at: u64) -> bool
     }
 }
 
-// The counter after an entry.
+// The state of the counter after an entry of a meter.
 fn shown(entry: &MeterEntry) -> Last
     ensures { result ≡ standings.shown_by entry.now }
 {
@@ -50,14 +51,14 @@ fn stands(entry: &MeterEntry) -> bool
     }
 }
 
-// Whether an entry is valid and counts up to the timestamp.
+// Whether an entry is valid and not later than `until`.
 fn counts(until: Option<u64>, entry: &MeterEntry) -> bool
     ensures { result ≡ standings.counts until entry.now }
 {
     stands(entry) && is_until(until, shown(entry).at)
 }
 
-// The counter after one more entry.
+// The state of the counter after one more entry; `found` if the entry does not count.
 fn last_with(found: Option<Last>, until: Option<u64>, entry: &MeterEntry) -> Option<Last>
     ensures { (before : List Listed) → found ≡ standings.last_among until before
         → result ≡ standings.last_among until (before ++ entry.now ∷ []) }
@@ -69,7 +70,7 @@ fn last_with(found: Option<Last>, until: Option<u64>, entry: &MeterEntry) -> Opt
     }
 }
 
-// The counter after these further entries.
+// The state of the counter after further entries; `found` if none of them counts.
 fn last_after(found: Option<Last>, until: Option<u64>, entries: &[MeterEntry]) -> Option<Last>
     ensures { (before : List Listed) → found ≡ standings.last_among until before
         → result ≡ standings.last_among until (before ++ entries.now) }
@@ -81,8 +82,8 @@ fn last_after(found: Option<Last>, until: Option<u64>, entries: &[MeterEntry]) -
     last
 }
 
-// The state of a meter at its last valid entry up to a timestamp. The entries are queried in
-// chunks.
+// The state of a meter's counter at its last valid entry up to `until`; `None` if it has none. The
+// entries are queried in chunks.
 fn last_in_pieces<B: Books>(
     books: &mut B,
     meter: &Name,
@@ -103,7 +104,8 @@ fn last_in_pieces<B: Books>(
     Err(BooksFault::Memory)
 }
 
-/// Returns the state of a meter at its last valid entry, up to a timestamp if one is given.
+/// Returns the state of a meter's counter at its last valid entry up to `until`; `None` if it has
+/// none.
 pub fn last_until<B: Books>(
     books: &mut B,
     meter: &Name,

@@ -63,7 +63,7 @@ impl JoinedDays {
         }
     }
 
-    /// Returns the first failure: a row was out of order, or memory was missing.
+    /// Returns the first failure, if any: a row was out of order, or memory ran out.
     pub fn fault(&self) -> Option<DayFault>
         ensures { result ≡ self.now.fault }
     {
@@ -114,7 +114,7 @@ impl EarlierDays {
         EarlierDays { fold, latest }
     }
 
-    /// Returns the days in order.
+    /// Returns the civil days of the sum, in order.
     pub fn into_rows(self) -> Vec<DayTotal>
         ensures { map account_of result.items ≡ self.fold.accounts }
     {

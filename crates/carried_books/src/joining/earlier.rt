@@ -1,5 +1,5 @@
-//! Collects the registers of earlier files, so that a running office can report energy over all
-//! files.
+//! Collects the accounting registers of earlier files, so that a running office can report energy
+//! over all files.
 ghost use Rattle.std.specs.Prelude.{◌≡◌, List, map, IfOk};
 ghost use Rattle.office_events.specs.declared.facts.Fact.{Fact};
 ghost use Rattle.office_books.specs.Ledgers.{Consults};
@@ -16,7 +16,7 @@ use office_books::{Books, BooksFault, Span};
 use office_events::{Device, Installation, Name, Register};
 use std::alloc::{AllocError, Global};
 
-/// A register in earlier files: its meters and its days.
+/// An accounting register in earlier files: its meters and its days.
 ///
 /// The meters are in the order of installation, each as all of these files have it.
 #[derive(Drop)]
@@ -26,14 +26,14 @@ pub struct EarlierRegister {
     pub days: EarlierDays,
 }
 
-/// What files have of a register so far; the next file is compared with it.
+/// What files have of an accounting register so far. The next file is compared with it.
 #[derive(Drop)]
 pub struct KeptRegister {
     pub name: Name,
     pub files: JoinedFiles,
 }
 
-// The register, once all files were added.
+// The accounting register with its data, once all files have been added.
 fn earlier_of(kept: KeptRegister) -> EarlierRegister
     ensures { told result ≡ kept_as kept }
 {
@@ -64,7 +64,7 @@ pub fn add_kept<B: Books>(
     add_books(&mut kept.files, books, &name, Span::All)
 }
 
-// Compares the meters at a register with those of the files before.
+// Compares the meters at an accounting register with those of the earlier files.
 fn hold_meters<B: Books>(kept: &KeptRegister, books: &mut B) -> Result<Option<Unjoined>, BooksFault>
     ensures holds { (known : List Fact) → (B.ledger books.old).holds known
         → (B.ledger books.new).is_clean
@@ -109,7 +109,7 @@ pub fn hold_kept<B: Books>(
     }
 }
 
-/// The registers of several files, each from the first file on that has it.
+/// The accounting registers of several files, each from the first file on that has it.
 #[derive(Drop)]
 pub struct KeptRegisters {
     alloc: Global,
@@ -117,7 +117,7 @@ pub struct KeptRegisters {
     kept: Vec<KeptRegister>,
 }
 
-// Whether a register is stored.
+// Whether the accounting register with this name is kept already.
 fn is_kept(kept: &[KeptRegister], name: &Name) -> bool {
     for one in kept {
         if one.name.is(name) {
@@ -127,7 +127,7 @@ fn is_kept(kept: &[KeptRegister], name: &Name) -> bool {
     false
 }
 
-// Adds what the store has of the stored registers.
+// Adds what the store has of each kept register.
 fn add_all<B: Books>(
     kept: &mut Vec<KeptRegister>,
     books: &mut B,
@@ -149,7 +149,7 @@ fn add_all<B: Books>(
     Ok(None)
 }
 
-// Compares the store with the stored registers.
+// Compares the store with each kept register, and returns the first reason why it does not join.
 fn hold_all<B: Books>(kept: &[KeptRegister], books: &mut B) -> Result<Option<Unjoined>, BooksFault>
     ensures { Consults (B.ledger books.old) (B.ledger books.new) result }
 {
@@ -166,7 +166,7 @@ fn hold_all<B: Books>(kept: &[KeptRegister], books: &mut B) -> Result<Option<Unj
     Ok(None)
 }
 
-// Adds a register of the store, if it is not stored yet.
+// Adds an accounting register of the store, if it is not kept yet.
 fn add_new<B: Books>(
     alloc: Global,
     zone: Zone,
@@ -197,7 +197,7 @@ fn add_new<B: Books>(
     }
 }
 
-// Adds those of these registers that are not stored yet.
+// Adds those of these accounting registers that are not kept yet.
 fn add_registers<B: Books>(
     alloc: Global,
     zone: Zone,
@@ -220,7 +220,7 @@ fn add_registers<B: Books>(
     Ok(None)
 }
 
-// Adds those registers of a device that are not stored yet.
+// Adds those accounting registers of a device that are not kept yet.
 fn add_device<B: Books>(
     alloc: Global,
     zone: Zone,
@@ -236,7 +236,7 @@ fn add_device<B: Books>(
     }
 }
 
-// Adds those registers of these devices that are not stored yet.
+// Adds those accounting registers of these devices that are not kept yet.
 fn add_devices<B: Books>(
     alloc: Global,
     zone: Zone,
@@ -259,7 +259,7 @@ fn add_devices<B: Books>(
     Ok(None)
 }
 
-// Adds all registers of the store that are not stored yet.
+// Adds all accounting registers of the store that are not kept yet.
 fn add_others<B: Books>(
     alloc: Global,
     zone: Zone,
@@ -274,7 +274,7 @@ fn add_others<B: Books>(
     }
 }
 
-// Adds all registers of the store.
+// Adds all accounting registers of the store, those that are kept and new ones.
 fn add_books_to<B: Books>(
     alloc: Global,
     zone: Zone,
@@ -295,7 +295,7 @@ fn add_books_to<B: Books>(
 }
 
 impl KeptRegisters {
-    /// Returns the registers in the order in which the files first had them.
+    /// Returns the accounting registers in the order in which the files first had them.
     pub fn into_registers(self) -> Result<Vec<EarlierRegister>, AllocError>
         ensures { IfOk result (λ registers. map told registers.items
             ≡ map kept_as self.kept.items) }
@@ -309,7 +309,7 @@ impl KeptRegisters {
     }
 }
 
-/// Stores all registers, for any requested register and range.
+/// Keeps all accounting registers, whichever register and range were requested.
 impl Keeping for KeptRegisters {
     ghost use Rattle.std.specs.Prelude.{◌≡◌};
 

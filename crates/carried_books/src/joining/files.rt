@@ -1,4 +1,4 @@
-//! Joins the files of one office at a register, in order.
+//! Joins the files of one office at an accounting register, in order.
 ghost use Rattle.std.specs.Prelude.{◌≡◌, ℕ, List, [], IfOk};
 ghost use Rattle.office_events.specs.declared.facts.Fact.{Fact};
 ghost use Rattle.office_rules.specs.Intervals.{rows_of_register};
@@ -17,18 +17,18 @@ use office_books::{Books, BooksFault, Span};
 use office_events::{Installation, Name};
 use std::alloc::Global;
 
-/// Why a file does not join those before it.
+/// Why a file does not join the earlier files.
 #[derive(Clone, Copy, Debug, PartialEq, Eq)]
 pub enum Unjoined {
-    /// The file does not record the register, though an earlier file does.
+    /// The file does not record the accounting register, though an earlier file does.
     NotRecorded,
     /// A meter at the register does not continue an earlier meter, and does not begin after it.
     Apart(Apart),
-    /// A quarter hour comes after a later one.
+    /// An interval row comes after a later one.
     OutOfTurn,
 }
 
-/// A register over several files: whether it is recorded, its meters, and its days.
+/// An accounting register over several files: whether it is recorded, its meters, and its days.
 #[derive(Drop)]
 pub struct JoinedFiles {
     pub is_recorded: bool,
@@ -47,7 +47,7 @@ pub fn no_files(alloc: Global, zone: Zone) -> JoinedFiles
     }
 }
 
-/// Returns whether a register is recorded.
+/// Returns whether the store has an accounting register with this name.
 pub(crate) fn is_recorded<B: Books>(books: &mut B, register: &Name) -> Result<bool, BooksFault>
     ensures found { Finds (B.ledger books.old) (B.ledger books.new) result
         (λ known is. is ≡ files.is_recorded register.now known) }
@@ -59,7 +59,7 @@ pub(crate) fn is_recorded<B: Books>(books: &mut B, register: &Name) -> Result<bo
     }
 }
 
-/// Adds the meters at a register.
+/// Adds the meters of a file at an accounting register, and returns why they don't join, if so.
 pub(crate) fn join_meters<B: Books>(
     meters: &mut Vec<Installation>,
     books: &mut B,
@@ -80,7 +80,8 @@ pub(crate) fn join_meters<B: Books>(
     }
 }
 
-// Adds the quarter hours of a register in a span.
+// Adds the interval rows of an accounting register in a span, and returns why they don't join, if
+// so.
 fn join_days<B: Books>(
     days: &mut JoinedDays,
     books: &mut B,
@@ -103,7 +104,8 @@ fn join_days<B: Books>(
     }
 }
 
-// Adds the meters and the quarter hours of a register.
+// Adds the meters and the interval rows of an accounting register, and returns why they don't join,
+// if so.
 fn add_rows<B: Books>(
     joined: &mut JoinedFiles,
     books: &mut B,
@@ -124,7 +126,7 @@ fn add_rows<B: Books>(
     }
 }
 
-// Adds the register of a file.
+// Adds an accounting register of the next file, and returns why the file does not join, if so.
 fn add_file<B: Books>(
     joined: &mut JoinedFiles,
     books: &mut B,

@@ -1,4 +1,4 @@
-//! A trait for what is stored of the files of one office, in order.
+//! A trait for values that have the data of several files of one office, in order.
 
 use crate::joining::files::{JoinedFiles, Unjoined, add_books, no_files};
 use interval_core::{DayRange, Zone};

@@ -1,4 +1,4 @@
-//! What is stored of a meter over several files, for its statement.
+//! The data that are kept of a meter over several files, for its statement.
 ghost use Rattle.std.specs.Prelude.{◌≡◌, ◌≤◌, if◌then◌else◌};
 ghost use Rattle.office_books.specs.Entries.{all_entries};
 ghost use Rattle.office_books.specs.Holds.{holds_of};
@@ -16,19 +16,21 @@ use office_books::{Books, BooksFault, Span};
 use office_core::span_around;
 use office_events::{Installation, Name};
 
-/// A meter over several files: its state, and its statement for a range of days.
+/// A meter over several files: its state, and its statement on a range of days.
 #[derive(Clone, Copy, Debug, PartialEq, Eq)]
 pub struct KeptMeter {
     pub stands: Installation,
     pub told: MeterStatement,
 }
 
-// The number of entries in a query, and the largest number of queries: indexes have 64 bits.
+// The number of entries in one query, and the largest number of queries. Entry indexes have 64
+// bits.
 const PIECE: u32 = 65536;
 
 const MOST_PIECES: u64 = 281_474_976_710_655;
 
-// The index of the first entry that only this file has.
+// The index of the first entry that only this file has: 2 if the meter continues from an earlier
+// file, otherwise 1.
 fn first_place(goes_on: bool) -> u64
     ensures place { result ≡ if goes_on then 2 else 1 }
     ensures few { result ≤ 2 }
@@ -36,7 +38,8 @@ fn first_place(goes_on: bool) -> u64
     if goes_on { 2 } else { 1 }
 }
 
-// The tally of a meter, with the entries that only this file has. They are queried in chunks.
+// The earlier tally of a meter with the entries added that only this file has. The entries are
+// queried in chunks.
 fn tally_on<B: Books>(
     books: &mut B,
     begun: EntryTally,
@@ -62,7 +65,8 @@ fn tally_on<B: Books>(
     Err(BooksFault::Memory)
 }
 
-// The energy of a meter in the range. Only the quarter hours around the range's days are queried.
+// The energy of a meter in the range, in mWh. Only the quarter hours around the range's days are
+// queried.
 fn energy<B: Books>(
     books: &mut B,
     zone: &Zone,
@@ -78,7 +82,7 @@ fn energy<B: Books>(
     Ok(energy.mwh())
 }
 
-// The number of a meter's rejected readings in the range.
+// The counts of a meter's rejected readings in the range.
 fn held<B: Books>(
     books: &mut B,
     zone: &Zone,
@@ -94,8 +98,8 @@ fn held<B: Books>(
     Ok(held.counts())
 }
 
-/// Returns the part of a meter in a file, where the meter continues or begins. Its entries are
-/// added to the earlier tally.
+/// Returns what a file adds to a meter that continues in it or begins there. Its tally continues
+/// the earlier one.
 pub(crate) fn told_in<B: Books>(
     books: &mut B,
     begun: EntryTally,
@@ -119,7 +123,7 @@ pub(crate) fn told_in<B: Books>(
     })
 }
 
-// The number of rejected readings in both.
+// The counts of rejected readings of two parts, added up for each cause.
 fn both_held(one: &HeldCounts, more: &HeldCounts) -> HeldCounts
     ensures { result ≡ statements.both_held one.now more.now }
 {
@@ -135,7 +139,7 @@ fn both_held(one: &HeldCounts, more: &HeldCounts) -> HeldCounts
     }
 }
 
-/// Returns the stored meter with its part in the next file, where it continues.
+/// Returns the kept meter with what the next file adds to it.
 pub(crate) fn with_part(kept: &KeptMeter, row: &Installation, part: &MeterStatement) -> KeptMeter
     ensures { result ≡ statements.with_part kept.now row.now part.now }
 {

@@ -10,32 +10,33 @@ ghost use Rattle.carried_books.specs.Joining.Statements.{OneFileStatesItsMeters}
 
 use office_rules::names_are_distinct;
 
-/// The days of a register over one file are those of the file.
+/// Proves that the days of an accounting register over one file are those of this file.
 pub fn one_file_tells_its_days()
     ensures { OneFileTellsItsDays }
 {}
 
-/// Two files report a meter's days as its complete journal gives them, if the meter was rolled over
-/// from one file into the other.
+/// Proves that if a meter was rolled over from one file into another, both files report its days as
+/// its complete journal gives them.
 pub fn both_files_tell_the_joined_days()
     ensures { BothFilesTellTheJoinedDays }
 {}
 
-/// The statement of a register over one file, which an office wrote, is the statement of the file's
-/// meters.
+/// Proves that the statement of an accounting register over one file, which an office wrote, is
+/// that of the file's meters.
 pub fn one_file_states_its_meters()
     ensures { OneFileStatesItsMeters }
 {
     names_are_distinct();
 }
 
-/// Two files state a meter as one file with both journals would, if the meter was rolled over from
-/// one file into the other.
+/// Proves that if a meter was rolled over from one file into another, its statement over both is
+/// that of one file with both journals.
 pub fn both_files_state_the_joined_meter()
     ensures { BothFilesStateTheJoinedMeter }
 {}
 
-/// The reported latest meter of a register is the last meter of all files.
+/// Proves that the latest meter that is reported of an accounting register is the last meter of all
+/// files.
 ///
 /// The meters of the latest file must join those of the others, and an office must have written
 /// that file.

@@ -1,4 +1,4 @@
-//! Joins the meters at a register over several files, in order.
+//! Joins the meters at an accounting register over several files, in order.
 ghost use Rattle.std.specs.Prelude.{◌≡◌, ◌↔◌, ◌&&◌, IsTrue, not, find, IfOk};
 ghost use Rattle.meter_audit.specs.CarriedFiles.{GoesOnAs};
 ghost use Rattle.carried_books.specs.Joining.Meters as meters;
@@ -31,7 +31,7 @@ fn is_same(last: &Last, other: &Last) -> bool
     last.at == other.at && last.raw == other.raw && last.sf == other.sf
 }
 
-// Whether a meter in this state continues as the next one.
+// Whether the meter `meter`, in this state, continues as the meter `next` of the next file.
 fn goes_on_as(meter: &Installed, last: &Last, ended: bool, next: &Installed) -> bool
     ensures { IsTrue result ↔ GoesOnAs meter.now last.now ended next.now }
 {
@@ -41,7 +41,7 @@ fn goes_on_as(meter: &Installed, last: &Last, ended: bool, next: &Installed) -> 
         && is_same(&next.opening, last)
 }
 
-/// Returns whether a meter continues as the one of its name in a later file.
+/// Returns whether a meter continues as the meter of the same name in a later file.
 pub(crate) fn goes_on(stands: &Installation, row: &Installation) -> bool
     ensures { IsTrue result ↔ GoesOn stands.now row.now }
 {
@@ -54,7 +54,8 @@ pub(crate) fn goes_on(stands: &Installation, row: &Installation) -> bool
     )
 }
 
-/// Returns the meter over both files.
+/// Returns the meter over both files: with its first opening, its later state and the energy of
+/// both.
 pub(crate) fn as_one(stands: &Installation, row: &Installation) -> Installation
     ensures { result ≡ meters.as_one stands.now row.now }
 {
@@ -66,7 +67,7 @@ pub(crate) fn as_one(stands: &Installation, row: &Installation) -> Installation
     }
 }
 
-/// Returns whether a meter was closed before another began.
+/// Returns whether the meter `stands` was closed before the meter `row` began, under another name.
 pub(crate) fn is_before(stands: &Installation, row: &Installation) -> bool
     ensures { result ≡ meters.is_before stands.now row.now }
 {
@@ -75,7 +76,7 @@ pub(crate) fn is_before(stands: &Installation, row: &Installation) -> bool
     both(stands.ended, both(is_earlier, !is_same))
 }
 
-// The first of these meters that was not closed before another began.
+// The first of these meters that was not closed before the meter `row` began.
 fn not_before(known: &[Installation], row: &Installation) -> Option<Installation>
     ensures { result ≡ find (λ stands. not (meters.is_before stands row.now)) known.now }
 {
@@ -87,7 +88,7 @@ fn not_before(known: &[Installation], row: &Installation) -> Option<Installation
     None
 }
 
-// Adds a meter that follows these.
+// Appends a meter to these, or returns one of them that was not closed before it began.
 fn add_next(known: &mut Vec<Installation>, row: &Installation) -> Result<Option<Apart>, AllocError>
     ensures { IfOk result (AddsNext known.old.items row.now known.new.items) }
 {
@@ -103,7 +104,8 @@ fn add_next(known: &mut Vec<Installation>, row: &Installation) -> Result<Option<
     }
 }
 
-// Adds a meter that continues the last of these, or follows them.
+// Adds a meter that continues the last of these meters or follows all of them, or returns two
+// meters that don't join.
 fn add_meter(known: &mut Vec<Installation>, row: &Installation) -> Result<Option<Apart>, AllocError>
     ensures { IfOk result (AddsOrIsApart known.old.items row.now known.new.items) }
 {

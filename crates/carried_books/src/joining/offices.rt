@@ -1,4 +1,4 @@
-//! Joins the days of a register in earlier files with those of a running office.
+//! Joins the days of an accounting register in earlier files with those of a running office.
 ghost use Rattle.std.specs.Prelude.{Err};
 ghost use Rattle.std.specs.declared.alloc.Global.{Global};
 ghost use Rattle.std.specs.declared.vec.Vec.{Vec};
@@ -14,7 +14,7 @@ use office_core::Office;
 use office_events::{Installation, Name, Refusal};
 use office_rules::facts_are_lawful;
 
-// Adds the quarter hours of these meters in a span, one meter after another.
+// Adds the interval rows of these meters in a span, one meter after another.
 fn add_meters_within<B: Books>(
     days: &mut JoinedDays,
     office: &mut Office<B>,
@@ -32,7 +32,7 @@ fn add_meters_within<B: Books>(
     Ok(())
 }
 
-// Adds the quarter hours of a register in a span, as the office has them.
+// Adds the interval rows of an accounting register in a span, as the office has them.
 fn add_register<B: Books>(
     days: &mut JoinedDays,
     office: &mut Office<B>,
@@ -50,7 +50,8 @@ fn add_register<B: Books>(
     }
 }
 
-// The refusal if the days of a register find no memory: the office's refusal, if it has one.
+// The refusal if memory for the days runs out: that of a query for the register, or `Memory` if the
+// register exists.
 fn without_memory<B: Books>(office: &mut Office<B>, register: &Name) -> Refusal
     ensures lacks { LacksMemory B.ledger office.old office.new register.now result }
     ensures asks { OnlyAsks {T = Vec DayTotal Global} B.ledger office.old office.new (Err result) }

@@ -1,4 +1,4 @@
-//! Reports a register over the files of one office.
+//! Reports an accounting register over the files of one office.
 ghost use Rattle.std.specs.Prelude.{◌≡◌, ◌<◌, ◌^◌, length, if◌then◌else◌};
 ghost use Rattle.energy_report.specs.Texts.{report_text};
 ghost use Rattle.office_books.specs.Rows.{TakesAll};
@@ -23,7 +23,7 @@ fn hand_on<K: RowSink<DayTotal>>(days: &[DayTotal], sink: &mut K)
     }
 }
 
-// Writes the rest of a report.
+// Writes the end of a report, and returns the exit status.
 fn finish<W: Write>(rows: &mut ReportRows<'_, W>) -> ExitStatus
     ensures { PrintsLast W.contents result rows.old rows.new }
 {
@@ -35,7 +35,8 @@ fn finish<W: Write>(rows: &mut ReportRows<'_, W>) -> ExitStatus
     }
 }
 
-/// Prints the energy of the days that are in the form's range, by period, in a unit and a format.
+/// Prints the energy of the days that are in the form's range, by period, in the form's unit and
+/// format.
 pub fn report_days<W: Write>(days: &[DayTotal], form: &ReportForm, output: &mut W) -> ExitStatus
     ensures { IsTold (report_text form.now days.now) ExitStatus.Fine result
         (W.contents output.old) (W.contents output.new) }
@@ -45,10 +46,10 @@ pub fn report_days<W: Write>(days: &[DayTotal], form: &ReportForm, output: &mut 
     finish(&mut rows)
 }
 
-/// Prints the energy of a register over joined files, on the days of a range, by period, in a unit
-/// and a format.
+/// Prints the energy of an accounting register over joined files, on the days of a range, by
+/// period, in the form's unit and format.
 ///
-/// The files were joined with the quarter hours around the days of the range.
+/// The files must have been joined with the interval rows around the days of the range.
 pub fn report_joined<W: Write>(joined: JoinedFiles, form: &ReportForm, output: &mut W) -> ExitStatus
     ensures { ReportsJoined W.Write joined form.now output.old output.new result }
 {

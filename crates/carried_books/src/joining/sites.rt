@@ -1,4 +1,4 @@
-//! Joins the meters at a register in earlier files with those of a running office.
+//! Joins the meters at an accounting register in earlier files with those of a running office.
 ghost use Rattle.std.specs.Prelude.{◌≡◌};
 ghost use Rattle.carried_books.specs.Joining.Sites as sites;
 
@@ -29,7 +29,7 @@ pub fn earlier_meters<'a>(earlier: &'a [EarlierRegister], register: &Name) -> &'
     &[]
 }
 
-// Whether a meter of the office is the meter that earlier files left open.
+// Whether the office's meter `row` is the meter `stands` that the earlier files left open.
 fn is_left(stands: &Installation, row: &Installation) -> bool
     ensures { result ≡ sites.is_left stands.now row.now }
 {
@@ -37,7 +37,7 @@ fn is_left(stands: &Installation, row: &Installation) -> bool
     both(!stands.ended, is_one)
 }
 
-// A meter that only earlier files have.
+// The latest meter if only earlier files have one.
 fn of_earlier(stands: &Installation) -> LatestMeter
     ensures { result ≡ sites.of_earlier stands.now }
 {
@@ -47,7 +47,7 @@ fn of_earlier(stands: &Installation) -> LatestMeter
     }
 }
 
-// The latest meter of the office at a register where earlier files have a last meter.
+// The latest meter if the office has `row` and the earlier files have `stands` last.
 fn of_both(stands: &Installation, row: &Installation) -> LatestMeter
     ensures { result ≡ sites.of_both stands.now row.now }
 {
@@ -64,7 +64,7 @@ fn of_both(stands: &Installation, row: &Installation) -> LatestMeter
     }
 }
 
-// The latest meter, if the earlier files, the office or both have one.
+// The latest meter over all files; `None` if neither the earlier files nor the office have one.
 fn latest(stands: &Option<Installation>, row: &Option<Installation>) -> Option<LatestMeter>
     ensures { result ≡ sites.latest stands.now row.now }
 {

@@ -1,4 +1,4 @@
-//! States the meters at a register over the files of one office.
+//! Makes the statements of the meters at an accounting register over the files of one office.
 ghost use Rattle.std.specs.Prelude.{◌≡◌, ◌∷◌, ◌++◌, [], List, map, find, not, IfErr, IfOk, OnOk};
 ghost use Rattle.std.specs.Option.{option_map};
 ghost use Rattle.office_events.specs.declared.facts.Fact.{Fact};
@@ -22,8 +22,8 @@ use office_events::{Installation, Name};
 use std::alloc::{AllocError, Global};
 use std::io::Write;
 
-/// The meters of a register over several files: whether it is recorded, and the statement of each
-/// meter for a range of days, by the clocks of a zone.
+/// The meters of an accounting register over several files: whether it is recorded, and the
+/// statement of each meter on a range of days, by the clocks of a zone.
 #[derive(Drop)]
 pub struct JoinedStatement {
     pub is_recorded: bool,
@@ -31,7 +31,7 @@ pub struct JoinedStatement {
     pub zone: Zone,
 }
 
-// The first of these meters that was not closed before another began.
+// The first of these meters that was not closed before the meter `row` began.
 fn not_before(known: &[KeptMeter], row: &Installation) -> Option<Installation>
     ensures { result ≡ option_map stands_of
         (find (λ one. not (meters.is_before one.stands row.now)) known.now) }
@@ -44,7 +44,7 @@ fn not_before(known: &[KeptMeter], row: &Installation) -> Option<Installation>
     None
 }
 
-// Adds a meter that follows these.
+// Appends a meter to these, or returns one of them that was not closed before it began.
 fn add_next<B: Books>(
     known: &mut Vec<KeptMeter>,
     books: &mut B,
@@ -74,7 +74,8 @@ fn add_next<B: Books>(
     }
 }
 
-// Adds a meter that continues the last of these, or follows them. On error the last may be missing.
+// Adds a meter that continues the last of these meters or follows all of them. On an error the last
+// one may be missing.
 fn add_row<B: Books>(
     known: &mut Vec<KeptMeter>,
     books: &mut B,
@@ -129,7 +130,7 @@ fn add_listed<B: Books>(
     Ok(None)
 }
 
-// Adds the meters at a register of the store.
+// Adds the meters at an accounting register of the store.
 fn add_meters<B: Books>(
     known: &mut Vec<KeptMeter>,
     books: &mut B,
@@ -182,7 +183,7 @@ impl Keeping for JoinedStatement {
 
 // ---- the printed text
 
-// Adds the row of a meter, if it was installed in the range.
+// Adds the statement of a meter, if the meter was installed in the range.
 fn add_told(
     rows: &mut Vec<MeterStatement>,
     zone: &Zone,
@@ -199,7 +200,7 @@ fn add_told(
     Ok(())
 }
 
-// The rows of the meters that were installed in the range.
+// The statements of the meters that were installed in the range.
 fn rows_of(
     alloc: Global,
     zone: &Zone,

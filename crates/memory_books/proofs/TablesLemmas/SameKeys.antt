@@ -31,7 +31,7 @@ both_true : (a b : Bool) → (a && b) ≡ true → (a ≡ true) × (b ≡ true)
 both_true true b h = (refl, h)
 both_true false b h = absurd (cc)
 
--- Such keys are identical.
+-- Keys that are equal by `is_same_key` are identical.
 pub one_key : (a b : Key) → is_same_key a b ≡ true → a ≡ b
 one_key a b h =
     let both = both_true (same a.name b.name) (a.number == b.number) h in

@@ -1,4 +1,5 @@
--- The record at an index of the list, from 0, in the order in which records were added.
+-- The content of the record at an index of the list. Indices count from 0 in the order in which
+-- records were added.
 use Rattle.std.specs.Prelude.{ℕ, List, Option, Some, None, if◌then◌else◌}
 use Rattle.std.specs.List.{slice_get}
 use Rattle.std.specs.Option.{option_and_then, option_map}
@@ -12,38 +13,40 @@ use Rattle.office_books.specs.Repeats.{as_repeat}
 use Rattle.office_rules.specs.Facts.{as_register, as_opening, as_list, as_reply, if_some}
 use Rattle.office_rules.specs.Readings.{is_read_by}
 
--- The list of a record. A list without points counts as none.
+-- The point list in a record; `None` for any other record, and for a list without points.
 abbrev pub listed : Fact → Option Planned
 listed f = option_and_then (λ put. if_some put.list.points put.list) (as_list f)
 
--- The relation of a request to the kept request of a record.
+-- Compares a request with the stored request in a record; `None` if the record has none.
 abbrev pub repeated : (request : List ℕ) → Fact → Option Repeat
 repeated request f = option_map (as_repeat request) (as_reply f)
 
--- The register at an index.
+-- The accounting register in the record at an index; `None` if that record has none.
 abbrev pub register_at : List Fact → ℕ → Option Register
 register_at facts place = option_and_then as_register (slice_get facts place)
 
--- The register, if a read of the span covers it.
+-- The accounting register if a read of the span covers it; otherwise `None`.
 abbrev pub if_read : ReadSpan → Register → Option Register
 if_read span register = if is_read_by span register then Some register else None
 
--- The register of a record, if a read of the span covers it.
+-- The accounting register in a record, if a read of the span covers it; otherwise `None`.
 abbrev pub register_read : ReadSpan → Fact → Option Register
 register_read span f = option_and_then (if_read span) (as_register f)
 
--- The register at an index, if a read of the span covers it.
+-- The accounting register in the record at an index, if a read of the span covers it; otherwise
+-- `None`.
 abbrev pub register_read_at : ReadSpan → List Fact → ℕ → Option Register
 register_read_at span facts place = option_and_then (register_read span) (slice_get facts place)
 
--- The opening at an index.
+-- The opening in the record at an index; `None` if that record has none.
 abbrev pub opening_at : List Fact → ℕ → Option Opening
 opening_at facts place = option_and_then as_opening (slice_get facts place)
 
--- The list at an index.
+-- The point list in the record at an index; `None` if that record has none.
 abbrev pub list_at : List Fact → ℕ → Option Planned
 list_at facts place = option_and_then listed (slice_get facts place)
 
--- The relation of a request to the kept request at an index.
+-- Compares a request with the stored request in the record at an index; `None` if that record has
+-- none.
 abbrev pub repeat_at : (request : List ℕ) → List Fact → ℕ → Option Repeat
 repeat_at request facts place = option_and_then (repeated request) (slice_get facts place)

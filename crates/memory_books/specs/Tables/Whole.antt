@@ -1,4 +1,4 @@
--- All tables of some records.
+-- When all tables of a store agree with its records.
 use Rattle.std.specs.Prelude.{◌≡◌, List, reverse}
 use Rattle.office_events.specs.declared.facts.Fact.{Fact}
 use Rattle.office_rules.specs.Lawful.{AreLawful}
@@ -12,12 +12,12 @@ use Rattle.memory_books.specs.Tables.Meters.{AreMeters}
 use Rattle.memory_books.specs.Tables.Places.{ArePlaces, ArePlacesOf}
 use Rattle.memory_books.specs.Tables.Polls.{ArePolls, ArePending}
 
--- A table of indices of a kind.
+-- The table is of this kind, and has the indices of the records that it has reached.
 pub record HasPlaces (kind : Kind) (kept : Kept Places) (facts : List Fact) : Type 0 where
   pub come : HasCome ArePlaces kept facts
   pub kind_is : kept.table.kind ≡ kind
 
--- Each table agrees with the first records, as many as it has reached.
+-- Each table agrees with the records that it has reached: the first ones of the list.
 pub record HaveCome (tables : Tables) (facts : List Fact) : Type 0 where
   pub polls : HasCome ArePolls tables.polls facts
   pub pending : HasCome ArePending tables.pending facts
@@ -28,7 +28,7 @@ pub record HaveCome (tables : Tables) (facts : List Fact) : Type 0 where
   pub replies : HasPlaces Replies tables.replies facts
   pub meters : HasCome AreMeters tables.meters facts
 
--- Each table agrees with all records. They are given the latest first.
+-- Each table agrees with all of these records, which are given with the latest first.
 pub record AreWhole (tables : Tables) (known : List Fact) : Type 0 where
   pub polls : ArePolls tables.polls.table known
   pub pending : ArePending tables.pending.table known
@@ -39,8 +39,8 @@ pub record AreWhole (tables : Tables) (known : List Fact) : Type 0 where
   pub replies : ArePlacesOf Replies tables.replies.table known
   pub meters : AreMeters tables.meters.table known
 
--- A property for lawful records, in the order in which they were added, with which all tables
--- agree.
+-- `so` is true of lawful records with which all tables agree. `facts` has them in the order in
+-- which they were added.
 abbrev pub WhereWhole : Tables → (facts : List Fact) → (List Fact → Type 0) → Type 0
 WhereWhole tables facts so =
     (known : List Fact) → facts ≡ reverse known → AreLawful known → AreWhole tables known → so known

@@ -26,7 +26,8 @@ fn put_within<K: RowSink<Share>>(span: Span, row: Share, sink: &mut K)
     }
 }
 
-/// Joins one more share to the pending row, and passes the row on when its quarter hour is over.
+/// Joins one more share to the row that is held back, and passes that row on once its quarter hour
+/// is over.
 fn hand_share<K: RowSink<Share>>(waits: &mut Option<Share>, share: Share, span: Span, sink: &mut K)
     requires { ForSome waits.old (λ row. row.mwh + share.mwh < 2 ^ 64) }
     ensures passes { Passes (TakesWithin K.takes span) sink.old sink.new waits.old waits.new
@@ -55,8 +56,8 @@ fn hand_step<K: RowSink<Share>>(waits: &mut Option<Share>, step: &Step, span: Sp
     }
 }
 
-/// Passes the interval rows of the valid entries to the sink, in order. Without an account of the
-/// entries these are some rows, or none.
+/// Passes the interval rows of the valid entries in the span to the sink, in order. If the entries
+/// cannot be added up, the sink gets some rows, or none.
 fn hand_rows<K: RowSink<Share>>(meter: &Installed, rows: &[EntryRow], span: Span, sink: &mut K)
     requires range_low { MIN_RANGE ≤ meter.now.range }
     requires range_high { meter.now.range ≤ MAX_RANGE }
@@ -95,8 +96,8 @@ fn hand_rows<K: RowSink<Share>>(meter: &Installed, rows: &[EntryRow], span: Span
     }
 }
 
-/// Passes the interval rows in the span to the sink. Without an account of the entries these are
-/// some rows, or none.
+/// Passes the interval rows of a meter in the span to the sink, in order. If the entries cannot be
+/// added up, the sink gets some rows, or none.
 pub(crate) fn hand_on<K: RowSink<Share>>(
     opening: &Opening,
     rows: &[EntryRow],

@@ -1,4 +1,4 @@
-//! Reads the record at an index of the list.
+//! Reads the content of the record at an index of the list.
 ghost use Rattle.std.specs.Prelude.{◌≡◌, IfOk};
 ghost use Rattle.std.specs.List.{filter_map};
 ghost use Rattle.std.specs.Option.{option_copied};
@@ -29,21 +29,21 @@ fn as_opening(fact: &Fact) -> Option<Opening>
     }
 }
 
-/// Returns the register at an index.
+/// Returns the accounting register at an index; `None` if the record there is no register.
 pub(crate) fn register_at(facts: &[Fact], place: usize) -> Option<Register>
     ensures { result ≡ spots.register_at facts.now place }
 {
     as_register(facts.get(place)?)
 }
 
-/// Returns the opening at an index.
+/// Returns the opening at an index; `None` if the record there is no opening.
 pub(crate) fn opening_at(facts: &[Fact], place: usize) -> Option<Opening>
     ensures { result ≡ spots.opening_at facts.now place }
 {
     as_opening(facts.get(place)?)
 }
 
-/// Returns the registers at indices.
+/// Returns the accounting registers at these indices, in order.
 pub(crate) fn registers_at(
     alloc: Global,
     facts: &[Fact],
@@ -82,7 +82,8 @@ fn register_read_at(facts: &[Fact], place: usize, span: ReadSpan) -> Option<Regi
     as_register_read(facts.get(place)?, span)
 }
 
-/// Returns the registers at indices that a read of the span covers. The others are not copied.
+/// Returns those of the accounting registers at these indices that a read of the span covers. The
+/// others are not copied.
 pub(crate) fn registers_read_at(
     alloc: Global,
     facts: &[Fact],
@@ -98,7 +99,7 @@ pub(crate) fn registers_read_at(
         .collect(alloc)
 }
 
-/// A list without points counts as none.
+/// The point list in a record; `None` for any other record, and for a list without points.
 fn as_list(fact: &Fact) -> Option<&PlannedList>
     ensures { option_copied result ≡ spots.listed fact.now }
 {
@@ -113,7 +114,7 @@ fn as_list(fact: &Fact) -> Option<&PlannedList>
     }
 }
 
-/// Returns the point list at an index. A list without points counts as none.
+/// Returns the point list at an index; `None` if there is none, or if it has no points.
 pub(crate) fn list_at(facts: &[Fact], place: usize) -> Option<&PlannedList>
     ensures { option_copied result ≡ spots.list_at facts.now place }
 {
@@ -139,7 +140,7 @@ fn as_repeat(fact: &Fact, request: &[u8]) -> Option<Repeat>
     }
 }
 
-/// Returns the relation of a request to the kept request at an index.
+/// Compares a request with the stored request at an index; `None` if the record there has none.
 pub(crate) fn repeat_at(facts: &[Fact], place: usize, request: &[u8]) -> Option<Repeat>
     ensures { result ≡ spots.repeat_at request.now facts.now place }
 {

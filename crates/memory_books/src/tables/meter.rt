@@ -1,4 +1,4 @@
-//! A meter, with its installation and its rows.
+//! A meter of the table: its installation and its entry rows.
 ghost use Rattle.std.specs.Prelude.{◌≡◌, List, Some, take, IfOk, OnOk, OnErr, IfSome};
 ghost use Rattle.std.specs.Option.{option_map};
 ghost use Rattle.meter_journal.specs.Journal.{row_at};
@@ -51,7 +51,7 @@ fn first(rows: &[EntryRow], count: usize) -> &[EntryRow]
     }
 }
 
-/// An installation, and the rows of its meter, the oldest first.
+/// The present state of a meter, and its entry rows, the oldest first.
 #[derive(Drop)]
 pub(crate) struct Meter {
     pub(crate) row: Installation,
@@ -71,7 +71,7 @@ impl Meter {
         }
     }
 
-    /// Adds one more entry.
+    /// Adds one more entry of the meter. If memory runs out, the meter is unchanged.
     pub(crate) fn go_on(&mut self, booked: &BookedEntry) -> Result<(), AllocError>
         ensures ok { OnOk result (HasEntered booked.now self.old self.new) }
         ensures err { OnErr result (IsSame self.old self.new) }
@@ -82,7 +82,7 @@ impl Meter {
         Ok(())
     }
 
-    /// Voids the entry with a sequence number.
+    /// Voids the entry with this sequence number, and computes the meter's state again.
     pub(crate) fn strike(&mut self, place: u64)
         ensures { HasStruck place self.old self.new }
     {
@@ -95,8 +95,8 @@ impl Meter {
         }
     }
 
-    /// Returns the entry with a sequence number, with the meter's state before it and the next
-    /// valid entry.
+    /// Returns the entry with this sequence number, with the meter's state before it and the next
+    /// valid entry; `None` if there is none.
     pub(crate) fn placed(&self, place: u64) -> Option<EntryPlace>
         ensures found { WhereSaid self.now (λ known opening.
             result ≡ option_map (place_in known opening) (row_at place (rows_of known opening))) }
@@ -126,7 +126,7 @@ impl Meter {
         })
     }
 
-    /// Returns at most `most` entries from a sequence number.
+    /// Returns at most `most` entries of the meter from a sequence number on, voided ones included.
     pub(crate) fn entries(
         &self,
         alloc: Global,
@@ -139,7 +139,7 @@ impl Meter {
         list_entries(alloc, &self.row.opening, &self.rows, from, most)
     }
 
-    /// Passes the energy of the meter to the sink, for each quarter hour in the span.
+    /// Passes the energy of the meter to the sink, one row for each quarter hour in the span.
     pub(crate) fn hand_on<K: RowSink<Share>>(&self, span: Span, sink: &mut K)
         ensures whole { WhereSaid self.now (λ known opening.
             TakesAll (TakesWithin K.takes span) sink.old (rows_of_opening known opening) sink.new) }

@@ -1,4 +1,4 @@
-//! The meters, by name.
+//! The table of meters, by name.
 ghost use Rattle.std.specs.Prelude.{◌≡◌, List, [], IfOk, OnOk, OnErr, IfSome};
 ghost use Rattle.office_events.specs.declared.facts.Fact.{Fact};
 ghost use Rattle.office_books.specs.Entries.{entries_from};
@@ -79,7 +79,7 @@ impl Meters {
         }
     }
 
-    /// Returns the installation of a meter.
+    /// Returns the present installation of the meter with this name; `None` if no meter has it.
     pub(crate) fn row(&self, name: &Name) -> Option<Installation>
         ensures found { (known : List Fact) → AreLawful known → AreMeters self.now known
             → result ≡ meter_of known name.now }
@@ -98,7 +98,7 @@ impl Meters {
     }
 
     /// Returns the entry of a meter with a sequence number, with the meter's state before it and
-    /// the next valid entry.
+    /// the next valid entry; `None` if there is none.
     pub(crate) fn entry(&self, name: &Name, place: u64) -> Option<EntryPlace>
         ensures found { (known : List Fact) → AreLawful known → AreMeters self.now known
             → result ≡ entry_at known name.now place }
@@ -111,8 +111,8 @@ impl Meters {
         meter.placed(place)
     }
 
-    /// Returns the same entry, with the total energy of the meter in place of the energy before the
-    /// entry.
+    /// Returns the entry as `entry` does, but with the meter's total energy instead of the energy
+    /// before the entry.
     pub(crate) fn entry_near(&self, name: &Name, place: u64) -> Option<EntryPlace>
         ensures found { (known : List Fact) → AreLawful known → AreMeters self.now known
             → TellsNear known name.now place result }
@@ -129,7 +129,7 @@ impl Meters {
         Some(with_whole_energy(&found, &whole))
     }
 
-    /// Returns at most `most` entries of a meter from a sequence number.
+    /// Returns at most `most` entries of a meter from a sequence number on, voided ones included.
     pub(crate) fn entries(
         &self,
         alloc: Global,
@@ -147,7 +147,7 @@ impl Meters {
         }
     }
 
-    /// Passes the energy of a meter to the sink, for each quarter hour in the span.
+    /// Passes the energy of a meter to the sink, one row for each quarter hour in the span.
     pub(crate) fn hand_on<K: RowSink<Share>>(&self, name: &Name, span: Span, sink: &mut K)
         ensures whole { (known : List Fact) → AreLawful known → AreMeters self.now known
             → TakesAll (TakesWithin K.takes span) sink.old (rows_of_meter known name.now) sink.new }

@@ -1,4 +1,4 @@
-//! The indices of the records of a kind, by key.
+//! Tables that find the indices of records by key.
 ghost use Rattle.std.specs.Prelude.{◌≡◌, List, [], reverse, OnOk, OnErr};
 ghost use Rattle.office_events.specs.declared.facts.Fact.{Fact};
 ghost use Rattle.memory_books.specs.Tables.Keys as keys;
@@ -10,22 +10,22 @@ use office_events::{DeviceList, Fact, Name, Opening, Register, Reply};
 use std::alloc::{AllocError, Global};
 use std::collections::BTreeMap;
 
-/// The kind of a table of indices: its records and its key.
+/// The kind of such a table: which records it has, and by which key.
 #[derive(Clone, Copy)]
 pub(crate) enum Kind {
     /// Point lists by their device.
     DeviceLists,
-    /// Registers by their name.
+    /// Accounting registers by their name.
     Registers,
-    /// Registers by their device.
+    /// Accounting registers by their device.
     DeviceRegisters,
-    /// Openings by their register.
+    /// Openings by their accounting register.
     RegisterOpenings,
-    /// Kept answers by caller and number.
+    /// Stored responses by caller and number.
     Replies,
 }
 
-/// Returns the key of a name alone.
+/// Returns the key of a lookup by name alone.
 pub(crate) fn named(name: &Name) -> Key
     ensures { result ≡ keys.named name.now }
 {
@@ -94,7 +94,7 @@ fn key_in(kind: Kind, fact: &Fact) -> Option<Key>
     }
 }
 
-/// The indices of the records of a kind, by key.
+/// A table that finds the indices of the records of its kind by their key.
 #[derive(Drop)]
 pub(crate) struct Places {
     alloc: Global,

@@ -1,4 +1,4 @@
-//! Polls by their numbers, and pending polls.
+//! Tables of all polls by number, and of the pending polls.
 ghost use Rattle.std.specs.Prelude.{◌≡◌, [], List, length, IfOk};
 ghost use Rattle.office_events.specs.declared.facts.Fact.{Fact};
 ghost use Rattle.office_rules.specs.Facts.{polls_in, pending_in};
@@ -9,7 +9,7 @@ use crate::tables::table::Table;
 use office_events::{EndedPoll, Fact, Poll, PollRow};
 use std::alloc::{AllocError, Global};
 
-/// The polls, each with its end.
+/// All polls, each with its outcome if it has one.
 #[derive(Drop)]
 pub(crate) struct Polls {
     rows: Vec<PollRow>,
@@ -27,7 +27,7 @@ impl Polls {
         }
     }
 
-    /// Stores the end of a poll. A number without a poll is ignored.
+    /// Stores the outcome of a poll. An outcome of an unknown poll is ignored.
     fn end(&mut self, ended: &EndedPoll)
         ensures { EndsPoll ended.now self.old.rows.items self.new.rows.items }
     {
@@ -39,7 +39,7 @@ impl Polls {
         }
     }
 
-    /// Returns the poll with a number, with its end if it has one.
+    /// Returns the poll with this number, with its outcome if it has one; `None` if there is none.
     pub fn row(&self, number: u64) -> Option<PollRow>
         ensures { (known : List Fact) → AreLawful known → ArePolls self.now known
             → result ≡ poll_row_of known number }
@@ -113,7 +113,7 @@ impl Pending {
         self.polls.retain(|poll| number != poll.number);
     }
 
-    /// Returns the polls, in the order in which they were started.
+    /// Returns the polls without an outcome, in the order in which they were started.
     pub fn all(&self, alloc: Global) -> Result<Vec<Poll>, AllocError>
         ensures { (known : List Fact) → ArePending self.now known
             → IfOk result (λ v. v.items ≡ pending_in known) }

@@ -1,4 +1,4 @@
-//! Tables that grow with the records.
+//! Tables that are brought up to date with the records when a lookup needs them.
 ghost use Rattle.std.specs.Prelude.{◌≡◌, List, [], length, OnOk};
 ghost use Rattle.office_events.specs.declared.facts.Fact.{Fact};
 ghost use Rattle.office_rules.specs.Lawful.{AreLawful};
@@ -14,14 +14,14 @@ pub(crate) trait Table: Drop {
     ghost use Rattle.office_rules.specs.Lawful.{AreLawful};
     ghost use Rattle.memory_books.specs.declared.tables.places.Kind.{Kind};
 
-    /// The kind of a table of indices. It never changes.
+    /// For a table of indices its kind, which never changes; `None` for other tables.
     ghost kind: { Self → Option Kind };
 
     /// The table agrees with these records, the latest first.
     ghost says: { Self → List Fact → Type 0 };
 
-    /// Adds the record at this index, from 0, after those before it. If memory runs out, the table
-    /// is unchanged.
+    /// Adds the record at this index to the table, after the records before it. Indices count from
+    /// 0. If memory runs out, the table is unchanged.
     fn put(&mut self, place: usize, fact: &Fact) -> Result<(), AllocError>
         ensures ok { (known : List Fact) → AreLawful (fact.now ∷ known) → length known ≡ place
             → says self.old known
@@ -31,7 +31,7 @@ pub(crate) trait Table: Drop {
         ensures kind { kind self.new ≡ kind self.old };
 }
 
-/// A table, and the number of records that it has reached.
+/// A table, with the number of records that it has reached.
 #[derive(Drop)]
 pub(crate) struct Kept<T> {
     pub table: T,
@@ -47,8 +47,8 @@ impl<T: Table> Kept<T> {
         Kept { table, count: 0 }
     }
 
-    /// Adds the records that the table has not reached. If memory runs out, it has reached some of
-    /// them.
+    /// Adds the records that the table has not reached yet. If memory runs out, it may have reached
+    /// only some of them.
     pub fn catch_up(&mut self, facts: &[Fact]) -> Result<(), AllocError>
         ensures kept { AreLawful (latest_first facts.now) → HasCome T.says self.old facts.now
             → HasCome T.says self.new facts.now }

@@ -1,4 +1,4 @@
-//! All tables of the store.
+//! All tables of a store in memory.
 ghost use Rattle.std.specs.Prelude.{◌≡◌, ◌∷◌, List, [], map, reverse, length, IfOk, IfSome, OnOk};
 ghost use Rattle.std.specs.List.{filter, filter_map};
 ghost use Rattle.std.specs.Option.{option_copied, option_map};
@@ -67,7 +67,7 @@ impl Tables {
         }
     }
 
-    /// Adds the records that the tables have not reached. If memory runs out, a table may still
+    /// Adds the records that the tables have not reached yet. If memory runs out, a table may still
     /// lack some of them.
     pub fn catch_up(&mut self, facts: &[Fact]) -> Result<(), AllocError>
         ensures kept { AreLawful (latest_first facts.now) → HaveCome self.old facts.now
@@ -86,7 +86,7 @@ impl Tables {
         Ok(())
     }
 
-    /// Returns the poll with a number, with its end if it has one.
+    /// Returns the poll with this number, with its outcome if it has one; `None` if there is none.
     pub fn poll(&self, number: u64) -> Option<PollRow>
         ensures { (known : List Fact) → AreLawful known → AreWhole self.now known
             → result ≡ poll_row_of known number }
@@ -109,7 +109,7 @@ impl Tables {
         self.pending.table.all(alloc)
     }
 
-    /// Borrows the list, so that a lookup of a part copies no points.
+    /// Borrows the point list of a device, so that a lookup of a part copies no points.
     fn list_among<'a>(&self, facts: &'a [Fact], device: &Name) -> Option<&'a PlannedList>
         ensures { (known : List Fact) → facts.now ≡ reverse known → AreWhole self.now known
             → option_copied result ≡ list_of known device.now }
@@ -120,7 +120,7 @@ impl Tables {
         }
     }
 
-    /// Returns the point list of a device.
+    /// Returns a copy of the point list of a device; `None` if it has none.
     pub fn list(&self, facts: &[Fact], device: &Name) -> Result<Option<PlannedList>, AllocError>
         ensures { (known : List Fact) → facts.now ≡ reverse known → AreWhole self.now known
             → IfOk result (λ list. list ≡ list_of known device.now) }
@@ -131,7 +131,7 @@ impl Tables {
         }
     }
 
-    /// Returns the number of reads in the plan of a device, if it has a point list.
+    /// Returns the number of reads in the plan of a device; `None` if it has no point list.
     pub fn read_count(&self, facts: &[Fact], device: &Name) -> Option<usize>
         ensures { (known : List Fact) → facts.now ≡ reverse known → AreWhole self.now known
             → result ≡ read_count_of (list_of known device.now) }
@@ -142,7 +142,7 @@ impl Tables {
         }
     }
 
-    /// Returns the registers of at most `most` reads of the plan from index `from`.
+    /// Returns at most `most` reads of a device's plan from index `from` on.
     pub fn reads(
         &self,
         alloc: Global,
@@ -160,7 +160,7 @@ impl Tables {
         }
     }
 
-    /// Returns the register with a name.
+    /// Returns the accounting register with this name; `None` if there is none.
     pub fn register(&self, facts: &[Fact], name: &Name) -> Option<Register>
         ensures { (known : List Fact) → facts.now ≡ reverse known → AreWhole self.now known
             → result ≡ register_of known name.now }
@@ -171,7 +171,7 @@ impl Tables {
         }
     }
 
-    /// Returns the registers of a device, in the order in which they were added.
+    /// Returns the accounting registers of a device, in the order in which they were added.
     pub fn registers(
         &self,
         alloc: Global,
@@ -184,7 +184,7 @@ impl Tables {
         registers_at(alloc, facts, self.device_registers.table.all(named(device)))
     }
 
-    /// Returns the registers of a device that a read of the span covers.
+    /// Returns the accounting registers of a device that a read of the span covers.
     pub fn registers_read(
         &self,
         alloc: Global,
@@ -200,7 +200,7 @@ impl Tables {
         registers_read_at(alloc, facts, places, span)
     }
 
-    /// Returns the number of registers of a device. Allocates no memory.
+    /// Returns the number of accounting registers of a device. Allocates no memory.
     pub fn register_count(&self, device: &Name) -> usize
         ensures { (known : List Fact) → AreWhole self.now known
             → result ≡ length (registers_of known device.now) }
@@ -208,7 +208,7 @@ impl Tables {
         self.device_registers.table.all(named(device)).len()
     }
 
-    /// Returns the latest opening at a register.
+    /// Returns the latest opening at an accounting register; `None` if there is none.
     pub fn installed(&self, facts: &[Fact], register: &Name) -> Option<Opening>
         ensures { (known : List Fact) → facts.now ≡ reverse known → AreWhole self.now known
             → result ≡ installed_at known register.now }
@@ -219,7 +219,8 @@ impl Tables {
         }
     }
 
-    /// Returns the relation of a request to the kept request with the same caller and number.
+    /// Compares a request with the stored request of the same caller and number; `None` if none is
+    /// stored.
     pub fn repeat(
         &self,
         facts: &[Fact],
@@ -240,7 +241,7 @@ impl Tables {
         }
     }
 
-    /// Returns the installation of a meter.
+    /// Returns the present installation of a meter; `None` if no meter has the name.
     pub fn meter(&self, name: &Name) -> Option<Installation>
         ensures found { (known : List Fact) → AreLawful known → AreWhole self.now known
             → result ≡ meter_of known name.now }
@@ -249,7 +250,8 @@ impl Tables {
         self.meters.table.row(name)
     }
 
-    /// Returns the latest installation at a register.
+    /// Returns the latest installation at an accounting register, open or closed; `None` if there
+    /// is none.
     pub fn installation(&self, facts: &[Fact], register: &Name) -> Option<Installation>
         ensures found { WhereWhole self.now facts.now (λ known.
             result ≡ installation_at known register.now) }
@@ -262,7 +264,7 @@ impl Tables {
     }
 
     /// Returns the entry of a meter with a sequence number, with the meter's state before it and
-    /// the next valid entry.
+    /// the next valid entry; `None` if there is none.
     pub fn entry(&self, meter: &Name, place: u64) -> Option<EntryPlace>
         ensures found { (known : List Fact) → AreLawful known → AreWhole self.now known
             → result ≡ entry_at known meter.now place }
@@ -271,8 +273,8 @@ impl Tables {
         self.meters.table.entry(meter, place)
     }
 
-    /// Returns the same entry, with the total energy of the meter in place of the energy before the
-    /// entry.
+    /// Returns the entry as `entry` does, but with the meter's total energy instead of the energy
+    /// before the entry.
     pub fn entry_near(&self, meter: &Name, place: u64) -> Option<EntryPlace>
         ensures found { (known : List Fact) → AreLawful known → AreWhole self.now known
             → TellsNear known meter.now place result }
@@ -281,7 +283,7 @@ impl Tables {
         self.meters.table.entry_near(meter, place)
     }
 
-    /// Returns at most `most` entries of a meter from a sequence number.
+    /// Returns at most `most` entries of a meter from a sequence number on, voided ones included.
     pub fn entries(
         &self,
         alloc: Global,
@@ -321,8 +323,8 @@ impl Tables {
         Ok(rows)
     }
 
-    /// Returns the installations at a register, with the closed ones, in the order in which they
-    /// were installed.
+    /// Returns the installations at an accounting register, closed ones included, in the order in
+    /// which they were installed.
     pub fn installations(
         &self,
         alloc: Global,
@@ -335,8 +337,8 @@ impl Tables {
         self.installations_there(alloc, facts, self.openings.table.all(named(register)))
     }
 
-    /// Passes the energy of a meter to the sink, for each quarter hour in the span, in order of
-    /// their starts. Allocates no memory.
+    /// Passes the energy of a meter to the sink, one row for each quarter hour in the span, in
+    /// order of their starts. Allocates no memory.
     pub fn intervals<K: RowSink<Share>>(&self, meter: &Name, span: Span, sink: &mut K)
         ensures whole { (known : List Fact) → AreLawful known → AreWhole self.now known
             → TakesAll (TakesWithin K.takes span) sink.old (rows_of_meter known meter.now)
@@ -375,8 +377,8 @@ impl Tables {
         }
     }
 
-    /// Passes the energy of a register to the sink, for each quarter hour in the span, installation
-    /// after installation. Allocates no memory.
+    /// Passes the energy of an accounting register to the sink, one row for each quarter hour in
+    /// the span, meter after meter. Allocates no memory.
     pub fn register_intervals<K: RowSink<Share>>(
         &self,
         facts: &[Fact],

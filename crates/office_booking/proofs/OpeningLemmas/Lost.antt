@@ -22,7 +22,8 @@ lost_settles : (old new : Ledger) (known : List Fact) (left : List (List Fact)) 
 lost_settles old new known left facts (Ok done) books h lawful may = settles old new known left facts done books h lawful may
 lost_settles old new known left facts (Err why) books h lawful may = tt
 
--- They are written after the polls were looked up.
+-- The store moves when the outcomes of the lost polls are written after a lookup of the pending
+-- polls.
 pub books_lost : (old between new : Ledger) (at : ℕ) (known : List Fact) (polls : List Poll) (facts : List Fact) {T : Type 0} (x : T) (result : Result (Unit {0}) BooksFault)
     → Consults old between (Ok x) → (old.holds known → between.is_clean → polls ≡ pending_in known) → facts ≡ map (lost at) polls
     → AreLawful (with_lost at known) → Books between new facts result → Moves old new known (with_lost at known) result

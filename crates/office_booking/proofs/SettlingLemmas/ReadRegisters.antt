@@ -25,7 +25,7 @@ with_read at poll words (r ∷ rs) facts =
           ∙ ap (λ (fs : List Fact). with_registers at poll words rs fs) (sym unread)
     ]
 
--- The same for their notifications.
+-- Registers without a reading in a read add no notifications.
 pub told_read : (at : ℕ) (poll : Poll) (words : List ℕ) (registers : List Register) (facts : List Fact)
     → registers_notes at poll words (filter (is_read_by poll.span) registers) facts ≡ registers_notes at poll words registers facts
 told_read at poll words [] facts = refl

@@ -1,4 +1,4 @@
--- What the execution of an accepted command leaves and answers.
+-- What the office records, starts, sends and answers when it executes an accepted command.
 use Rattle.std.specs.Prelude.{◌≡◌, ◌⊎◌, ℕ, ◌+◌, ◌≤◌, List, [], ◌∷◌, ◌++◌, map, length, Option, Some, None, OnOk, OnErr, Result, IfOk}
 use Rattle.office_rules.specs.Lawful.{AreLawful}
 use Rattle.poll_core.specs.Settling as session
@@ -30,12 +30,14 @@ AsksCommand (event.Command c) = Unit {0}
 AsksCommand (event.Asked asked) = Unit {0}
 AsksCommand _ = ⊥
 
--- The response that is stored for an event.
+-- The record of the response that is stored for an event with an idempotency key; empty for other
+-- events.
 abbrev pub replies_by : (at : ℕ) → Event → List Fact
 replies_by at (event.Asked asked) = reply_by at asked
 replies_by at _ = []
 
--- The records are written, all or none; or memory for the request was missing.
+-- On `Ok` the records are written; on an error none is, but a crash may leave all of them. This
+-- assumes that the store's records with the new ones are lawful.
 pub record Tries (old new : Ledger) (facts : List Fact)
     (result : Result (Unit {0}) BooksFault) : Type 0 where
   pub booked : (known : List Fact) → old.holds known → AreLawful (with_facts facts known)
@@ -52,30 +54,31 @@ pub record Tries (old new : Ledger) (facts : List Fact)
       → OnErr result (new.may_leave left ⊎ new.may_leave (left ++ with_facts facts known ∷ []))
   pub goes : LedgerAfterCalls old new result
 
--- A slot after a command started its reads there.
+-- A slot after the command's reads were started on its session; unchanged without a session.
 abbrev pub started_on : (number at : ℕ) → List ReadSpan → Command → sessions.Slot
     → Option (List session.Event) → sessions.Slot
 started_on number at spans c slot None = slot
 started_on number at spans c slot (Some before) =
     with_happenings slot before (starts_by number at spans (Some c) slot.device before)
 
--- A slot after a command.
+-- A slot after the command: its session has the reads that the command starts.
 abbrev pub slot_obeyed : (number at : ℕ) → List ReadSpan → Command → sessions.Slot → sessions.Slot
 slot_obeyed number at spans c slot = started_on number at spans c slot slot.present
 
--- All slots after a command, with those of new devices.
+-- All slots after the command, followed by the slot of a device that the command adds.
 abbrev pub slots_obeyed : (number at : ℕ) → List ReadSpan → Command → List sessions.Slot
     → List sessions.Slot
 slots_obeyed number at spans c slots =
     map (slot_obeyed number at spans c) slots ++ slots_added (Some c)
 
--- The records after a command, with the stored response of its request.
+-- The records after the command, with the stored response of its request if it has one.
 abbrev pub facts_obeyed : (at : ℕ) → List sessions.Slot → List Fact → Command
     → (replies : List Fact) → List Fact
 facts_obeyed at slots known c replies =
     with_facts (added_by (next_poll known) at slots known c ++ replies) known
 
--- The command moves the store to the records that it leaves, if these are lawful.
+-- Executing the command takes the store from any records to the records after the command, if these
+-- are lawful.
 abbrev pub MovesOnBy : {T : Type 0} → (at : ℕ) → Command → (replies : List Fact)
     → (old new : Ledger) → Result T BooksFault → Type 0
 MovesOnBy at c replies old new result =
@@ -83,8 +86,8 @@ MovesOnBy at c replies old new result =
     → let later = facts_obeyed at slots known c replies in
     AreLawful later → Moves old new known later result
 
--- A command was executed over these records and slots: its additions are recorded, its reads are
--- started, and it has its answer.
+-- The command was executed over these slots and records: its records are written, its reads are
+-- started, its frames are to be sent, and the answer is the defined one.
 pub record Obeys (old new : Ledger) (after : List Slot) (slots : List sessions.Slot)
     (known : List Fact) (at : ℕ) (c : Command)
     (replies : List Fact) (result : Result Done BooksFault) : Type 0 where
@@ -98,7 +101,8 @@ pub record Obeys (old new : Ledger) (after : List Slot) (slots : List sessions.S
       → IfOk result (λ done.
       done.outgoing ≡ notes.frames_by (next_poll known) at slots known (Some c))
 
--- The same for an accepted event after its past.
+-- The accepted event was executed after this past: its records are written, its reads are started,
+-- its frames are to be sent, and the answer is the defined one.
 pub record Carries (old new : Ledger) (after : List Slot) (past : History) (at : ℕ) (e : Event)
     (result : Result Done BooksFault) : Type 0 where
   pub books : Moves old new (facts_of past) (facts_of (Fed at e ∷ past)) result
@@ -110,8 +114,8 @@ pub record Carries (old new : Ledger) (after : List Slot) (past : History) (at :
       → IfOk result (λ done.
       done.outgoing ≡ outgoing_of (next_poll (facts_of past)) at e (slots_of past) (facts_of past))
 
--- The same for every event that requests the command. `before` are the slots after its past, and
--- `replies` is its stored response.
+-- `Carries` holds for every accepted event that requests this command and stores the response
+-- `replies`. `before` are the slots after the past of the event.
 abbrev pub CarriesOut : (old new : Ledger) → (before after : List Slot) → (at : ℕ) → Command
     → (replies : List Fact) → Result Done BooksFault → Type 0
 CarriesOut old new before after at c replies result =
@@ -119,69 +123,71 @@ CarriesOut old new before after at c replies result =
     → IsAccepted past at e → command_in e ≡ Some c → replies_by at e ≡ replies
     → Carries old new after past at e result
 
--- The same for the event that requests the command.
+-- `Carries` holds for this event after every past that left the slots `before` and accepts the
+-- event.
 abbrev pub CarriesEvent : (old new : Ledger) → (before after : List Slot) → (at : ℕ) → Event
     → Result Done BooksFault → Type 0
 CarriesEvent old new before after at e result =
     (past : History) → IsPast past → KeepsSlots before (slots_of past) → IsAccepted past at e
     → Carries old new after past at e result
 
--- The reads that a command starts on a slot.
+-- The reads that the command starts on the session of the slot.
 abbrev pub sends_by : (at : ℕ) → sessions.Slot → List Fact → Command → List sessions.Send
 sends_by at slot known c = starts.sends_of (next_poll known) at (spans_by known c) slot
 
--- The poll records of these reads.
+-- The poll records of the reads that the command starts on the slot.
 abbrev pub polls_by : (at : ℕ) → sessions.Slot → List Fact → Command → List Fact
 polls_by at slot known c = starts.polls_of (next_poll known) at (spans_by known c) slot
 
--- The frames of these reads.
+-- The bytes of the frames of the reads that the command starts on the slot.
 abbrev pub frames_by : (at : ℕ) → sessions.Slot → List Fact → Command → List ℕ
 frames_by at slot known c = starts.frames_of (next_poll known) at (spans_by known c) slot
 
--- The slot after these reads.
+-- The slot after the reads that the command starts on it.
 abbrev pub slot_by : (at : ℕ) → sessions.Slot → List Fact → Command → sessions.Slot
 slot_by at slot known c = starts.slot_sent (next_poll known) at (spans_by known c) slot
 
--- The records once the polls of a command, and the stored response of its request, are written.
+-- The records after a start: first its polls, then the stored response of its request, are added to
+-- `known`.
 abbrev pub facts_started : (at : ℕ) → sessions.Slot → List Fact → Command → (replies : List Fact)
     → List Fact
 facts_started at slot known c replies = with_facts (polls_by at slot known c ++ replies) known
 
--- The statement holds for every slot in this state, and for all records after which one more poll
--- has a number.
+-- `so` is true of every slot with this stored state, and of all records that leave a number for one
+-- more poll.
 abbrev pub WhereStarted : (kept : Slot) → (sessions.Slot → List Fact → Type 0) → Type 0
 WhereStarted kept so = (slot : sessions.Slot) (known : List Fact) → KeepsSlot kept slot
     → next_poll known ≤ MAX_POLLS + 1 → so slot known
 
--- The answer to a start: the first poll's number, the number of polls, and the number of reads in
--- all.
+-- The answer to a start: the number of its first poll, the number of polls that it started, and the
+-- number of reads that it requests.
 abbrev pub start_answer : (at : ℕ) → sessions.Slot → List Fact → Command → Answer
 start_answer at slot known c =
     answer.Started (next_poll known) (length (sends_by at slot known c)) (reads_in_all known c)
 
--- If the records after a start are lawful, its polls are recorded, followed by the stored response
--- of its request.
+-- A start writes its poll records and the stored response of its request, if the resulting records
+-- are lawful.
 abbrev pub BooksStart : (at : ℕ) → Command → (replies : List Fact) → (old new : Ledger)
     → Result Done BooksFault → sessions.Slot → (known : List Fact) → Type 0
 BooksStart at c replies old new result slot known =
     let later = facts_started at slot known c replies in
     AreLawful later → Moves old new known later result
 
--- After a start the slot has its polls.
+-- After a successful start the session of the slot has its polls.
 abbrev pub StandsStarted : (at : ℕ) → Command → (old new : Ledger) → (after : Slot)
     → Result Done BooksFault → sessions.Slot → (known : List Fact) → Type 0
 StandsStarted at c old new after result slot known =
     starts.IsBefore at slot → old.holds known → new.is_clean
     → OnOk result (KeepsSlot after (slot_by at slot known c))
 
--- The start has its answer.
+-- A successful start has the answer `start_answer`.
 abbrev pub AnswersStart : (at : ℕ) → Command → (old new : Ledger)
     → Result Done BooksFault → sessions.Slot → (known : List Fact) → Type 0
 AnswersStart at c old new result slot known =
     old.holds known → new.is_clean
     → IfOk result (λ done. done.answer ≡ start_answer at slot known c)
 
--- The frames of the start are to be sent.
+-- A successful start sends exactly the frames of its reads.
 abbrev pub SendsStart : (at : ℕ) → Command → (old new : Ledger)
     → Result Done BooksFault → sessions.Slot → (known : List Fact) → Type 0
 SendsStart at c old new result slot known =

@@ -1,9 +1,9 @@
--- The timestamps of the events of a session.
+-- A bound on the timestamps of a session's events.
 use Rattle.std.specs.Prelude.{ℕ, ◌≤◌, List, Option, Some, None}
 use Rattle.poll_core.specs.Settling as session
 use Rattle.poll_core.specs.Standing.{last_moment}
 
--- No event of the present session is later than this timestamp.
+-- No event of the session is later than `at`; true without a session.
 abbrev pub none_later : ℕ → Option (List session.Event) → Type 0
 none_later at None = Unit {0}
 none_later at (Some events) = last_moment events ≤ at

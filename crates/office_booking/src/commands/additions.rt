@@ -1,4 +1,4 @@
-//! Builds the records of a command.
+//! Builds the records that a command adds to the store.
 ghost use Rattle.std.specs.Prelude.{◌≡◌, false, Some, Option, IfOk};
 ghost use Rattle.std.specs.Option.{option_to_list};
 ghost use Rattle.office_events.specs.declared.facts.Fact.{Fact};
@@ -18,7 +18,7 @@ use office_books::{Books, BooksFault};
 use office_events::{Command, Exchange, Fact};
 use std::alloc::{AllocError, Global};
 
-/// A list of the record, or an empty list.
+/// Returns a list of this record alone; an empty list for `None`.
 fn listed(alloc: Global, fact: Option<Fact>) -> Result<Vec<Fact>, AllocError>
     ensures { IfOk result (λ facts. facts.items ≡ option_to_list fact) }
 {
@@ -29,7 +29,8 @@ fn listed(alloc: Global, fact: Option<Fact>) -> Result<Vec<Fact>, AllocError>
     Ok(facts)
 }
 
-/// The closing of the open meter, and the opening of the next one.
+/// The two records of an exchange: the closing of the register's open meter, and the opening of the
+/// next meter.
 fn exchanged<B: Books>(
     alloc: Global,
     books: &mut B,
@@ -49,7 +50,8 @@ fn exchanged<B: Books>(
     Ok(facts)
 }
 
-/// Returns the records that a command adds, in order. The command starts no polls.
+/// Returns the records that a command adds to the store, in order. The command must not start
+/// polls.
 pub fn facts_by<B: Books>(
     alloc: Global,
     books: &mut B,

@@ -31,7 +31,7 @@ pub struct Done {
     pub outgoing: Outgoing,
 }
 
-/// Proves that the point list in a command, if any, is planned.
+/// Proves that if the command has a point list, the list has the reads of its plan.
 pub fn puts_planned(command: &Command)
     ensures { PutsPlanned (Some command.now) }
 {
@@ -53,7 +53,8 @@ pub fn puts_planned(command: &Command)
     }
 }
 
-/// Adds the slot of a new device, unless the command failed. The list has room for it.
+/// Appends the slot of a new device, unless the command failed or adds no device. The list must
+/// have room for the slot.
 fn add_slot(slots: &mut Vec<Slot>, device: Option<Device>, done: &Result<Done, BooksFault>)
     requires room { vec_len slots.old + 1 ≤ vec_capacity slots.old }
     ensures added { (kept : List sessions.Slot) → KeepsSlots slots.old.items kept
@@ -97,7 +98,7 @@ fn add_device<B: Books>(
     done
 }
 
-/// Executes a command that changes no slot.
+/// Executes a command that changes no slot: its records are written, and nothing is sent.
 fn note<B: Books>(
     alloc: Global,
     slots: &[Slot],

@@ -1,4 +1,4 @@
-//! Builds the records of meters that are installed, corrected and closed.
+//! Builds the records of the installation, the corrections and the closing of a meter.
 ghost use Rattle.std.specs.Prelude.{◌≡◌, ◌≤◌, false, None, Some, Option};
 ghost use Rattle.std.specs.Option.{option_and_then, option_to_list};
 ghost use Rattle.energy_core.specs.declared.entries.Entry.TheVariants as entry;
@@ -19,7 +19,7 @@ use office_events::{
     Manual, Name, Opening, Rescale, Reset, VoidEntry, VoidedEntry,
 };
 
-/// Returns the opening of a new meter.
+/// Returns the opening record of a new meter; `None` if a name is invalid.
 pub fn opening_by(moment: u64, install: &Install) -> Option<Fact>
     requires field { asks_bad_field moment (command.Install install.now) ≡ false }
     requires scale { asks_bad_scale (command.Install install.now) ≡ false }
@@ -36,7 +36,7 @@ pub fn opening_by(moment: u64, install: &Install) -> Option<Fact>
     }))
 }
 
-/// Returns the installation that an exchange requests.
+/// Returns the installation that an exchange requests after the closing of the old meter.
 pub fn installed_by(exchange: &Exchange) -> Install
     ensures { result ≡ history.installed_by exchange.now }
 {
@@ -50,7 +50,8 @@ pub fn installed_by(exchange: &Exchange) -> Install
     }
 }
 
-/// An entry of a kind: the counter advanced to `raw`, over `rolls` full turns.
+/// The record of an entry of this kind at the meter: the counter advanced to `raw`, over `rolls`
+/// full turns.
 fn step_on(row: &Installation, kind: EntryKind, at: u64, raw: u64, rolls: u64) -> Fact
     requires raw { raw ≤ MAX_SHOWN }
     requires rolls { rolls ≤ MAX_ROLLS }
@@ -68,7 +69,8 @@ fn step_on(row: &Installation, kind: EntryKind, at: u64, raw: u64, rolls: u64) -
     })
 }
 
-/// An entry of a kind: the counter advanced to `before` and was set to `after`, at the scale `sf`.
+/// The record of an entry of this kind at the meter: the counter advanced to `before` and was set
+/// to `after`, at the scale `sf`.
 fn change_on(row: &Installation, kind: EntryKind, at: u64, before: u64, after: u64, sf: i16) -> Fact
     requires before { before ≤ MAX_SHOWN }
     requires after { after ≤ MAX_SHOWN }
@@ -87,7 +89,7 @@ fn change_on(row: &Installation, kind: EntryKind, at: u64, before: u64, after: u
     })
 }
 
-/// Returns the closing entry of the meter that an exchange removes.
+/// Returns the closing entry of the meter that an exchange replaces.
 pub fn closing_by(moment: u64, row: &Installation, exchange: &Exchange) -> Fact
     requires field { asks_bad_field moment (command.Exchange exchange.now) ≡ false }
     requires counter { FitsCounter (command.Exchange exchange.now) }
@@ -102,7 +104,7 @@ pub fn closing_by(moment: u64, row: &Installation, exchange: &Exchange) -> Fact
     )
 }
 
-/// Returns the entry of a reset.
+/// Returns the entry of a counter reset at its meter.
 pub fn reset_by(moment: u64, row: &Installation, reset: &Reset) -> Fact
     requires counter { FitsCounter (command.Reset reset.now) }
     ensures { Some result ≡ history.made_on moment (command.Reset reset.now) row.now }
@@ -111,7 +113,7 @@ pub fn reset_by(moment: u64, row: &Installation, reset: &Reset) -> Fact
     change_on(row, EntryKind::Reset, moment, reset.before, reset.after, sf)
 }
 
-/// Returns the entry of a change of scale.
+/// Returns the entry of a change of scale at its meter.
 pub fn rescale_by(moment: u64, row: &Installation, rescale: &Rescale) -> Fact
     requires scale { asks_bad_scale (command.Rescale rescale.now) ≡ false }
     requires counter { FitsCounter (command.Rescale rescale.now) }
@@ -128,7 +130,7 @@ pub fn rescale_by(moment: u64, row: &Installation, rescale: &Rescale) -> Fact
     )
 }
 
-/// Returns the entry of a reading by hand.
+/// Returns the entry of a reading by hand at its meter.
 pub fn manual_by(moment: u64, row: &Installation, manual: &Manual) -> Fact
     requires field { asks_bad_field moment (command.Manual manual.now) ≡ false }
     requires counter { FitsCounter (command.Manual manual.now) }
@@ -138,7 +140,7 @@ pub fn manual_by(moment: u64, row: &Installation, manual: &Manual) -> Fact
     step_on(row, EntryKind::Manual, at, manual.raw, manual.rolls)
 }
 
-/// Returns the entry of a closing.
+/// Returns the closing entry of a meter.
 pub fn close_by(moment: u64, row: &Installation, close: &Close) -> Fact
     requires field { asks_bad_field moment (command.Close close.now) ≡ false }
     requires counter { FitsCounter (command.Close close.now) }
@@ -147,7 +149,7 @@ pub fn close_by(moment: u64, row: &Installation, close: &Close) -> Fact
     step_on(row, EntryKind::Closing, moment, close.raw, close.rolls)
 }
 
-/// Returns the record that an entry is void.
+/// Returns the record that an entry is void; `None` if the meter's name is invalid.
 pub fn void_by(moment: u64, void: &VoidEntry) -> Option<Fact>
     ensures { result ≡ adding.void_by moment void.now }
 {
@@ -158,7 +160,7 @@ pub fn void_by(moment: u64, void: &VoidEntry) -> Option<Fact>
     }))
 }
 
-/// Returns the open meter at a register.
+/// Returns the open meter at the accounting register with the name; `None` if there is none.
 pub fn open_meter<B: Books>(
     books: &mut B,
     register: &Option<Name>,

@@ -1,4 +1,4 @@
-//! The stored response of a request, so that a retry acts once.
+//! The response that is stored for a request, so that a retry of the request does not act twice.
 ghost use Rattle.std.specs.Prelude.{◌≡◌, [], List, IfOk};
 ghost use Rattle.std.specs.Option.{option_to_list};
 ghost use Rattle.office_events.specs.declared.facts.Fact.{Fact};
@@ -28,7 +28,8 @@ pub fn kind_of(command: &Command) -> CommandKind
     }
 }
 
-/// The response of a request, with a copy of the request's bytes.
+/// The record of the response to a request, with a copy of the request's bytes; `None` if the
+/// caller's name is invalid.
 fn kept_of(moment: u64, asked: &Asked) -> Result<Option<Fact>, AllocError>
     ensures { IfOk result (λ kept. option_to_list kept ≡ history.reply_by moment asked.now) }
 {
@@ -44,7 +45,8 @@ fn kept_of(moment: u64, asked: &Asked) -> Result<Option<Fact>, AllocError>
     })))
 }
 
-/// Returns the record to store for a retry: the response of a request; none for any other event.
+/// Returns the record of the response that is stored for a request; `None` for an event without an
+/// idempotency key.
 pub fn reply_of(moment: u64, event: &Event) -> Result<Option<Fact>, AllocError>
     ensures { IfOk result (λ kept. option_to_list kept ≡ replies_by moment event.now) }
 {

@@ -1,4 +1,4 @@
-//! Finds the reads that a command sends.
+//! Finds the reads that a command starts.
 ghost use Rattle.std.specs.Prelude.{◌≡◌, true, [], ◌∷◌, IfOk};
 ghost use Rattle.office_rules.specs.History.{spans_by};
 ghost use Rattle.office_rules.specs.Refusals.{is_start, reads_in_all};
@@ -10,14 +10,14 @@ use office_books::{Books, BooksFault, read_count_at, reads_at};
 use office_events::{Command, StartRound};
 use std::alloc::{AllocError, Global};
 
-/// The reads still to send, and the number of reads in the complete plan.
+/// The reads that a command requests, and the number of reads in the complete plan.
 #[derive(Drop)]
 pub struct Reads {
     pub spans: Vec<ReadSpan>,
     pub of: u64,
 }
 
-/// The reads of a round.
+/// The reads of a round of the device's plan, from the index that the command gives.
 fn reads_of_round<B: Books>(
     alloc: Global,
     books: &mut B,
@@ -42,7 +42,7 @@ fn reads_of_round<B: Books>(
     })
 }
 
-/// A single read.
+/// The list of one read, for a single poll.
 fn only(alloc: Global, span: ReadSpan) -> Result<Reads, AllocError>
     ensures spans { IfOk result (λ reads. reads.spans.items ≡ span ∷ []) }
     ensures all { IfOk result (λ reads. reads.of ≡ 1) }
@@ -52,7 +52,7 @@ fn only(alloc: Global, span: ReadSpan) -> Result<Reads, AllocError>
     Ok(Reads { spans, of: 1 })
 }
 
-/// Returns the reads that a command sends.
+/// Returns the reads that a command requests.
 pub fn reads_by<B: Books>(
     alloc: Global,
     books: &mut B,

@@ -16,7 +16,8 @@ use office_events::{Answer, Command, Fact, MAX_POLLS};
 use poll_core::LAST_MOMENT;
 use std::alloc::Global;
 
-/// Records the polls that a command starts on the session of a device, and starts them.
+/// Records the polls that a command starts on the session of a device, and starts them on the
+/// session.
 pub fn start<B: Books>(
     alloc: Global,
     slot: &mut Slot,

@@ -34,7 +34,7 @@ fn opened_slots(alloc: Global, devices: &[Device]) -> Result<Vec<Slot>, AllocErr
     devices.iter().map(|device| opened(device)).collect(alloc)
 }
 
-/// The record that a poll was lost because the office was reopened.
+/// The outcome record of a poll that is lost because the office was opened again.
 fn lost(moment: u64, poll: &Poll) -> Fact
     ensures { result ≡ history.lost moment poll.now }
 {
@@ -45,7 +45,7 @@ fn lost(moment: u64, poll: &Poll) -> Fact
     })
 }
 
-/// The records that polls were lost.
+/// The outcome records of these polls, all lost because the office was opened again.
 fn lost_facts(alloc: Global, moment: u64, polls: &[Poll]) -> Result<Vec<Fact>, AllocError>
     ensures { IfOk result (λ facts. facts.items ≡ map (history.lost moment) polls.now) }
 {
@@ -78,7 +78,8 @@ fn book_lost<B: Books>(alloc: Global, books: &mut B, moment: u64) -> Result<(), 
     books.book(facts)
 }
 
-/// Returns the reason to refuse an opening: it is before a recorded time, or past the limit.
+/// Returns the reason to refuse an opening: its timestamp is before a recorded one, or past the
+/// limit. `None` if the opening is acceptable.
 ///
 /// Timestamps are in seconds since 1970-01-01 UTC.
 pub fn opening_refusal<B: Books>(books: &mut B, moment: u64) -> Result<Option<Refusal>, BooksFault>

@@ -1,4 +1,4 @@
-//! Finds the slot of a device, and whether it has a session.
+//! Finds the slot of a device by name, and whether it has a session.
 ghost use Rattle.std.specs.Prelude.{◌≡◌, ◌<◌, length, IfSome, List, slice_get, is_some};
 ghost use Rattle.std.specs.Option.{option_and_then};
 ghost use Rattle.office_rules.specs.Facts as facts;
@@ -26,7 +26,7 @@ fn position_of(slots: &[Slot], given: &Option<Name>) -> Option<usize>
     slots.iter().position(|slot| is_named(given, &slot.device))
 }
 
-/// Returns the index of the slot of the device with the name.
+/// Returns the index of the slot whose device has the name; `None` if there is none.
 pub fn place_of(slots: &[Slot], given: &Option<Name>) -> Option<usize>
     ensures inside { IfSome result (λ i. i < length slots.now) }
     ensures there { is_some result ≡ has_slot slots.now given.now }
@@ -36,7 +36,7 @@ pub fn place_of(slots: &[Slot], given: &Option<Name>) -> Option<usize>
     position_of(slots, given)
 }
 
-/// Returns whether a device has the name.
+/// Returns whether a slot's device has the name.
 pub fn has_device(slots: &[Slot], given: &Option<Name>) -> bool
     ensures { IsOfKept slots.now result (λ stood. is_some (sessions.slot_of stood given.now)) }
 {

@@ -1,4 +1,4 @@
-//! The records and notifications of an event that is being settled.
+//! The pending write of an event: its records and its notifications.
 ghost use Rattle.std.specs.Prelude.{◌≡◌, ◌++◌, ◌∷◌, [], OnOk, IfErr};
 ghost use Rattle.office_books.specs.declared.faults.BooksFault.TheVariants.{Memory};
 ghost use Rattle.office_booking.specs.Settling.Drafts.{HasMore};
@@ -7,7 +7,7 @@ use office_books::BooksFault;
 use office_events::{Fact, Note};
 use std::alloc::Global;
 
-/// The pending records and notifications of an event, oldest first. They are written and reported
+/// The pending records and notifications of one event, oldest first. They are written and reported
 /// together, or not at all.
 #[derive(Drop)]
 pub struct Draft {
@@ -16,7 +16,7 @@ pub struct Draft {
 }
 
 impl Draft {
-    /// Creates an empty draft. The call allocates no memory.
+    /// Creates a pending write without records. The call allocates no memory.
     pub fn new(alloc: Global) -> Draft
         ensures facts { result.facts.items ≡ [] }
         ensures notes { result.notes.items ≡ [] }

@@ -1,4 +1,4 @@
-//! Settles an event of a device, and records what it settles all at once.
+//! Settles the polls that a device event ends, and records their outcomes and readings all at once.
 ghost use Rattle.std.specs.Prelude.{◌≡◌, ◌≤◌, [], List, IsOk, OnErr};
 ghost use Rattle.office_rules.specs.Facts.{moment_limit};
 ghost use Rattle.office_rules.specs.History.{History, facts_of, slots_of, next_poll};
@@ -16,7 +16,7 @@ use office_events::{Event, Fact, Note};
 use office_rules::facts_are_lawful;
 use std::alloc::Global;
 
-/// Writes the records of an event, if it has any.
+/// Writes the records all at once; writes nothing if there are none.
 fn book_all<B: Books>(books: &mut B, facts: Vec<Fact>) -> Result<(), BooksFault>
     ensures moves { (known : List Fact) → let later = with_facts facts.items known in
         AreLawful later → Moves (B.ledger books.old) (B.ledger books.new) known later result }
@@ -31,11 +31,13 @@ fn book_all<B: Books>(books: &mut B, facts: Vec<Fact>) -> Result<(), BooksFault>
     books.book(facts)
 }
 
-/// Applies an event to the slots of the devices, and records what it settles all at once.
+/// Applies a device event to the slots, and records the outcomes and readings that it settles all
+/// at once.
 ///
 /// Returns the notifications: each poll that ended, followed by the readings of its response. An
-/// event that settles nothing makes no query of the store and needs no memory. On error some slots
-/// may have been updated: the caller must discard all sessions.
+/// event that settles no poll makes no query of the store and needs no memory.
+///
+/// On error some slots may have been updated: the caller must discard all sessions.
 pub fn settle_event<B: Books>(
     alloc: Global,
     slots: &mut [Slot],

@@ -1,4 +1,4 @@
-//! The state of installations after a draft.
+//! The state of an installation after the records of a pending write.
 ghost use Rattle.std.specs.Prelude.{◌≡◌};
 ghost use Rattle.office_rules.specs.Meters.{open_at};
 ghost use Rattle.office_rules.specs.Ranges.{IsSound};
@@ -12,7 +12,8 @@ use office_books::{Books, BooksFault, after_entry};
 use office_events::{Fact, Installation, Name};
 use office_rules::{meters_are_kept, names_are_distinct};
 
-/// An installation after one more record.
+/// Returns the installation after one more record; unchanged by a record that is no entry of its
+/// meter.
 fn with_fact(row: &Installation, fact: &Fact) -> Installation
     requires { IsSound row.now }
     ensures sound { IsSound result }
@@ -27,7 +28,7 @@ fn with_fact(row: &Installation, fact: &Fact) -> Installation
     }
 }
 
-/// An installation after these records.
+/// Returns the installation after these records, in order.
 fn with_facts(row: &Installation, facts: &[Fact]) -> Installation
     requires { IsSound row.now }
     ensures sound { IsSound result }
@@ -45,7 +46,8 @@ fn with_facts(row: &Installation, facts: &[Fact]) -> Installation
     following
 }
 
-/// Returns the open installation at a register, after the draft.
+/// Returns the open installation at an accounting register, after the records of the pending write;
+/// `None` if no meter is open there.
 pub fn open_installation<B: Books>(
     books: &mut B,
     draft: &Draft,

@@ -1,4 +1,4 @@
-//! Records polls that end, and the readings of their responses.
+//! Adds the outcomes of polls that end, and the readings in their responses, to a pending write.
 ghost use Rattle.std.specs.Prelude.{◌≡◌, OnOk, IfErr};
 ghost use Rattle.poll_core.specs.Telling.{settled_of, LendsReply};
 ghost use Rattle.office_rules.specs.Readings as readings;
@@ -22,7 +22,8 @@ use office_events::{
 };
 use poll_core::Settled;
 
-/// The record and the notification of a reading.
+/// The record and the notification of a judged reading: an entry if it is accepted, otherwise a
+/// rejected reading with its cause.
 fn told_of(meter: Name, poll: u64, reading: &Reading, verdict: Verdict) -> (Fact, Note)
     ensures fact { result.0 ≡ readings.as_fact meter poll reading.now verdict }
     ensures note { result.1 ≡ notes.as_note meter reading.now verdict }
@@ -63,7 +64,8 @@ fn told_of(meter: Name, poll: u64, reading: &Reading, verdict: Verdict) -> (Fact
     }
 }
 
-/// Judges a reading of an installation, and adds its record and notification.
+/// Judges a reading of an installation, and adds its record and its notification to the pending
+/// write.
 fn add_judged(
     draft: &mut Draft,
     row: &Installation,
@@ -80,8 +82,10 @@ fn add_judged(
     draft.add(fact, note)
 }
 
-/// Adds the reading of a register from the response to a poll. The read must span the register, and
-/// the register must have an open meter; otherwise nothing is added.
+/// Adds the reading of an accounting register in a poll's response.
+///
+/// Nothing is added if the read does not span the register's counter and scale, or if no meter is
+/// open at the register.
 fn add_reading<B: Books>(
     books: &mut B,
     draft: &mut Draft,
@@ -105,7 +109,7 @@ fn add_reading<B: Books>(
     add_judged(draft, &row, poll.number, &reading)
 }
 
-/// Adds the readings of several registers from a response, in order.
+/// Adds the readings of several accounting registers in one response, in order.
 fn add_readings<B: Books>(
     books: &mut B,
     draft: &mut Draft,
@@ -125,7 +129,7 @@ fn add_readings<B: Books>(
     Ok(())
 }
 
-/// Adds the readings of the response to a poll.
+/// Adds the readings in the response to a poll, one for each accounting register of the device.
 fn add_reply<B: Books>(
     books: &mut B,
     draft: &mut Draft,
@@ -145,7 +149,7 @@ fn add_reply<B: Books>(
     add_readings(books, draft, at, &row.poll, reply, &registers)
 }
 
-/// Adds the outcome of a poll, followed by the readings of its response.
+/// Adds the outcome of a poll and, if the poll was answered, the readings in its response.
 pub fn add_outcome<B: Books>(
     books: &mut B,
     draft: &mut Draft,

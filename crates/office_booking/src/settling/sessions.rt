@@ -1,4 +1,4 @@
-//! Applies an event to a session.
+//! Applies a device event to a session.
 ghost use Rattle.std.specs.Prelude.{◌≡◌, ◌≤◌, true, not, None, OnOk, IfOk};
 ghost use Rattle.poll_core.specs.Settling as happening;
 ghost use Rattle.office_rules.specs.Facts.{moment_limit};
@@ -13,7 +13,8 @@ use office_books::{Books, BooksFault};
 use office_events::{Device, Event};
 use poll_core::{Closing, Session, longer_pieces_settle};
 
-/// Feeds a complete chunk to a session, and adds what it settles.
+/// Passes a complete chunk of bytes to a session, and adds the outcomes that it settles to the
+/// pending write.
 fn settle_piece<B: Books>(
     session: &mut Session,
     books: &mut B,
@@ -44,7 +45,7 @@ fn settle_piece<B: Books>(
     }
 }
 
-/// Feeds a timer event to a session, and adds what it settles.
+/// Passes a timer event to a session, and adds the outcomes that it settles to the pending write.
 fn settle_tick<B: Books>(
     session: &mut Session,
     books: &mut B,
@@ -71,7 +72,7 @@ fn settle_tick<B: Books>(
     }
 }
 
-/// Closes a session, and adds what the close settles.
+/// Closes a session, and adds the outcomes that the close settles to the pending write.
 fn settle_close<B: Books>(
     session: &mut Session,
     books: &mut B,
@@ -98,8 +99,8 @@ fn settle_close<B: Books>(
     }
 }
 
-/// Applies an event to the session of a device, if it concerns the device. Returns whether the
-/// device stays connected.
+/// Applies an event to the session of a device, if the event concerns the device. Returns whether
+/// the device stays connected.
 pub fn settle_session<B: Books>(
     session: &mut Session,
     device: &Device,

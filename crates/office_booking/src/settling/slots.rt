@@ -1,4 +1,4 @@
-//! Applies an event to the slots of an office.
+//! Applies a device event to the slots of an office.
 ghost use Rattle.std.specs.Prelude.{◌≡◌, ℕ, ◌≤◌, [], List, map, Some, OnOk, is_some};
 ghost use Rattle.office_rules.specs.Facts.{moment_limit};
 ghost use Rattle.office_rules.specs.Sessions as sessions;
@@ -17,7 +17,7 @@ use office_books::{Books, BooksFault};
 use office_events::{Device, Event};
 use poll_core::Session;
 
-/// Whether the event connects the device.
+/// Whether the event is a new connection of this device.
 fn connects(event: &Event, device: &Device) -> bool
     ensures { result ≡ sessions.connects event.now device.now }
 {
@@ -27,7 +27,7 @@ fn connects(event: &Event, device: &Device) -> bool
     }
 }
 
-/// Whether the event concerns the session of the device.
+/// Whether the event concerns the session of this device.
 fn reaches(event: &Event, device: &Device) -> bool
     ensures { (at : ℕ) → result ≡ is_some (happening_on at event.now device.now) }
 {

@@ -1,4 +1,4 @@
-//! Starts those reads of a list that the session of the device allows, one by one.
+//! Starts the reads that a device's session allows, one by one.
 ghost use Rattle.std.specs.Prelude.{◌≡◌, ◌+◌, ◌≤◌, None, length, IfOk};
 ghost use Rattle.std.specs.List.{flat_map};
 ghost use Rattle.office_rules.specs.Sessions as sessions;
@@ -14,7 +14,7 @@ use office_events::{Device, Fact, MAX_POLLS, Poll};
 use poll_core::{LAST_MOMENT, MAX_WINDOW, Session};
 use std::alloc::{AllocError, Global};
 
-/// The number of these reads that the session allows now.
+/// The number of these reads that the session allows now, counted from the first.
 fn count_on(kept: &Session, device: &Device, spans: &[ReadSpan]) -> usize
     ensures few { result ≤ MAX_WINDOW }
     ensures inside { result ≤ length spans.now }
@@ -26,7 +26,7 @@ fn count_on(kept: &Session, device: &Device, spans: &[ReadSpan]) -> usize
         .min(spans.len())
 }
 
-/// The poll records of the first reads that the session allows, in order.
+/// The poll records of as many reads as the session allows, from the first, in order.
 fn poll_facts(
     alloc: Global,
     kept: &Session,
@@ -54,7 +54,7 @@ fn poll_facts(
     Ok(facts)
 }
 
-/// Returns the poll records of the first reads that the session of the device allows, in order.
+/// Returns the poll records of as many reads as the session allows, from the first, in order.
 ///
 /// `number` is the number of the first poll.
 pub fn polls_on(
@@ -74,7 +74,7 @@ pub fn polls_on(
     }
 }
 
-/// Starts the first reads that the session allows, in order.
+/// Starts as many reads as the session allows, from the first, in order.
 fn start_each(
     kept: &mut Session,
     device: &Device,
@@ -102,8 +102,7 @@ fn start_each(
     outgoing
 }
 
-/// Starts the first reads that the session of the device allows, in order, and returns their
-/// frames.
+/// Starts as many reads as the session allows, from the first, in order, and returns their frames.
 ///
 /// `number` is the number of the first poll.
 pub fn start_on(slot: &mut Slot, number: u64, moment: u64, spans: &[ReadSpan]) -> Outgoing

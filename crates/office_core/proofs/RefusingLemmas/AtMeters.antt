@@ -103,7 +103,7 @@ pub refused_as : (slots : List Slot) (facts : List Fact) (arrival : Arrival) (c 
 refused_as slots facts arrival c row e off_scale off_limits is h =
     same_find _ _ reasons (corrects_for slots facts arrival c row e off_scale off_limits is h)
 
--- The same refusal, or else a refusal for lack of room.
+-- The given refusal; if there is none and `crowded` is true, the refusal `Limit`.
 abbrev pub or_limit : (crowded : Bool) → Option Refusal → Option Refusal
 or_limit crowded None = cond crowded (Some refusal.Limit) None
 or_limit crowded (Some why) = Some why

@@ -1,4 +1,4 @@
--- Why an entry from a command is refused at a meter.
+-- Why the office refuses an entry that a command makes at a meter.
 use Rattle.std.specs.Prelude.{◌≡◌, Bool, false, ◌||◌, Option, Some, None}
 use Rattle.std.specs.List.{find}
 use Rattle.energy_core.specs.declared.limits.TheConstants.{MAX_RANGE}
@@ -15,16 +15,17 @@ use Rattle.office_rules.specs.Refusals.{reasons}
 use Rattle.office_core.specs.declared.refusing.arrivals.Arrival.{Arrival}
 use Rattle.office_core.specs.Refusing.Asking.{IsOfEvent}
 
--- The entry has a fault at an installation.
+-- Whether the entry has this fault after the last entry of the installation.
 abbrev pub entry_has_fault : Installation → Entry → TermFault → Bool
 entry_has_fault row e why = entering.refuses row.opening.range row.total row.last e why
 
--- The same; without an installation there is no fault.
+-- Whether the entry has this fault at the installation; false if there is no installation.
 abbrev pub is_faulty : Option Installation → Entry → TermFault → Bool
 is_faulty None e why = false
 is_faulty (Some row) e why = entry_has_fault row e why
 
--- Whether a reason applies to an entry.
+-- Whether this reason to refuse applies to the entry that a command makes at the latest meter of a
+-- register.
 abbrev pub speaks_of_entry : Arrival → (off_scale off_limits : Bool) → Installation → Entry
     → Refusal → Bool
 speaks_of_entry arrival off_scale off_limits row e refusal.ClockBack = arrival.is_back
@@ -42,14 +43,14 @@ speaks_of_entry arrival off_scale off_limits row e refusal.Limit =
     arrival.is_beyond || off_limits || is_faulty (if_open row) e fault.NotBelowRange
 speaks_of_entry arrival off_scale off_limits row e _ = false
 
--- The first reason that applies to an entry, if any.
+-- The first reason to refuse the entry; `None` if none applies.
 abbrev pub entry_refusal : Arrival → (off_scale off_limits : Bool) → Installation → Entry
     → Option Refusal
 entry_refusal arrival off_scale off_limits row e =
     find (speaks_of_entry arrival off_scale off_limits row e) reasons
 
--- What is known of an entry that is not refused: its arrival and the command's numbers are in
--- range, and a counter of 32 bits can show its numbers.
+-- What holds for an entry that is not refused: its timestamp and the command's numbers are in
+-- range, and a 32-bit counter can show its readings.
 pub record IsEntryInRange (arrival : Arrival) (off_scale off_limits : Bool)
     (e : Entry) : Type 0 where
   pub not_back : arrival.is_back ≡ false
@@ -58,7 +59,8 @@ pub record IsEntryInRange (arrival : Arrival) (off_scale off_limits : Bool)
   pub field : off_limits ≡ false
   pub shown : CanBeShown MAX_RANGE e
 
--- An entry without a refusal is in range; otherwise the reason lies in the entry or the command.
+-- If an entry is not refused, it is in range. If it is refused, the reason is in the entry or its
+-- command.
 abbrev pub BefitsEntry : Arrival → (off_scale off_limits : Bool) → Entry → Option Refusal → Type 0
 BefitsEntry arrival off_scale off_limits e None = IsEntryInRange arrival off_scale off_limits e
 BefitsEntry arrival off_scale off_limits e (Some why) = IsOfEvent why

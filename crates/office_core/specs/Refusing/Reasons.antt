@@ -15,12 +15,13 @@ use Rattle.office_core.specs.declared.refusing.arrivals.Arrival.{Arrival}
 use Rattle.office_core.specs.Refusing.Asking.{IsOfEvent}
 use Rattle.office_booking.specs.Sessions.Ranges.{IsCommandInRange}
 
--- The arrival of an event after the latest accepted one.
+-- The arrival of an event at timestamp `at`, if the latest accepted event has timestamp `latest`.
 abbrev pub arrival_of : (latest at : ℕ) → Arrival
 arrival_of latest at =
     record { moment = at; is_back = nat_lt at latest; is_beyond = nat_lt moment_limit at }
 
--- The arrival of a request. An invalid caller or number counts as out of range.
+-- The arrival of a request at timestamp `at`. `is_beyond` also holds if the caller's name is
+-- invalid or the number is past its limit.
 abbrev pub request_arrival : (latest at : ℕ) → Asked → Arrival
 request_arrival latest at asked = record {
   moment = at;
@@ -28,49 +29,50 @@ request_arrival latest at asked = record {
   is_beyond = nat_lt moment_limit at || is_none asked.caller || nat_lt request_limit asked.number;
 }
 
--- A reason in the arrival itself.
+-- Whether this reason to refuse applies by the timestamp or the key of the command.
 abbrev pub comes_wrongly : Arrival → Refusal → Bool
 comes_wrongly arrival refusal.ClockBack = arrival.is_back
 comes_wrongly arrival refusal.Limit = arrival.is_beyond
 comes_wrongly arrival _ = false
 
--- A reason applies to a command, by its arrival or by its content.
+-- Whether this reason to refuse applies to the command, by its arrival or by its content.
 abbrev pub speaks_against : List sessions.Slot → List Fact → Arrival → Command → Refusal → Bool
 speaks_against slots facts arrival c why =
     comes_wrongly arrival why || asks_wrongly slots facts arrival.moment c why
 
--- The refusal of a command: the first reason that applies, if any.
+-- The first reason to refuse the command; `None` if none applies.
 abbrev pub refusal_under : List sessions.Slot → List Fact → Arrival → Command → Option Refusal
 refusal_under slots facts arrival c = find (speaks_against slots facts arrival c) reasons
 
--- The result is the refusal of the command, for any devices.
+-- `r` is the refusal of the command for these records, whatever the devices are.
 abbrev pub IsWhy : Arrival → Command → List Fact → Option Refusal → Type 0
 IsWhy arrival c facts r = (slots : List sessions.Slot) → r ≡ refusal_under slots facts arrival c
 
--- The result is the refusal of the command for the stored devices.
+-- `r` is the refusal of the command for these records and the devices in the stored slots.
 abbrev pub IsWhyAmong : List Slot → Arrival → Command → List Fact → Option Refusal → Type 0
 IsWhyAmong kept arrival c facts r =
     (slots : List sessions.Slot) → KeepsSlots kept slots → r ≡ refusal_under slots facts arrival c
 
--- The command is not too early and not out of range, and its numbers are in their ranges.
+-- The command's timestamp is not before the latest event and not past the limit, and its numbers
+-- are in range.
 pub record ComesInRange (arrival : Arrival) (c : Command) : Type 0 where
   pub not_back : arrival.is_back ≡ false
   pub within : arrival.is_beyond ≡ false
   pub command : IsCommandInRange arrival.moment c
 
--- A reason lies in the command; without a reason the command is in range.
+-- If a command is not refused, it is in range. If it is refused, the reason is in the command.
 abbrev pub Befits : Arrival → Command → Option Refusal → Type 0
 Befits arrival c None = ComesInRange arrival c
 Befits arrival c (Some why) = IsOfEvent why
 
--- Whether a reason applies to an event of a device: by its arrival, and by whether the device is
--- unknown or is in the wrong connection state.
+-- Whether this reason to refuse applies to a device event: by its timestamp, because its device is
+-- unknown, or because the device is connected or not connected against expectation.
 abbrev pub speaks_of_session : Arrival → (is_unknown is_busy : Bool) → Refusal → Bool
 speaks_of_session arrival is_unknown is_busy refusal.NotFound = is_unknown
 speaks_of_session arrival is_unknown is_busy refusal.Busy = is_busy
 speaks_of_session arrival is_unknown is_busy why = comes_wrongly arrival why
 
--- The first reason that applies to an event of a device, if any.
+-- The first reason to refuse a device event; `None` if none applies.
 abbrev pub session_refusal : Arrival → (is_unknown is_busy : Bool) → Option Refusal
 session_refusal arrival is_unknown is_busy =
     find (speaks_of_session arrival is_unknown is_busy) reasons

@@ -1,4 +1,4 @@
--- The number of polls that a start sends.
+-- How many polls a start can send on a device's session.
 use Rattle.std.specs.Prelude.{◌≡◌, ℕ, min, true, false, List, length, Option, Some, None, is_none, nat_lt}
 use Rattle.mb_wire.specs.declared.span.ReadSpan.{ReadSpan}
 use Rattle.poll_core.specs.Settling as session
@@ -7,22 +7,24 @@ use Rattle.office_rules.specs.Sessions.{Slot, slot_of, is_startable, sends_at}
 use Rattle.office_rules.specs.History.{sends_from}
 use Rattle.office_rules.specs.Refusals.{can_start}
 
--- A device has room for `room` polls: of some reads it starts the first `room`, for any numbers of
--- the polls.
+-- The device with the name exists and can start `room` polls in a row: of any reads, the first
+-- `room` are started.
 pub record HasRoomFor (slots : List Slot) (device : Option (List ℕ)) (room : ℕ) : Type 0 where
   pub known : is_none (slot_of slots device) ≡ false
   pub starts : can_start slots device ≡ nat_lt 0 room
   pub sends : (number at : ℕ) (spans : List ReadSpan)
       → length (sends_from number at spans (slot_of slots device)) ≡ min room (length spans)
 
--- The same for a device and its session.
+-- The session of the device can start `room` polls in a row: of any reads, the first `room` are
+-- started.
 pub record HasRoomOn (device : Device) (present : Option (List session.Event))
     (room : ℕ) : Type 0 where
   pub starts : is_startable device present ≡ nat_lt 0 room
   pub sends : (number at : ℕ) (spans : List ReadSpan)
       → length (sends_at number at device present spans) ≡ min room (length spans)
 
--- The device with the name has room for `room` polls, or no device has the name.
+-- `Some(room)`: the device with the name can start `room` polls in a row. `None`: no device has the
+-- name.
 abbrev pub HasRoom : List Slot → (device : Option (List ℕ)) → Option ℕ → Type 0
 HasRoom slots device None = is_none (slot_of slots device) ≡ true
 HasRoom slots device (Some room) = HasRoomFor slots device room

@@ -1,4 +1,4 @@
--- The answer to an event after what was accepted.
+-- The refusal of an event that the office finds from its slots and its store.
 use Rattle.std.specs.Prelude.{◌≡◌, ℕ, List, Option, Result, IfOk, IfSome}
 use Rattle.office_events.specs.declared.events.Event.{Event}
 use Rattle.office_events.specs.declared.refusals.Refusal.{Refusal}
@@ -10,15 +10,16 @@ use Rattle.office_books.specs.declared.faults.BooksFault.{BooksFault}
 use Rattle.office_books.specs.Ledgers.{Ledger}
 use Rattle.office_core.specs.Refusing.Asking.{IsOfSession}
 
--- The result is the refusal of the event after any past that left these slots and records.
+-- The result is the refusal of the event after any past that left these slots and these records. No
+-- wrong result of the store was taken as true.
 abbrev pub TellsWhy : (old new : Ledger) → List Slot → (latest at : ℕ) → Event
     → Result (Option Refusal) BooksFault → Type 0
 TellsWhy old new kept latest at e result =
     (past : History) → latest ≡ latest_of past → KeepsSlots kept (slots_of past)
     → old.holds (facts_of past) → new.is_clean → IfOk result (λ r. r ≡ refusal_of past at e)
 
--- The devices alone decide whether an event of a device is refused. This needs no premise on the
--- store.
+-- The result is the refusal of a device event, found from the slots alone, whatever the store
+-- holds. Only the four reasons of `IsOfSession` occur.
 pub record TellsAlone (kept : List Slot) (latest at : ℕ) (e : Event)
     (result : Result (Option Refusal) BooksFault) : Type 0 where
   pub why : (past : History) → latest ≡ latest_of past → KeepsSlots kept (slots_of past)

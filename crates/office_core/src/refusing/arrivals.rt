@@ -1,4 +1,4 @@
-//! When and how a command reaches the office.
+//! The timestamp of a command, checked against the latest event and the limits.
 ghost use Rattle.std.specs.Prelude.{◌≡◌};
 ghost use Rattle.office_core.specs.Refusing.Reasons as reasons;
 
@@ -17,7 +17,8 @@ pub struct Arrival {
 }
 
 impl Arrival {
-    /// Returns the arrival of an event.
+    /// Returns the arrival of an event at timestamp `moment`, if the latest accepted event has
+    /// timestamp `latest`.
     pub fn new(latest: u64, moment: u64) -> Arrival
         ensures { result ≡ reasons.arrival_of latest moment }
     {
@@ -28,7 +29,7 @@ impl Arrival {
         }
     }
 
-    /// Returns the arrival of a request.
+    /// Returns the arrival of a request, whose caller and number are checked too.
     pub fn of_request(latest: u64, moment: u64, asked: &Asked) -> Arrival
         ensures { result ≡ reasons.request_arrival latest moment asked.now }
     {

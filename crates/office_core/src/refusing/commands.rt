@@ -17,7 +17,7 @@ use office_booking::Slot;
 use office_books::{Books, BooksFault};
 use office_events::{Command, Refusal};
 
-/// Returns the reason to refuse a command, if any.
+/// Returns the first reason to refuse a command; `None` if none applies.
 pub fn refusal_of_command<B: Books>(
     books: &mut B,
     slots: &[Slot],

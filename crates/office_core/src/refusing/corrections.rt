@@ -1,4 +1,4 @@
-//! Finds why a correction, or the closing of a meter, is refused.
+//! Finds why the office refuses the correction or the closing of a meter.
 ghost use Rattle.std.specs.Prelude.{◌≡◌, IfOk};
 ghost use Rattle.office_events.specs.declared.commands.Command.TheVariants as command;
 ghost use Rattle.office_books.specs.Ledgers.{Finds, OnlyReads};
@@ -11,7 +11,7 @@ use crate::refusing::limits::{is_bad_close, is_bad_manual, is_off_scale_rescale}
 use office_books::{Books, BooksFault, meter_at};
 use office_events::{Close, Manual, Refusal, Rescale, Reset};
 
-/// Returns the reason to refuse the reset of a counter, if any.
+/// Returns the first reason to refuse the reset of a counter; `None` if none applies.
 pub fn reset<B: Books>(
     books: &mut B,
     arrival: &Arrival,
@@ -34,7 +34,7 @@ pub fn reset<B: Books>(
     Ok(refusal_of_entry(arrival, false, false, &row, &given))
 }
 
-/// Returns the reason to refuse a change of a counter's scale, if any.
+/// Returns the first reason to refuse a change of a counter's scale; `None` if none applies.
 pub fn rescale<B: Books>(
     books: &mut B,
     arrival: &Arrival,
@@ -53,7 +53,7 @@ pub fn rescale<B: Books>(
     Ok(refusal_of_entry(arrival, off_scale, false, &row, &given))
 }
 
-/// Returns the reason to refuse a reading by hand, if any.
+/// Returns the first reason to refuse a reading by hand; `None` if none applies.
 pub fn manual<B: Books>(
     books: &mut B,
     arrival: &Arrival,
@@ -72,7 +72,7 @@ pub fn manual<B: Books>(
     Ok(refusal_of_entry(arrival, false, off_limits, &row, &given))
 }
 
-/// Returns the reason to refuse the closing of a meter, if any.
+/// Returns the first reason to refuse the closing of a meter; `None` if none applies.
 pub fn close<B: Books>(
     books: &mut B,
     arrival: &Arrival,

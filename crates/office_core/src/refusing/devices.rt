@@ -18,7 +18,7 @@ fn are_all(slots: &[Slot]) -> bool
     MAX_DEVICES <= slots.len()
 }
 
-/// Returns the reason to refuse a new device, if any.
+/// Returns the first reason to refuse a new device; `None` if none applies.
 pub fn add_device(slots: &[Slot], arrival: &Arrival, device: &AddDevice) -> Option<Refusal>
     ensures found { (known : List Fact)
         → IsWhyAmong slots.now arrival.now (command.AddDevice device.now) known result }
@@ -36,7 +36,7 @@ pub fn add_device(slots: &[Slot], arrival: &Arrival, device: &AddDevice) -> Opti
     None
 }
 
-/// Returns the reason to refuse a point list, if any.
+/// Returns the first reason to refuse a point list; `None` if none applies.
 pub fn put_list(slots: &[Slot], arrival: &Arrival, put: &PutList) -> Option<Refusal>
     ensures found { (known : List Fact)
         → IsWhyAmong slots.now arrival.now (command.PutList put.now) known result }

@@ -9,10 +9,11 @@ use crate::refusing::faults::{goes_back, is_full, is_long, is_not_later, is_not_
 use crate::refusing::given::GivenEntry;
 use office_events::{Installation, Refusal};
 
-/// Returns the reason to refuse an entry at the latest meter of a register, if any.
+/// Returns the first reason to refuse an entry at the latest meter of an accounting register;
+/// `None` if none applies.
 ///
-/// `off_scale` and `off_limits` say whether the command has a scale, or another number, outside its
-/// range.
+/// `off_scale` says whether the command's scale is out of range, `off_limits` whether another of
+/// its numbers is.
 pub fn refusal_of_entry(
     arrival: &Arrival,
     off_scale: bool,

@@ -13,7 +13,7 @@ use crate::refusing::names::has_meter;
 use office_books::{Books, BooksFault, meter_at};
 use office_events::{Exchange, Refusal};
 
-/// Returns the reason to refuse the exchange of a meter, if any.
+/// Returns the first reason to refuse the exchange of a meter; `None` if none applies.
 pub fn exchange<B: Books>(
     books: &mut B,
     arrival: &Arrival,

@@ -1,5 +1,5 @@
-//! The faults of an entry from a command. The entry's numbers are any of 64 bits, so their sums and
-//! products use 128.
+//! The faults of an entry that a command makes. Its numbers are any of 64 bits, so sums and
+//! products of them use 128 bits.
 ghost use Rattle.std.specs.Prelude.{◌≡◌, ◌≤◌, ◌^◌};
 ghost use Rattle.energy_core.specs.Account.{moment_of, reached};
 ghost use Rattle.energy_core.specs.declared.admission.TermFault.TheVariants as fault;
@@ -11,7 +11,7 @@ use crate::refusing::given::GivenEntry;
 use energy_core::{INTERVAL_SECONDS, MAX_INTERVALS, MAX_RANGE, MAX_TOTAL, energy_up_to};
 use office_events::Installation;
 
-/// The timestamp of an entry.
+/// The timestamp of the entry that a command gives.
 fn moment(given: &GivenEntry) -> u64
     ensures { result ≡ moment_of (entry_of given.now) }
 {
@@ -20,7 +20,7 @@ fn moment(given: &GivenEntry) -> u64
     }
 }
 
-/// The value that the counter would show without its turns and without being set.
+/// The value that the counter would show at the entry if it had neither turned over nor been set.
 fn reach(range: u64, given: &GivenEntry) -> u128
     requires { range ≤ MAX_RANGE }
     ensures value { result ≡ reached range (entry_of given.now) }
@@ -34,7 +34,7 @@ fn reach(range: u64, given: &GivenEntry) -> u128
     }
 }
 
-/// Returns whether the counter would have decreased.
+/// Returns whether the counter would have decreased since the meter's last entry.
 pub fn goes_back(row: &Installation, given: &GivenEntry) -> bool
     requires { IsSound row.now }
     ensures { result ≡ entry_has_fault row.now (entry_of given.now) fault.NegativeStep }
@@ -42,7 +42,7 @@ pub fn goes_back(row: &Installation, given: &GivenEntry) -> bool
     reach(row.opening.range, given) < u128::from(row.last.raw)
 }
 
-/// Returns whether the entry is not later than the last entry.
+/// Returns whether the entry is not later than the meter's last entry.
 pub fn is_not_later(row: &Installation, given: &GivenEntry) -> bool
     ensures { result ≡ entry_has_fault row.now (entry_of given.now) fault.NotLater }
 {
@@ -57,7 +57,7 @@ pub fn is_long(row: &Installation, given: &GivenEntry) -> bool
     MAX_INTERVALS < last.saturating_sub(row.last.at / INTERVAL_SECONDS) + 1
 }
 
-/// Returns whether the meter's total energy would pass its limit.
+/// Returns whether the meter's total energy would pass its limit with the entry.
 pub fn is_full(row: &Installation, given: &GivenEntry) -> bool
     requires { IsSound row.now }
     ensures { result ≡ entry_has_fault row.now (entry_of given.now) fault.TotalFull }

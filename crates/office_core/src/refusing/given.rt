@@ -1,4 +1,4 @@
-//! Entries as commands hand them in.
+//! Entries as commands give them, before their numbers are checked.
 ghost use Rattle.std.specs.Prelude.{◌≡◌};
 ghost use Rattle.energy_core.specs.declared.entries.Entry.TheVariants as entry;
 ghost use Rattle.office_rules.specs.History.{read_at};
@@ -6,7 +6,8 @@ ghost use Rattle.office_core.specs.Refusing.Given.{entry_of};
 
 use office_events::{Manual, Rescale};
 
-/// An entry of a meter as a command hands it in: no counter may be able to show its numbers.
+/// An entry of a meter as a command gives it. Its numbers are not checked yet, so a counter may be
+/// unable to show them.
 #[derive(Clone, Copy, Debug, PartialEq, Eq)]
 pub enum GivenEntry {
     /// The counter advanced to `raw`, over `rolls` full turns.
@@ -15,7 +16,7 @@ pub enum GivenEntry {
         raw: u64,
         rolls: u64,
     },
-    /// The counter advanced to `before` and was set to `after`, at the scale `sf`.
+    /// The counter advanced to `before` and was then set to `after`, at the scale `sf`.
     Change {
         at: u64,
         before: u64,

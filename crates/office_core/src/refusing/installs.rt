@@ -22,7 +22,7 @@ pub fn are_all<B: Books>(books: &mut B) -> Result<bool, BooksFault>
     Ok(MAX_INSTALLATIONS <= books.installation_count()?)
 }
 
-/// Returns the reason to refuse the installation of a meter, if any.
+/// Returns the first reason to refuse the installation of a meter; `None` if none applies.
 pub fn install<B: Books>(
     books: &mut B,
     arrival: &Arrival,

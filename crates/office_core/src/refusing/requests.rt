@@ -1,4 +1,4 @@
-//! Answers retries of requests.
+//! Finds the stored response of a request that is a retry.
 ghost use Rattle.std.specs.Prelude.{◌≡◌, IsOk, IfOk};
 ghost use Rattle.office_rules.specs.Refusals.{kept_of};
 ghost use Rattle.office_books.specs.Ledgers.{Finds, OnlyReads};
@@ -7,7 +7,8 @@ ghost use Rattle.office_core.specs.Refusing.Kept.{kept_as, IsNoRequest, IsReused
 use office_books::{Books, BooksFault, Repeat};
 use office_events::{CommandKind, Event, Refusal};
 
-/// The answer to a request, given the stored request with the same caller and number.
+/// The answer to a request, given how it compares with the stored request of the same caller and
+/// number.
 fn answer_by(repeat: Repeat) -> Result<CommandKind, Refusal>
     ensures { result ≡ kept_as repeat }
 {

@@ -6,7 +6,7 @@ ghost use Rattle.office_core.specs.Refusing.Reasons.{session_refusal};
 use crate::refusing::arrivals::Arrival;
 use office_events::Refusal;
 
-/// Returns the reason to refuse an event of a device, if any.
+/// Returns the first reason to refuse a device event; `None` if none applies.
 ///
 /// `is_busy`: the device is connected where it should not be, or is not connected where it should
 /// be.

@@ -43,7 +43,7 @@ fn room(slots: &[Slot], given: &Option<Name>) -> Option<u64>
     }
 }
 
-/// The number of reads that a plan of `count` reads has from read `from` on.
+/// The number of reads from index `from` on, in a plan of `count` reads; 0 past its end.
 fn reads_left(count: usize, from: u64) -> u64
     ensures { (list : Option Planned) → Some count ≡ read_count_of list
         → result ≡ length (round_spans from list) }
@@ -51,7 +51,7 @@ fn reads_left(count: usize, from: u64) -> u64
     (count as u64).saturating_sub(from)
 }
 
-/// Whether `more` further polls would pass the greatest poll number.
+/// Whether the numbers of `more` further polls would pass the greatest poll number.
 fn is_past_numbers<B: Books>(books: &mut B, more: u64) -> Result<bool, BooksFault>
     ensures found { Finds (B.ledger books.old) (B.ledger books.new) result
         (λ known b. b ≡ nat_lt poll_limit (length (polls_in known) + more)) }
@@ -61,7 +61,7 @@ fn is_past_numbers<B: Books>(books: &mut B, more: u64) -> Result<bool, BooksFaul
     Ok(u128::from(MAX_POLLS) < u128::from(count) + u128::from(more))
 }
 
-/// Returns the reason to refuse the start of a poll, if any.
+/// Returns the first reason to refuse the start of a poll; `None` if none applies.
 pub fn start_poll<B: Books>(
     books: &mut B,
     slots: &[Slot],
@@ -93,7 +93,7 @@ pub fn start_poll<B: Books>(
     Ok(None)
 }
 
-/// Returns the reason to refuse the start of a round, if any.
+/// Returns the first reason to refuse the start of a round; `None` if none applies.
 pub fn start_round<B: Books>(
     books: &mut B,
     slots: &[Slot],

@@ -15,7 +15,7 @@ use meter_journal::is_voidable;
 use office_books::{Books, BooksFault, verdict_at};
 use office_events::{EntryPlace, Installation, Name, Refusal, VoidEntry};
 
-/// What a meter has at an index.
+/// What a meter has at an index of its journal.
 #[derive(Clone, Copy, Debug, PartialEq, Eq)]
 enum Spot {
     Nothing,
@@ -25,7 +25,7 @@ enum Spot {
     Entry(EntryPlace),
 }
 
-/// Whether the verdict on the entry after `found` is that it would pass the limit of a total.
+/// Whether the verdict on the entry after `found` is that the meter's total would pass its limit.
 fn is_full(found: &Option<EntryPlace>) -> bool
     requires { IfSome found.now (λ p. IsSound p.before) }
     ensures { result ≡ spots.is_full found.now }
@@ -40,8 +40,8 @@ fn is_full(found: &Option<EntryPlace>) -> bool
     }
 }
 
-/// The entry of a meter at an index, if any, with an energy before it that judges the next entry
-/// alike.
+/// The entry of a meter at an index; `None` if there is none. The energy before it may be another
+/// one, if the next entry gets the same verdict.
 ///
 /// `entry_near` first judges by the meter's total, which needs only the rows around the entry. The
 /// energy before the entry needs all rows. It matters only if the total is so large that the limit
@@ -63,7 +63,8 @@ fn entry_of<B: Books>(
     Ok(near)
 }
 
-/// What a meter has at an index. The opening has index 1.
+/// What a meter has at an index of its journal. The opening has index 1, the entries follow from
+/// index 2.
 fn spot_at<B: Books>(books: &mut B, given: &Option<Name>, place: u64) -> Result<Spot, BooksFault>
     ensures found { Finds (B.ledger books.old) (B.ledger books.new) result
         (λ known spot. spots.IsAt known given.now place spot) }
@@ -88,8 +89,8 @@ fn spot_at<B: Books>(books: &mut B, given: &Option<Name>, place: u64) -> Result<
     }
 }
 
-/// The verdict on an entry, if the meter's state before it is `before`. A change of the counter has
-/// none.
+/// The verdict on an entry, judged directly after the state `before`. An entry that sets the
+/// counter has no verdict.
 fn verdict_on(before: &Installation, entry: &Entry) -> Option<Verdict>
     requires { IsSound before.now }
     ensures { result ≡ verdict_between before.now entry.now }
@@ -107,7 +108,8 @@ fn verdict_on(before: &Installation, entry: &Entry) -> Option<Verdict>
     }
 }
 
-/// The verdict on the next valid entry, if the entry at `place` were removed.
+/// The verdict on the next valid entry if the entry at `place` did not exist; `None` if no valid
+/// entry follows.
 fn verdict(place: &EntryPlace) -> Option<Verdict>
     requires { IsSound place.now.before }
     ensures { result ≡ verdict_at (Some place.now) }
@@ -118,7 +120,7 @@ fn verdict(place: &EntryPlace) -> Option<Verdict>
     }
 }
 
-/// The reason why the entry at an index can't be voided, if any.
+/// The first reason why the entry can't be voided; `None` if it can be.
 fn against_entry(place: &EntryPlace) -> Option<Refusal>
     requires { IsSound place.now.before }
     ensures found { result ≡ spots.strike_refusal place.now }
@@ -134,7 +136,7 @@ fn against_entry(place: &EntryPlace) -> Option<Refusal>
     }
 }
 
-/// The reason to refuse a void, given what is at its index.
+/// The first reason to refuse a void, given what is at its index; `None` if none applies.
 fn against(arrival: &Arrival, spot: &Spot) -> Option<Refusal>
     requires { spots.IsSoundSpot spot.now }
     ensures found { result ≡ spots.void_refusal arrival.now spot.now }
@@ -156,7 +158,7 @@ fn against(arrival: &Arrival, spot: &Spot) -> Option<Refusal>
     }
 }
 
-/// Returns the reason to refuse a void, if any.
+/// Returns the first reason to refuse a void; `None` if none applies.
 pub fn void_entry<B: Books>(
     books: &mut B,
     arrival: &Arrival,

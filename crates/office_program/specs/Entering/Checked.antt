@@ -1,4 +1,4 @@
--- What checking an input finds, without entering it.
+-- What `--check` finds in an input, line by line, without making a request.
 use Rattle.std.specs.Prelude.{◌≡◌, ◌⊎◌, ◌||◌, ℕ, Bool, true, false, List, [], ◌∷◌, ◌++◌, Option, Some, None, Result, Ok, Err, codes, if◌then◌else◌}
 use Rattle.std.specs.Io.KnownBytes.{Appends}
 use Rattle.std.specs.declared.alloc.AllocError.{AllocError}
@@ -30,43 +30,46 @@ use Rattle.office_program.specs.Entering.Lines.{IsBad, IsEntry, MayAsk, Telling}
 
 -- ---- What the store knows of a request
 
--- The store was only queried: its records are the same, and so is what a crash may leave.
+-- The store was only queried: its records and what a crash may leave are unchanged. A store that is
+-- clean after it was clean before, and the zone stays.
 pub record OnlyLooks (old new : Ledger) : Type 0 where
   pub clean : new.is_clean → old.is_clean
   pub zone : new.zone ≡ old.zone
   pub keeps : KeepsFacts old new
 
--- What is known by a stored request: it is the same, or another one, for which the request would be
--- refused.
+-- What a stored request with the same key says of a request: it was accepted earlier, or would be
+-- refused because the stored request differs.
 abbrev pub known_as : Repeat → Known
 known_as (Same kind) = known.Again
 known_as Other = known.Refused refusal.Reused
 
--- What is known by the stored request, if any.
+-- What the store says of a request: `New` if no request with its key is stored.
 abbrev pub known_by : Option Repeat → Known
 known_by None = known.New
 known_by (Some repeat) = known_as repeat
 
--- What is known of the request of a caller, or a failure of the store. An invalid caller is
--- refused.
+-- What checking says of a request: what the store knows by its key, or a refusal for a failure of
+-- the store. An invalid caller's name is refused.
 abbrev pub IsKnownOf : List Fact → Asked → (caller : Option (List ℕ)) → Known → Type 0
 IsKnownOf facts asked None what = what ≡ known.Refused refusal.Limit
 IsKnownOf facts asked (Some caller) what =
     (what ≡ known_by (repeat_of facts caller asked.number asked.request))
     ⊎ ((fault : BooksFault) × (what ≡ known.Refused (as_refusal fault)))
 
--- The same by the request's caller.
+-- What checking says of a request, whose caller is in the request itself.
 abbrev pub IsKnown : List Fact → Asked → Known → Type 0
 IsKnown facts asked what = IsKnownOf facts asked asked.caller what
 
--- The same by the records of the store, if no wrong result was taken as true.
+-- `what` is what checking says of the request, given the store's records. No wrong result of the
+-- store was taken as true.
 abbrev pub KnowsRequest : (old new : Ledger) → Asked → Known → Type 0
 KnowsRequest old new asked what =
     (facts : List Fact) → old.holds facts → new.is_clean → IsKnown facts asked what
 
 -- ---- What is found of a line
 
--- What checking a line finds.
+-- What checking finds for a line: what is known of its request, the faulty rows of its point list,
+-- or that the line is bad.
 abbrev pub IsLook : Telling → (caller : Option (List ℕ)) → (text : List ℕ) → List Fact → Look
     → Type 0
 IsLook tells caller text facts (look.Known what) =
@@ -75,25 +78,27 @@ IsLook tells caller text facts (look.Known what) =
 IsLook tells caller text facts (look.Faulty rows) = IsEntry tells caller text (entry.Faulty rows)
 IsLook tells caller text facts look.Bad = IsBad tells text
 
--- The same for a result; out of memory says nothing.
+-- On `Ok`, this is what checking finds for the line. If memory ran out, the line is not judged.
 abbrev pub FindsLook : Telling → (caller : Option (List ℕ)) → (text : List ℕ) → List Fact
     → Result Look AllocError → Type 0
 FindsLook tells caller text facts (Ok found) = IsLook tells caller text facts found
 FindsLook tells caller text facts (Err e) = Unit {0}
 
--- The same by the records of the store, if no wrong result was taken as true.
+-- The result is what checking finds for the line, given the store's records. No wrong result of the
+-- store was taken as true.
 abbrev pub LooksAt : Telling → (caller : Option (List ℕ)) → (text : List ℕ) → (old new : Ledger)
     → Result Look AllocError → Type 0
 LooksAt tells caller text old new result = (facts : List Fact) → old.holds facts → new.is_clean
     → FindsLook tells caller text facts result
 
--- The text for what is known of a request.
+-- The text that reports what is known of a request: `new`, `again`, or the number of the refusal.
 abbrev pub known_text : Known → List ℕ
 known_text known.New = codes "new\n"
 known_text known.Again = codes "again\n"
 known_text (known.Refused why) = refused_line why
 
--- The text for what was found of a line.
+-- The text that reports what was found for a line: what is known of its request, its faulty rows,
+-- or that it is bad.
 abbrev pub look_text : (number : ℕ) → Look → List ℕ
 look_text number (look.Known what) = known_text what
 look_text number (look.Faulty rows) = course.faults_text rows
@@ -105,27 +110,30 @@ is_refusal known.New = false
 is_refusal known.Again = false
 is_refusal (known.Refused why) = true
 
--- Whether a line is bad, faulty or would be refused.
+-- Whether the line counts as refused: it is bad, its point list has faulty rows, or its request
+-- would be refused.
 abbrev pub is_refused : Look → Bool
 is_refused (look.Known what) = is_refusal what
 is_refused (look.Faulty rows) = true
 is_refused look.Bad = true
 
--- The text was printed, or a part of it if the write failed.
+-- The text for a checked line was printed, or a part of it if the write failed. The result says
+-- whether the line counts as refused.
 abbrev pub IsShown : (number : ℕ) → Look → (had holds : Option (List ℕ)) → Result Bool ExitStatus
     → Type 0
 IsShown number found had holds (Ok refused) =
     Appends had holds (look_text number found) × (refused ≡ is_refused found)
 IsShown number found had holds (Err status) = GotPart (look_text number found) had holds
 
--- The line was checked, and a part of its text was printed, since a write failed.
+-- The line was checked, but only a part of its text was printed, because a write failed.
 pub record IsCut (tells : Telling) (caller : Option (List ℕ)) (line : Line) (facts : List Fact)
     (had holds : Option (List ℕ)) : Type 0 where
   pub found : Look
   pub is : IsLook tells caller line.text facts found
   pub part : GotPart (look_text line.number found) had holds
 
--- A line was checked and its text printed; or a write failed, or memory was missing.
+-- The line was checked and its text printed. On an error a write failed, or memory ran out and
+-- nothing was printed.
 abbrev pub IsChecked : Telling → (caller : Option (List ℕ)) → Line → List Fact
     → (had holds : Option (List ℕ)) → Result Bool ExitStatus → Type 0
 IsChecked tells caller line facts had holds (Ok refused) =
@@ -134,7 +142,7 @@ IsChecked tells caller line facts had holds (Ok refused) =
 IsChecked tells caller line facts had holds (Err status) =
     IsCut tells caller line facts had holds ⊎ Appends had holds []
 
--- The same by the records of the store, if no wrong result was taken as true.
+-- The line was checked against the store's records. No wrong result of the store was taken as true.
 abbrev pub ChecksLine : Telling → (caller : Option (List ℕ)) → Line → (old new : Ledger)
     → (had holds : Option (List ℕ)) → Result Bool ExitStatus → Type 0
 ChecksLine tells caller line old new had holds result = (facts : List Fact) → old.holds facts
@@ -142,40 +150,42 @@ ChecksLine tells caller line old new had holds result = (facts : List Fact) → 
 
 -- ---- All lines, the latest first
 
--- A line that was checked, with what was found.
+-- A checked line, with what was found for it.
 pub record Looked : Type 0 where
   pub line : Line
   pub found : Look
 
--- The lines of an input: the checked ones, followed by these.
+-- The lines of an input: those that were checked, the latest first, followed by `rest`.
 abbrev pub lines_with : List Looked → (rest : List Line) → List Line
 lines_with [] rest = rest
 lines_with (one ∷ earlier) rest = lines_with earlier (one.line ∷ rest)
 
--- Each line has what checking it finds.
+-- What was found for each of these lines is what checking finds, given the records.
 abbrev pub AreLooks : Telling → (caller : Option (List ℕ)) → List Fact → List Looked → Type 0
 AreLooks tells caller facts [] = Unit {0}
 AreLooks tells caller facts (one ∷ earlier) =
     IsLook tells caller one.line.text facts one.found × AreLooks tells caller facts earlier
 
--- The text for the checked lines.
+-- The text that is printed for the checked lines, in the order of the lines.
 abbrev pub looks_text : List Looked → List ℕ
 looks_text [] = []
 looks_text (one ∷ earlier) = looks_text earlier ++ look_text one.line.number one.found
 
--- Whether any checked line is bad, faulty or would be refused.
+-- Whether any checked line counts as refused.
 abbrev pub any_refused : List Looked → Bool
 any_refused [] = false
 any_refused (one ∷ earlier) = any_refused earlier || is_refused one.found
 
--- All lines were checked, and their texts printed.
+-- All lines were checked and their texts printed. The exit status says whether any line counts as
+-- refused.
 pub record IsWhole (lines : List Line) (looked : List Looked) (status : ExitStatus)
     (had holds : Option (List ℕ)) : Type 0 where
   pub follow : lines ≡ lines_with looked []
   pub printed : Appends had holds (looks_text looked)
   pub means : status ≡ if any_refused looked then Refused else Fine
 
--- The command was broken off, and a part of the text was printed.
+-- The check ended early, because a write failed or memory ran out: the text is printed in part, and
+-- the exit status is `Failed`.
 pub record IsBrokenOff (lines : List Line) (looked : List Looked) (status : ExitStatus)
     (had holds : Option (List ℕ)) : Type 0 where
   pub rest : List Line
@@ -183,26 +193,28 @@ pub record IsBrokenOff (lines : List Line) (looked : List Looked) (status : Exit
   pub printed : GotPart (looks_text looked) had holds
   pub means : status ≡ Failed
 
--- The lines were checked, up to the end or to where the command was broken off.
+-- The lines were checked in order, to the end of the input or until the command was broken off.
 pub record Checks (tells : Telling) (caller : Option (List ℕ)) (lines : List Line)
     (facts : List Fact) (status : ExitStatus) (had holds : Option (List ℕ)) : Type 0 where
   pub looked : List Looked
   pub each : AreLooks tells caller facts looked
   pub ends : IsWhole lines looked status had holds ⊎ IsBrokenOff lines looked status had holds
 
--- The same by the records of the store, if no wrong result was taken as true.
+-- The input was checked against the store's records. No wrong result of the store was taken as
+-- true.
 abbrev pub ChecksText : Telling → (caller : Option (List ℕ)) → (text : List ℕ) → (old new : Ledger)
     → (had holds : Option (List ℕ)) → ExitStatus → Type 0
 ChecksText tells caller text old new had holds status = (facts : List Fact) → old.holds facts
     → new.is_clean → Checks tells caller (speaking_lines text) facts status had holds
 
--- The input was checked over a store in the state of a past, which stays in that state.
+-- The input was checked over a store in the state of a past, and the store is still in that state.
 pub record LooksOver (tells : Telling) (caller text : List ℕ) (new : Ledger)
     (had holds : Option (List ℕ)) (status : ExitStatus) (past : History) : Type 0 where
   pub checks : Checks tells (named caller) (speaking_lines text) (facts_of past) status had holds
   pub stand : BooksStand new past
 
--- The same for every past that the store was in the state of.
+-- `LooksOver` holds for every past in whose state the store was. No wrong result of the store was
+-- taken as true.
 abbrev pub ChecksOver : {B : Type 0} → (B → Ledger) → Telling → (caller text : List ℕ)
     → (books back : B) → (had holds : Option (List ℕ)) → ExitStatus → Type 0
 ChecksOver ledger tells caller text books back had holds status =

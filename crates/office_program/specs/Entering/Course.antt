@@ -1,5 +1,6 @@
--- The progress of an input: the request and answer of each line, the printed text, and the state of
--- the office. Lists of processed lines have the latest first.
+-- The progress of an input: the outcome and the text of each line, and the state of the office.
+--
+-- Lists of processed lines have the latest line first.
 use Rattle.std.specs.Prelude.{◌≡◌, ◌⊎◌, ◌||◌, ℕ, max, true, false, List, [], ◌∷◌, ◌++◌, codes, Option, Some, None, Result, Ok, Err, IfOk, is_err}
 use Rattle.std.specs.Fmt.{decimal}
 use Rattle.std.specs.List.{flat_map}
@@ -39,12 +40,13 @@ use Rattle.office_program.specs.Entering.Reading.{AsksShown, IsShownFor}
 
 -- ---- One line
 
--- The outcome of a line that is not bad. It was requested and answered; or it was not requested:
+-- The outcome of a line that is not bad. `Asked`: its request was fed to the office and answered.
+-- Otherwise no request was fed:
 --
--- - its point list has faulty rows;
--- - its entry by hand is doubted, with the energy in mWh that it would record;
--- - the office refused to answer whether the entry is doubted, or which counter to read;
--- - or the counter can't be read.
+-- - `Faulty`: its point list has faulty rows;
+-- - `Doubted`: its entry by hand would pass the meter's ceiling; it would record `mwh`;
+-- - `Undecided`: the office refused a query for a failure, about the doubt or the counter to read;
+-- - `Unread`: its counter can't be read.
 pub data Came : Type 0 where
   Asked : Answered → Came
   Faulty : List FaultyRow → Came
@@ -52,7 +54,7 @@ pub data Came : Type 0 where
   Undecided : (at : ℕ) → Request → Refusal → Came
   Unread : (at : ℕ) → ReadRequest → Came
 
--- The outcome is one of this entry.
+-- The outcome may occur for a line with this entry.
 abbrev pub IsCameOf : Entry → Came → Type 0
 IsCameOf e (Asked one) =
     (request : Request) × MayAsk e request × (one.event ≡ event.Asked request)
@@ -62,8 +64,8 @@ IsCameOf (entry.Faulty rows) (Faulty told) = told ≡ rows
 IsCameOf (entry.Read read) (Unread at tried) = tried ≡ read
 IsCameOf _ _ = ⊥
 
--- The meter is installed at the reading of the counter, by the register and the device in these
--- records.
+-- If the line installs a meter at its counter's present reading, the request has that reading. The
+-- register and the device are those in these records.
 abbrev pub IsShown : Telling → List Fact → Entry → Came → Type 0
 IsShown tells facts (entry.Read read) (Asked one) =
     (request : Request) × AsksShown tells facts read request × (one.event ≡ event.Asked request)
@@ -72,7 +74,7 @@ IsShown tells facts (entry.Read read) (Doubted at request mwh) =
 IsShown tells facts (entry.Read read) (Unread at tried) = IsShownFor tells facts read None
 IsShown tells facts _ _ = Unit {0}
 
--- The outcome of a line, by its entry and by the records of a past.
+-- The line's text has an entry, and the outcome may occur for it after this past.
 pub record Comes (tells : Telling) (caller : Option (List ℕ)) (past : History) (text : List ℕ)
     (came : Came) : Type 0 where
   pub entry : Entry
@@ -80,19 +82,21 @@ pub record Comes (tells : Telling) (caller : Option (List ℕ)) (past : History)
   pub comes : IsCameOf entry came
   pub shown : IsShown tells (facts_of past) entry came
 
--- What the office has accepted after the line.
+-- What the office has accepted after a line with this outcome.
 abbrev pub with_came : History → Came → History
 with_came past (Asked one) = with_answer past one.at one.event one.result
 with_came past _ = past
 
--- A requested entry is not doubted.
+-- The requested entry is not doubted, and the office gave its answer.
 pub record IsAskedAndAnswered (past : History) (before after : Failures) (one : Answered) : Type 0
   where
     pub undoubted : doubt_in (facts_of past) one.at one.event ≡ None
     pub answer : IsAnswer past one.at one.event before after one.result
 
--- The request has the answer of the office's definitions, or the office failed outside, which is
--- counted. The same holds if the office refuses to answer whether an entry is doubted.
+-- The outcome is right after this past. A request has the defined answer or was refused for a
+-- failure. A doubted entry is doubted by its definition, and an undecided line had a failure.
+--
+-- The failure counts change accordingly.
 abbrev pub IsCameAnswered : History → (before after : Failures) → Came → Type 0
 IsCameAnswered past before after (Asked one) = IsAskedAndAnswered past before after one
 IsCameAnswered past before after (Faulty rows) = after ≡ before
@@ -101,26 +105,26 @@ IsCameAnswered past before after (Doubted at request mwh) =
 IsCameAnswered past before after (Undecided at request why) = IsOutside ⊥ before after why
 IsCameAnswered past before after (Unread at read) = after ≡ before
 
--- The text for an answer, as in a script: an accepted event's notifications and `ok`, or the number
--- of the refusal.
+-- The text that reports the office's answer to an event, as in a script: notifications and `ok`, or
+-- the number of the refusal.
 abbrev pub reply_text : History → (at : ℕ) → Event → Result Answer Refusal → List ℕ
 reply_text past at e (Ok given) =
     accepted_text given (notes_after past at e (Ok given)) (outgoing_after past at e (Ok given))
 reply_text past at e (Err why) = refused_line why
 
--- The text for a list with faults: a line for each faulty row, and the refusal of the list.
+-- The text that reports a faulty point list: one line for each faulty row, and a refusal.
 abbrev pub faults_text : List FaultyRow → List ℕ
 faults_text rows = flat_map fault_line rows ++ refused_line Limit
 
--- The text for a doubted entry, with its energy in mWh.
+-- The text that reports a doubted entry, with the energy in mWh that it would record.
 abbrev pub doubted_line : (mwh : ℕ) → List ℕ
 doubted_line mwh = codes "doubted " ++ decimal mwh ++ codes "\n"
 
--- The text for a counter that can't be read.
+-- The text that reports a counter that can't be read.
 abbrev pub unread_line : List ℕ
 unread_line = codes "unread\n"
 
--- The text for any outcome.
+-- The text that reports the outcome of a line.
 abbrev pub came_text : History → Came → List ℕ
 came_text past (Asked one) = reply_text past one.at one.event one.result
 came_text past (Faulty rows) = faults_text rows
@@ -128,13 +132,13 @@ came_text past (Doubted at request mwh) = doubted_line mwh
 came_text past (Undecided at request why) = refused_line why
 came_text past (Unread at read) = unread_line
 
--- The line has the clock's time, or that of the line before if that is later.
+-- The timestamp of a line is the clock's time, or that of the line before it if that is later.
 pub record IsAskedAt (latest : ℕ) (begun now : Option (List ℕ)) (at : ℕ) : Type 0 where
   pub told : ℕ
   pub tells : TellsMoment begun now told
   pub is : at ≡ max latest told
 
--- The outcome has the time of its line; a list with faulty rows needs none.
+-- The outcome has the timestamp of its line. For faulty rows the clock is not read.
 abbrev pub IsTimed : (latest : ℕ) → (begun now : Option (List ℕ)) → Came → Type 0
 IsTimed latest begun now (Asked one) = IsAskedAt latest begun now one.at
 IsTimed latest begun now (Faulty rows) = now ≡ begun
@@ -142,8 +146,8 @@ IsTimed latest begun now (Doubted at request mwh) = IsAskedAt latest begun now a
 IsTimed latest begun now (Undecided at request why) = IsAskedAt latest begun now at
 IsTimed latest begun now (Unread at read) = IsAskedAt latest begun now at
 
--- The progress after one more line: the latest timestamp, and whether a line was refused or not
--- requested.
+-- The progress after one more line: the latest timestamp, and whether any line was refused or made
+-- no request.
 abbrev pub progress_after : Progress → Came → Progress
 progress_after progress (Asked one) =
     record { latest = one.at; refused = progress.refused || is_err one.result }
@@ -152,14 +156,15 @@ progress_after progress (Doubted at request mwh) = record { latest = at; refused
 progress_after progress (Undecided at request why) = record { latest = at; refused = true }
 progress_after progress (Unread at read) = record { latest = at; refused = true }
 
--- The office is in the state after the line, which was answered at its timestamp.
+-- The office processed the line: its state, the answer, the failure counts and the timestamp follow
+-- from the outcome.
 pub record Takes {B : Type 0} (ledger : B → Ledger) (past : History) (latest : ℕ)
     (begun now : RoundState) (office : Office B) (came : Came) : Type 0 where
   pub stands : Stands ledger (with_came past came) office
   pub answered : IsCameAnswered past begun.failures now.failures came
   pub timed : IsTimed latest begun.moments now.moments came
 
--- The line was processed and printed, or a part of it if the write failed.
+-- The line was processed and its text printed, or a part of it if the write failed.
 pub record TakesLine {B E : Type 0} (ledger : B → Ledger) (past : History) (progress : Progress)
     (begun now : RoundState) (office : Office B) (result : Result Progress E) (came : Came) : Type 0
   where
@@ -167,14 +172,14 @@ pub record TakesLine {B E : Type 0} (ledger : B → Ledger) (past : History) (pr
     pub text : GotText result (came_text past came) begun.printed now.printed
     pub next : IfOk result (λ next. next ≡ progress_after progress came)
 
--- Nothing was requested.
+-- The line made no request: the office, the clock and the failure counts are unchanged.
 pub record IsUntouched {B : Type 0} (begun now : RoundState) (old new : Office B) : Type 0 where
   pub office : new ≡ old
   pub moments : now.moments ≡ begun.moments
   pub failures : now.failures ≡ begun.failures
 
--- What a line with this number and text does to an office. The line is processed; or it is bad, and
--- that is printed; or the command is broken off, since a write failed or memory was missing.
+-- What the next line of an input does. On `Ok` it was processed. `Refused`: it is bad, and that was
+-- printed. `Failed`: a write failed, or memory ran out.
 abbrev pub EntersLine : {B : Type 0} → (B → Ledger) → Telling → (caller : Option (List ℕ)) → Line
     → (past : History) → Progress → (begun now : RoundState) → (old new : Office B)
     → Result Progress ExitStatus → Type 0
@@ -194,55 +199,55 @@ EntersLine ledger tells caller line past progress begun now old new (Err Failed)
 
 -- ---- Several lines
 
--- A line that was processed.
+-- A processed line with its outcome.
 pub record Taken : Type 0 where
   pub line : Line
   pub came : Came
 
--- The lines of an input: the processed ones, followed by these.
+-- The lines of an input: those that were processed, the latest first, followed by `rest`.
 abbrev pub lines_with : List Taken → (rest : List Line) → List Line
 lines_with [] rest = rest
 lines_with (one ∷ earlier) rest = lines_with earlier (one.line ∷ rest)
 
--- What the office has accepted after the lines.
+-- What the office has accepted after these lines.
 abbrev pub history_with : History → List Taken → History
 history_with past [] = past
 history_with past (one ∷ earlier) = with_came (history_with past earlier) one.came
 
--- Each processed line has an outcome of its entry.
+-- Each of these lines has an outcome that may occur for its entry, after the lines before it.
 abbrev pub AreComing : Telling → (caller : Option (List ℕ)) → History → List Taken → Type 0
 AreComing tells caller past [] = Unit {0}
 AreComing tells caller past (one ∷ earlier) =
     Comes tells caller (history_with past earlier) one.line.text one.came
     × AreComing tells caller past earlier
 
--- Each outcome is answered after the earlier lines.
+-- The outcome of each of these lines is right after the lines before it.
 abbrev pub AreAnswered : History → (before after : Failures) → List Taken → Type 0
 AreAnswered past before after [] = after ≡ before
 AreAnswered past before after (one ∷ earlier) =
     (between : Failures) × AreAnswered past before between earlier
     × IsCameAnswered (history_with past earlier) between after one.came
 
--- The progress of the lines, from this timestamp on.
+-- The progress after these lines, if the first timestamp was `first`.
 abbrev pub progress_of : (first : ℕ) → List Taken → Progress
 progress_of first [] = record { latest = first; refused = false }
 progress_of first (one ∷ earlier) = progress_after (progress_of first earlier) one.came
 
--- Each outcome has the time of its line.
+-- Each outcome has the timestamp of its line, and the clock advanced from `begun` to `now`.
 abbrev pub AreTimed : (first : ℕ) → (begun now : Option (List ℕ)) → List Taken → Type 0
 AreTimed first begun now [] = now ≡ begun
 AreTimed first begun now (one ∷ earlier) =
     (between : Option (List ℕ)) × AreTimed first begun between earlier
     × IsTimed (progress_of first earlier).latest between now one.came
 
--- The printed text of the processed lines.
+-- The text that is printed for the processed lines, in order.
 abbrev pub text_after : History → List Taken → List ℕ
 text_after past [] = []
 text_after past (one ∷ earlier) =
     text_after past earlier ++ came_text (history_with past earlier) one.came
 
--- The lines were processed: each was requested or not by its entry, with the answer of the
--- definitions after the earlier lines, at its timestamp. The office is in the state after them.
+-- These lines were processed in order. Each has the right outcome after the lines before it, at its
+-- timestamp, and the office is in the state after all of them.
 pub record AreTaken {B : Type 0} (ledger : B → Ledger) (tells : Telling)
     (caller : Option (List ℕ)) (past : History) (first : ℕ) (begun now : RoundState)
     (office : Office B) (taken : List Taken) : Type 0 where

@@ -16,36 +16,36 @@ file_form line =
     Of Number line.number ∷ Word (codes "list") ∷ Of AnyName line.device ∷ Word (64 ∷ line.name)
     ∷ []
 
--- The words spell the line.
+-- The words spell exactly this line.
 abbrev pub IsFileLine : (words : List (List ℕ)) → FileLine → Type 0
 IsFileLine words line = Spell words (file_form line)
 
--- The words are no such line.
+-- The words spell no line that names a file.
 abbrev pub IsNoFileLine : (words : List (List ℕ)) → Type 0
 IsNoFileLine words = (line : FileLine) → IsFileLine words line → ⊥
 
--- ---- The same definition, word by word, in reading order
+-- ---- The definition as a function that reads the words from the left
 
--- The line that was read, with its borrowed name as bytes.
+-- The line that the parser returned, with its name as bytes.
 abbrev pub seen_line : declared.FileLine → FileLine
 seen_line line = record { number = line.number; device = line.device; name = line.name.now }
 
--- The name of a file, after `@`.
+-- The name of a file in a word that begins with `@`; otherwise `None`.
 abbrev pub file_in : List ℕ → Option (List ℕ)
 file_in [] = None
 file_in (byte ∷ name) = if byte == 64 then Some name else None
 
--- The first word, if it names a file, and the other words.
+-- The name of a file in the first word, and the words after it.
 abbrev pub file_word : List (List ℕ) → Option (List ℕ × List (List ℕ))
 file_word [] = None
 file_word (word ∷ words) = option_map (λ name. (name, words)) (file_in word)
 
--- The words after `list`, if that is the first word.
+-- The words after the first word if that is `list`; otherwise `None`.
 abbrev pub list_word : List (List ℕ) → Option (List (List ℕ))
 list_word [] = None
 list_word (word ∷ words) = if bytes_eq word (codes "list") then Some words else None
 
--- The line that the words spell, if they spell one.
+-- The line that names a file, if the words spell one.
 abbrev pub file_said : List (List ℕ) → Option FileLine
 file_said words =
     first_value Number words >>= λ number.

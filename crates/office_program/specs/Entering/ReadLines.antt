@@ -11,7 +11,7 @@ use Rattle.office_program.specs.declared.entering.read_line.ReadLine.TheVariants
 use Rattle.office_program.specs.declared.entering.read_line.ReadRequest.{ReadRequest}
 use Rattle.office_program.specs.Entering.Marks.{is_marked, unmarked}
 
--- The words of a line with `@read`.
+-- The words of a line with `@read`: an installation, or an exchange.
 abbrev pub read_form : ReadLine → List Field
 read_form (read.Install number register meter ceiling range) =
     Of Number number ∷ Word (codes "install") ∷ Of AnyName register ∷ Of AnyName meter
@@ -21,27 +21,27 @@ read_form (read.Exchange number register last rolls meter ceiling range) =
     ∷ Of Number rolls ∷ Of AnyName meter ∷ Word (codes "@read") ∷ Of Number ceiling
     ∷ Of Range range ∷ []
 
--- The words spell the line.
+-- The words spell exactly this line.
 abbrev pub IsReadLine : (words : List (List ℕ)) → ReadLine → Type 0
 IsReadLine words line = Spell words (read_form line)
 
--- The words are no such line.
+-- The words spell no line with `@read`.
 abbrev pub IsNoReadLine : (words : List (List ℕ)) → Type 0
 IsNoReadLine words = (line : ReadLine) → IsReadLine words line → ⊥
 
 -- ---- The contents of the line
 
--- The number of the request.
+-- The number of the request in the line.
 abbrev pub number_of : ReadLine → ℕ
 number_of (read.Install number register meter ceiling range) = number
 number_of (read.Exchange number register last rolls meter ceiling range) = number
 
--- The register whose counter is to be read.
+-- The accounting register whose counter is to be read; `None` if its name is invalid.
 abbrev pub register_of : ReadLine → Option (List ℕ)
 register_of (read.Install number register meter ceiling range) = register
 register_of (read.Exchange number register last rolls meter ceiling range) = register
 
--- The command, given the reading of the counter.
+-- The command of the line, once the counter's reading is known.
 abbrev pub command_at : ReadLine → (raw : ℕ) → (sf : ℤ) → Command
 command_at (read.Install number register meter ceiling range) raw sf =
     command.Install (record {
@@ -64,7 +64,7 @@ command_at (read.Exchange number register last rolls meter ceiling range) raw sf
       range = range;
     })
 
--- The request, given the reading of the counter.
+-- The request of the line, once the counter's reading is known.
 abbrev pub asked_at : ReadRequest → (raw : ℕ) → (sf : ℤ) → Asked
 asked_at read raw sf = record {
   caller = read.caller;
@@ -75,28 +75,28 @@ asked_at read raw sf = record {
 
 -- ---- A text that is such a line, which may have a mark if it makes an entry by hand
 
--- Whether the line may have a mark, or no mark.
+-- Whether the line may end as it does: an installation has no mark, an exchange may have one.
 abbrev pub may_end : (marked : Bool) → ReadLine → Bool
 may_end marked (read.Install number register meter ceiling range) = not marked
 may_end marked (read.Exchange number register last rolls meter ceiling range) = true
 
--- The text is the line, with or without its mark.
+-- The text is this line, with or without a mark.
 pub record IsRead (text : List ℕ) (line : ReadLine) : Type 0 where
   pub is : IsReadLine (words_of (unmarked text)) line
   pub may : may_end (is_marked text) line ≡ true
 
--- The text is no such line.
+-- The text is no line with `@read`.
 abbrev pub IsNoRead : (text : List ℕ) → Type 0
 IsNoRead text = (line : ReadLine) → IsRead text line → ⊥
 
--- ---- The same definition, word by word, in reading order
+-- ---- The definition as a function that reads the words from the left
 
--- The words after `@read`, if that is the first word.
+-- The words after the first word if that is `@read`; otherwise `None`.
 abbrev pub read_word : List (List ℕ) → Option (List (List ℕ))
 read_word [] = None
 read_word (word ∷ words) = if bytes_eq word (codes "@read") then Some words else None
 
--- The installation that the words after `install` spell, if any.
+-- The installation that the words after `install` spell; `None` if they spell none.
 abbrev pub install_said : (number : ℕ) → List (List ℕ) → Option ReadLine
 install_said number words =
     first_value AnyName words >>= λ register.
@@ -107,7 +107,7 @@ install_said number words =
     nothing_more range.1 >>= λ none.
     Some (read.Install number register.0 meter.0 ceiling.0 range.0)
 
--- The exchange that the words after `exchange` spell, if any.
+-- The exchange that the words after `exchange` spell; `None` if they spell none.
 abbrev pub exchange_said : (number : ℕ) → List (List ℕ) → Option ReadLine
 exchange_said number words =
     first_value AnyName words >>= λ register.
@@ -120,18 +120,18 @@ exchange_said number words =
     nothing_more range.1 >>= λ none.
     Some (read.Exchange number register.0 last.0 rolls.0 meter.0 ceiling.0 range.0)
 
--- The line with this verb, if the other words spell one.
+-- The line with this verb that the words after it spell; `None` if they spell none.
 abbrev pub line_said : (number : ℕ) → (verb : List ℕ) → List (List ℕ) → Option ReadLine
 line_said number verb words =
     if bytes_eq verb (codes "install") then install_said number words
     else if bytes_eq verb (codes "exchange") then exchange_said number words
     else None
 
--- The line after its number, if the words spell one.
+-- The line that the words after its number spell; `None` if they spell none.
 abbrev pub verb_said : (number : ℕ) → List (List ℕ) → Option ReadLine
 verb_said number [] = None
 verb_said number (verb ∷ words) = line_said number verb words
 
--- The line that the words spell, if they spell one.
+-- The line with `@read` that the words spell; `None` if they spell none.
 abbrev pub read_said : List (List ℕ) → Option ReadLine
 read_said words = first_value Number words >>= λ number. verb_said number.0 number.1

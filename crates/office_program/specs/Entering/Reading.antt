@@ -1,4 +1,4 @@
--- Reading a counter before a meter is installed at its reading.
+-- Reading a counter, so that a meter is installed at its present reading.
 use Rattle.std.specs.Prelude.{◌≡◌, ◌⊎◌, ℕ, pos, List, true, Option, Some, None, is_some, Result, Ok, Err}
 use Rattle.std.specs.Option.{option_and_then}
 use Rattle.office_events.specs.declared.events.Asked.{Asked}
@@ -22,11 +22,13 @@ use Rattle.office_program.specs.Entering.Lines.{Telling}
 use Rattle.office_program.specs.Entering.ReadLines as line
 use Rattle.office_program.specs.Entering.ReadLines.{asked_at}
 
--- The request compared with the stored one of the same caller and number, for any reading.
+-- Compares a request with the stored request of the same key; `None` if none is stored. The
+-- comparison does not depend on the counter's reading.
 abbrev pub repeat_of_read : List Fact → ReadRequest → Option Repeat
 repeat_of_read facts read = repeat_in facts (asked_at read 0 (pos 0))
 
--- The counter of a register was read from its device, with this result.
+-- The counter of the accounting register was read from its device, with this result; `None` if the
+-- device gave no reading.
 pub record IsCounterTold (tells : Telling) (facts : List Fact) (register : Option (List ℕ))
     (shown : Option Shown) : Type 0 where
   pub counter : Register
@@ -35,19 +37,23 @@ pub record IsCounterTold (tells : Telling) (facts : List Fact) (register : Optio
   pub device_is : device_of facts counter.device ≡ Some device
   pub told : tells.counters device counter shown
 
--- No counter can be read: no register has the name, or no device has the register's device name.
+-- The register's device does not exist, so its counter can't be read.
 pub record LacksDevice (facts : List Fact) (register : Option (List ℕ)) : Type 0 where
   pub counter : Register
   pub register_is : option_and_then (register_of facts) register ≡ Some counter
   pub none : device_of facts counter.device ≡ None
 
--- The counter of the register can't be read, or does not exist.
+-- The counter can't be read: the register or its device does not exist, or the device gave no
+-- reading.
 abbrev pub IsNotShown : Telling → List Fact → (register : Option (List ℕ)) → Type 0
 IsNotShown tells facts register =
     (option_and_then (register_of facts) register ≡ None) ⊎ LacksDevice facts register
     ⊎ IsCounterTold tells facts register None
 
--- The meter is installed at the reading of the counter. For a stored request no counter is read.
+-- The reading at which the line installs its meter. It is that of the register's counter, unless
+-- the request is stored: then no counter is read.
+--
+-- `None`: the counter can't be read.
 abbrev pub IsShownFor : Telling → List Fact → ReadRequest → Option Shown → Type 0
 IsShownFor tells facts read (Some shown) =
     (is_some (repeat_of_read facts read) ≡ true)
@@ -55,7 +61,7 @@ IsShownFor tells facts read (Some shown) =
 IsShownFor tells facts read None =
     (repeat_of_read facts read ≡ None) × IsNotShown tells facts (line.register_of read.line)
 
--- The request installs the meter at the reading of its counter.
+-- The request installs the meter at the reading that was found for the line.
 abbrev pub AsksShown : Telling → List Fact → ReadRequest → Asked → Type 0
 AsksShown tells facts read request =
     (shown : Shown) × IsShownFor tells facts read (Some shown)
@@ -63,21 +69,23 @@ AsksShown tells facts read request =
 
 -- ---- The office's answer
 
--- The office's answer, with the store's failure counts before and after.
+-- The office found the reading, or that there is none, and the store did not fail; or the query was
+-- refused for a failure.
 abbrev pub HasShown : Telling → List Fact → ReadRequest → (before after : Failures)
     → Result (Option Shown) Refusal → Type 0
 HasShown tells facts read before after (Ok found) =
     IsShownFor tells facts read found × (after ≡ before)
 HasShown tells facts read before after (Err why) = IsOutside ⊥ before after why
 
--- The office is in its state and answered which counter is read, or it failed outside.
+-- The office is still in the state after this past, and found the reading for the line, or refused
+-- the query for a failure.
 pub record IsFilled {B : Type 0} (ledger : B → Ledger) (tells : Telling) (read : ReadRequest)
     (past : History) (before after : Failures) (office : Office B)
     (result : Result (Option Shown) Refusal) : Type 0 where
   pub stands : Stands ledger past office
   pub told : HasShown tells (facts_of past) read before after result
 
--- The same for every past that the office was in the state of.
+-- `IsFilled` holds for every past in whose state the office was.
 abbrev pub Fills : {B : Type 0} → (B → Ledger) → Telling → ReadRequest → (old new : Office B)
     → Result (Option Shown) Refusal → Type 0
 Fills ledger tells read old new result = After ledger old new (λ past.
@@ -85,33 +93,35 @@ Fills ledger tells read old new result = After ledger old new (λ past.
 
 -- ---- Its parts
 
--- The counter of a register, for a request that is not stored.
+-- The reading of the register's counter, or `None` if the counter can't be read.
 abbrev pub IsCounterFor : Telling → List Fact → (register : Option (List ℕ)) → Option Shown → Type 0
 IsCounterFor tells facts register (Some shown) = IsCounterTold tells facts register (Some shown)
 IsCounterFor tells facts register None = IsNotShown tells facts register
 
--- The office's answer for the counter of a register, with the store's failure counts.
+-- The office found the register's counter and the reading, and the store did not fail; or the query
+-- was refused for a failure.
 abbrev pub HasCounter : Telling → List Fact → (register : Option (List ℕ))
     → (before after : Failures) → Result (Option Shown) Refusal → Type 0
 HasCounter tells facts register before after (Ok found) =
     IsCounterFor tells facts register found × (after ≡ before)
 HasCounter tells facts register before after (Err why) = IsOutside ⊥ before after why
 
--- The office is in its state and gave this answer, or it failed outside.
+-- The office is still in the state after this past, and found the counter's reading, or refused the
+-- query for a failure.
 pub record IsReadThere {B : Type 0} (ledger : B → Ledger) (tells : Telling)
     (register : Option (List ℕ)) (past : History) (before after : Failures) (office : Office B)
     (result : Result (Option Shown) Refusal) : Type 0 where
   pub stands : Stands ledger past office
   pub told : HasCounter tells (facts_of past) register before after result
 
--- The same for every past that the office was in the state of.
+-- `IsReadThere` holds for every past in whose state the office was.
 abbrev pub ReadsThere : {B : Type 0} → (B → Ledger) → Telling → (register : Option (List ℕ))
     → (old new : Office B) → Result (Option Shown) Refusal → Type 0
 ReadsThere ledger tells register old new result = After ledger old new (λ past.
     IsReadThere ledger tells register past (failures_of ledger old) (failures_of ledger new) new
     result)
 
--- The same for a register that was found.
+-- `IsReadThere` holds for every past and every name under which the records have this register.
 abbrev pub ReadsAt : {B : Type 0} → (B → Ledger) → Telling → Register → (old new : Office B)
     → Result (Option Shown) Refusal → Type 0
 ReadsAt ledger tells counter old new result = (register : Option (List ℕ)) → After ledger old new

@@ -1,5 +1,5 @@
--- The opening of an office for queries: at the clock's time, or at the latest timestamp in the
--- store if that is later.
+-- Opening an office for queries: at the clock's time, or at the latest timestamp in the store if
+-- that is later.
 use Rattle.std.specs.Prelude.{ℕ, List, ◌∷◌, Option, Result, IfOk, IfErr}
 use Rattle.std.specs.declared.io.Write as writers
 use Rattle.socket_link.specs.declared.clock.Clock as a_clock
@@ -18,21 +18,22 @@ use Rattle.socket_link.specs.Clocks as clocks
 use Rattle.office_program.specs.Texts.EndTexts.{IsTold}
 use Rattle.office_program.specs.declared.texts.opened_office.Unopened.{Unopened}
 
--- The office is in the state after its opening: pending polls are lost.
+-- The office was opened for queries: it is in the state after the opening, and pending polls are
+-- lost.
 pub record OpensToAsk {B : Type 0} (ledger : B → Ledger) (past : History)
     (moments later : Option (List ℕ)) (office : Office B) : Type 0 where
   pub told : ℕ
   pub timed : clocks.TellsMoment moments later told
   pub stands : Stands ledger (Opened (asking_moment past told) ∷ past) office
 
--- The same, unless a wrong result of a store was taken as true.
+-- `OpensToAsk` holds if no wrong result of the store was taken as true.
 abbrev pub OpensToAskWhereClean : {B : Type 0} → (B → Ledger) → (past : History)
     → (moments later : Option (List ℕ)) → Office B → Type 0
 OpensToAskWhereClean ledger past moments later office =
     (ledger (books_in office)).is_clean → OpensToAsk ledger past moments later office
 
--- The opening is refused by its definition, or failed outside. The store is in its earlier state,
--- and the reason is printed.
+-- The office was not opened, because of the timestamp or a failure. The store is in its earlier
+-- state, and the reason was printed.
 pub record TellsUnasked (past : History) (moments later : Option (List ℕ)) (old new : Ledger)
     (status : ExitStatus) (had holds : Option (List ℕ)) : Type 0 where
   pub told : ℕ
@@ -41,7 +42,7 @@ pub record TellsUnasked (past : History) (moments later : Option (List ℕ)) (ol
   pub refused : IsNotOpened past (asking_moment past told) old new why
   pub printed : IsTold (refused_line why) Refused status had holds
 
--- The same with the returned store, unless a wrong result of a store was taken as true.
+-- `TellsUnasked` holds with the returned store, if no wrong result of the store was taken as true.
 abbrev pub TellsUnaskedWhereClean : {B : Type 0} → (B → Ledger) → (past : History)
     → (moments later : Option (List ℕ)) → (books : B) → (had holds : Option (List ℕ))
     → Unopened B → Type 0
@@ -49,14 +50,15 @@ TellsUnaskedWhereClean ledger past moments later books had holds unopened =
     (ledger unopened.books).is_clean → TellsUnasked past moments later (ledger books)
     (ledger unopened.books) unopened.status had holds
 
--- An office is opened for queries over a store in the state of a past.
+-- On `Ok`, the office was opened for queries over a store in the state of any past.
 abbrev pub OpensToAskOver : {B C : Type 0} → stores.Ghosts B → a_clock.Ghosts C → (books : B)
     → (before after : C) → Result (Office B) (Unopened B) → Type 0
 OpensToAskOver b c books before after result =
     (past : History) → BooksStand (b.ledger books) past
     → IfOk result (OpensToAskWhereClean b.ledger past (c.moments before) (c.moments after))
 
--- Over such a store, a refused opening is reported so.
+-- On an error, the office was not opened over a store in the state of any past, and the reason was
+-- printed.
 abbrev pub RefusesToAskOver : {B C W : Type 0} → stores.Ghosts B → a_clock.Ghosts C
     → writers.Ghosts W → (books : B) → (before after : C) → (had holds : W)
     → Result (Office B) (Unopened B) → Type 0

@@ -1,4 +1,4 @@
--- The report of a register on a range of days, in a form: its rows, or why there are none.
+-- The text of an accounting register's report on a range of days, in the requested form.
 use Rattle.std.specs.Prelude.{◌≡◌, ℕ, List, map, Option, Some, Result, Ok, Err, if◌then◌else◌}
 use Rattle.std.specs.Option.{option_and_then}
 use Rattle.std.specs.declared.io.Write as writers
@@ -25,8 +25,8 @@ use Rattle.script_text.specs.AnswerText.{refused_line}
 use Rattle.office_program.specs.Texts.EndTexts.{IsTold, TellsEnd}
 use Rattle.office_program.specs.Texts.Reports.{meant_by}
 
--- The rows of the register's days in the range, by the clocks of the zone, in the requested form;
--- or the reason alone.
+-- The text of the report: the register's days in the range, by the clocks of the zone, in the
+-- requested form. If the report is refused, the text is the refusal alone.
 abbrev pub IsRangedReport : Zone → History → (register : Option (List ℕ)) → ReportForm
     → Result (Unit {0}) Refusal → (text : List ℕ) → Type 0
 IsRangedReport zone past register form (Ok done) text =
@@ -35,9 +35,10 @@ IsRangedReport zone past register form (Ok done) text =
     × (text ≡ report_text form days)
 IsRangedReport zone past register form (Err why) text = text ≡ refused_line why
 
--- The printed text with its exit status. The report is refused if no register has the name.
--- Otherwise it is refused only if the store or memory failed, or the office had stopped. Only days
--- of a register need memory outside the store.
+-- The text and the exit status of the report. It is refused if no register has the name. Otherwise
+-- it is refused only for a failure.
+--
+-- Memory outside the store is needed only if a register has the name.
 pub record RangePrints (zone : Zone) (past : History) (register : Option (List ℕ))
     (form : ReportForm) (before after : Failures) (text : List ℕ) (meant : ExitStatus) :
     Type 0 where
@@ -47,7 +48,7 @@ pub record RangePrints (zone : Zone) (past : History) (register : Option (List �
   pub is : IsRangedReport zone past register form reply text
   pub means : meant ≡ meant_by reply
 
--- The office prints this from what it has accepted, or a part of it, since a write failed.
+-- The office printed the report from all that it has accepted, or a part of it if a write failed.
 abbrev pub ReportsRange : {B W : Type 0} → stores.Ghosts B → writers.Ghosts W
     → (register : Option (List ℕ)) → ReportForm → (old new : Office B) → (had holds : W)
     → ExitStatus → Type 0
@@ -56,20 +57,20 @@ ReportsRange b w register form old new had holds status = After b.ledger old new
     (failures_of b.ledger old) (failures_of b.ledger new))
     status (w.contents had) (w.contents holds))
 
--- The reason of a refused report is written.
+-- The refusal of the report was printed, or a part of it if the write failed.
 pub record PrintsRefusal {W : Type 0} (contents : W → Option (List ℕ)) (why : Refusal)
     (status : ExitStatus) (old new : ReportRows W) : Type 0 where
   pub output : new.output.ghost_name ≡ old.output.ghost_name
   pub told : IsTold (refused_line why) Refused status (contents old.output.now)
       (contents new.output.now)
 
--- The rest of the report is written.
+-- The end of the report was printed. The exit status is `Failed` if any write failed.
 pub record PrintsLast {W : Type 0} (contents : W → Option (List ℕ)) (status : ExitStatus)
     (old new : ReportRows W) : Type 0 where
   pub finishes : Finishes contents old new
   pub means : status ≡ (if new.failed then Failed else Fine)
 
--- The rest, or the reason if the report was refused.
+-- The end of the report was printed; or, if the report was refused, the refusal.
 abbrev pub PrintsRest : {W : Type 0} → (W → Option (List ℕ)) → Result (Unit {0}) Refusal
     → ExitStatus → (old new : ReportRows W) → Type 0
 PrintsRest contents (Ok done) status old new = PrintsLast contents status old new

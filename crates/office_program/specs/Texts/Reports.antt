@@ -1,4 +1,4 @@
--- The report of a register: its days, or why there are none.
+-- The text of an accounting register's report: its days, or a refusal.
 use Rattle.std.specs.Prelude.{◌≡◌, ℕ, List, map, Option, Some, Result, Ok, Err}
 use Rattle.std.specs.Option.{option_and_then}
 use Rattle.std.specs.declared.io.Write as writers
@@ -21,17 +21,18 @@ use Rattle.interval_core.specs.Lines.{days_text, end_line}
 use Rattle.script_text.specs.AnswerText.{refused_line}
 use Rattle.office_program.specs.Texts.EndTexts.{TellsEnd}
 
--- A printed report is a success, and a refused one is a refusal.
+-- The exit status for a complete report: `Fine`, or `Refused` if the report was refused.
 abbrev pub meant_by : Result (Unit {0}) Refusal → ExitStatus
 meant_by (Ok done) = Fine
 meant_by (Err why) = Refused
 
--- The last line has the number of days, or why there are none.
+-- The last line of a report: the number of its days, or the refusal.
 abbrev pub last_line : (count : ℕ) → Result (Unit {0}) Refusal → List ℕ
 last_line count (Ok done) = end_line count
 last_line count (Err why) = refused_line why
 
--- All days of the register by the clocks of the zone, in their order; or the reason alone.
+-- The text of the report: all days of the register by the clocks of the zone, in order. If the
+-- report is refused, the text is the refusal alone.
 abbrev pub IsReport : Zone → History → (register : Option (List ℕ)) → Result (Unit {0}) Refusal
     → (text : List ℕ) → Type 0
 IsReport zone past register (Ok done) text =
@@ -39,9 +40,10 @@ IsReport zone past register (Ok done) text =
     × (text ≡ days_text days)
 IsReport zone past register (Err why) text = text ≡ refused_line why
 
--- The printed text with its exit status. The report is refused if no register has the name.
--- Otherwise it is refused only if the store or memory failed, or the office had stopped. Only days
--- of a register need memory outside the store.
+-- The text and the exit status of the report. It is refused if no register has the name. Otherwise
+-- it is refused only for a failure.
+--
+-- Memory outside the store is needed only if a register has the name.
 pub record ReportPrints (zone : Zone) (past : History) (register : Option (List ℕ))
     (before after : Failures)
     (text : List ℕ) (meant : ExitStatus) : Type 0 where
@@ -51,7 +53,7 @@ pub record ReportPrints (zone : Zone) (past : History) (register : Option (List 
   pub is : IsReport zone past register reply text
   pub means : meant ≡ meant_by reply
 
--- The office prints this from what it has accepted, or a part of it, since a write failed.
+-- The office printed the report from all that it has accepted, or a part of it if a write failed.
 abbrev pub ReportsDays : {B W : Type 0} → stores.Ghosts B → writers.Ghosts W
     → (register : Option (List ℕ)) → (old new : Office B) → (had holds : W) → ExitStatus → Type 0
 ReportsDays b w register old new had holds status = After b.ledger old new
@@ -59,7 +61,7 @@ ReportsDays b w register old new had holds status = After b.ledger old new
     (failures_of b.ledger old) (failures_of b.ledger new))
     status (w.contents had) (w.contents holds))
 
--- The office was only queried.
+-- The office was only queried, with some result.
 pub record Asks {B : Type 0} (ledger : B → Ledger) (old new : Office B) : Type 0 where
   pub reply : Result (Unit {0}) Refusal
   pub only : OnlyAsks ledger old new reply

@@ -1,4 +1,4 @@
--- The statement of the meters at a register, on a range of days.
+-- The statements of the meters at an accounting register, on a range of days.
 use Rattle.std.specs.Prelude.{◌≡◌, ℕ, List, ◌++◌, map, filter, All, is_some, true, Option, Some, Result, Ok, Err}
 use Rattle.std.specs.Option.{option_map, option_and_then}
 use Rattle.std.specs.declared.alloc.Global.{Global}
@@ -38,8 +38,8 @@ use Rattle.office_program.specs.Texts.EndTexts.{TellsEnd}
 
 -- ---- a meter
 
--- The statement of the meter with a name, by its opening: its entries, its energy by quarter hour,
--- and the number of its rejected readings.
+-- The statement of the meter with this name and opening: its entries, its energy in mWh, and the
+-- counts of its rejected readings. Without an opening it has neither entries nor energy.
 abbrev pub told_of : Zone → DayRange → List Fact → (meter : List ℕ) → Option Opening
     → MeterStatement
 told_of zone range facts meter opening = record {
@@ -49,11 +49,12 @@ told_of zone range facts meter opening = record {
   held = held_within zone range (holds_of facts meter);
 }
 
--- The statement of the meter with a name.
+-- The statement of the meter with this name.
 abbrev pub statement_of : Zone → DayRange → List Fact → (meter : List ℕ) → MeterStatement
 statement_of zone range facts meter = told_of zone range facts meter (opening_of facts meter)
 
--- The meters that were installed in the range, in the order of installation.
+-- The statements of those of the meters that were installed in the range, in the order of
+-- installation.
 abbrev pub statements_of : Zone → DayRange → List Fact → List Installation → List MeterStatement
 statements_of zone range facts rows =
     map (λ row. statement_of zone range facts row.opening.meter)
@@ -61,28 +62,29 @@ statements_of zone range facts rows =
 
 -- ---- the answers, if a meter has the name
 
--- The tally of the meter's entries.
+-- The tally of the meter's entries in the range; `None` if no meter has the name.
 abbrev pub tally_in : Zone → DayRange → List Fact → (meter : Option (List ℕ)) → Option EntryTally
 tally_in zone range facts meter =
     option_map (λ opening. tally_of zone range (entries_at facts (Some opening)))
     (option_and_then (opening_of facts) meter)
 
--- The energy of the meter.
+-- The energy of the meter in the range, in mWh; `None` if no meter has the name.
 abbrev pub energy_in : Zone → DayRange → List Fact → (meter : Option (List ℕ)) → Option ℕ
 energy_in zone range facts meter = option_map (energy_within zone range) (intervals_of facts meter)
 
--- The rejected readings of the meter.
+-- The counts of the meter's rejected readings in the range; `None` if no meter has the name.
 abbrev pub held_in : Zone → DayRange → List Fact → (meter : Option (List ℕ)) → Option HeldCounts
 held_in zone range facts meter =
     option_and_then (λ name. option_map (λ opening. held_within zone range (holds_of facts name))
     (opening_of facts name)) meter
 
--- The statement of the meter.
+-- The statement of the meter; `None` if no meter has the name.
 abbrev pub statement_in : Zone → DayRange → List Fact → (meter : List ℕ) → Option MeterStatement
 statement_in zone range facts meter =
     option_map (λ opening. told_of zone range facts meter (Some opening)) (opening_of facts meter)
 
--- The office's answer from what it has accepted. The query needs memory outside the store.
+-- The office's answer to a query, from the records of all accepted events. The query needs memory
+-- outside the store.
 abbrev pub AnswersOf : {B T : Type 0} → (B → Ledger) → (old new : Office B) → Result T Refusal
     → (List Fact → Option T) → Type 0
 AnswersOf ledger old new result found = After ledger old new (λ past.
@@ -91,11 +93,11 @@ AnswersOf ledger old new result found = After ledger old new (λ past.
 
 -- ---- the meters at a register
 
--- Each of the meters is recorded.
+-- Each of these installations is in the records.
 abbrev pub AreRecorded : List Fact → List Installation → Type 0
 AreRecorded facts rows = All (λ row. is_some (opening_of facts row.opening.meter) ≡ true) rows
 
--- The statements of these meters were appended, or a query failed outside.
+-- The statements of these meters were appended to the list, or a query was refused for a failure.
 abbrev pub IsStated : Zone → DayRange → List Fact → List Installation
     → (before after : List MeterStatement) → (had has : Failures) → Result (Unit {0}) Refusal
     → Type 0
@@ -103,7 +105,7 @@ IsStated zone range facts rows before after had has (Ok done) =
     (after ≡ before ++ statements_of zone range facts rows) × (has ≡ had)
 IsStated zone range facts rows before after had has (Err why) = IsOutside (Unit {0}) had has why
 
--- The same for every past that the office was in the state of.
+-- `IsStated` holds for every past in whose state the office was.
 abbrev pub States : {B : Type 0} → (B → Ledger) → Zone → DayRange → List Installation
     → (old new : Office B) → (before after : List MeterStatement) → Result (Unit {0}) Refusal
     → Type 0
@@ -111,30 +113,31 @@ States ledger zone range rows old new before after result = After ledger old new
     AreRecorded (facts_of past) rows → IsStated zone range (facts_of past) rows before after
     (failures_of ledger old) (failures_of ledger new) result)
 
--- All statements, if a register has the name.
+-- The statements of all meters at the register; `None` if no register has the name.
 abbrev pub statements_in : Zone → DayRange → List Fact → (register : Option (List ℕ))
     → Option (List MeterStatement)
 statements_in zone range facts register =
     option_map (statements_of zone range facts) (meters_named facts register)
 
--- The items of a result.
+-- The list of the items if the result is `Ok`; otherwise its error.
 abbrev pub items_of : {T E : Type 0} → Result (Vec T Global) E → Result (List T) E
 items_of (Ok rows) = Ok rows.items
 items_of (Err why) = Err why
 
 -- ---- the printed text
 
--- The statements of the register's meters, or the reason alone.
+-- The text of the statements; if they are refused, the refusal alone.
 abbrev pub statement_or_not : StatementForm → Result (List MeterStatement) Refusal → List ℕ
 statement_or_not form (Ok rows) = statement_text form rows
 statement_or_not form (Err why) = refused_line why
 
--- The exit status for a result.
+-- The exit status: `Fine` for statements, `Refused` if they are refused.
 abbrev pub meant_by : Result (List MeterStatement) Refusal → ExitStatus
 meant_by (Ok rows) = Fine
 meant_by (Err why) = Refused
 
--- The printed text with its exit status: the statements, refused as a report is.
+-- The text and the exit status of the statements. They are refused if no register has the name, or
+-- for a failure.
 pub record StatementPrints (zone : Zone) (past : History) (register : Option (List ℕ))
     (form : StatementForm) (before after : Failures) (text : List ℕ) (meant : ExitStatus)
     : Type 0 where
@@ -144,7 +147,8 @@ pub record StatementPrints (zone : Zone) (past : History) (register : Option (Li
   pub is : text ≡ statement_or_not form reply
   pub means : meant ≡ meant_by reply
 
--- The office prints this from what it has accepted, or a part of it, since a write failed.
+-- The office printed the statements from all that it has accepted, or a part of them if a write
+-- failed.
 abbrev pub PrintsStatement : {B W : Type 0} → stores.Ghosts B → writers.Ghosts W → Zone
     → (register : Option (List ℕ)) → StatementForm → (old new : Office B) → (had holds : W)
     → ExitStatus → Type 0

@@ -1,4 +1,4 @@
-//! Requests the line of an input from an office.
+//! Processes one line of an input: feeds its request to the office and prints the answer.
 ghost use Rattle.std.specs.Prelude.{◌≡◌, IfOk, true};
 ghost use Rattle.office_rounds.specs.Passing.{Lasts};
 ghost use Rattle.sun_points.specs.Writing.{GotText};
@@ -27,7 +27,7 @@ use std::alloc::Global;
 use std::io::{self, Write};
 use sun_points::Sink;
 
-// Prints the office's answer to the last event.
+// Prints the office's answer to the last event: notifications and `ok`, or `refused N`.
 fn print_reply<B: Books, W: Write>(
     office: &Office<B>,
     reply: Result<Answer, Refusal>,
@@ -42,7 +42,7 @@ fn print_reply<B: Books, W: Write>(
     }
 }
 
-// Feeds a request at a timestamp, and prints the answer.
+// Feeds a request to the office at timestamp `at`, and prints the answer.
 fn ask_at<B: Books, W: Write>(
     office: &mut Office<B>,
     progress: Progress,
@@ -77,7 +77,7 @@ fn print_doubt<W: Write>(mwh: u128, output: &mut W) -> io::Result<()>
     output.take_text(doubted_line(mwh).bytes())
 }
 
-// Prints a doubt, and returns the progress of the lines.
+// Prints that an entry is doubted, and returns the progress after its line.
 fn tell_doubt<W: Write>(mwh: u128, at: u64, output: &mut W) -> io::Result<Progress>
     ensures { TellsWhyNot (course.doubted_line mwh) at
         (W.contents output.old) (W.contents output.new) result }
@@ -88,7 +88,7 @@ fn tell_doubt<W: Write>(mwh: u128, at: u64, output: &mut W) -> io::Result<Progre
     }
 }
 
-// Prints why the office refuses to answer whether an entry is doubted, and returns the progress.
+// Prints the refusal of a query that a line needs, and returns the progress after the line.
 fn tell_undecided<W: Write>(why: Refusal, at: u64, output: &mut W) -> io::Result<Progress>
     ensures { TellsWhyNot (refused_line why) at
         (W.contents output.old) (W.contents output.new) result }
@@ -109,7 +109,7 @@ fn tell_unread<W: Write>(at: u64, output: &mut W) -> io::Result<Progress>
     }
 }
 
-// The clock's time, or that of the line before if that is later.
+// The timestamp of the next line: the clock's time, or that of the line before it if that is later.
 fn moment<C: Clock>(progress: Progress, clock: &mut C) -> u64
     ensures { IsAskedAt progress.latest (C.moments clock.old) (C.moments clock.new) result }
 {
@@ -117,7 +117,8 @@ fn moment<C: Clock>(progress: Progress, clock: &mut C) -> u64
     progress.latest.max(told)
 }
 
-// Feeds a request and prints the answer, or prints why it is doubted.
+// Feeds a request to the office and prints the answer; or, if its entry is doubted, prints that and
+// feeds nothing.
 fn ask<B: Books, W: Write>(
     office: &mut Office<B>,
     progress: Progress,
@@ -138,7 +139,7 @@ fn ask<B: Books, W: Write>(
     }
 }
 
-// The same for a request whose meter is installed at the reading of its counter.
+// Reads the counter of a line with `@read`, and then feeds the request as `ask` does.
 fn read_and_ask<B: Books, F: NamedFiles, W: Write>(
     office: &mut Office<B>,
     progress: Progress,
@@ -160,7 +161,7 @@ fn read_and_ask<B: Books, F: NamedFiles, W: Write>(
     }
 }
 
-/// Prints a line for each faulty row, followed by the refusal of the list.
+/// Prints a line for each faulty row of a point list, followed by a refusal.
 pub(crate) fn print_faults<W: Write>(rows: &[FaultyRow], output: &mut W) -> io::Result<()>
     ensures { GotText result (faults_text rows.now)
         (W.contents output.old) (W.contents output.new) }
@@ -169,7 +170,7 @@ pub(crate) fn print_faults<W: Write>(rows: &[FaultyRow], output: &mut W) -> io::
     write_refusal(Refusal::Limit, output)
 }
 
-// Prints the faults of a list, and returns the progress.
+// Prints the faulty rows of a point list, and returns the progress after its line.
 fn tell_faults<W: Write>(
     rows: &[FaultyRow],
     progress: Progress,
@@ -186,7 +187,8 @@ fn tell_faults<W: Write>(
     }
 }
 
-// Requests an entry, or prints the faults of its list or the doubt about it.
+// Processes the entry of a line: feeds its request, or prints the faulty rows of its list or that
+// it is doubted.
 fn enter_entry<B: Books, C: Clock, F: NamedFiles, W: Write>(
     office: &mut Office<B>,
     progress: Progress,
@@ -212,8 +214,7 @@ fn enter_entry<B: Books, C: Clock, F: NamedFiles, W: Write>(
     }
 }
 
-// Prints that a line is bad, and returns the exit status. If memory was missing, nothing is
-// printed.
+// Prints that a line is bad, and returns the exit status. If memory ran out, nothing is printed.
 fn tell_fault<W: Write>(fault: LineFault, number: u64, output: &mut W) -> ExitStatus
     ensures { TellsFault fault number result (W.contents output.old) (W.contents output.new) }
 {
@@ -226,7 +227,8 @@ fn tell_fault<W: Write>(fault: LineFault, number: u64, output: &mut W) -> ExitSt
     }
 }
 
-/// Requests the line of an input and prints the answer, or prints why the line is not requested.
+/// Processes a line of an input: feeds its request and prints the answer, or prints why it makes no
+/// request.
 pub(crate) fn enter_line<B: Books, C: Clock, F: NamedFiles, W: Write>(
     alloc: Global,
     office: &mut Office<B>,

@@ -1,4 +1,4 @@
-//! Checks an input without entering it.
+//! Checks an input without making a request.
 ghost use Rattle.std.specs.Prelude.{◌≡◌, ◌||◌, IfErr};
 ghost use Rattle.command_io.specs.Lines.{seen_line};
 ghost use Rattle.sun_points.specs.Writing.{GotText};
@@ -22,7 +22,7 @@ use std::alloc::{AllocError, Global};
 use std::io::{self, Write};
 use sun_points::Sink;
 
-/// What the store knows of a request.
+/// What the store knows of a request by its idempotency key.
 #[derive(Clone, Copy, Debug, PartialEq, Eq)]
 pub(crate) enum Known {
     /// The store has no request with this caller and number.
@@ -60,7 +60,7 @@ fn known_by(found: Option<Repeat>) -> Known
     }
 }
 
-// Looks a request up in the store. The store is only queried.
+// Looks up in the store whether the request was made earlier. The store is only queried.
 fn look_up<B: Books>(books: &mut B, asked: &Asked) -> Known
     ensures known { KnowsRequest (B.ledger books.old) (B.ledger books.new) asked.now result }
     ensures looks { OnlyLooks (B.ledger books.old) (B.ledger books.new) }
@@ -74,7 +74,8 @@ fn look_up<B: Books>(books: &mut B, asked: &Asked) -> Known
     }
 }
 
-// Checks a line.
+// Finds what checking a line reports: what is known of its request, its faulty rows, or that it is
+// bad.
 fn look_at<B: Books, F: NamedFiles>(
     alloc: Global,
     books: &mut B,
@@ -110,7 +111,7 @@ fn print_known<W: Write>(known: Known, output: &mut W) -> io::Result<()>
     }
 }
 
-// Prints what was found of a line.
+// Prints what checking found for a line.
 fn print_look<W: Write>(look: &Look, number: u64, output: &mut W) -> io::Result<()>
     ensures { GotText result (spec.look_text number look.now)
         (W.contents output.old) (W.contents output.new) }
@@ -142,7 +143,8 @@ fn is_refused(look: &Look) -> bool
     }
 }
 
-// Prints what was found of a line, and returns whether the line is bad, faulty or would be refused.
+// Prints what checking found for a line. Returns whether the line is bad, faulty or would be
+// refused.
 fn show<W: Write>(look: &Look, number: u64, output: &mut W) -> Result<bool, ExitStatus>
     ensures shows { IsShown number look.now (W.contents output.old) (W.contents output.new) result }
     ensures fails { IfErr result (λ status. status ≡ ExitStatus.Failed) }
@@ -181,7 +183,7 @@ fn either(one: bool, other: bool) -> bool
     one || other
 }
 
-// Checks the lines of a text in order.
+// Checks the lines of a text in order, and prints what is found for each.
 fn check_text<B: Books, F: NamedFiles, W: Write>(
     alloc: Global,
     books: &mut B,

@@ -1,4 +1,5 @@
-//! Doubts about an entry by hand: its energy may be more than the meter's ceiling allows.
+//! Finds whether an entry by hand needs a confirmation, because its energy is more than the meter's
+//! ceiling allows.
 ghost use Rattle.std.specs.Prelude.{◌≡◌, ◌≤◌, ◌+◌, ◌*◌, ◌^◌};
 ghost use Rattle.std.specs.Option.{option_and_then};
 ghost use Rattle.office_rules.specs.History as history;
@@ -15,7 +16,7 @@ use office_core::Office;
 use office_events::{Asked, Command, Installation, Name, Refusal};
 use office_rules::{facts_are_lawful, installations_are_in_range};
 
-// The value that a counter would show without its `rolls` full turns, if it shows `raw`.
+// The value that a counter showing `raw` would show without its `rolls` full turns.
 fn turned(row: &Installation, raw: u64, rolls: u64) -> u128
     requires { IsSound row.now }
     ensures value { result ≡ raw + rolls * row.now.opening.range }
@@ -31,8 +32,8 @@ fn goes_on(row: &Installation, moment: u64, up_to: u128) -> bool
     row.last.at < moment && u128::from(row.last.raw) <= up_to
 }
 
-// Whether a load at the ceiling can make the meter count so far. The first count may need no
-// energy.
+// Whether a load at the meter's ceiling can make the counter advance so far. The first count may
+// need no energy.
 fn is_within_ceiling(row: &Installation, moment: u64, up_to: u128) -> bool
     requires sound { IsSound row.now }
     requires small { up_to ≤ 2 ^ 97 }
@@ -43,7 +44,7 @@ fn is_within_ceiling(row: &Installation, moment: u64, up_to: u128) -> bool
     energy * 18 <= u128::from(row.opening.ceiling) * u128::from(seconds) * 5
 }
 
-// The energy of an entry, in mWh, if the entry is doubted.
+// The energy of an entry, in mWh, if the entry is doubted; otherwise `None`.
 fn doubted_up_to(row: &Installation, moment: u64, up_to: u128) -> Option<u128>
     requires sound { IsSound row.now }
     requires small { up_to ≤ 2 ^ 97 }
@@ -56,7 +57,8 @@ fn doubted_up_to(row: &Installation, moment: u64, up_to: u128) -> Option<u128>
     }
 }
 
-// The energy, in mWh, that a command would record at a meter, if the command is doubted.
+// The energy, in mWh, that the command's entry would record at this meter if it is doubted;
+// otherwise `None`.
 fn doubted_at(at: u64, command: &Command, row: &Installation) -> Option<u128>
     requires { IsSound row.now }
     ensures { result ≡ spec.doubted_at at command.now row.now }
@@ -79,7 +81,8 @@ fn doubted_at(at: u64, command: &Command, row: &Installation) -> Option<u128>
     }
 }
 
-// The same for a meter that may be closed. The store returns no meter with numbers out of range.
+// Like `doubted_at`, but `None` for a closed meter. The store returns no meter with numbers out of
+// range.
 fn doubted_if_open(at: u64, command: &Command, row: &Installation) -> Option<u128>
     ensures { IsSound row.now
         → result ≡ option_and_then (spec.doubted_at at command.now) (if_open row.now) }
@@ -91,7 +94,8 @@ fn doubted_if_open(at: u64, command: &Command, row: &Installation) -> Option<u12
     }
 }
 
-// The register at which a command makes an entry by hand.
+// The accounting register at which a command makes an entry by hand; `None` if it makes none, or
+// the name is invalid.
 fn corrected_at(command: &Command) -> Option<Name>
     ensures { result ≡ history.corrected_at command.now }
 {
@@ -111,7 +115,8 @@ fn corrected_at(command: &Command) -> Option<Name>
     }
 }
 
-// The doubt at the open meter of a register.
+// The energy, in mWh, that the command's entry would record at the register's open meter if it is
+// doubted; otherwise `None`.
 fn doubted_in<B: Books>(
     office: &mut Office<B>,
     at: u64,
@@ -133,8 +138,8 @@ fn doubted_in<B: Books>(
     }
 }
 
-/// The energy, in mWh, that a request would record, if the request is doubted. The office is only
-/// queried.
+/// Returns the energy, in mWh, that a request would record if its entry is doubted; otherwise
+/// `None`. The office is only queried.
 pub(crate) fn doubt_of<B: Books>(
     office: &mut Office<B>,
     at: u64,

@@ -1,4 +1,4 @@
-//! Enters an input.
+//! Enters an input into an office that is opened over a store.
 ghost use Rattle.office_rounds.specs.Passing as rounds;
 ghost use Rattle.office_program.specs.Texts.Passing.{Lasts};
 ghost use Rattle.office_program.specs.Entering.Entered.{EntersOver, EntersTextOf};
@@ -17,7 +17,7 @@ use socket_link::{Clock, FixedClock};
 use std::alloc::Global;
 use std::io::Write;
 
-// Requests the lines of a text in order, from a timestamp on, up to the first bad line.
+// Processes the lines of a text in order, from timestamp `moment` on, up to the first bad line.
 fn enter_text<B: Books, C: Clock, F: NamedFiles, W: Write>(
     alloc: Global,
     office: &mut Office<B>,

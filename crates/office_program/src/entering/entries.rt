@@ -1,4 +1,4 @@
-//! Parses a line of an input, before the office is involved.
+//! Parses a line of an input, before a request is fed to the office.
 ghost use Rattle.std.specs.Prelude.{◌≡◌, Some, IfOk};
 ghost use Rattle.script_lines.specs.LineWords.Words.{words_of};
 ghost use Rattle.office_program.specs.Entering.FileLines.{seen_line};
@@ -20,13 +20,13 @@ use std::alloc::{AllocError, Global};
 pub(crate) enum Entry {
     /// The line is this request.
     Ask(Asked),
-    /// The line is this request, once its counter was read.
+    /// The line is this request, once its counter has been read.
     Read(ReadRequest),
     /// The point list of the line has these faulty rows.
     Faulty(FaultyRows),
 }
 
-// The entry of a point list. `request` are the bytes to store for the request.
+// The entry of a line with a point list. `request` are the bytes that the store keeps of the line.
 fn list_entry(
     alloc: Global,
     caller: Option<Name>,
@@ -54,15 +54,15 @@ fn list_entry(
     }
 }
 
-// The bytes to store for a line.
+// The bytes that the store keeps of a line: a copy of the line.
 fn kept_line(alloc: Global, line: &[u8]) -> Result<Piece, AllocError>
     ensures { IfOk result (λ kept. kept ≡ line.now) }
 {
     Ok(Piece::new(Vec::from_slice(alloc, line)?))
 }
 
-// The bytes to store for a line that names a file: the line, a line feed, and the bytes of the
-// file.
+// The bytes that the store keeps of a line that names a file: the line, a line feed, and the bytes
+// of the file.
 fn file_request(alloc: Global, line: &[u8], text: &[u8]) -> Result<Piece, AllocError>
     ensures { IfOk result (λ kept. kept ≡ lines.file_request line.now text.now) }
 {
@@ -72,7 +72,7 @@ fn file_request(alloc: Global, line: &[u8], text: &[u8]) -> Result<Piece, AllocE
     Ok(Piece::new(bytes))
 }
 
-// The entry of a script's line that is a request.
+// The entry of a script's line, by what the line requests; `Bad` if it requests nothing.
 fn wanted_entry(
     alloc: Global,
     caller: Option<Name>,
@@ -103,7 +103,7 @@ fn wanted_entry(
     }
 }
 
-// The entry of a script's line, which may have a mark.
+// The entry of a script's line, which may end with a mark.
 fn script_entry(alloc: Global, caller: Option<Name>, line: &[u8]) -> Result<Entry, LineFault>
     ensures { ReadsScript caller line.now result }
 {
@@ -113,7 +113,7 @@ fn script_entry(alloc: Global, caller: Option<Name>, line: &[u8]) -> Result<Entr
     }
 }
 
-// The entry of a line that names a file with these bytes.
+// The entry of a line that names a file, once the bytes of the file have been read.
 fn held_entry(
     alloc: Global,
     caller: Option<Name>,
@@ -130,7 +130,7 @@ fn held_entry(
     }
 }
 
-// The entry of a line that names a file.
+// The entry of a line that names a file, which is read; `Bad` if the file does not exist.
 fn file_entry<F: NamedFiles>(
     alloc: Global,
     caller: Option<Name>,
@@ -150,7 +150,7 @@ fn file_entry<F: NamedFiles>(
     }
 }
 
-// The entry of a line whose counter is to be read.
+// The entry of a line with `@read`, whose counter is still to be read.
 fn read_entry(
     alloc: Global,
     caller: Option<Name>,

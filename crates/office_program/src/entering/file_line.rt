@@ -10,12 +10,12 @@ use script_lines::{Words, next_name, next_number, nothing_more};
 #[derive(Clone, Copy, Debug)]
 pub(crate) struct FileLine<'a> {
     pub(crate) number: u64,
-    /// `None` if the text is no name.
+    /// The device's name; `None` if the text is no valid name.
     pub(crate) device: Option<Name>,
     pub(crate) name: &'a [u8],
 }
 
-// The name of a file, after `@`.
+// The name of a file in a word that begins with `@`; otherwise `None`.
 fn file_in(word: &[u8]) -> Option<&[u8]>
     ensures { option_map (λ name. name.now) result ≡ spec.file_in word.now }
 {
@@ -41,7 +41,7 @@ fn next_list(words: &mut Words<'_>) -> Option<()>
     }
 }
 
-/// Parses a line that names a file.
+/// Parses a line that names a file; `None` for any other line.
 pub(crate) fn file_line<'a>(line: &'a [u8]) -> Option<FileLine<'a>>
     ensures { option_map spec.seen_line result ≡ spec.file_said (words_of line.now) }
 {

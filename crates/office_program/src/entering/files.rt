@@ -1,4 +1,4 @@
-//! The files that an input names, and the counters that it reads.
+//! The surroundings of an input: the files that it names, and the counters that it reads.
 
 use office_events::{Device, Register};
 use std::alloc::{AllocError, Global};
@@ -6,25 +6,25 @@ use std::alloc::{AllocError, Global};
 /// The largest size of a file, in bytes.
 pub const MOST_FILE: usize = 65_536;
 
-/// The reading of a counter: a count, and the power of ten of its unit.
+/// The reading of a counter: a count, and the scale of its unit as a power of ten.
 #[derive(Clone, Copy, Debug, PartialEq, Eq)]
 pub struct Shown {
     pub raw: u32,
     pub sf: i16,
 }
 
-/// Reads the files that an input names, and the counters that it installs meters at.
+/// Reads the files that an input names, and the counters at whose readings it installs meters.
 pub trait NamedFiles {
     ghost use Rattle.std.specs.Prelude.{◌≤◌, ℕ, List, Option, IfOk, IfSome, length, option_map};
     ghost use Rattle.office_events.specs.declared.facts.Device.{Device};
     ghost use Rattle.office_events.specs.declared.facts.Register.{Register};
     ghost use Rattle.office_program.specs.declared.entering.files.Shown.{Shown};
 
-    // What reading a named file may return: its bytes, or that there is none.
+    // What reading a file by its name may return: its bytes, or `None` if there is none.
     ghost tells: { Self → List ℕ → Option (List ℕ) → Type 0 } = { λ _ _ _. Unit {0} };
 
-    // What the counter of a register may show when it is read from its device, or that it can't be
-    // read.
+    // What reading the counter of an accounting register from its device may return: its reading,
+    // or `None` if it can't be read.
     ghost shows: { Self → Device → Register → Option Shown → Type 0 } = { λ _ _ _ _. Unit {0} };
 
     /// Reads the named file of at most `MOST_FILE` bytes.
@@ -36,7 +36,7 @@ pub trait NamedFiles {
             (λ found. tells self.now name.now (option_map (λ v. v.items) found)) }
         ensures few { IfOk result (λ found. IfSome found (λ v. length v.items ≤ 65536)) };
 
-    /// Reads the counter of a register from its device.
+    /// Reads the counter of an accounting register from its device.
     ///
     /// Returns `None` if the counter can't be read. The implementation may report why.
     fn shown(&self, device: &Device, register: &Register) -> Option<Shown>

@@ -1,20 +1,21 @@
-//! The progress of an input.
+//! The progress of an input, line by line.
 ghost use Rattle.std.specs.Prelude.{◌≡◌, ◌||◌, false, true};
 ghost use Rattle.office_program.specs.Entering.Entered.{status_of};
 
 use command_io::ExitStatus;
 
-/// The progress of an input.
+/// The latest timestamp of an input's lines, and whether any line was refused.
 #[derive(Clone, Copy, Debug, PartialEq, Eq)]
 pub(crate) struct Progress {
-    /// The timestamp of the latest line that was requested, or would have been but for a doubt.
+    /// The timestamp of the latest line that needed one: it made a request, or made none because of
+    /// a doubt, a failed query or an unread counter.
     pub(crate) latest: u64,
-    /// Whether a line was refused or not requested.
+    /// Whether any line was refused or made no request.
     pub(crate) refused: bool,
 }
 
 impl Progress {
-    /// Creates the progress from a timestamp, before any request.
+    /// Creates the progress before the first line, whose timestamp is at least `moment`.
     pub(crate) fn from(moment: u64) -> Progress
         ensures { result ≡ record { latest = moment; refused = false } }
     {
@@ -24,7 +25,7 @@ impl Progress {
         }
     }
 
-    /// Returns the progress after a request at a timestamp.
+    /// Returns the progress after a line that made a request at this timestamp.
     pub(crate) fn asked(self, at: u64, refused: bool) -> Progress
         ensures { result ≡ record { latest = at; refused = self.refused || refused } }
     {
@@ -34,14 +35,14 @@ impl Progress {
         }
     }
 
-    /// Returns the progress after a line that was not requested at a timestamp.
+    /// Returns the progress after a line with this timestamp that made no request.
     pub(crate) fn unasked(at: u64) -> Progress
         ensures { result ≡ record { latest = at; refused = true } }
     {
         Progress::from(at).faulty()
     }
 
-    /// Returns the progress after a line whose point list has faults.
+    /// Returns the progress after a line whose point list has faulty rows.
     pub(crate) fn faulty(self) -> Progress
         ensures { result ≡ record { latest = self.latest; refused = true } }
     {
@@ -51,7 +52,8 @@ impl Progress {
         }
     }
 
-    /// Returns the exit status of the command if no line was bad.
+    /// Returns the exit status of the command if no line was bad: `Refused` if a line was refused
+    /// or made no request.
     pub(crate) fn status(self) -> ExitStatus
         ensures { result ≡ status_of self }
     {

@@ -1,4 +1,4 @@
-//! Parses a line that installs a meter at the reading of its counter.
+//! Parses a line that installs a meter at its counter's present reading.
 ghost use Rattle.std.specs.Prelude.{◌≡◌, MatchOption, not, option_map, pos};
 ghost use Rattle.office_program.specs.Entering.ReadLines as spec;
 ghost use Rattle.script_lines.specs.LineWords.Words.{words_of};
@@ -11,7 +11,7 @@ use script_lines::{Words, next_name, next_number, next_range, nothing_more};
 /// `NUMBER install REGISTER METER @read CEILING [RANGE]`, or `NUMBER exchange REGISTER LAST ROLLS
 /// METER @read CEILING [RANGE]`.
 ///
-/// A name is `None` if the text is no name.
+/// A name is `None` if the text is no valid name.
 #[derive(Clone, Copy, Debug, PartialEq, Eq)]
 pub(crate) enum ReadLine {
     Install {
@@ -32,7 +32,7 @@ pub(crate) enum ReadLine {
     },
 }
 
-// The word `@read`, instead of the reading.
+// Takes the word `@read`, which replaces the reading.
 fn next_read(words: &mut Words<'_>) -> Option<()>
     ensures { option_map (λ none. words.new) result ≡ spec.read_word words.old }
 {
@@ -85,7 +85,7 @@ fn exchange(number: u64, words: &mut Words<'_>) -> Option<ReadLine>
     })
 }
 
-// The line with this number and verb.
+// The line with this number and verb; `None` if the words after it spell none.
 fn line_of(number: u64, verb: &[u8], words: &mut Words<'_>) -> Option<ReadLine>
     ensures { result ≡ spec.line_said number verb.now words.old }
 {
@@ -125,7 +125,7 @@ pub(crate) fn read_in(line: &[u8]) -> Option<ReadLine>
 }
 
 impl ReadLine {
-    // Whether the line may have a mark, or no mark.
+    // Whether the line may end as it does: only an exchange may have a mark.
     fn may_end(&self, marked: bool) -> bool
         ensures { result ≡ spec.may_end marked self.now }
     {
@@ -145,7 +145,7 @@ impl ReadLine {
         }
     }
 
-    /// Returns the register whose counter is to be read.
+    /// Returns the accounting register whose counter is to be read.
     pub(crate) fn register(&self) -> Option<Name>
         ensures { result ≡ spec.register_of self.now }
     {
@@ -155,7 +155,7 @@ impl ReadLine {
         }
     }
 
-    /// Returns the command, given the reading of the counter.
+    /// Returns the command, once the counter's reading is known.
     pub(crate) fn command(&self, raw: u64, sf: i64) -> Command
         ensures { result ≡ spec.command_at self.now raw sf }
     {
@@ -196,7 +196,7 @@ impl ReadLine {
     }
 }
 
-/// A request that installs a meter at the reading of its counter.
+/// The request of a line with `@read`, whose counter is still to be read.
 #[derive(Drop)]
 pub(crate) struct ReadRequest {
     pub(crate) caller: Option<Name>,
@@ -205,7 +205,7 @@ pub(crate) struct ReadRequest {
 }
 
 impl ReadRequest {
-    /// Returns the request, given the reading of the counter.
+    /// Returns the request, once the counter's reading is known.
     pub(crate) fn asked(self, shown: Shown) -> Asked
         ensures { result ≡ spec.asked_at self shown.raw shown.sf }
     {

@@ -1,4 +1,4 @@
-//! Reads a counter before a meter is installed at its reading.
+//! Reads a counter, so that a meter is installed at its present reading.
 ghost use Rattle.office_rounds.specs.Passing.{Lasts};
 ghost use Rattle.office_program.specs.Entering.Lines.{telling_of};
 ghost use Rattle.office_program.specs.Entering.Reading.{Fills, ReadsAt, ReadsThere};
@@ -9,10 +9,10 @@ use office_books::Books;
 use office_core::Office;
 use office_events::{Name, Refusal, Register};
 
-/// The reading for a counter that is not read.
+/// The reading to use if the counter is not read, because the request is stored.
 pub(crate) const NOT_READ: Shown = Shown { raw: 0, sf: 0 };
 
-// The reading of a register's counter, from its device.
+// The reading of the register's counter from its device; `None` if it can't be read.
 fn shown_at<B: Books, F: NamedFiles>(
     office: &mut Office<B>,
     register: Register,
@@ -31,7 +31,7 @@ fn shown_at<B: Books, F: NamedFiles>(
     }
 }
 
-// The reading of a register's counter, by the register's name.
+// The reading of the counter of the register with this name; `None` if it can't be read.
 fn shown_there<B: Books, F: NamedFiles>(
     office: &mut Office<B>,
     name: &Option<Name>,
@@ -50,9 +50,9 @@ fn shown_there<B: Books, F: NamedFiles>(
     }
 }
 
-/// Returns the reading for a request; `None` if the counter can't be read.
+/// Returns the reading for a line's request; `None` if the counter can't be read.
 ///
-/// The counter is not read for a request that is stored.
+/// If the request is stored, the counter is not read.
 pub(crate) fn shown_for<B: Books, F: NamedFiles>(
     office: &mut Office<B>,
     read: &ReadRequest,

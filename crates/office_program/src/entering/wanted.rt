@@ -1,4 +1,4 @@
-//! Turns a script's line into a request whose number is the line's first word.
+//! Turns a line of a script into a request, whose number is the line's first word.
 ghost use Rattle.std.specs.Prelude.{◌≡◌};
 ghost use Rattle.office_program.specs.Entering.Lines as lines;
 
@@ -6,7 +6,7 @@ use crate::entering::marks::is_by_hand;
 use office_events::{Command, Event};
 use script_lines::{GivenList, ScriptLine};
 
-/// The request of a script's line, with its number.
+/// What a line of a script requests, with the request's number.
 #[derive(Drop)]
 pub(crate) enum Wanted {
     Command(u64, Command),
@@ -15,7 +15,7 @@ pub(crate) enum Wanted {
     Nothing,
 }
 
-// Whether a command can be a request: all can but the start of polls.
+// Whether a line can request the command: all commands but the starts of polls.
 fn is_request(command: &Command) -> bool
     ensures { result ≡ lines.is_request command.now }
 {
@@ -78,7 +78,7 @@ fn wanted_list(marked: bool, number: u64, list: GivenList) -> Wanted
     }
 }
 
-/// Returns the request of a script's line, which may have a mark after it.
+/// Returns what a line of a script requests. With a mark only an entry by hand can be requested.
 pub(crate) fn wanted_in(marked: bool, said: ScriptLine) -> Wanted
     ensures { result ≡ lines.wanted_in marked said }
 {

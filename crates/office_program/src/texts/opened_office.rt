@@ -11,7 +11,7 @@ use socket_link::Clock;
 use std::alloc::Global;
 use std::io::Write;
 
-/// The store over which no office was opened, and the exit status of the command.
+/// A store over which no office was opened, and the exit status of the command.
 #[derive(Drop)]
 pub struct Unopened<B> {
     pub books: B,

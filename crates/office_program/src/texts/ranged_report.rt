@@ -1,4 +1,4 @@
-//! Reports a register on a range of days, in a form.
+//! Prints the report of an accounting register on a range of days.
 ghost use Rattle.office_program.specs.Texts.RangedReports.{PrintsRest, ReportsRange};
 ghost use Rattle.office_program.specs.Texts.Reports.{Asks};
 
@@ -10,7 +10,7 @@ use office_core::Office;
 use office_events::{Name, Refusal};
 use std::io::Write;
 
-// Writes the rest of a report, or why there is none.
+// Prints the end of a report; or, if the report was refused, `refused N`.
 fn print_rest<W: Write>(told: Result<(), Refusal>, rows: &mut ReportRows<'_, W>) -> ExitStatus
     ensures { PrintsRest W.contents told result rows.old rows.new }
 {
@@ -27,7 +27,8 @@ fn print_rest<W: Write>(told: Result<(), Refusal>, rows: &mut ReportRows<'_, W>)
     }
 }
 
-/// Prints the energy of a register on the days of a range, by period, in a unit and a format.
+/// Prints the energy of an accounting register on the days of a range, by period, in a unit and a
+/// format.
 ///
 /// If the office refuses the query, only `refused N` is printed. `None` is a name that no register
 /// can have.

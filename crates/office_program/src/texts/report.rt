@@ -1,4 +1,4 @@
-//! Reports a register by civil day.
+//! Prints the report of an accounting register by civil day.
 ghost use Rattle.office_program.specs.Texts.Reports.{Asks, ReportsDays, last_line, meant_by};
 ghost use Rattle.office_program.specs.Texts.EndTexts.{IsTold};
 
@@ -11,7 +11,7 @@ use office_events::{Name, Refusal};
 use script_text::write_end;
 use std::io::Write;
 
-// Prints the number of days, or why there are none.
+// Prints the number of days; or, if the report was refused, `refused N`.
 fn print_last<W: Write>(told: Result<(), Refusal>, count: u64, output: &mut W) -> ExitStatus
     ensures { IsTold (last_line count told) (meant_by told) result
         (W.contents output.old) (W.contents output.new) }
@@ -25,7 +25,8 @@ fn print_last<W: Write>(told: Result<(), Refusal>, count: u64, output: &mut W) -
     }
 }
 
-/// Prints the energy of a register by civil day, a line a day, and then the number of days.
+/// Prints the energy of an accounting register by civil day, a line a day, and then the number of
+/// days.
 ///
 /// If the office refuses the query, only `refused N` is printed. `None` is a name that no register
 /// can have.

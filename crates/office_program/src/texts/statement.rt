@@ -1,4 +1,4 @@
-//! Prints the statement of the meters at a register on a range of days.
+//! Prints the statements of the meters at an accounting register on a range of days.
 ghost use Rattle.std.specs.Prelude.{◌∷◌, []};
 ghost use Rattle.office_core.specs.Asking.{OnlyAsks};
 ghost use Rattle.office_program.specs.Texts.Reports.{Asks};
@@ -19,12 +19,13 @@ use office_events::{Installation, Name, Refusal};
 use std::alloc::Global;
 use std::io::Write;
 
-// The number of entries in a query, and the largest number of queries: indexes have 64 bits.
+// The number of entries in one query, and the largest number of queries. Entry indexes have 64
+// bits.
 const PIECE: u32 = 65536;
 
 const MOST_PIECES: u64 = 281_474_976_710_655;
 
-// The tally of a meter's entries in a range. The entries are queried in chunks.
+// The tally of a meter's entries in a range of days. The entries are queried in chunks.
 fn tally<B: Books>(
     office: &mut Office<B>,
     zone: &Zone,
@@ -50,7 +51,7 @@ fn tally<B: Books>(
     Err(Refusal::Memory)
 }
 
-// The energy of a meter in a range. Only the quarter hours around the days of the range are
+// The energy of a meter in a range of days, in mWh. Only the quarter hours around these days are
 // queried.
 fn energy<B: Books>(
     office: &mut Office<B>,
@@ -69,7 +70,7 @@ fn energy<B: Books>(
     }
 }
 
-// The number of a meter's rejected readings in a range.
+// The counts of a meter's rejected readings in a range of days.
 fn held<B: Books>(
     office: &mut Office<B>,
     zone: &Zone,
@@ -87,7 +88,7 @@ fn held<B: Books>(
     }
 }
 
-// The statement of a meter.
+// The statement of a meter on a range of days.
 fn meter_statement<B: Books>(
     office: &mut Office<B>,
     zone: &Zone,
@@ -116,7 +117,7 @@ fn meter_statement<B: Books>(
     }
 }
 
-// Adds the statement of a meter, if the meter was installed in the range.
+// Appends the statement of a meter, if the meter was installed in the range of days.
 fn add_statement<B: Books>(
     rows: &mut Vec<MeterStatement>,
     office: &mut Office<B>,
@@ -140,7 +141,7 @@ fn add_statement<B: Books>(
     }
 }
 
-// Adds the statements of the meters that were installed in the range.
+// Appends the statements of those of the meters that were installed in the range of days.
 fn add_statements<B: Books>(
     rows: &mut Vec<MeterStatement>,
     office: &mut Office<B>,
@@ -161,7 +162,7 @@ fn add_statements<B: Books>(
     Ok(())
 }
 
-// The statements of all meters at a register that were installed in the range.
+// The statements of the meters at an accounting register that were installed in the range of days.
 fn statements<B: Books>(
     alloc: Global,
     office: &mut Office<B>,
@@ -185,12 +186,14 @@ fn statements<B: Books>(
     }
 }
 
-/// Prints what is needed to check a bill on the days of a range.
+/// Prints for each meter of an accounting register what is needed to check a bill on a range of
+/// days.
 ///
-/// Each meter of the register in the range comes in the order of installation: its counter at its
-/// first and last entry in the range, its energy there, its corrections, and its number of rejected
-/// readings. If the office refuses a query, only `refused N` is printed. `None` is a name that no
-/// register can have.
+/// The meters come in the order of installation. Each has its counter at its first and last entry
+/// in the range, its energy there, its corrections, and its number of rejected readings.
+///
+/// If the office refuses a query, only `refused N` is printed. `None` is a name that no register
+/// can have.
 pub fn report_statement<B: Books, W: Write>(
     alloc: Global,
     office: &mut Office<B>,

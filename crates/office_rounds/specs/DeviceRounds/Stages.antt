@@ -1,10 +1,10 @@
--- The stages of rounds.
+-- The stages of a round.
 use Rattle.std.specs.Prelude.{Bool, true, false}
 use Rattle.poll_core.specs.declared.outcome.Closing.{Closing}
 use Rattle.office_rounds.specs.declared.device_rounds.stage.Stage.{Stage}
 use Rattle.office_rounds.specs.declared.device_rounds.stage.Stage.TheVariants.{Off, Joining, Starting, Waiting, Leaving}
 
--- The stage requests an event.
+-- Whether a round at this stage requests an event of the office.
 abbrev pub is_wishing : Stage → Bool
 is_wishing Off = false
 is_wishing Joining = true
@@ -12,8 +12,8 @@ is_wishing Starting = true
 is_wishing Waiting = false
 is_wishing (Leaving closing) = true
 
--- After the connection has ended, the office is to be fed so, if it knows of the connection. The
--- first cause stays.
+-- The stage after the connection ended. If the office knows of the connection, the round requests
+-- the event that ends it; an earlier cause stays.
 abbrev pub left : Closing → Stage → Stage
 left closing Off = Off
 left closing Joining = Off

@@ -1,4 +1,4 @@
--- The outcomes of a round's polls, as sums.
+-- How many polls of a round were answered, timed out, or failed.
 use Rattle.std.specs.Prelude.{ℕ, ◌==◌, List, [], ◌∷◌, if◌then◌else◌}
 use Rattle.std.specs.List.{list_any}
 use Rattle.poll_core.specs.declared.outcome.Outcome.{Outcome}
@@ -8,11 +8,11 @@ use Rattle.office_events.specs.declared.answers.Note.TheVariants as note
 use Rattle.office_events.specs.Numbers.{one_more}
 use Rattle.office_rounds.specs.declared.device_rounds.polls.Sum.{Sum}
 
--- The sum of no polls.
+-- The counts of a round without ended polls.
 abbrev pub none : Sum
 none = record { answered = 0; silent = 0; failed = 0 }
 
--- The sum with one more outcome.
+-- The counts after one more poll ended with this outcome.
 abbrev pub ended : Outcome → Sum → Sum
 ended Answered sum = record sum { answered = one_more sum.answered }
 ended (Exception code) sum = record sum { failed = one_more sum.failed }
@@ -20,14 +20,15 @@ ended Silent sum = record sum { silent = one_more sum.silent }
 ended (Malformed wrong) sum = record sum { failed = one_more sum.failed }
 ended (Lost cause) sum = record sum { failed = one_more sum.failed }
 
--- Only polls that were pending count.
+-- The counts after one more notification. It counts only if it ends a poll in `polls`, which were
+-- pending.
 abbrev pub noted : (polls : List ℕ) → Note → Sum → Sum
 noted polls (note.Outcome poll outcome) sum =
     if list_any (λ one. one == poll) polls then ended outcome sum else sum
 noted polls (note.Reading meter raw rolls step) sum = sum
 noted polls (note.Held meter raw cause) sum = sum
 
--- The sum after several notifications.
+-- The counts after several notifications, in order.
 abbrev pub noted_all : (polls : List ℕ) → List Note → Sum → Sum
 noted_all polls [] sum = sum
 noted_all polls (one ∷ notes) sum = noted_all polls notes (noted polls one sum)

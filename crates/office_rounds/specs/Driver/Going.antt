@@ -1,4 +1,5 @@
--- The progress of a turn.
+-- What a turn of the driver has done so far: which events it fed, and in which state the office and
+-- the rounds are.
 use Rattle.std.specs.Prelude.{◌≡◌, ◌⊎◌, ◌≤◌, ℕ, List, [], ◌∷◌, length, Option, Some, None}
 use Rattle.office_rules.specs.History.{History}
 use Rattle.office_books.specs.declared.failures.Failures.{Failures}
@@ -12,35 +13,38 @@ use Rattle.office_rounds.specs.declared.device_rounds.round.Round.{Round}
 use Rattle.office_events.specs.Showing.{Shown}
 use Rattle.office_rounds.specs.Driver.Turns.{AreNext, AreShown, Table, Wished, first_wish, next_by, table, table_with}
 
--- The office, the failure counts of its store, the rounds, and the observer.
+-- The state during a turn: the office, the failure counts of its store, the rounds, and the
+-- observer.
 pub record Scene (B V : Type 0) : Type 0 where
   pub office : Office B
   pub failures : Failures
   pub rounds : List Round
   pub observer : V
 
--- The scene with these parts.
+-- The state during a turn with these parts.
 abbrev pub scene : {B V : Type 0} → Office B → Failures → List Round → V → Scene B V
 scene office failures rounds observer =
     record { office = office; failures = failures; rounds = rounds; observer = observer }
 
--- The start of a turn: the store's failure counts, what is to be fed, and the observer.
+-- The state at the start of a turn: the store's failure counts, the rounds with the event to feed
+-- first, and the observer.
 pub record Start (V : Type 0) : Type 0 where
   pub failures : Failures
   pub table : Table
   pub observer : V
 
--- The start with these parts.
+-- The state at the start of a turn with these parts.
 abbrev pub start : {V : Type 0} → Failures → Table → V → Start V
 start failures at observer = record { failures = failures; table = at; observer = observer }
 
--- Each event has this timestamp.
+-- Each of these events has the timestamp `at`.
 abbrev pub AreAt : ℕ → List Answered → Type 0
 AreAt at [] = Unit {0}
 AreAt at (one ∷ earlier) = AreAt at earlier × (one.at ≡ at)
 
--- The fed events have one timestamp, and each was next. The office is in the state after them, each
--- has the answer of the definition, and each was shown.
+-- So far the turn fed exactly the events that were next, all with one timestamp. Each has the
+-- defined answer, the office and the rounds are in the state after them, and the observer was shown
+-- each.
 pub record Going {B V : Type 0} (ledger : B → Ledger) (sees : V → Shown → V → Type 0)
     (past : History) (begun : Start V)
     (at : ℕ) (fed : List Answered) (first : Option Wished) (now : Scene B V) : Type 0 where
@@ -51,8 +55,8 @@ pub record Going {B V : Type 0} (ledger : B → Ledger) (sees : V → Shown → 
   pub rounds : table first now.rounds ≡ table_with past begun.table fed
   pub shown : AreShown sees begun.observer now.observer past begun.table fed
 
--- One more event is fed, which is next. This assumes that no wrong result of a store was taken as
--- true so far.
+-- If `one` is the next event, it was fed, and the turn is in the state after it. No wrong result of
+-- the store was taken as true so far.
 abbrev pub FeedsNext : {B V : Type 0} → (B → Ledger) → (V → Shown → V → Type 0) → (at : ℕ) → Wished
     → (old new : Scene B V) → Type 0
 FeedsNext {B} {V} ledger sees at one old new =
@@ -61,11 +65,12 @@ FeedsNext {B} {V} ledger sees at one old new =
     → (ledger (books_in new.office)).is_clean
     → (next : Answered) × Going ledger sees past begun at (next ∷ fed) None new
 
--- No round requests an event, or 256 events were fed.
+-- The turn is complete: no round requests an event, or at least 256 events were fed.
 abbrev pub IsSettled : List Round → (before after : List Answered) → Type 0
 IsSettled rounds before after = (first_wish rounds ≡ None) ⊎ (256 ≤ length after)
 
--- The office is fed the requested events, until the turn is settled.
+-- The turn fed the events that the rounds request, until no round requested any or 256 events were
+-- fed.
 abbrev pub OfficeGoesOn : {B V : Type 0} → (B → Ledger) → (V → Shown → V → Type 0) → (at : ℕ)
     → (old new : Scene B V) → Type 0
 OfficeGoesOn {B} {V} ledger sees at old new =
@@ -74,21 +79,22 @@ OfficeGoesOn {B} {V} ledger sees at old new =
     → (later : List Answered) × Going ledger sees past begun at later None new
     × IsSettled new.rounds fed later
 
--- One more event is fed, for the parts before and after.
+-- `FeedsNext` for an office, its rounds and its observer before and after the call.
 abbrev pub FeedsOne : {B V : Type 0} → (B → Ledger) → (V → Shown → V → Type 0) → (at : ℕ) → Wished
     → (old new : Office B) → (before after : List Round) → (from to : V) → Type 0
 FeedsOne ledger sees at one old new before after from to =
     FeedsNext ledger sees at one (scene old (failures_of ledger old) before from)
     (scene new (failures_of ledger new) after to)
 
--- The requested events are fed, for the parts before and after.
+-- `OfficeGoesOn` for an office, its rounds and its observer before and after the call.
 abbrev pub Settles : {B V : Type 0} → (B → Ledger) → (V → Shown → V → Type 0) → (at : ℕ)
     → (old new : Office B) → (before after : List Round) → (from to : V) → Type 0
 Settles ledger sees at old new before after from to =
     OfficeGoesOn ledger sees at (scene old (failures_of ledger old) before from)
     (scene new (failures_of ledger new) after to)
 
--- A turn feeds what is next after the device event, until nothing is next or 256 events were fed.
+-- A complete turn: it fed the event of a device and then what the rounds requested, until none
+-- requested any or 256 events were fed.
 pub record TakesTurn {B V : Type 0} (ledger : B → Ledger) (sees : V → Shown → V → Type 0)
     (past : History) (begun : Start V)
     (at : ℕ) (now : Scene B V) : Type 0 where
@@ -96,7 +102,8 @@ pub record TakesTurn {B V : Type 0} (ledger : B → Ledger) (sees : V → Shown 
   pub going : Going ledger sees past begun at fed None now
   pub settled : IsSettled now.rounds [] fed
 
--- The same for an office, from what was to be fed at the start, to these rounds and this observer.
+-- A complete turn, for an office before and after it. `begun` has the rounds and the event to feed
+-- first; `rounds` and `to` are the rounds and the observer after it.
 abbrev pub Turns : {B V : Type 0} → (B → Ledger) → (V → Shown → V → Type 0) → (at : ℕ)
     → (begun : Table) → (old new : Office B) → (rounds : List Round) → (from to : V) → Type 0
 Turns ledger sees at begun old new rounds from to =

@@ -1,4 +1,4 @@
-//! The pending polls of a round, and the sum of the others.
+//! The pending polls of a round, and the counts of those that ended.
 ghost use Rattle.std.specs.Prelude.{◌≡◌, ◌==◌, ◌≤◌, ◌+◌, ◌++◌};
 ghost use Rattle.std.specs.List.{filter, list_any};
 ghost use Rattle.arrayvec.specs.ArrayVec.{array_vec_len};
@@ -11,10 +11,10 @@ use poll_core::Outcome;
 /// The largest number of polls of a device that may be pending at a time.
 pub const MOST_WAITING: usize = 16;
 
-/// The numbers of pending polls.
+/// The numbers of a round's pending polls.
 pub type Polls = ArrayVec<u64, 16>;
 
-// Whether the notification reports the outcome of the poll.
+// Whether the notification reports the outcome of this poll.
 fn ends(note: &Note, poll: u64) -> bool
     ensures { result ≡ specs.ends poll note.now }
 {
@@ -25,7 +25,7 @@ fn ends(note: &Note, poll: u64) -> bool
     }
 }
 
-// Whether a notification reports the outcome of the poll.
+// Whether one of the notifications reports the outcome of this poll.
 fn has_ended(notes: &[Note], poll: u64) -> bool
     ensures { result ≡ list_any (specs.ends poll) notes.now }
 {
@@ -38,7 +38,7 @@ fn waits(notes: &[Note], poll: u64) -> bool
     !has_ended(notes, poll)
 }
 
-/// The polls that are still pending after these notifications.
+/// The polls of the round that are still pending after these notifications.
 pub(crate) fn waiting_after(polls: &Polls, notes: &[Note]) -> Polls
     ensures { result.items ≡ filter (specs.waits notes.now) polls.now.items }
 {
@@ -51,7 +51,7 @@ pub(crate) fn waiting_after(polls: &Polls, notes: &[Note]) -> Polls
     left
 }
 
-/// Adds `count` polls with consecutive numbers.
+/// Adds `count` pending polls with consecutive numbers from `first` on.
 pub(crate) fn add(polls: &mut Polls, first: u64, count: u64)
     requires { array_vec_len polls.old + count ≤ 16 }
     ensures { polls.new.items ≡ polls.old.items ++ specs.numbers first count }
@@ -75,7 +75,7 @@ impl Sum {
     ghost use Rattle.std.specs.Prelude.{◌≡◌};
     ghost use Rattle.office_rounds.specs.DeviceRounds.Sums as sums;
 
-    /// Creates a sum without polls.
+    /// Creates the counts of a round without ended polls.
     pub fn none() -> Sum
         ensures { result ≡ sums.none }
     {
@@ -86,7 +86,7 @@ impl Sum {
         }
     }
 
-    // Counts a poll with this outcome.
+    // Counts one poll that ended with this outcome.
     fn end(&mut self, outcome: Outcome)
         ensures { self.new ≡ sums.ended outcome self.old }
     {
@@ -99,7 +99,7 @@ impl Sum {
         }
     }
 
-    // Counts the poll of a notification, if it was pending.
+    // Counts the outcome in a notification, if its poll was pending.
     fn note(&mut self, polls: &Polls, note: &Note)
         ensures { self.new ≡ sums.noted polls.now.items note.now self.old }
     {
@@ -114,7 +114,7 @@ impl Sum {
         }
     }
 
-    /// Counts the polls of several notifications.
+    /// Counts the outcomes in several notifications.
     pub(crate) fn note_all(&mut self, polls: &Polls, notes: &[Note])
         ensures { self.new ≡ sums.noted_all polls.now.items notes.now self.old }
     {

@@ -1,21 +1,21 @@
-//! The round of one device: its stage, its pending polls, and the outcomes of the others.
+//! The round of one device: its stage, its pending polls, and how the others ended.
 use crate::device_rounds::polls::{MOST_WAITING, Polls, Sum, add, waiting_after};
 use crate::device_rounds::stage::Stage;
 use office_events::{Answer, Command, Event, Name, Note, Refusal, StartRound};
 use poll_core::Closing;
 
-/// The progress of a device's round, by the answers and notifications of the office.
+/// The progress of a device's round, which follows from the office's answers and notifications.
 #[derive(Drop)]
 pub struct Round {
     pub device: Option<Name>,
     pub stage: Stage,
     /// The pending polls.
     pub polls: Polls,
-    /// The number of reads that were started.
+    /// The number of reads of the plan that were started.
     pub started: u64,
     /// The number of reads in the plan.
     pub planned: u64,
-    /// The outcomes of the polls, until the device is connected again.
+    /// How the ended polls of the round ended. The counts stay until the device is connected again.
     pub sum: Sum,
 }
 
@@ -38,7 +38,8 @@ impl Round {
         }
     }
 
-    /// Returns the event that the round requests next, if any.
+    /// Returns the event that the round requests next; `None` if it waits for the device, or is
+    /// over.
     pub fn event_wanted(&self) -> Option<Event>
         ensures { result ≡ rounds.wish_of self.now }
     {
@@ -67,14 +68,14 @@ impl Round {
         }
     }
 
-    /// Ends the round because the connection has ended.
+    /// Marks the round as leaving, because the connection to its device ended.
     pub fn leave(&mut self, closing: Closing)
         ensures { self.new ≡ rounds.leaving closing self.old }
     {
         self.stage = self.stage.left(closing);
     }
 
-    // Adds the reads that were started.
+    // Adds the polls that the office's answer reports as started.
     fn start(&mut self, answer: Answer)
         ensures { self.new ≡ rounds.started_by answer self.old }
     {
@@ -108,7 +109,8 @@ impl Round {
         }
     }
 
-    // Requests the next reads, or ends the round, after the end of a poll.
+    // After the end of a poll: requests the next reads, or ends the round if none remains and no
+    // poll is pending.
     fn go_on(&mut self)
         ensures { self.new ≡ rounds.gone_on self.old }
     {
@@ -137,7 +139,7 @@ impl Round {
     ghost use Rattle.arrayvec.specs.ArrayVec.{array_vec_len};
     ghost use Rattle.office_rounds.specs.DeviceRounds.Rounds.{begun};
 
-    // Adds `count` pending polls, of `of` reads in all.
+    // Adds `count` pending polls from number `first` on, for a plan of `of` reads.
     fn begin(&mut self, first: u64, count: u64, of: u64)
         requires { array_vec_len self.old.polls + count ≤ 16 }
         ensures { self.new ≡ begun first count of self.old }

@@ -1,18 +1,18 @@
 //! The stages of a round.
 use poll_core::Closing;
 
-/// The stage of a round, which gives the event that it requests next.
+/// The stage of a round, which determines the event that the round requests next.
 #[derive(Clone, Copy, Debug, PartialEq, Eq)]
 pub enum Stage {
     /// The device is not connected; the round requests nothing.
     Off,
-    /// The device is connected; the round requests the event that says so.
+    /// The device is connected, and the office is still to be fed the connection.
     Joining,
-    /// Reads are to be started, from the first that was not.
+    /// Reads of the plan are to be started, from the first that was not started.
     Starting,
     /// Responses are pending; the round requests nothing.
     Waiting,
-    /// The device is gone; the round requests the event that says so.
+    /// The device is gone, and the office is still to be fed that event.
     Leaving(Closing),
 }
 
@@ -20,7 +20,7 @@ impl Stage {
     ghost use Rattle.std.specs.Prelude.{◌≡◌};
     ghost use Rattle.office_rounds.specs.DeviceRounds.Stages as stages;
 
-    /// Returns whether the stage requests an event.
+    /// Returns whether a round at this stage requests an event.
     pub fn is_wishing(self) -> bool
         ensures { result ≡ stages.is_wishing self }
     {
@@ -33,7 +33,7 @@ impl Stage {
         }
     }
 
-    /// Returns the stage after the device's connection has ended.
+    /// Returns the stage after the connection to the device has ended.
     pub fn left(self, closing: Closing) -> Stage
         ensures { result ≡ stages.left closing self }
     {

@@ -5,7 +5,7 @@ ghost use Rattle.office_rounds.specs.DeviceRounds.Rounds.{heard, is_wishing};
 use crate::device_rounds::round::Round;
 use office_events::Note;
 
-/// Returns the index of the first round that requests an event.
+/// Returns the slot of the first round that requests an event; `None` if none does.
 pub fn first_wishing(rounds: &[Round]) -> Option<usize>
     ensures { result ≡ position is_wishing rounds.now }
 {

@@ -2,7 +2,7 @@
 use office_events::Piece;
 use poll_core::Closing;
 
-/// An event of a device, which is given by its slot. An event for an empty slot has no effect.
+/// An event of the device in a slot, or a timer event. An event for an empty slot has no effect.
 #[derive(Drop)]
 pub enum DeviceEvent {
     /// A device was connected.

@@ -10,7 +10,7 @@ use office_books::Books;
 use office_core::Office;
 use office_events::{Answer, Event, Observer, Refusal};
 
-// Passes the answer to an event to the round that requested it.
+// Passes the office's answer to the round in the event's slot; does nothing without a slot.
 fn answer_for(rounds: &mut [Round], place: Option<usize>, answer: Result<Answer, Refusal>)
     ensures { rounds.new ≡ answered_for place answer rounds.old }
 {
@@ -21,7 +21,8 @@ fn answer_for(rounds: &mut [Round], place: Option<usize>, answer: Result<Answer,
     }
 }
 
-/// Feeds an event for the round of a slot, or for none.
+/// Feeds one event to the office, for the round in a slot or for none. Shows it to the observer,
+/// and passes the answer and the notifications to the rounds.
 pub(crate) fn feed_one<B: Books, V: Observer>(
     rounds: &mut [Round],
     place: Option<usize>,
@@ -42,7 +43,7 @@ pub(crate) fn feed_one<B: Books, V: Observer>(
     observer.observe(place, at, event, answer, notes, frames);
 }
 
-/// The slot of the first round that requests an event, with the event.
+/// The slot of the first round that requests an event, with this event; `None` if none does.
 pub(crate) fn first_wish(rounds: &[Round]) -> Option<(usize, Event)>
     ensures { turns.as_wished result ≡ turns.first_wish rounds.now }
 {

@@ -1,4 +1,4 @@
-//! Takes a turn: feeds a device event, and then the events that rounds request.
+//! Makes a turn: feeds a device event, and then the events that the rounds request.
 ghost use Rattle.std.specs.Prelude.{◌≡◌, ℕ, List, Some, None, slice_get};
 ghost use Rattle.office_rounds.specs.Passing.{Lasts};
 ghost use Rattle.office_rounds.specs.Driver.Turns.{at_place, brought, came, came_from, opened, table, wished};
@@ -15,10 +15,11 @@ use poll_core::Closing;
 
 /// The largest number of requested events that a turn feeds after the device event.
 ///
-/// Rounds keep requesting the others, and the next turn feeds them.
+/// If rounds request more, the next turn feeds the rest.
 pub const MOST_STEPS: u32 = 256;
 
-// Feeds the events that rounds request, until none requests any.
+// Feeds the events that the rounds request, until none requests any or the maximum of a turn is
+// reached.
 fn settle<B: Books, V: Observer>(
     rounds: &mut [Round],
     office: &mut Office<B>,
@@ -53,7 +54,7 @@ fn leave(rounds: &mut [Round], place: usize, closing: Closing)
     }
 }
 
-// Feeds an event, and then the events that rounds request.
+// Feeds this event first, and then the events that the rounds request.
 fn begin<B: Books, V: Observer>(
     rounds: &mut [Round],
     place: Option<usize>,
@@ -70,7 +71,7 @@ fn begin<B: Books, V: Observer>(
     settle(rounds, office, at, observer);
 }
 
-// Feeds the events that rounds request.
+// Feeds the events that the rounds request, without a device event first.
 fn go_on<B: Books, V: Observer>(
     rounds: &mut [Round],
     office: &mut Office<B>,
@@ -84,7 +85,7 @@ fn go_on<B: Books, V: Observer>(
     settle(rounds, office, at, observer);
 }
 
-// The name of the device in a slot, if its responses are pending.
+// The name of the device in a slot if its round waits for responses; otherwise `None`.
 fn waiting_at(rounds: &[Round], place: usize) -> Option<Option<Name>>
     ensures { (piece : List ℕ) → came_from place result piece
         ≡ came place (slice_get rounds.now place) piece }
@@ -98,7 +99,7 @@ fn waiting_at(rounds: &[Round], place: usize) -> Option<Option<Name>>
     None
 }
 
-// Feeds the bytes of a device whose responses are pending, and drops other bytes.
+// Feeds bytes of a device whose round waits for responses; drops the bytes of any other device.
 fn take_bytes<B: Books, V: Observer>(
     rounds: &mut [Round],
     place: usize,
@@ -120,10 +121,10 @@ fn take_bytes<B: Books, V: Observer>(
     }
 }
 
-/// Takes a turn: feeds a device event to the office, and then the events that rounds request.
+/// Makes a turn: feeds a device event to the office, and then the events that the rounds request.
 ///
-/// The first round that requests an event comes first. The turn ends when no round requests any, or
-/// after 256 requested events. All events have the same timestamp, in seconds since 1970-01-01 UTC.
+/// The round in the first slot comes first. The turn ends when no round requests an event, or after
+/// 256 requested events. All events have the same timestamp, in seconds since 1970-01-01 UTC.
 pub fn turn<B: Books, V: Observer>(
     rounds: &mut [Round],
     device_event: DeviceEvent,
