@@ -23,8 +23,8 @@ kind_name kind.Start = codes "start"
 abbrev pub done_text : CommandKind → List ℕ
 done_text k = codes "{\"done\":\"" ++ kind_name k ++ codes "\"}"
 
--- The kind of the command that was executed, now or for an earlier request with the same
--- idempotency key.
+-- The kind of the executed command, which may have been executed for an earlier request with the
+-- same idempotency key. None for an event that is no command.
 abbrev pub kind_answered : Answer → Option CommandKind
 kind_answered Noted = None
 kind_answered (Done k) = Some k

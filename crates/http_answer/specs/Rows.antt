@@ -1,4 +1,4 @@
--- The JSON of a meter and of a poll. Names consist of bytes that JSON need not escape.
+-- The JSON of a meter and of a poll. Names need no escaping in JSON.
 use Rattle.std.specs.Prelude.{ℕ, Bool, true, false, List, ◌++◌, codes, decimal, Option, Some, None}
 use Rattle.std.specs.Fmt.{signed_decimal}
 use Rattle.poll_core.specs.Outcomes.{outcome_code, outcome_number}
@@ -31,7 +31,7 @@ pub record Ending : Type 0 where
   pub outcome : ℕ
   pub code : ℕ
 
--- How a poll ended, or all 0 while it is pending.
+-- The end of a poll; all fields are 0 while the poll is pending.
 abbrev pub ending_of : Option EndedPoll → Ending
 ending_of None = record { moment = 0; outcome = 0; code = 0 }
 ending_of (Some ended) =
@@ -41,7 +41,7 @@ ending_of (Some ended) =
       code = outcome_code ended.outcome;
     }
 
--- A poll, with these fields for its end.
+-- The JSON of a poll, with these fields for its end.
 abbrev pub poll_text_with : Ending → PollRow → List ℕ
 poll_text_with ending row =
     codes "{\"code\":" ++ decimal ending.code
@@ -52,6 +52,6 @@ poll_text_with ending row =
     ++ codes ",\"started\":" ++ decimal row.poll.at
     ++ codes "}"
 
--- A poll, with its outcome if it has ended.
+-- The JSON of a poll, with its outcome if it has ended.
 abbrev pub poll_text : PollRow → List ℕ
 poll_text row = poll_text_with (ending_of row.ended) row

@@ -5,7 +5,7 @@ use Rattle.serde_json.specs.Find.{get}
 use Rattle.http_answer.specs.declared.commands.json.body.BodyFault.{BodyFault}
 use Rattle.http_answer.specs.Commands.Json.Members.{Member, Text, Whole, Natural, Optional, fault_in, have_kinds, have_negative, is_below_zero, whole}
 
--- The fault of a body that requires these members.
+-- The fault of a JSON object that must have these members, if it has one.
 abbrev pub fault_of : List Member → Data → Option BodyFault
 fault_of members d = fault_in (have_kinds members d) (have_negative members d)
 
