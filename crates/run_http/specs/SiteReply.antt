@@ -16,12 +16,12 @@ use Rattle.run_http.specs.StatusRoute.{with_reply}
 use Rattle.run_http.specs.Texts.SiteText.{with_site}
 use Rattle.run_http.specs.declared.texts.site.SiteLine.{SiteLine}
 
--- A refusal has the status and the number that it has for any other query.
+-- The response that reports a refusal, with the same status and number as for any other query.
 abbrev pub with_refusal : Refusal → List ℕ → List ℕ
 with_refusal why text =
     with_reply (status_of why) (codes "application/json") (refused_text (refusal_number why)) text
 
--- The registers and their meters, or the refusal of the query.
+-- The response with the registers and their meters as JSON, or with the refusal of the query.
 abbrev pub with_site_reply : (at : ℕ) → Result (Vec SiteLine Global) Refusal → List ℕ → List ℕ
 with_site_reply at (Ok lines) text =
     with_reply Fine (codes "application/json") (with_site [] at lines.items) text

@@ -6,7 +6,7 @@ use Rattle.office_core.specs.declared.site.SiteRow.{SiteRow}
 use Rattle.http_answer.specs.Rows.{bool_text}
 use Rattle.run_http.specs.declared.texts.site.SiteLine.{SiteLine}
 
--- The last valid entry of a meter.
+-- The last valid entry of a meter, as JSON members.
 abbrev pub with_last : List ℕ → Installation → List ℕ
 with_last text row =
     text ++ codes "\",\"at\":" ++ decimal row.last.at ++ codes ",\"last\":" ++ decimal row.last.raw
@@ -24,8 +24,8 @@ with_total text row earlier =
     with_earlier (text ++ codes ",\"total\":\"" ++ decimal row.total) earlier
     ++ codes "\",\"ended\":" ++ bool_text row.ended
 
--- The meter of a register. Names consist of letters, digits, `_` and `-`, so JSON need not escape
--- them.
+-- The meter of a register as JSON, or `null`. Names consist of letters, digits, `_` and `-`, so
+-- JSON need not escape them.
 abbrev pub with_meter : List ℕ → Option Installation → (earlier : Option ℕ) → List ℕ
 with_meter text None earlier = text ++ codes "\",\"meter\":null"
 with_meter text (Some row) earlier =
@@ -42,13 +42,13 @@ abbrev pub with_line : (before : List ℕ) → List ℕ → SiteLine → List �
 with_line before text line =
     with_meter (with_register before text line.row) line.row.meter line.earlier ++ codes "}"
 
--- More registers, each after a comma.
+-- Further registers as JSON, each with a comma before it.
 abbrev pub with_more_lines : List ℕ → List SiteLine → List ℕ
 with_more_lines text [] = text
 with_more_lines text (line ∷ lines) =
     with_more_lines (with_line (codes ",{\"device\":\"") text line) lines
 
--- Registers with commas between them.
+-- All registers as JSON, with commas between them.
 abbrev pub with_lines : List ℕ → List SiteLine → List ℕ
 with_lines text [] = text
 with_lines text (line ∷ lines) =
