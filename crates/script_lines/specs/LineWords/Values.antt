@@ -17,7 +17,7 @@ not_past number = if nat_le number 9223372036854775807 then Some number else Non
 abbrev pub number_of : List ℕ → Option ℕ
 number_of word = option_and_then not_past (number_of_digits 19 word)
 
--- Pairs of hexadecimal digits of either case.
+-- The word consists of pairs of hexadecimal digits, in either case.
 abbrev pub is_paired : List ℕ → Bool
 is_paired word = length word % 2 == 0 && list_all is_hex_digit word
 
@@ -31,23 +31,24 @@ bytes_of word =
 abbrev pub SpellsBytes : {Z : Type 0} → (word : List ℕ) → (found : Option (Vec ℕ Z)) → Type 0
 SpellsBytes word found = option_map (λ bytes. bytes.items) found ≡ bytes_of word
 
--- A name is any word that is not empty. The inner value is None if the office accepts no such name.
+-- The name in a word that is not empty. The inner value is None if the office accepts no such name.
 abbrev pub name_of : List ℕ → Option (Option (List ℕ))
 name_of [] = None
 name_of (byte ∷ bytes) = Some (named (byte ∷ bytes))
 
--- The negative number.
+-- The number with a minus sign.
 abbrev pub negative : ℕ → ℤ
 negative n = neg_ℤ (pos n)
 
--- A number that may follow a `-`.
+-- The integer that a word spells, with or without a `-` before it.
 abbrev pub signed_of : List ℕ → Option ℤ
 signed_of [] = None
 signed_of (byte ∷ bytes) =
     if byte == 45 then option_map negative (number_of bytes)
     else option_map pos (number_of (byte ∷ bytes))
 
--- `@` and the address of a register, or a fixed scale.
+-- The scale that a word spells: `@` (64) and the address of the Modbus register that holds it, or a
+-- fixed scale.
 abbrev pub scale_of : List ℕ → Option GivenScale
 scale_of [] = None
 scale_of (byte ∷ bytes) =

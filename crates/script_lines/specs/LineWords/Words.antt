@@ -12,7 +12,8 @@ abbrev pub words_left : Option (List ℕ) → List (List ℕ)
 words_left None = []
 words_left (Some line) = words_of line
 
--- The first word was removed, and the others stay. Nothing is removed if no word is left.
+-- The first word was removed and returned, and the other words stay. If no word is left, nothing
+-- changes.
 abbrev pub TakesFirst : (words : List (List ℕ)) → (taken : Option (Bor (List ℕ)))
     → (rest : List (List ℕ)) → Type 0
 TakesFirst words taken rest =
