@@ -1,4 +1,4 @@
-//! A simulated device that lines have set up.
+//! A simulated device that the lines of a setup text configure.
 ghost use Rattle.std.specs.Prelude.{◌≡◌, IfOk, OnErr};
 ghost use Rattle.script_run.specs.Bank.Settings as setting;
 
@@ -31,7 +31,7 @@ pub struct SetupParts {
     pub tricks: Vec<(u64, Trick)>,
 }
 
-// Returns the area with these numbers, if there can be one.
+// Returns the area with these numbers, if they are in range.
 fn area_of(given: GivenArea) -> Option<Area>
     ensures { result ≡ setting.area_of given }
 {
@@ -94,8 +94,8 @@ impl Setup {
         Ok(())
     }
 
-    /// Executes a line. Returns whether the register map accepts it; a refused line changes
-    /// nothing. A fault to inject is always accepted.
+    /// Executes a line. Returns whether the register map accepts it. A line that it refuses changes
+    /// nothing, and it accepts every fault to inject.
     pub fn carry_out(&mut self, line: &BankLine) -> Result<bool, AllocError>
         ensures taken { IfOk result (λ taken. taken ≡ takes self.old.maps line.now) }
         ensures after { IfOk result (λ taken. self.new ≡ after_line self.old line.now) }
@@ -112,7 +112,7 @@ impl Setup {
     }
 }
 
-/// Makes a register map without addresses.
+/// Makes a register map without any address.
 pub fn empty_bank(alloc: Global) -> Result<Bank, AllocError>
     ensures { IfOk result setting.AreUnset }
 {
