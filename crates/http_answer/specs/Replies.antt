@@ -103,7 +103,7 @@ abbrev pub asked_of : Start → (body : List ℕ) → Command → Asked
 asked_of start body command =
     asked_with (post_headers_of start.headers) (kept_request start.method start.target body) command
 
--- The office's answer to the command of a request.
+-- The office's answer to the command that a request has.
 abbrev pub ask : Office → Start → (body : List ℕ) → Command → Result CommandKind Refusal
 ask office start body command = office.asked (asked_of start body command)
 
@@ -129,8 +129,8 @@ abbrev pub unless_failed : Option Status → Reply → Reply
 unless_failed None reply = reply
 unless_failed (Some status) reply = fault status
 
--- The response to a request with this head and this body, where the body gives this command or
--- fault.
+-- The response to a request with this head and this body. `given` is the command or fault that the
+-- body gives.
 abbrev pub reply_of : Office → Table → Start → (body : List ℕ) → Result Command CommandFault → Reply
 reply_of office table start body given =
     unless_failed (head_fault table start)

@@ -11,7 +11,8 @@ abbrev pub bool_text : Bool → List ℕ
 bool_text true = codes "true"
 bool_text false = codes "false"
 
--- A meter: its last entry, its range, and its total energy in mWh as a string of digits.
+-- The JSON of a meter: its last entry, its range, and its total energy in mWh as a string of
+-- digits.
 abbrev pub meter_text : Installation → List ℕ
 meter_text row =
     codes "{\"at\":" ++ decimal row.last.at
@@ -24,8 +25,8 @@ meter_text row =
     ++ codes ",\"total\":\"" ++ decimal row.total
     ++ codes "\"}"
 
--- How a poll ended: the time, the number of the outcome, and its code. All are 0 while the poll is
--- pending.
+-- The end of a poll: its time, the number of its outcome, and the outcome's code. All are 0 while
+-- the poll is pending.
 pub record Ending : Type 0 where
   pub moment : ℕ
   pub outcome : ℕ

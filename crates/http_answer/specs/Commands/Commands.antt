@@ -100,8 +100,8 @@ abbrev pub unless_fault : Option BodyFault → Command → Result Command BodyFa
 unless_fault None c = Ok c
 unless_fault (Some fault) c = Err fault
 
--- The command that the JSON body of a route's request gives, or the fault of the body. The body of
--- a list is no JSON, and a query has no command.
+-- The command that a JSON body gives for this route, or the fault of the body. A point list is no
+-- JSON and a query has no command, so both give `Malformed`.
 abbrev pub command_of : Route → Option (List ℕ) → Data → Result Command BodyFault
 command_of route.Devices name d = unless_fault (fault_of device_members d) (add_device d)
 command_of route.List name d = Err Malformed

@@ -8,7 +8,8 @@ use Rattle.office_events.specs.Names.{named}
 use Rattle.office_events.specs.declared.commands.GivenScale.{GivenScale}
 use Rattle.office_events.specs.declared.commands.GivenScale.TheVariants.{Fixed, Register}
 
--- The name that a member's text spells, or None if the text is no name.
+-- The name that the text of a member spells. None if the member is no text, or the text is no valid
+-- name.
 abbrev pub name_in : List ℕ → Data → Option (List ℕ)
 name_in member d = option_and_then named (text member d)
 

@@ -3,7 +3,7 @@ use Rattle.std.specs.Prelude.{ℕ, List, take, Option}
 use Rattle.http_answer.specs.Sending.Sending.{Progress}
 use Rattle.http_answer.specs.declared.sending.outbox.Outbox.{Outbox}
 
--- The buffered bytes.
+-- The bytes in the write buffer.
 abbrev pub buffered_in : Outbox → List ℕ
 buffered_in outbox = take outbox.filled outbox.buffered
 

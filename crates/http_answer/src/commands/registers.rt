@@ -92,7 +92,7 @@ pub(crate) fn close(register: Option<Name>, body: &Body) -> Result<Command, Body
     }))
 }
 
-// Reads the command that voids an entry.
+// Reads the command that voids an entry of a meter.
 pub(crate) fn void(meter: Option<Name>, body: &Body) -> Result<Command, BodyFault>
     ensures { result ≡ command_of route.Void meter (view body.now) }
 {

@@ -34,7 +34,7 @@ is_of_kind Whole name d = is_some (whole name d)
 is_of_kind Natural name d = is_some (whole name d)
 is_of_kind Optional name d = is_none (get name d) || is_some (whole name d)
 
--- The number is negative.
+-- The number exists and is negative.
 abbrev pub is_below_zero : Option ℤ → Bool
 is_below_zero None = false
 is_below_zero (Some (pos n)) = false
@@ -55,8 +55,8 @@ have_kinds members d = list_all (λ m. is_of_kind m.want m.name d) members
 abbrev pub have_negative : List Member → Data → Bool
 have_negative members d = list_any (λ m. is_too_low m.want m.name d) members
 
--- The fault of a body. A member that is missing or has the wrong type is reported before a negative
--- number.
+-- The fault of a body. A member that is missing or has the wrong type takes precedence over a
+-- negative number.
 abbrev pub fault_in : Bool → Bool → Option BodyFault
 fault_in kinds negative =
     if kinds then (if negative then Some Negative else None) else Some Malformed
