@@ -47,7 +47,7 @@ put_at more reply (Some at) = take (at + 1) reply ++ more ++ drop (at + 1) reply
 abbrev pub with_headers : (more reply : List ℕ) → List ℕ
 with_headers more reply = put_at more reply (first_line_end reply)
 
--- The response to a request, with the headers for browsers.
+-- `told` is the response to the request with the headers for browsers inserted.
 pub record IsForBrowsers (names : List (List ℕ)) (bytes reply told : List ℕ) : Type 0 where
   pub route : Option RunRoute
   pub for : IsFor names bytes route

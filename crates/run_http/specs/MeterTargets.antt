@@ -89,6 +89,6 @@ abbrev pub meter_asked : Option (List ℕ) → Option RunRoute
 meter_asked None = None
 meter_asked (Some text) = meter_in text
 
--- The route of a target for rows of a meter.
+-- The route of a target that asks for rows of a meter, if it is such a target.
 abbrev pub meter_target : (target : List ℕ) → Option RunRoute
 meter_target target = meter_asked (after (codes "/meters/") target)

@@ -47,7 +47,7 @@ text_left facts left =
     flat_map share_line (rows_left facts left)
     ++ end_line (left.told + length (rows_left facts left))
 
--- Rows are still to be queried.
+-- Some rows of the response are still to be queried.
 abbrev pub has_more : RowsLeft → Bool
 has_more left = nat_lt left.from left.till
 
@@ -129,7 +129,7 @@ with_all_rows text rows = text ++ reply_bytes (lines_reply intervals_text (Ok ro
 
 -- ---- The size of a response.
 
--- The size of the lines of rows in bytes, and the number of rows.
+-- The sizes are those of these rows: the bytes of their lines, and their number.
 abbrev pub AreSizes : Sizes → List Share → Type 0
 AreSizes sizes rows =
     (sizes.bytes ≡ length (flat_map share_line rows)) × (sizes.count ≡ length rows)

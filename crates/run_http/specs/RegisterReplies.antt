@@ -70,7 +70,7 @@ abbrev pub with_energy_reply : Result (Unit {0}) Refusal → (report : List ℕ)
 with_energy_reply (Ok done) report text = with_reply Fine (codes "text/plain") report text
 with_energy_reply (Err why) report text = with_refusal why text
 
--- The office is queried once, and its answer is the response, unless memory runs out.
+-- The office is queried once, and its report or refusal is the response, unless memory runs out.
 pub record RepliesEnergy {B : Type 0} (ledger : B → Ledger) (old new : Office B)
     (register : Option (List ℕ)) (form : ReportForm) (from to : List ℕ) {E : Type 0}
     (result : Result (Unit {0}) E) : Type 0 where

@@ -27,7 +27,8 @@ with_site_reply at (Ok lines) text =
     with_reply Fine (codes "application/json") (with_site [] at lines.items) text
 with_site_reply at (Err why) text = with_refusal why text
 
--- The office is queried once, and its answer is the response, unless memory runs out.
+-- The office is queried once for its registers and meters. Its answer or refusal is the response,
+-- unless memory runs out.
 pub record RepliesSite {B : Type 0} (ledger : B → Ledger) (old new : Office B)
     (reply : Result (Vec SiteRow Global) Refusal → List ℕ → List ℕ) (from to : List ℕ)
     {E : Type 0} (result : Result (Unit {0}) E) : Type 0 where

@@ -40,7 +40,7 @@ abbrev pub or_meter : (target : List ℕ) → Option RunRoute → Option RunRout
 or_meter target None = meter_target target
 or_meter target (Some route) = Some route
 
--- The route of a fixed path, or of rows of a meter.
+-- The route of a target that has a fixed path, or that asks for rows of a meter.
 abbrev pub plain_target : (target : List ℕ) → Option RunRoute
 plain_target target = or_meter target (path_named target)
 
@@ -50,7 +50,7 @@ abbrev pub IsElse : (target : List ℕ) → Option RunRoute → Option RunRoute 
 IsElse target None route = IsRegisterTarget target route
 IsElse target (Some plain) route = route ≡ Some plain
 
--- The route of a target without a question mark.
+-- The route of a target that has no question mark, if it is one of the run's own.
 abbrev pub IsWholeTarget : (target : List ℕ) → Option RunRoute → Type 0
 IsWholeTarget target route = IsElse target (plain_target target) route
 
@@ -59,7 +59,7 @@ abbrev pub IsTargetUnless : (has_query : Bool) → (target : List ℕ) → Optio
 IsTargetUnless true target route = route ≡ None
 IsTargetUnless false target route = IsWholeTarget target route
 
--- The route of a target.
+-- The route of a target, if it is one of the run's own.
 abbrev pub IsTarget : (target : List ℕ) → Option RunRoute → Type 0
 IsTarget target route = IsTargetUnless (has_query target) target route
 
@@ -69,7 +69,7 @@ route_by method None = None
 route_by method (Some route) =
     if bytes_eq method (codes "GET") then Some route else Some (Own (Rejected MethodNotAllowed))
 
--- The route of a method and a target.
+-- The route of a request with this method and target, if it is one of the run's own.
 abbrev pub IsRouteNamed : (method target : List ℕ) → Option RunRoute → Type 0
 IsRouteNamed method target route =
     (asked : Option RunRoute) × IsTarget target asked × (route ≡ route_by method asked)
@@ -87,7 +87,7 @@ IsRouteIn bytes (Whole at) route =
 abbrev pub is_link_to_page : (method target : List ℕ) → Bool
 is_link_to_page method target = bytes_eq method (codes "GET") && bytes_eq target (codes "/")
 
--- The head asks for the page itself.
+-- The bytes hold a complete head that asks for the page itself.
 abbrev pub asks_for_page : List ℕ → HeadState → Bool
 asks_for_page bytes Open = false
 asks_for_page bytes TooLarge = false
@@ -121,7 +121,7 @@ pub record IsFor (names : List (List ℕ)) (bytes : List ℕ) (route : Option Ru
   pub looks : Looks bytes head_state
   pub asks : IsRunRoute (may_ask_in names bytes head_state) bytes head_state route
 
--- The route is that of the energy of a register.
+-- The route asks for the energy of a register.
 abbrev pub is_energy : Option RunRoute → Bool
 is_energy None = false
 is_energy (Some (Own own)) = false

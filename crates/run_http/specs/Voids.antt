@@ -7,7 +7,7 @@ use Rattle.office_books.specs.declared.entries.MeterEntry.{MeterEntry}
 use Rattle.office_books.specs.declared.entries.MeterEntry.TheVariants.{Opening, Later}
 use Rattle.office_books.specs.Entries.{entries_at}
 
--- An entry is voided. An opening is never voided.
+-- The entry is voided. The opening entry never is.
 abbrev pub is_voided : MeterEntry → Bool
 is_voided (Opening last) = false
 is_voided (Later row sf) = not row.stands

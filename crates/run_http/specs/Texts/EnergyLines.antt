@@ -20,7 +20,7 @@ label_byte byte =
 abbrev pub label_text : List ℕ → List ℕ
 label_text value = flat_map label_byte value
 
--- A label with its value.
+-- The text `before` and the value of a label.
 abbrev pub with_label : List ℕ → (before value : List ℕ) → List ℕ
 with_label text before value = text ++ before ++ label_text value
 
@@ -50,22 +50,23 @@ abbrev pub with_energy_of : List ℕ → SiteRow → Option Installation → Lis
 with_energy_of text row None = text
 with_energy_of text row (Some meter) = if meter.ended then text else with_energy text row meter
 
--- The time of the last entry of a register's meter, if it is open.
+-- The time of the last entry of the meter at a register, if the meter is open. A register without
+-- an open meter has no line.
 abbrev pub with_entry_of : List ℕ → SiteRow → Option Installation → List ℕ
 with_entry_of text row None = text
 with_entry_of text row (Some meter) = if meter.ended then text else with_entry text row meter
 
--- The energy of each open meter.
+-- A line with the energy of each open meter.
 abbrev pub with_energies : List ℕ → List SiteRow → List ℕ
 with_energies text [] = text
 with_energies text (row ∷ rows) = with_energies (with_energy_of text row row.meter) rows
 
--- The time of the last entry of each open meter.
+-- A line with the time of the last entry of each open meter.
 abbrev pub with_entries : List ℕ → List SiteRow → List ℕ
 with_entries text [] = text
 with_entries text (row ∷ rows) = with_entries (with_entry_of text row row.meter) rows
 
--- The metrics of the open meters.
+-- The two metrics of the open meters: their energy, and the time of their last entry.
 abbrev pub with_meters : List ℕ → List SiteRow → List ℕ
 with_meters text rows =
     with_entries

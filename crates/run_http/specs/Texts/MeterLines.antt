@@ -12,7 +12,7 @@ use Rattle.meter_journal.specs.declared.lines.EntryRow.{EntryRow}
 use Rattle.office_books.specs.declared.entries.MeterEntry.{MeterEntry}
 use Rattle.office_books.specs.declared.entries.MeterEntry.TheVariants.{Opening, Later}
 
--- The kind of an entry.
+-- The word for the kind of an entry.
 abbrev pub kind_word : EntryKind → List ℕ
 kind_word Reading = codes " reading "
 kind_word Manual = codes " manual "
@@ -51,7 +51,7 @@ abbrev pub entry_line : MeterEntry → List ℕ
 entry_line (Opening last) = opening_line last
 entry_line (Later row sf) = later_line row sf
 
--- The lines of entries, and a line with their number.
+-- The lines of entries, and a last line with their number.
 abbrev pub entries_text : List MeterEntry → List ℕ
 entries_text entries = flat_map entry_line entries ++ end_line (length entries)
 
@@ -65,6 +65,6 @@ abbrev pub void_line : MeterEntry → List ℕ
 void_line (Opening last) = codes "1 opening " ++ decimal last.at ++ codes "\n"
 void_line (Later row sf) = void_row_line row
 
--- The lines of voided entries, and a line with their number.
+-- The lines of voided entries, and a last line with their number.
 abbrev pub voids_text : List MeterEntry → List ℕ
 voids_text entries = flat_map void_line entries ++ end_line (length entries)

@@ -31,13 +31,13 @@ with_meter text None earlier = text ++ codes "\",\"meter\":null"
 with_meter text (Some row) earlier =
     with_total (with_last (text ++ codes "\",\"meter\":\"" ++ row.opening.meter) row) row earlier
 
--- The device and the name of a register.
+-- The device and the name of an accounting register, as JSON members.
 abbrev pub with_register : (before : List ℕ) → List ℕ → SiteRow → List ℕ
 with_register before text row =
     text ++ before ++ row.register.device
     ++ codes "\",\"register\":\"" ++ row.register.name
 
--- A register and its meter.
+-- An accounting register with its meter, as JSON.
 abbrev pub with_line : (before : List ℕ) → List ℕ → SiteLine → List ℕ
 with_line before text line =
     with_meter (with_register before text line.row) line.row.meter line.earlier ++ codes "}"
@@ -54,7 +54,7 @@ with_lines text [] = text
 with_lines text (line ∷ lines) =
     with_more_lines (with_line (codes "{\"device\":\"") text line) lines
 
--- The time of the query, and the registers.
+-- The complete JSON: the time of the query, and the registers with their meters.
 abbrev pub with_site : List ℕ → (at : ℕ) → List SiteLine → List ℕ
 with_site text at lines =
     with_lines (text ++ codes "{\"at\":" ++ decimal at ++ codes ",\"registers\":[") lines
