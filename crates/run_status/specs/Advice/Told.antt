@@ -11,7 +11,7 @@ topic_number Connection = 1
 topic_number Round = 2
 topic_number Meter = 3
 
--- A number that was reported about a device or meter.
+-- An entry for a number that was reported about a device or meter.
 abbrev pub told_number : Topic → (name : Option (List ℕ)) → (number : ℕ) → ToldNumber
 told_number topic name number = record { topic = topic; name = name; number = number }
 

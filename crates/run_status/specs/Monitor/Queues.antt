@@ -22,7 +22,7 @@ queue_of queue = record {
 abbrev pub waiting_in : Queue → List ℕ
 waiting_in queue = drop queue.written queue.put
 
--- All bytes were written.
+-- All bytes of the queue were written.
 abbrev pub is_written : Queue → Bool
 is_written queue = nat_le (length queue.put) queue.written
 

@@ -51,7 +51,7 @@ fn put_list_of(text: &mut Vec<u8>, device: &Option<Name>) -> Result<(), AllocErr
     }
 }
 
-// Appends that no read has a register, and what such a read needs.
+// Appends that no read of the point list covers a register, and which addresses such a read needs.
 fn put_unread(
     text: &mut Vec<u8>,
     device: &Option<Name>,
