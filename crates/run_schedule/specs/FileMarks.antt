@@ -19,7 +19,7 @@ file_loss known None = Some Missing
 file_loss known (Some found) =
     if is_same_file known found then loss_of_size known found else Some Replaced
 
--- The path leads to the open file, which is not shorter than it was.
+-- The path leads to the open file, and the file has not become shorter.
 abbrev pub IsStill : (known : FileMark) → (found : Option FileMark) → Type 0
 IsStill known None = ⊥
 IsStill known (Some found) =

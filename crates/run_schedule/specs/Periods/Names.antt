@@ -6,15 +6,15 @@ use Rattle.std.specs.Str.{bytes_eq}
 use Rattle.energy_report.specs.declared.form.Period.{Period}
 use Rattle.energy_report.specs.declared.form.Period.TheVariants as period
 
--- The name ends with `.db`.
+-- The file name ends with `.db`.
 abbrev pub has_suffix : List ℕ → Bool
 has_suffix file = bytes_eq (drop (length file - 3) file) (codes ".db")
 
--- The name without its extension.
+-- The file name without its extension `.db`, if it has one.
 abbrev pub stem_of : (file : List ℕ) → List ℕ
 stem_of file = if has_suffix file then take (length file - 3) file else file
 
--- The extension of the name, or nothing.
+-- The extension `.db` of the file name, or an empty text without it.
 abbrev pub suffix_of : (file : List ℕ) → List ℕ
 suffix_of file = if has_suffix file then codes ".db" else []
 
@@ -25,17 +25,17 @@ file_of file text = stem_of file ++ codes "-" ++ text ++ suffix_of file
 
 -- ---- The texts of periods.
 
--- A decimal digit.
+-- The byte is a decimal digit.
 abbrev pub is_digit : ℕ → Bool
 is_digit byte = nat_le 48 byte && nat_le byte 57
 
--- Two digits from 01 to 12.
+-- The two bytes are digits that spell a month, from 01 to 12.
 abbrev pub is_month : (tens ones : ℕ) → Bool
 is_month tens ones =
     ((tens == 48) && nat_le 49 ones && nat_le ones 57)
     || ((tens == 49) && nat_le 48 ones && nat_le ones 50)
 
--- Two digits from 01 to 31.
+-- The two bytes are digits that spell a day of the month, from 01 to 31.
 abbrev pub is_day : (tens ones : ℕ) → Bool
 is_day tens ones =
     ((tens == 48) && nat_le 49 ones && nat_le ones 57)
