@@ -210,7 +210,7 @@ abbrev pub said_from : Option ℕ → List ℕ → List (List ℕ) → Option Sc
 said_from None word words = question_of word >>= λ question. asked_by question words
 said_from (Some at) word words = timed_said at words
 
--- The line that the words spell.
+-- The line that the words spell, if they spell one.
 abbrev pub line_said : List (List ℕ) → Option ScriptLine
 line_said [] = None
 line_said (word ∷ words) = said_from (number_of word) word words

@@ -24,13 +24,14 @@ kinds =
 abbrev pub kind_of : List ℕ → Option Kind
 kind_of word = meaning_in kinds word
 
--- Two numbers, and no more words.
+-- The two numbers that the words spell. None if the words are not exactly two numbers.
 abbrev pub two_said : List (List ℕ) → Option (ℕ × ℕ)
 two_said words =
     first_value Number words >>= λ a. first_value Number a.1 >>= λ b. nothing_more b.1 >>= λ none.
     Some (a.0, b.0)
 
--- A kind, two numbers, and no more words.
+-- The kind of addresses and the two numbers that the words spell. None if they are not exactly
+-- these three.
 abbrev pub three_said : List (List ℕ) → Option (Kind × ℕ × ℕ)
 three_said [] = None
 three_said (word ∷ words) =
