@@ -100,7 +100,7 @@ pub record ConnectPrints (at : ℕ) (e : Event) (now : LoopStage) (printed : Lis
   pub maps : next.maps ≡ now.maps
   pub connected : next.connected ≡ true
 
--- The device whose round a command starts.
+-- The name of the device whose round the command starts. None if the command starts no round.
 abbrev pub round_of : Command → Option (Option (List ℕ))
 round_of (command.StartRound round) = Some round.device
 round_of other = None
@@ -147,7 +147,7 @@ pub record AlikePrints (said : ScriptLine) (now : LoopStage) (printed : List ℕ
   pub prints : LinePrints now.script said printed next.script
   pub by : StandsBy now next
 
--- What a script line prints.
+-- What a line of a script prints in a loop.
 abbrev pub SaidPrints : ScriptLine → (now : LoopStage) → (printed : List ℕ) → (next : LoopStage)
     → Type 0
 SaidPrints (line.Event at e) now printed next = HappensPrints at e now printed next
