@@ -33,7 +33,7 @@ pub data Seal : Type 0 where
   Print : Seal
   Against : (file : Text) → Seal
 
--- A command with the values of its options.
+-- The model of a command line: a command with the values of its options.
 pub data Line : Type 0 where
   Replay : (zone : Text) → Line
   ReplayFile : (db : Text) → Line
@@ -137,18 +137,18 @@ abbrev pub replay_of : (has_zone : Bool) → (zone : Text) → (db : Option Text
 replay_of has_zone zone None = Some (Replay zone)
 replay_of has_zone zone (Some db) = if has_zone then None else Some (ReplayFile db)
 
--- The command `replay`.
+-- The command line of `replay` with these options. None if the options exclude each other.
 abbrev pub replay_in : List Row → Option Line
 replay_in rows =
     replay_of (is_some (text_at (codes "zone") rows)) (zone_in rows) (db_in rows)
 
--- The command `create`.
+-- The command line of `create` with these options. None if an option is missing or invalid.
 abbrev pub create_in : List Row → Option Line
 create_in rows =
     given (db_in rows) (λ db.
     given (text_at (codes "zone") rows) (λ zone. Some (Create db zone)))
 
--- The command `serve`.
+-- The command line of `serve` with these options. None if an option is missing or invalid.
 abbrev pub serve_in : List Row → Option Line
 serve_in rows =
     given (db_in rows) (λ db.
@@ -156,7 +156,7 @@ serve_in rows =
     given (connections_in rows) (λ connections.
     given (hosts_in rows) (λ hosts. Some (Serve db port connections hosts)))))
 
--- The command `round`.
+-- The command line of `round` with these options. None if an option is missing or invalid.
 abbrev pub round_in : List Row → Option Line
 round_in rows =
     given (db_in rows) (λ db.
@@ -168,7 +168,7 @@ round_in rows =
 abbrev pub unless_by : (statement : Bool) → Option Period → Form → Option Form
 unless_by statement period form = if statement && is_some period then None else Some form
 
--- The form of a report.
+-- The form of a report with these options. None if an option is invalid.
 abbrev pub form_in : List Row → Option Form
 form_in rows =
     let from = text_at (codes "from") rows in
@@ -191,7 +191,7 @@ abbrev pub report_of : (db : Text) → (files : List Text) → (register : Text)
 report_of db files register form =
     if nat_lt 1 (length files) then ReportFiles files register form else Report db register form
 
--- The command `report`.
+-- The command line of `report` with these options. None if an option is missing or invalid.
 abbrev pub report_in : List Row → Option Line
 report_in rows =
     given (db_in rows) (λ db.
@@ -199,19 +199,19 @@ report_in rows =
     given (form_in rows) (λ form.
     Some (report_of db (texts_at (codes "db") rows) register form))))
 
--- The command `backup`.
+-- The command line of `backup` with these options. None if an option is missing or invalid.
 abbrev pub backup_in : List Row → Option Line
 backup_in rows =
     given (db_in rows) (λ db.
     given (text_at (codes "to") rows) (λ to. Some (Backup db to)))
 
--- The command `recover`.
+-- The command line of `recover` with these options. None if an option is missing or invalid.
 abbrev pub recover_in : List Row → Option Line
 recover_in rows =
     given (db_in rows) (λ db.
     given (text_at (codes "to") rows) (λ to. Some (Recover db to)))
 
--- The command `carry`.
+-- The command line of `carry` with these options. None if an option is missing or invalid.
 abbrev pub carry_in : List Row → Option Line
 carry_in rows =
     given (text_at (codes "from") rows) (λ from.
@@ -223,7 +223,7 @@ abbrev pub sealing_of : (prints : Bool) → (against : Option Text) → Option S
 sealing_of prints None = Some (if prints then Print else Nothing)
 sealing_of prints (Some file) = if prints then None else Some (Against file)
 
--- What an audit does with a seal.
+-- What an audit with these options does with a seal. None if the options exclude each other.
 abbrev pub sealing_in : List Row → Option Seal
 sealing_in rows = sealing_of (is_set (codes "seal") rows) (text_at (codes "against") rows)
 
@@ -238,7 +238,7 @@ abbrev pub one_sealed : (dbs : List Text) → Seal → Option Line
 one_sealed dbs seal =
     if asks_seal seal && nat_lt 1 (length dbs) then None else Some (Audit dbs seal)
 
--- The command `audit`.
+-- The command line of `audit` with these options. None if an option is missing or invalid.
 abbrev pub audit_in : List Row → Option Line
 audit_in rows =
     given (several_at (codes "db") rows) (λ dbs.
@@ -248,7 +248,7 @@ audit_in rows =
 abbrev pub one_of : (list : Bool) (setup : Option Text) → Line → Option Line
 one_of list setup line = if list && is_some setup then None else Some line
 
--- The command `scan`.
+-- The command line of `scan` with these options. None if an option is missing or invalid.
 abbrev pub scan_in : List Row → Option Line
 scan_in rows =
     let list = is_set (codes "list") rows in
@@ -258,7 +258,7 @@ scan_in rows =
     given (number_or 5 60 (codes "timeout") rows) (λ timeout.
     one_of list setup (Scan (host_in rows) port unit timeout list setup))))
 
--- The command `stand-in`.
+-- The command line of `stand-in` with these options. None if an option is missing or invalid.
 abbrev pub stand_in_in : List Row → Option Line
 stand_in_in rows =
     given (port_in rows) (λ port.
@@ -272,7 +272,7 @@ devices_at rows = given (text_at (codes "devices") rows) devices_in
 abbrev pub devices_if : List Row → Option (List Place)
 devices_if rows = or_else [] devices_in (text_at (codes "devices") rows)
 
--- The command `enter`.
+-- The command line of `enter` with these options. None if an option is missing or invalid.
 abbrev pub enter_in : List Row → Option Line
 enter_in rows =
     given (db_in rows) (λ db.
@@ -294,7 +294,7 @@ earlier_in are_several carry rows =
     given (number_if 1200 (codes "earlier") rows) (λ earlier.
     if is_some earlier && (are_several || is_none carry) then None else Some earlier)
 
--- The command `run`.
+-- The command line of `run` with these options. None if an option is missing or invalid.
 abbrev pub run_in : List Row → Option Line
 run_in rows =
     given (several_at (codes "db") rows) (λ dbs.
@@ -309,7 +309,7 @@ run_in rows =
     Some (Run dbs listen every devices lasts carry earlier hosts most_kept
     (is_set (codes "verbose") rows)))))))))))
 
--- The command `explain`.
+-- The command line of `explain` with these options. None if an option is missing.
 abbrev pub explain_in : List Row → Option Line
 explain_in rows =
     given (text_at (codes "what") rows) (λ what.
@@ -321,7 +321,8 @@ completions_in rows =
     given (text_at (codes "shell") rows)
     (λ shell. if bytes_eq shell (codes "bash") then Some Completions else None)
 
--- The command with this name and these options.
+-- The command line for the command with this name and these options. None if an option is missing
+-- or invalid.
 unfoldable pub command_in : Text → List Row → Option Line
 command_in name rows =
     if bytes_eq name (codes "replay") then replay_in rows

@@ -11,11 +11,11 @@ use Rattle.command_words.specs.Values.Numbers.{number_up_to}
 use Rattle.command_words.specs.declared.faults.ValueFault.{ValueFault}
 use Rattle.command_words.specs.declared.faults.ValueFault.TheVariants as fault
 
--- The options that `clap` parsed.
+-- The option values that `clap` parsed, by the options' names.
 abbrev pub rows_in : ArgMatches → List Row
 rows_in found = rows_of (found_of found)
 
--- The text of an option, if it is given.
+-- The value of an option as text. None if the option is not given.
 abbrev pub text_at : Text → List Row → Option Text
 text_at id rows = first_of id rows
 

@@ -64,7 +64,7 @@ program_with name commands later =
 
 -- ---- what the tables describe
 
--- The rule of an option with this name and value.
+-- The rule of an option with this name, of the kind that the table gives.
 abbrev pub rule_by : Text → Value → Rule
 rule_by name (value.Required shown) = required_option name
 rule_by name (value.Optional shown) = optional_option name

@@ -59,7 +59,8 @@ port_in address = number_up_to 65535 (after_last is_colon address)
 abbrev pub is_empty : Text → Bool
 is_empty text = length text == 0
 
--- The device in `NAME=HOST:PORT`, if NAME and HOST are not empty.
+-- The device in a part `NAME=HOST:PORT` of the list. None if NAME or HOST is empty, or the port is
+-- out of range.
 abbrev pub device_in : Text → Option Place
 device_in part =
     let address = address_in part in
@@ -84,7 +85,7 @@ abbrev pub are_distinct : List Text → Bool
 are_distinct [] = true
 are_distinct (text ∷ texts) = not (list_any (bytes_eq text) texts) && are_distinct texts
 
--- The names in these parts.
+-- The device names in the parts of a list.
 abbrev pub names_in : List Text → List Text
 names_in parts = map name_in parts
 
