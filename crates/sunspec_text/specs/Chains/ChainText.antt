@@ -19,7 +19,7 @@ use Rattle.script_text.specs.AnswerText.{bad_line}
 use Rattle.command_io.specs.declared.status.ExitStatus.{ExitStatus}
 use Rattle.command_io.specs.declared.status.ExitStatus.TheVariants.{Fine, Refused, Failed}
 
--- The line of a point.
+-- The line of a point: its name and its value.
 abbrev pub point_line : Named → List ℕ
 point_line point =
     codes "point " ++ point.name ++ codes " " ++ value_text point.value point.scale ++ codes "\n"

@@ -13,7 +13,7 @@ use Rattle.read_plan.specs.PlannedReads.{IsFirstHolding, read_runs}
 use Rattle.read_plan.specs.Plans.{FollowsRule, IsLawful}
 use Rattle.read_plan.specs.declared.planned_reads.PlannedRead.{PlannedRead}
 
--- The number of a read and the code of its function.
+-- The beginning of a read's line: the number of the read, and the code of its function.
 abbrev pub read_head : (number function : ℕ) → List ℕ
 read_head number function =
     codes "read " ++ decimal number ++ codes " " ++ decimal function ++ codes " "

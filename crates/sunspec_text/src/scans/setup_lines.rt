@@ -69,7 +69,7 @@ pub(crate) fn setup_text(
     Ok(text)
 }
 
-// Writes the lines of the device and of its list.
+// Writes the lines for the device and for its point list.
 fn add_device(text: &mut Vec<u8>, list: &[u8], site: Site<'_>) -> io::Result<()> {
     let Site {
         device,
