@@ -136,7 +136,7 @@ fn play_text<B: Books, W: Write>(
     Ok(ExitStatus::Fine)
 }
 
-// Opens an office over the store, at its latest timestamp.
+// Opens an office over the store, at the latest timestamp in the store.
 fn open_office<B: Books>(alloc: Global, books: B) -> Result<Office<B>, Refusal> {
     let mut books = books;
     let moment = match books.latest() {

@@ -45,7 +45,7 @@ abbrev pub taken_text : Bool → List ℕ
 taken_text true = codes "ok\n"
 taken_text false = refused_line refusal.Limit
 
--- The register map after a line of the simulator.
+-- The register map after a line of the simulator. If the map refuses the line, it is unchanged.
 abbrev pub maps_with : Maps → BankLine → Maps
 maps_with maps (bank.Area area) = with_area maps area
 maps_with maps (bank.Set cell) = with_cell maps cell

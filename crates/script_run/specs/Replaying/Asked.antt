@@ -70,7 +70,7 @@ pub record AreIntervals (facts : List Fact) (meter : Option (List ℕ)) (rows : 
   pub begun : (n : ℕ) × (rows ≡ take n (rows_in (intervals_of facts meter)))
   pub whole : OnOk reply (rows ≡ rows_in (intervals_of facts meter))
 
--- What a query for interval rows prints.
+-- What a query for the interval rows of a meter prints.
 abbrev pub IntervalsPrint : Stage → (meter : Option (List ℕ)) → (printed : List ℕ) → (next : Stage)
     → Type 0
 IntervalsPrint now meter printed next =
@@ -84,7 +84,7 @@ pub record AreDaysTold (now : Stage) (register : Option (List ℕ)) (rows : List
   pub whole : OnOk reply (AreDaysNamed now.zone (facts_of now.past) register (map account_of rows))
   pub none : OnErr reply (rows ≡ [])
 
--- What a query for days prints.
+-- What a query for the days of a register prints.
 abbrev pub DaysPrint : Stage → (register : Option (List ℕ)) → (printed : List ℕ) → (next : Stage)
     → Type 0
 DaysPrint now register printed next =

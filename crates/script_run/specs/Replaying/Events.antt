@@ -35,7 +35,7 @@ reply_text past at e (Ok given) =
     accepted_text given (notes_after past at e (Ok given)) (outgoing_after past at e (Ok given))
 reply_text past at e (Err why) = refused_line why
 
--- An event prints the office's answer.
+-- A line with an event prints the office's answer.
 pub record EventPrints (now : Stage) (at : ℕ) (e : Event) (printed : List ℕ) (next : Stage)
     : Type 0 where
   pub reply : Result Answer Refusal

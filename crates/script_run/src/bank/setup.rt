@@ -26,8 +26,8 @@ impl Model for Setup {
 #[derive(Drop)]
 pub struct SetupParts {
     pub bank: Bank,
-    /// The faults to inject, by the number of a frame. The first with the number of a frame is
-    /// injected into its response.
+    /// The faults to inject, each with the number of the frame whose response gets it. If two have
+    /// the same number, the first is injected.
     pub tricks: Vec<(u64, Trick)>,
 }
 
@@ -70,7 +70,7 @@ impl Setup {
         SetupParts { bank, tricks }
     }
 
-    // Adds an area, if the register map accepts it.
+    // Adds an area, if the register map accepts it. Returns whether it does.
     fn add_area(&mut self, given: GivenArea) -> bool
         ensures taken { result ≡ takes_area self.old.maps given }
         ensures after { self.new ≡ after_area self.old given }

@@ -208,7 +208,7 @@ fn run_event<C: Connects, W: Write>(
     }
 }
 
-// Returns the device whose round a command starts.
+// Returns the name of the device whose round a command starts. `None` if it starts no round.
 fn round_of(command: &Command) -> Option<Option<Name>>
     ensures { result ≡ form.round_of command.now }
 {

@@ -126,14 +126,14 @@ impl<'t, L: Link + Drop> Wires<'t, L> {
         }
     }
 
-    /// Returns the index of a device's connection.
+    /// Returns the index of a device's connection, if it has one.
     pub(crate) fn place_of(&self, device: &Option<Name>) -> Option<usize>
         ensures { IfSome result (λ place. place < length self.now.all.items) }
     {
         self.all.iter().position(|wire| wire.device == *device)
     }
 
-    /// Returns the near end of a connection.
+    /// Returns the device's end of a connection.
     pub(crate) fn near(&mut self, place: usize) -> &mut L
         requires { place < length self.old.all.items }
     {
