@@ -182,7 +182,8 @@ fn say_not_yet(rt: &HostRuntime, path: &str, meter: &Name) -> Ending<'static> {
     Ending::Refused
 }
 
-// Lets the meters of the file at a path continue.
+// Lets the meters of the file at a path continue in an incomplete new file, and renames it to its
+// final name.
 fn carry_in<'a, D: Databases>(
     rt: &HostRuntime,
     databases: &D,
