@@ -1,11 +1,11 @@
--- Bytes that were read, and bytes in a buffer.
+-- Lemmas on bytes that were read, and on bytes in a buffer.
 use Rattle.std.proofs.Common.{◌≡◌, ◌≤◌, ◌-◌, ℕ, List, [], ◌++◌, length, take, drop, Option, None, Some, IfSome, Result, Ok, Err, sym, ap, ◌∙◌, subst, append_assoc, append-nil, arith, take-append-drop}
 use Rattle.std.specs.Io.KnownBytes.{Appends, Consumes, IsAtEnd, Keeps}
 use Rattle.std.proofs.KnownBytes.{Appends-trans, Consumes-all, Consumes-trans}
 use Rattle.std.proofs.lemmas.List.{take-take, length-take, take_rest}
 use Rattle.sun_points.specs.Writing.{GotPart, GotText}
 
--- What was written of the first bytes is the front of all.
+-- The bytes written from the first `end` bytes of a buffer are the front of the whole buffer.
 pub front_of : (end filled : ℕ) (buffered : List ℕ) (n : ℕ) → end ≤ filled → end ≤ length buffered → n ≤ length (take end buffered)
     → (old new : Option (List ℕ)) → Appends old new (take n (take end buffered)) → Appends old new (take n (take filled buffered))
 front_of end filled buffered n within long few old new written =
@@ -14,7 +14,7 @@ front_of end filled buffered n within long few old new written =
     take-take n end buffered short ∙ sym (take-take n filled buffered (omega arith)) in
     rw same at written
 
--- A reader that returns nothing more has returned all.
+-- If a reader returned `whole` and has nothing more to return, `whole` is everything that it had.
 pub all_read : (a b c : Option (List ℕ)) (whole piece : List ℕ) (n : ℕ) → Consumes a b whole → Consumes b c (take n piece) → n ≡ 0 → IsAtEnd c
     → IfSome a (λ all. whole ≡ all)
 all_read a b c whole piece n before last none end =
@@ -29,7 +29,7 @@ all_read a b c whole piece n before last none end =
 abbrev rest_from : ℕ → List ℕ → List ℕ
 rest_from n bytes = take (length bytes - n) (drop n bytes)
 
--- Bytes were written, and then others are.
+-- One text was written and then another, so both were written in this order.
 both_taken : {X E : Type 0} (result : Result X E) (a b c : Option (List ℕ)) (first next : List ℕ) → Appends a b first → GotText result next b c
     → GotText result (first ++ next) a c
 both_taken (Ok done) a b c first next taken more = Appends-trans a b c first next taken more
@@ -40,14 +40,14 @@ both_taken (Err error) a b c first next taken more = (
   Appends-trans a b c first more.0 taken more.3,
 )
 
--- Some of a text was written, and then the rest is.
+-- A part of a text was written and then the rest of it, so the complete text was written.
 pub some_then_rest : {X E : Type 0} (result : Result X E) (a b c : Option (List ℕ)) (bytes : List ℕ) (n : ℕ) → Appends a b (take n bytes)
     → GotText result (rest_from n bytes) b c → GotText result bytes a c
 some_then_rest result a b c bytes n first next =
     let whole : take n bytes ++ rest_from n bytes ≡ bytes = ap (λ (t : List ℕ). take n bytes ++ t) (take_rest bytes n) ∙ take-append-drop n bytes in
     subst (λ (text : List ℕ). GotText result text a c) whole (both_taken result a b c (take n bytes) (rest_from n bytes) first next)
 
--- Nothing was written at first, and then some was.
+-- Nothing was written at first and then a text, so only that text was written.
 pub kept_then : (a b c : Option (List ℕ)) (bytes : List ℕ) → Keeps a b → Appends b c bytes → Appends a c bytes
 kept_then None b c bytes kept taken = tt
 kept_then (Some x) None c bytes kept taken = absurd kept

@@ -1,4 +1,5 @@
--- What is printed of a text is what is printed of the input that it is.
+-- Lemmas on the output of a command: what is printed for a text is printed for the input with that
+-- text.
 use Rattle.std.proofs.Common.{◌≡◌, ◌⊎◌, inl, inr, ◌<◌, ◌≤◌, ℕ, List, [], length, Option, None, Some, IfSome, refl, sym, subst}
 use Rattle.std.specs.Prelude.{◌≢◌}
 use Rattle.std.specs.Io.KnownBytes.{Appends}
@@ -10,7 +11,7 @@ use Rattle.command_io.specs.declared.status.ExitStatus.{ExitStatus}
 use Rattle.command_io.specs.declared.status.ExitStatus.TheVariants.{Fine, Refused, Failed}
 use Rattle.sun_points.specs.Writing.{GotPart}
 
--- An output in one sense is an output in another.
+-- If each output that satisfies `Prints` also satisfies `Other`, `PrintsOn` holds for `Other` too.
 pub prints_in : {P : Type 0} (p : printers.Ghosts P) (Prints Other : List ℕ → ExitStatus → Type 0) (status : ExitStatus) (old new : P)
     → ((printed : List ℕ) (meant : ExitStatus) → Prints printed meant → Other printed meant)
     → PrintsOn p Prints status old new → PrintsOn p Other status old new
@@ -35,7 +36,7 @@ input_prints p (Some all) text whole Text Input status old from new is read fits
     subst Told read (turn whole printed meant short (subst Of is told)))
     prints)
 
--- That an input is too long is all that is printed of it, or a beginning of that.
+-- If an input is too long, its output is only the text that says so, or a beginning of that text.
 long_told : {P : Type 0} (p : printers.Ghosts P) (Prints : List ℕ → ExitStatus → Type 0) (old new : P)
     → p.has_failed new ⊎ (new ≡ old) → GotPart too_long (p.contents old) (p.contents new) → Prints too_long Refused
     → PrintsOn p Prints Failed old new
@@ -54,7 +55,7 @@ unread_told p Prints all Refused old new (inr none) failed long = absurd (let e 
 unread_told p Prints all Failed old new (inl told) failed long = long_told p Prints old new (failed refl) told.1 (long told.0)
 unread_told p Prints all Failed old new (inr none) failed long = inl none.1
 
--- An input that was not read.
+-- What a command prints if its input could not be read.
 pub unread_prints : {P : Type 0} (p : printers.Ghosts P) (input : Option (List ℕ)) (Input : List ℕ → List ℕ → ExitStatus → Type 0)
     (status : ExitStatus) (old new : P) → LeavesUnread input (p.contents old) (p.contents new) status
     → (status ≡ Failed → p.has_failed new ⊎ (new ≡ old)) → ((all : List ℕ) → most_bytes < length all → Input all too_long Refused)
@@ -62,7 +63,7 @@ pub unread_prints : {P : Type 0} (p : printers.Ghosts P) (input : Option (List �
 unread_prints p None Input status old new unread failed long = tt
 unread_prints p (Some all) Input status old new unread failed long = unread_told p (Input all) all status old new unread failed (long all)
 
--- A text that was prepared before it was printed.
+-- What a command prints if its text is completed before it is printed.
 is_made : (Prints : List ℕ → ExitStatus → Type 0) (meant : ExitStatus) (begun made : List ℕ) → meant ≢ Failed → begun ≡ []
     → PrintsAs Prints meant (Some begun) (Some made) → Prints made meant
 is_made Prints meant begun made goes none prints =

@@ -11,6 +11,7 @@ output_of b = b.output
 abbrev pub buffered_in : {W : Type 0} → Buffered W → List ℕ
 buffered_in b = take b.filled b.buffered
 
--- What the inner writer received, and then the bytes in the buffer.
+-- The bytes that the inner writer received, followed by those in the buffer. None if it is unknown
+-- what the inner writer received.
 abbrev pub contents_of : {W : Type 0} → (W → Option (List ℕ)) → Buffered W → Option (List ℕ)
 contents_of contents b = append_known (contents b.output) (take b.filled b.buffered)

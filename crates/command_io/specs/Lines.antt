@@ -3,12 +3,12 @@ use Rattle.std.specs.Prelude.{ℕ, ◌+◌, Bool, true, ◌==◌, if◌then◌el
 use Rattle.bstr.specs.Text.{lines_of, without_terminator}
 use Rattle.command_io.specs.declared.lines.InputLine.{InputLine}
 
--- All lines. Each ends with a line feed, which the last may lack. A carriage return before the line
--- feed is dropped with it.
+-- All lines of a text, without their ends. A line ends with a line feed, before which a carriage
+-- return may come. The last line may have no end.
 abbrev pub all_lines : List ℕ → List (List ℕ)
 all_lines text = map without_terminator (lines_of text)
 
--- A line to skip: it is empty, or begins with `#`.
+-- The line is skipped: it is empty, or begins with `#` (35).
 abbrev pub is_silent : List ℕ → Bool
 is_silent [] = true
 is_silent (first ∷ rest) = first == 35
@@ -18,18 +18,18 @@ pub record Line : Type 0 where
   pub number : ℕ
   pub text : List ℕ
 
--- The value of an input line.
+-- The model of an input line: its number and its text.
 abbrev pub seen_line : InputLine → Line
 seen_line line = record { number = line.number; text = line.text.now }
 
--- The lines that are not skipped, with their numbers among all. The first of all has the given
--- number.
+-- The lines that are not skipped. Each has its number among all lines, and the first of all has the
+-- number `number`.
 abbrev pub speaking_from : ℕ → List (List ℕ) → List Line
 speaking_from number [] = []
 speaking_from number (line ∷ lines) =
     if is_silent line then speaking_from (number + 1) lines
     else record { number = number; text = line } ∷ speaking_from (number + 1) lines
 
--- The lines of a text that are not skipped.
+-- The lines of a text that are not skipped, with their numbers from 1.
 abbrev pub speaking_lines : List ℕ → List Line
 speaking_lines text = speaking_from 1 (all_lines text)

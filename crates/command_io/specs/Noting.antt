@@ -1,4 +1,4 @@
--- The model of a writer that notes its failures.
+-- The model of a writer that records whether its last write failed.
 use Rattle.std.specs.Prelude.{◌≡◌, ◌==◌, ℕ, Bool, true, Result, Ok, Err}
 use Rattle.command_io.specs.declared.printer.NotedWriter.{NotedWriter}
 

@@ -1,4 +1,4 @@
--- The output of a command.
+-- The output of a command, and whether printing failed.
 use Rattle.std.specs.Prelude.{◌≡◌, ◌≢◌, ◌⊎◌, ℕ, List, [], Option}
 use Rattle.std.specs.Io.KnownBytes.{Appends}
 use Rattle.command_io.specs.declared.printer.Printer as printers
@@ -6,7 +6,7 @@ use Rattle.command_io.specs.declared.status.ExitStatus.{ExitStatus}
 use Rattle.command_io.specs.declared.status.ExitStatus.TheVariants.{Fine, Refused, Failed}
 use Rattle.sun_points.specs.Writing.{GotPart}
 
--- Unless the command failed, the output is what it prints with this status.
+-- Unless the status is `Failed`, the output got a text that the command prints with this status.
 abbrev pub PrintsAs : (Prints : List ℕ → ExitStatus → Type 0) → ExitStatus
     → (old new : Option (List ℕ)) → Type 0
 PrintsAs Prints status old new =
@@ -16,11 +16,12 @@ PrintsAs Prints status old new =
 abbrev pub Printed : {P : Type 0} → printers.Ghosts P → (text : List ℕ) → (old new : P) → Type 0
 Printed p text old new = Appends (p.contents old) (p.contents new) text
 
--- Printing failed, after a beginning of the text was written.
+-- Printing failed after a beginning of the text, possibly empty, was written.
 abbrev pub BrokeOff : {P : Type 0} → printers.Ghosts P → (text : List ℕ) → (old new : P) → Type 0
 BrokeOff p text old new = p.has_failed new × GotPart text (p.contents old) (p.contents new)
 
--- A text that means a status was printed, or nothing if the command had failed before.
+-- The text was printed, and the status is the meant one; or printing failed. If the text means
+-- `Failed`, nothing is printed.
 abbrev pub EndsAs : {P : Type 0} → printers.Ghosts P → (text : List ℕ) → (meant status : ExitStatus)
     → (old new : P) → Type 0
 EndsAs p text Fine Fine old new = Printed p text old new
@@ -33,8 +34,8 @@ EndsAs p text Failed Fine old new = ⊥
 EndsAs p text Failed Refused old new = ⊥
 EndsAs p text Failed Failed old new = new ≡ old
 
--- The output is what the command prints with this status. A failed command has written nothing, or
--- a beginning of what it prints, since printing failed.
+-- The output got a text that the command prints with this status. With status `Failed` it got
+-- nothing, or a beginning of such a text because printing failed.
 abbrev pub PrintsOn : {P : Type 0} → printers.Ghosts P → (Prints : List ℕ → ExitStatus → Type 0)
     → ExitStatus → (old new : P) → Type 0
 PrintsOn p Prints Fine old new =
@@ -46,7 +47,7 @@ PrintsOn p Prints Failed old new =
     ⊎ ((printed : List ℕ) × (meant : ExitStatus) × BrokeOff p printed old new
     × Prints printed meant)
 
--- The same if the output depends on the input.
+-- `PrintsOn`, where the text that the command prints depends on its input.
 abbrev pub PrintsFor : {P : Type 0} → printers.Ghosts P
     → (Prints : (input printed : List ℕ) → ExitStatus → Type 0) → ExitStatus → (old new : P)
     → (input : List ℕ) → Type 0

@@ -3,7 +3,7 @@ use Rattle.std.specs.Prelude.{ℕ}
 use Rattle.command_io.specs.declared.status.ExitStatus.{ExitStatus}
 use Rattle.command_io.specs.declared.status.ExitStatus.TheVariants.{Fine, Refused, Failed}
 
--- The number of an exit status.
+-- The number that the process exits with for this status.
 abbrev pub status_number : ExitStatus → ℕ
 status_number Fine = 0
 status_number Refused = 1

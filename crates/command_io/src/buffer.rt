@@ -20,7 +20,8 @@ pub struct Buffered<W> {
     ghost room: { filled ≤ 8192 },
 }
 
-// Returns the number of bytes up to the last line feed, or all of them if there is none.
+// Returns the length of the complete lines at the front of the bytes, or of all bytes if none of
+// them ends a line.
 fn lines_len(bytes: &[u8]) -> usize
     ensures within { result ≤ length bytes.now }
     ensures some { 0 < length bytes.now → 0 < result }
@@ -103,7 +104,7 @@ impl<W: Write> Buffered<W> {
         self.filled -= count;
     }
 
-    // Appends bytes that fit to the buffer.
+    // Appends bytes to the buffer, which must have room for them.
     fn hold(&mut self, bytes: &[u8])
         requires { self.old.filled + length bytes.now ≤ 8192 }
         ensures output { output_of self.new ≡ output_of self.old }
@@ -114,7 +115,8 @@ impl<W: Write> Buffered<W> {
         self.filled = end;
     }
 
-    // Makes room for at least one more byte, if the buffer lacks room for `count` bytes.
+    // If the buffer lacks room for `count` bytes, writes some of it, so that it has room for at
+    // least one byte.
     fn make_room(&mut self, count: usize) -> io::Result<()>
         ensures room { OnOk result (self.new.filled < 8192 ⊎ (count ≡ 0)) }
         ensures bytes { Keeps (contents_of W.contents self.old) (contents_of W.contents self.new) }

@@ -1,11 +1,11 @@
-//! Prints a text and returns the exit status.
+//! Prints the last text of a command, and returns the exit status.
 ghost use Rattle.command_io.specs.Printing.{EndsAs};
 
 use crate::printer::Printer;
 use crate::status::ExitStatus;
 
-/// Prints a text, and returns the status that it means, or `Failed` if printing fails. A text that
-/// means `Failed` is not printed.
+/// Prints a text, and returns the exit status that goes with it, or `Failed` if printing fails.
+/// With the status `Failed` nothing is printed.
 pub fn print_end<P: Printer>(text: &[u8], meant: ExitStatus, output: &mut P) -> ExitStatus
     ensures { EndsAs P.Printer text.now meant result output.old output.new }
 {

@@ -51,7 +51,8 @@ pub fn read_whole<R: Read>(alloc: Global, input: &mut R) -> Result<Vec<u8>, Read
     read_by(alloc, &mut calls)
 }
 
-// Reads to the end with a bounded number of calls. Only the last call may fail.
+// Reads to the end of the input with a bounded number of `read` calls. If a call fails, it is the
+// last.
 fn read_by<R: Read>(alloc: Global, calls: &mut Calls<'_, R>) -> Result<Vec<u8>, ReadFault>
     requires none { calls.old.made ≡ 0 }
     requires works { calls.old.failed ≡ false }

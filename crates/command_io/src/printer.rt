@@ -6,13 +6,13 @@ ghost use Rattle.command_io.specs.Noting.{IsFailing, is_unwritten, written_on};
 use std::io::{self, ErrorKind, Write};
 use sun_points::Sink;
 
-/// An output for texts, each printed by one call. A `NotedWriter` knows whether it failed; any
-/// other writer does not.
+/// An output to which each call prints one text. A `NotedWriter` records whether it failed, other
+/// writers do not.
 pub trait Printer {
     // What the output received, if that is known.
     ghost contents: { Self → Option (List ℕ) };
 
-    // The last text failed.
+    // The last text was not printed completely.
     ghost has_failed: { Self → Type 0 };
 
     /// Prints the complete text, or fails. On error a part of the text may have been written.
@@ -32,14 +32,14 @@ impl<W: Write> Printer for W {
     }
 }
 
-/// A writer, and whether its last write failed, or accepted none of its bytes.
+/// A writer with a flag: its last write failed, or accepted none of its bytes.
 #[derive(Drop)]
 pub struct NotedWriter<W> {
     pub(crate) output: W,
     pub(crate) failed: bool,
 }
 
-// Returns whether a write failed, or accepted no bytes.
+// Returns whether the result of a write is a failure, or that no bytes were accepted.
 fn is_unwritten(answer: &io::Result<usize>) -> bool
     ensures { result ≡ is_unwritten answer.now }
 {
@@ -72,7 +72,7 @@ impl<W: Write> NotedWriter<W> {
         output
     }
 
-    // Writes once.
+    // Makes one write, and records whether it failed.
     fn write_once(&mut self, bytes: &[u8]) -> io::Result<usize>
         ensures bound { WritesAtMost result bytes.now }
         ensures bytes { WriteAppends (W.contents self.old.output) (W.contents self.new.output)

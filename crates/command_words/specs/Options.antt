@@ -1,4 +1,4 @@
--- The values that `clap` parsed of a command's options, and the results of reading them.
+-- The option values that `clap` parsed for a command, and the results of reading them.
 use Rattle.std.specs.Prelude.{◌≡◌, ℕ, ◌==◌, Bool, ◌||◌, if◌then◌else◌, List, [], ◌∷◌, Option, Some, None, false, Result, MatchResult, ⊤, codes, unwrap_or, option_map}
 use Rattle.std.specs.Str.{bytes_eq}
 use Rattle.std.specs.Char.{is_ascii_alphanumeric}
@@ -11,76 +11,79 @@ use Rattle.command_words.specs.Values.Numbers.{number_up_to}
 use Rattle.command_words.specs.declared.faults.ValueFault.{ValueFault}
 use Rattle.command_words.specs.declared.faults.ValueFault.TheVariants as fault
 
--- The options that `clap` parsed.
+-- The option values that `clap` parsed, by the options' names.
 abbrev pub rows_in : ArgMatches → List Row
 rows_in found = rows_of (found_of found)
 
--- The text of an option, if it is given.
+-- The value of an option as text. None if the option is not given.
 abbrev pub text_at : Text → List Row → Option Text
 text_at id rows = first_of id rows
 
--- The number of a required option.
+-- The number from 1 to `most` in a required option. None if the option is missing or out of range.
 abbrev pub number_at : ℕ → Text → List Row → Option ℕ
 number_at most id rows = given (text_at id rows) (number_up_to most)
 
--- The value of an option: none if it is not given; if it is, it must be readable.
+-- The value of an optional option: the inner None if it is not given, the outer None if its value
+-- is invalid.
 abbrev pub if_some : {A B : Type 0} → (A → Option B) → Option A → Option (Option B)
 if_some reads None = Some None
 if_some reads (Some value) = option_map Some (reads value)
 
--- The number of an optional option, which must be in its range if it is given.
+-- The number from 1 to `most` in an optional option. The inner None if it is not given, the outer
+-- None if it is out of range.
 abbrev pub number_if : ℕ → Text → List Row → Option (Option ℕ)
 number_if most id rows = if_some (number_up_to most) (text_at id rows)
 
--- The value of an option, or its default if it is not given.
+-- The value of an option, or `otherwise` if it is not given. None if its value is invalid.
 abbrev pub or_else : {A B : Type 0} → B → (A → Option B) → Option A → Option B
 or_else otherwise reads None = Some otherwise
 or_else otherwise reads (Some value) = reads value
 
--- The number of an option, or its default.
+-- The number from 1 to `most` in an option, or `otherwise` if it is not given.
 abbrev pub number_or : (otherwise most : ℕ) → Text → List Row → Option ℕ
 number_or otherwise most id rows = or_else otherwise (number_up_to most) (text_at id rows)
 
--- The values of an option that may be given several times.
+-- All values of an option that may be given several times.
 abbrev pub texts_at : Text → List Row → List Text
 texts_at id rows = unwrap_or (all_of id rows) []
 
--- The values, if there are any.
+-- The list of values, if it is not empty.
 abbrev pub any_of : List Text → Option (List Text)
 any_of [] = None
 any_of (text ∷ texts) = Some (text ∷ texts)
 
--- The values of a required option that may be given several times.
+-- All values of a required option that may be given several times; None if it is not given.
 abbrev pub several_at : Text → List Row → Option (List Text)
 several_at id rows = any_of (texts_at id rows)
 
--- The text of an option, or its default.
+-- The text of an option, or `otherwise` if it is not given.
 abbrev pub text_or : Text → Text → List Row → Text
 text_or otherwise id rows = unwrap_or (text_at id rows) otherwise
 
--- A flag is given.
+-- The flag was given.
 abbrev pub is_set : Text → List Row → Bool
 is_set id rows = option_map_or (λ text. bytes_eq text (codes "true")) (text_at id rows) false
 
 -- ---- host names
 
--- A byte of a host name: a letter, a digit, or one of the bytes between the parts of a name or an
--- address.
+-- The byte may be in a host name: a letter, a digit, or one of the separators `.`, `-`, `_`, `:`,
+-- `[` and `]`.
 abbrev pub is_host_byte : ℕ → Bool
 is_host_byte byte =
     is_ascii_alphanumeric byte || list_any (λ other. other == byte) (codes ".-_:[]")
 
--- A host name: not empty, and only of such bytes (RFC 3986, section 3.2.2, without what no
--- machine's name has).
+-- The text is a host name: not empty, and only of bytes that `is_host_byte` accepts. RFC 3986,
+-- section 3.2.2 allows some more, which no machine's name has.
 abbrev pub is_host_name : Text → Bool
 is_host_name [] = false
 is_host_name (byte ∷ bytes) = list_all is_host_byte (byte ∷ bytes)
 
--- The texts, if each is a host name.
+-- The texts, if each of them is a host name.
 abbrev pub host_names_of : List Text → Option (List Text)
 host_names_of names = if list_all is_host_name names then Some names else None
 
--- A fault is reported only if there is no such value, except for out of memory.
+-- This fault may be reported for a value that should be `due`: only if there is none. `Memory` may
+-- always be reported.
 abbrev pub IsDue : {A : Type 0} → ValueFault → Option A → Type 0
 IsDue fault.Memory due = ⊤
 IsDue (fault.Missing option) due = None ≡ due
@@ -94,7 +97,8 @@ IsDue (fault.Without option other) due = None ≡ due
 IsDue (fault.Device part fault) due = None ≡ due
 IsDue (fault.HostName word) due = None ≡ due
 
--- The result of reading a value: the expected value, which `seen` compares, or a fault.
+-- The result of reading an option: a value whose model is the expected one, or a fault that `IsDue`
+-- allows.
 abbrev pub Reads : {T A : Type 0} → (T → A) → Option A → Result T ValueFault → Type 0
 Reads seen due result =
     MatchResult result (λ value. Some (seen value) ≡ due) (λ fault. IsDue fault due)

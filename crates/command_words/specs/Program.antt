@@ -3,11 +3,11 @@ use Rattle.std.specs.Prelude.{ℕ, List, [], ◌∷◌, codes}
 use Rattle.clap.specs.Words.{App}
 use Rattle.command_words.specs.ClapTable.Table.{command_with, flag, lettered_flag, optional_option, program_with, repeated_option, required_option, several_option, word}
 
--- The code of `n`.
+-- The character code of `n`.
 abbrev pub letter_n : ℕ
 letter_n = 110
 
--- The commands, in the order of the help.
+-- The first commands, in the order of the help.
 abbrev pub commands : List App
 commands =
     command_with (codes "replay")
@@ -36,7 +36,7 @@ commands =
     ∷ flag (codes "statement") ∷ [])
     ∷ []
 
--- The commands after those.
+-- The remaining commands, in the order of the help.
 abbrev pub later_commands : List App
 later_commands =
     command_with (codes "backup")

@@ -1,4 +1,4 @@
--- The result for the arguments of the program.
+-- The result of parsing the program's arguments.
 use Rattle.std.specs.Prelude.{◌≡◌, ◌≢◌, ◌⊎◌, ⊤, List, [], ◌∷◌, Option, None, Some}
 use Rattle.std.specs.Borrow.{Bor}
 use Rattle.clap.specs.Words.{IsAmong, Kinds, Text, fault_of, subcommand_of, subcommand_rows_of}
@@ -12,33 +12,34 @@ use Rattle.command_words.specs.declared.line.CommandLine.{CommandLine}
 use Rattle.command_words.specs.declared.faults.WordsFault.{WordsFault}
 use Rattle.command_words.specs.declared.faults.WordsFault.TheVariants.{Wrong, Help, Version, Memory}
 
--- `clap` parses the arguments as this command, with these options.
+-- `clap` parses the arguments as a command with these option values.
 abbrev pub IsFound : List (Bor Text) → ArgMatches → Type 0
 IsFound words found = subcommand_rows_of found ≡ subcommand_of program (texts words)
 
--- The command that the arguments mean, by what `clap` parses.
+-- The command that the arguments mean, from what `clap` parses.
 abbrev pub line_of : List Text → Option Line
 line_of words = line_in (subcommand_of program words)
 
--- The kinds of error that `clap` may report for the arguments. If it accepts them, there are none.
+-- The kinds of error that `clap` may report for the arguments. The list is empty if `clap` accepts
+-- them.
 abbrev pub errors_of : List Text → Kinds
 errors_of words = fault_of program words
 
--- The error is no request for help or for the version.
+-- The kind is a real error: no request for help or for the version.
 abbrev pub IsFault : ErrorKind → Type 0
 IsFault kind = (kind ≢ DisplayHelp) × (kind ≢ DisplayVersion)
 
--- One of the kinds is such an error.
+-- One of the kinds is a real error.
 abbrev pub HasFault : Kinds → Type 0
 HasFault [] = ⊥
 HasFault (kind ∷ kinds) = IsFault kind ⊎ HasFault kinds
 
--- `clap` accepts the arguments, and they mean this command.
+-- `clap` accepts the arguments, and they mean this command line.
 abbrev pub Spells : List (Bor Text) → CommandLine → Type 0
 Spells words line = (errors_of (texts words) ≡ []) × (Some (seen line) ≡ line_of (texts words))
 
--- `Wrong` needs an error of `clap` that is no request, or a value that is missing or out of range.
--- `Help` needs a request for help, and `Version` a request for the version.
+-- This fault may be reported. `Wrong` requires a real error of `clap`, or a value that is missing
+-- or out of range. `Help` requires a request for help, and `Version` a request for the version.
 abbrev pub IsFaultOf : List (Bor Text) → WordsFault → Type 0
 IsFaultOf words (Wrong text) =
     HasFault (errors_of (texts words))

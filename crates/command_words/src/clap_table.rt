@@ -1,4 +1,5 @@
-//! A program's commands and options as tables, and what `clap` parses by them.
+//! Tables of a program's commands and options, and parsing of arguments with `clap` by these
+//! tables.
 
 mod clap_command;
 mod clap_matches;

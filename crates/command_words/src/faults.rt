@@ -1,14 +1,14 @@
-//! Why arguments are no command line.
+//! Why arguments are no valid command line.
 use crate::table::NumberOption;
 use crate::values::DeviceFault;
 use std::error::Error;
 use std::fmt;
 use std::fmt::{Display, Formatter};
 
-/// Why an option does not accept a value.
+/// Why the value of an option is not accepted.
 #[derive(Clone, Copy, Drop)]
 pub enum ValueFault<'a> {
-    /// The value is missing.
+    /// The required option has no value.
     Missing {
         option: &'a str,
     },
@@ -17,7 +17,7 @@ pub enum ValueFault<'a> {
         option: NumberOption<'a>,
         word: &'a str,
     },
-    /// Two options exclude each other.
+    /// Both options are given, and they exclude each other.
     Both {
         one: &'a str,
         other: &'a str,
@@ -37,17 +37,17 @@ pub enum ValueFault<'a> {
     Shell {
         word: &'a str,
     },
-    /// The option excludes several values of another option.
+    /// The option is given, and the other one has several values, which excludes it.
     Alone {
         option: &'a str,
         other: &'a str,
     },
-    /// The option requires another one.
+    /// The option is given without the other one, which it requires.
     Without {
         option: &'a str,
         other: &'a str,
     },
-    /// A part of the list is no device.
+    /// A part of the list of devices is no device.
     Device {
         part: &'a str,
         fault: DeviceFault,
@@ -59,7 +59,7 @@ pub enum ValueFault<'a> {
     Memory,
 }
 
-/// Why arguments are no command line.
+/// Why arguments are no valid command line.
 #[derive(Debug, PartialEq, Eq, Drop)]
 pub enum WordsFault {
     /// The arguments are wrong. The text for standard error says why.
@@ -81,7 +81,7 @@ fn write_words<W: fmt::Write>(f: &mut Formatter<W>, words: &[&str]) -> fmt::Resu
     Ok(())
 }
 
-// Has the form of the texts that `clap` writes.
+// The texts have the form of those that `clap` writes.
 impl<'a> Display for ValueFault<'a> {
     fn fmt<W: fmt::Write>(&self, f: &mut Formatter<W>) -> fmt::Result {
         match self {

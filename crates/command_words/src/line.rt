@@ -2,7 +2,8 @@
 use crate::values::Device;
 use energy_report::{EnergyUnit, Format, Period};
 
-/// The form of a report, as far as options give it. `from` and `till` are days as they were given.
+/// The form of a report, as far as options specify it. `from` and `till` are days, as the user
+/// wrote them.
 #[derive(Clone, Copy, Debug, PartialEq, Eq)]
 pub struct FormWords<'a> {
     pub from: Option<&'a str>,
@@ -15,10 +16,10 @@ pub struct FormWords<'a> {
     pub statement: bool,
 }
 
-/// What an audit does with a seal.
+/// What an audit does with a seal, a signed-off digest of the past.
 #[derive(Clone, Copy, Debug, PartialEq, Eq)]
 pub enum Sealing<'a> {
-    /// No seal.
+    /// Uses no seal.
     Nothing,
     /// Prints a seal of the records.
     Print,
@@ -26,8 +27,8 @@ pub enum Sealing<'a> {
     Against(&'a str),
 }
 
-/// A command with the values of its options: texts as they were given, numbers in their ranges, and
-/// seconds.
+/// A command with the values of its options. Texts are as the user wrote them, numbers are in their
+/// ranges, and times are in seconds.
 #[derive(Debug, PartialEq, Eq, Drop)]
 pub enum CommandLine<'a> {
     /// Executes a script from standard input, over a store in memory.
@@ -47,17 +48,18 @@ pub enum CommandLine<'a> {
         db: &'a str,
         zone: &'a str,
     },
-    /// Executes the commands in lines of standard input, each once for its caller and number.
-    /// `devices` has the addresses of the devices whose counters the lines read. With `only_read`,
-    /// the command reads the lines alone, and requests nothing of the office or of a device.
+    /// Executes the commands in the lines of standard input. Each is executed only once for its
+    /// idempotency key, the caller and the line's number. `devices` has the addresses of the
+    /// devices whose counters the lines read. With `only_read` the lines are only parsed, and
+    /// nothing is requested of the office or of a device.
     Enter {
         db: &'a str,
         caller: &'a str,
         devices: Vec<Device<'a>>,
         only_read: bool,
     },
-    /// Serves HTTP for a number of connections. A request may name the host as this machine or by
-    /// one of these names.
+    /// Serves HTTP for a number of connections. A request may name the host by a name of this
+    /// machine or by one of `host_names`.
     Serve {
         db: &'a str,
         port: u16,
@@ -71,14 +73,14 @@ pub enum CommandLine<'a> {
         host: &'a str,
         port: u16,
     },
-    /// Reports the energy of a register in the given form, by default by days, or the statement of
-    /// its meters.
+    /// Reports the energy of a register in the given form, by default by days, or a statement of
+    /// the register's meters.
     Report {
         db: &'a str,
         register: &'a str,
         form: FormWords<'a>,
     },
-    /// The same over several files, the oldest first.
+    /// The same report or statement over several files, the oldest first.
     ReportFiles {
         files: Vec<&'a str>,
         register: &'a str,
@@ -89,21 +91,21 @@ pub enum CommandLine<'a> {
         db: &'a str,
         to: &'a str,
     },
-    /// Writes what can be read of an office whose log is damaged into a new file.
+    /// Recovers what can be read of an office whose log is damaged, and writes it into a new file.
     Recover {
         db: &'a str,
         to: &'a str,
     },
-    /// Begins a new file in which each open meter continues from its last entry, at the end of the
-    /// old file or at a time.
+    /// Begins a new file in which each open meter continues from its last entry: the last one in
+    /// the old file, or with `until` the one at that time.
     Carry {
         from: &'a str,
         to: &'a str,
         until: Option<u32>,
     },
-    /// Checks whether the rows of a file are those of lawful journals and polls, and whether the
-    /// file still has what a seal covers. For several files, the oldest first, also checks that
-    /// each continues the one before. A seal covers one file.
+    /// Checks the rows of a file by the rules for journals and polls, and against a seal. For
+    /// several files, the oldest first, also checks that each continues the previous one. With a
+    /// seal there is only one file.
     Audit {
         dbs: Vec<&'a str>,
         seal: Sealing<'a>,
@@ -129,8 +131,8 @@ pub enum CommandLine<'a> {
     Loop {
         zone: &'a str,
     },
-    /// Polls devices at intervals and serves HTTP, until it is stopped or the seconds of `lasts`
-    /// are over. Of several files, the oldest first, the last one is continued.
+    /// Polls devices at intervals and serves HTTP, until it is stopped or `lasts` seconds have
+    /// passed. If several files are given, the oldest first, it records in the last one.
     Run {
         dbs: Vec<&'a str>,
         listen: u16,
@@ -139,15 +141,15 @@ pub enum CommandLine<'a> {
         lasts: Option<u32>,
         /// The period after which the run begins a new file.
         carry: Option<Period>,
-        /// The number of earlier files by periods whose energy is reported too. If several files
-        /// are named, all are reported.
+        /// How many earlier files of periods the run also reports the energy of. If several files
+        /// are given, the energy of all is reported.
         earlier: Option<u32>,
         host_names: Vec<&'a str>,
-        /// The limit of kept requests, in megabytes.
+        /// The most megabytes of accepted requests that the office stores.
         most_kept: Option<u32>,
         verbose: bool,
     },
-    /// Explains a number that follows a word.
+    /// Explains a number that the program printed after a word.
     Explain {
         what: &'a str,
         number: &'a str,

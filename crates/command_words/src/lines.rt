@@ -1,4 +1,4 @@
-//! The command of the parsed arguments.
+//! Converts the parsed arguments into a command.
 ghost use Rattle.std.specs.Prelude.{◌≡◌, is_some};
 ghost use Rattle.clap.specs.Words.{subcommand_rows_of};
 ghost use Rattle.command_words.specs.ClapTable.Table.{texts};
@@ -180,7 +180,7 @@ fn seal_option(seal: Sealing<'_>) -> Option<&'static str>
     }
 }
 
-// Returns the audit of these files. A seal covers only one.
+// Returns the audit of these files. With a seal there may be only one file.
 fn audit_of<'a>(dbs: Vec<&'a str>, seal: Sealing<'a>) -> Result<CommandLine<'a>, ValueFault<'a>>
     ensures { Reads seen (one_sealed (texts dbs.entry.items) (seen_sealing seal.entry)) result }
 {
@@ -251,7 +251,7 @@ fn listed<'a>(alloc: Global, list: &'a str) -> Result<Vec<Device<'a>>, ValueFaul
     }
 }
 
-// Returns the devices of the required option.
+// Returns the devices that the required option lists.
 fn devices<'a>(alloc: Global, found: &ArgMatches<'a>) -> Result<Vec<Device<'a>>, ValueFault<'a>>
     ensures { Reads (λ devices. places_of devices.items) (devices_at (rows_in found.now)) result }
 {
@@ -259,7 +259,7 @@ fn devices<'a>(alloc: Global, found: &ArgMatches<'a>) -> Result<Vec<Device<'a>>,
     listed(alloc, list)
 }
 
-// Returns the devices of the option, or none if it is not given.
+// Returns the devices that the option lists; none if it is not given.
 fn devices_if<'a>(alloc: Global, found: &ArgMatches<'a>) -> Result<Vec<Device<'a>>, ValueFault<'a>>
     ensures { Reads (λ devices. places_of devices.items) (devices_if (rows_in found.now)) result }
 {
@@ -283,9 +283,9 @@ fn enter_line<'a>(alloc: Global, found: &ArgMatches<'a>) -> Result<CommandLine<'
     })
 }
 
-// Returns the number of earlier files by periods whose energy is reported too. Only a run that
-// begins new files has such files. If several files are named, all are reported, so the number may
-// not be given.
+// Returns how many earlier files of periods a run also reports the energy of. Only a run that
+// begins new files has such files. If several files are given, the energy of all is reported, so
+// the option is not allowed.
 fn earlier_if<'a>(
     found: &ArgMatches<'a>,
     are_several: bool,
@@ -390,7 +390,7 @@ fn command_line<'a>(
     }
 }
 
-/// Returns the parsed command. Without one, it is `replay`.
+/// Returns the command that `clap` parsed. Without a command, it is `replay`.
 pub fn line_in<'a>(alloc: Global, found: &ArgMatches<'a>) -> Result<CommandLine<'a>, ValueFault<'a>>
     ensures { Reads seen (line_in (subcommand_rows_of found.now)) result }
 {

@@ -126,7 +126,7 @@ pub fn texts<'a>(
     }
 }
 
-// Returns whether a byte is one of these.
+// Returns whether the byte is among these bytes.
 fn is_among(bytes: &[u8], byte: u8) -> bool
     ensures { result ≡ list_any (λ other. other == byte) bytes.now }
 {
@@ -146,7 +146,7 @@ fn are_host_bytes(bytes: &[u8]) -> bool
     bytes.iter().all(|byte| is_host_byte(*byte))
 }
 
-// Returns whether a text is a host name, or an address.
+// Returns whether a text can be a host name or an address.
 fn is_host_name(name: &str) -> bool
     ensures { result ≡ is_host_name name.now }
 {
@@ -156,7 +156,7 @@ fn is_host_name(name: &str) -> bool
     }
 }
 
-// Returns the first text that is no host name.
+// Returns the first text that is no host name, if there is one.
 fn other_than_hosts<'a>(names: &[&'a str]) -> Option<&'a str>
     ensures { is_none result ≡ list_all is_host_name (texts names.now) }
 {

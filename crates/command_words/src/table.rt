@@ -1,4 +1,4 @@
-//! The program's commands and options, with their help.
+//! The table of the program's commands and options, with their help texts.
 ghost use Rattle.std.specs.Prelude.{◌≡◌};
 ghost use Rattle.clap.specs.Words.{App};
 ghost use Rattle.command_words.specs.ClapTable.Table.{program_app, with_apps, with_commands};
@@ -20,7 +20,7 @@ pub const ZONE: &str = "UTC0";
 /// The default host.
 pub const HOST: &str = "127.0.0.1";
 
-/// The option whose values are the names by which an HTTP request may name the host.
+/// The option that adds a name by which an HTTP request may name the host.
 pub const HOST_NAME: &str = "host-name";
 
 pub const PORT: NumberOption<'static> = NumberOption {
@@ -83,7 +83,7 @@ pub const TIMEOUT: NumberOption<'static> = NumberOption {
     most: 60,
 };
 
-/// The periods by which a report adds up days, its units, and its formats.
+/// The periods by which a report adds up days. `UNITS` and `FORMATS` are its units and formats.
 pub const PERIODS: &[&str] = &["day", "month", "year"];
 
 pub const UNITS: &[&str] = &["mwh", "kwh"];
@@ -528,12 +528,12 @@ const COMPLETIONS: CommandText<'static> = CommandText {
     }],
 };
 
-// The commands, in the order of the help.
+// The first commands, in the order of the help.
 const COMMANDS: &[CommandText<'static>] = &[
     REPLAY, PLAN, CHAIN, SCAN, CREATE, ENTER, SERVE, ROUND, REPORT,
 ];
 
-// The commands after those.
+// The remaining commands, in the order of the help.
 const LATER_COMMANDS: &[CommandText<'static>] = &[
     BACKUP,
     RECOVER,
@@ -558,7 +558,7 @@ fn later_commands() -> &'static [CommandText<'static>]
     LATER_COMMANDS
 }
 
-/// Returns the program's commands and options, by which its arguments are parsed.
+/// Returns the table of the program, by which its arguments are parsed.
 pub fn program() -> ProgramText<'static>
     ensures { program_app result ≡ program }
 {

@@ -22,7 +22,7 @@ fn found_in<'a>(alloc: Global, words: &'a [&'a str]) -> Result<ArgMatches<'a>, E
     matches_of(alloc, program(), words)
 }
 
-// Returns the fault of arguments that `clap` refuses, with its text.
+// Returns the fault of arguments that `clap` rejects, with the text that `clap` writes.
 fn refusal(alloc: Global, error: &Error) -> WordsFault
     ensures { IsRefusal (kind_of error.now) result }
 {
@@ -42,7 +42,7 @@ fn refusal(alloc: Global, error: &Error) -> WordsFault
     }
 }
 
-// Returns the fault of a wrong value.
+// Returns the fault of an option value that is not accepted, with its text.
 fn wrong_value(alloc: Global, fault: &ValueFault) -> WordsFault
     ensures { IsMisreading fault.now result }
 {
@@ -55,8 +55,8 @@ fn wrong_value(alloc: Global, fault: &ValueFault) -> WordsFault
     }
 }
 
-/// Parses the arguments after the program's name. Texts are kept as they are. Without arguments,
-/// the command is `replay`.
+/// Parses the arguments that follow the program's name. Texts of options are not changed. Without
+/// arguments, the command is `replay`.
 pub fn command_of<'a>(alloc: Global, words: &'a [&'a str]) -> Result<CommandLine<'a>, WordsFault>
     ensures line { IfOk result (Spells words.entry.now) }
     ensures fault { IfErr result (IsFaultOf words.entry.now) }

@@ -1,4 +1,5 @@
-//! Audits an office's files, and prints or checks seals of one.
+//! Audits an office's files, and prints or checks a seal of one. A seal is a signed-off digest of
+//! the past.
 use crate::files::{OfficeFiles, Opening};
 use crate::opening::open_in;
 use command_words::Sealing;
@@ -13,14 +14,14 @@ use stored_files::{
     write_joins, write_seal,
 };
 
-/// The greatest length of a seal, in bytes. A seal of 4,096 meters, each with a thousand voids, has
-/// fewer.
+/// The greatest length of a seal, in bytes. A seal of 4,096 meters with a thousand voids each is
+/// shorter.
 const MOST_SEAL: u64 = 300_000_000;
 
-/// The first bytes of each seal.
+/// The bytes with which each seal begins.
 const SEAL_BEGIN: &[u8; 5] = b"seal ";
 
-// Prints the seal of the tables.
+// Prints the seal of an office's tables.
 fn print_seal<S: Alter>(
     rt: &HostRuntime,
     connection: &mut Connection<S>,
@@ -31,7 +32,7 @@ fn print_seal<S: Alter>(
     Ok(true)
 }
 
-// Returns whether the tables still have what the seal in the text covers.
+// Returns whether the tables still have the records that a seal covers. `text` is the seal.
 fn hold_to<S: Alter>(
     rt: &HostRuntime,
     connection: &mut Connection<S>,
@@ -42,8 +43,8 @@ fn hold_to<S: Alter>(
     write_checked(rt.alloc(), &checked, &mut output)
 }
 
-// Audits the tables, and returns whether they are fine. Only if they are, a seal is printed, or
-// compared with the tables.
+// Audits the tables, and returns whether the audit finds nothing. Then it also prints a seal, or
+// compares the tables with one.
 fn audit_over<S: Alter>(
     rt: &HostRuntime,
     connection: &mut Connection<S>,
@@ -76,8 +77,8 @@ fn audit_in<'a, D: Databases>(
     }
 }
 
-// Returns the length of a seal's file, which must be regular, or `None` if the file is longer than
-// any seal.
+// Returns the length of a seal's file, or `None` if the file is longer than any seal. Fails if the
+// file is not regular.
 fn seal_length(rt: &HostRuntime, file: &str) -> io::Result<Option<u64>> {
     let found = fs::metadata(rt, file)?;
     if !found.is_file() {
@@ -91,7 +92,7 @@ fn seal_length(rt: &HostRuntime, file: &str) -> io::Result<Option<u64>> {
     })
 }
 
-// Returns the bytes of a seal's file, or `None` if its first bytes or its length show that it is no
+// Returns the bytes of a seal's file. `None` if its length or its first bytes show that it is no
 // seal.
 fn seal_in(rt: &HostRuntime, file: &str) -> io::Result<Option<Vec<u8>>> {
     let Some(length) = seal_length(rt, file)? else {
@@ -118,7 +119,7 @@ fn ended(told: Result<bool, Failure<'_>>) -> Ending<'_> {
     }
 }
 
-// Audits the tables, and compares them with the seal in a file.
+// Audits the tables of a database, and compares them with the seal in a file.
 fn audit_against<'a, D: Databases>(
     rt: &HostRuntime,
     databases: &D,
@@ -149,8 +150,8 @@ fn audit_against<'a, D: Databases>(
     }
 }
 
-/// Audits an office's file: whether its rows are those of lawful journals and polls. Prints a seal
-/// of the rows, or compares them with one. Writes nothing to the file.
+/// Audits an office's file: checks its rows by the rules for journals and polls. Prints a seal of
+/// the rows, or compares them with one. Writes nothing to the file.
 pub fn audit<'a, D: OfficeFiles>(
     rt: &HostRuntime,
     files: &D,
@@ -176,7 +177,7 @@ fn zone_fault(fault: OpenFault) -> AuditFault {
     }
 }
 
-// Compares a file with those before it.
+// Compares a file with the files before it.
 fn join_next<'a, S: Alter>(
     rt: &HostRuntime,
     connection: &mut Connection<S>,
@@ -190,8 +191,8 @@ fn join_next<'a, S: Alter>(
     }
 }
 
-// Audits the tables of one of several files, and returns whether they are fine. If they are, and so
-// were the files before, compares the file with those.
+// Audits the tables of one of several files, and returns whether the audit finds nothing. If this
+// file and the earlier ones are fine, compares it with the earlier ones.
 fn audit_next<'a, S: Alter>(
     rt: &HostRuntime,
     connection: &mut Connection<S>,
@@ -206,7 +207,7 @@ fn audit_next<'a, S: Alter>(
     Ok(fine && so_far)
 }
 
-// Audits the database at a path, under a line with its name.
+// Prints a line with the name of a database, and audits it.
 fn audit_file<'a, D: Databases>(
     rt: &HostRuntime,
     databases: &D,
@@ -225,8 +226,8 @@ fn audit_file<'a, D: Databases>(
     }
 }
 
-// Audits the files at these paths, one after another. Returns whether all are fine, and continue
-// each other.
+// Audits the files at these paths in order. Returns whether all are fine, and each continues the
+// previous one.
 fn audit_files<'a, D: Databases>(
     rt: &HostRuntime,
     databases: &D,
@@ -248,7 +249,7 @@ fn audit_files<'a, D: Databases>(
     }
 }
 
-// Returns the first of these paths that occurs twice.
+// Returns the first of these paths that equals an earlier one, if any.
 fn twice<'a>(paths: &[&'a str]) -> Option<&'a str> {
     for (index, path) in paths.iter().enumerate() {
         if paths[..index].iter().any(|other| *other == *path) {
@@ -258,8 +259,8 @@ fn twice<'a>(paths: &[&'a str]) -> Option<&'a str> {
     None
 }
 
-/// Audits each of an office's files, the oldest first, and whether each continues the one before.
-/// Writes nothing to the files, and opens one at a time.
+/// Audits an office's files, the oldest first, and whether each continues the previous one. Writes
+/// nothing to the files, and has one file open at a time.
 pub fn audit_several<'a, D: OfficeFiles>(
     rt: &HostRuntime,
     files: &D,

@@ -3,7 +3,7 @@ use crate::copies::{Pair, copy_sound, make_whole, remove, sound_pair_at};
 use crate::parts::{finish_part, part_of};
 use stored_files::{CopyFault, Ending, Failure};
 
-/// Returns the failure of a copy, with the path of the file that the fault is about.
+/// Returns the failure of a copy, with the path of the file that has the fault.
 pub(crate) fn told_of<'a>(db: &'a str, to: &'a str, fault: CopyFault) -> Failure<'a> {
     match fault {
         CopyFault::Changing | CopyFault::Torn | CopyFault::NotOurs => {
@@ -16,7 +16,7 @@ pub(crate) fn told_of<'a>(db: &'a str, to: &'a str, fault: CopyFault) -> Failure
     }
 }
 
-// Copies a file and its log to the part's names.
+// Copies a file and its log to the names of an incomplete copy.
 fn copy_parts<'a>(
     rt: &HostRuntime,
     db: &'a str,
@@ -31,7 +31,7 @@ fn copy_parts<'a>(
     }
 }
 
-// Merges the log of the copy into its file, and gives the file its name.
+// Merges the log of the incomplete copy into its file, and renames the file to its final name.
 fn finish<'a>(rt: &HostRuntime, db: &'a str, to: &'a str, part: &Pair) -> Result<(), Failure<'a>> {
     match make_whole(rt, part.file.as_str()) {
         Ok(()) => finish_part(rt, to, part),

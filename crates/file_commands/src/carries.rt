@@ -1,4 +1,4 @@
-//! Begins a new file in which each open meter of an office's file continues.
+//! Begins a new file in which each open meter of an office continues.
 use crate::copies::{Pair, make_whole, remove};
 use crate::escaped::Escaped;
 use crate::files::{OfficeFiles, Opening};
@@ -12,17 +12,17 @@ use std::io::{self, Write};
 use std::str::from_utf8;
 use stored_files::{CarryEnd, CopyFault, Databases, Ending, Failure, Named, carry_stored};
 
-/// Why meters do not continue in a new file.
+/// Why the meters of a file could not continue in a new file.
 #[derive(Drop)]
 pub enum NotCarried<'a> {
     Failed(Failure<'a>),
     /// The office in the file at this path refused something, or failed.
     Refused { path: &'a str, why: Refusal },
-    /// A meter of the file at this path has no entry yet.
+    /// A meter of the file at this path has no entry yet at the requested time.
     NotYet { path: &'a str, meter: Name },
 }
 
-// Returns why the meters of an office do not continue in a new one.
+// Returns why the meters of one office could not continue in another.
 fn not_carried<'a>(from: &'a str, to: &'a str, fault: CarryFault) -> NotCarried<'a> {
     match fault {
         CarryFault::Old(why) => NotCarried::Refused { path: from, why },
@@ -31,7 +31,7 @@ fn not_carried<'a>(from: &'a str, to: &'a str, fault: CarryFault) -> NotCarried<
     }
 }
 
-// Returns why an office was not opened, or why its meters do not continue in a new one.
+// Returns why an office could not be opened, or why its meters could not continue in a new one.
 fn not_ended<'a>(from: &'a str, to: &'a str, end: CarryEnd) -> NotCarried<'a> {
     match end {
         CarryEnd::Unopened(fault) => NotCarried::Failed(Failure::Unopened { path: from, fault }),
@@ -40,7 +40,7 @@ fn not_ended<'a>(from: &'a str, to: &'a str, end: CarryEnd) -> NotCarried<'a> {
     }
 }
 
-// Lets the meters of a database continue in the part of a new file.
+// Lets the meters of a database continue in an incomplete new file.
 fn carry_into_part<'a, D: Databases>(
     rt: &HostRuntime,
     databases: &D,
@@ -62,7 +62,7 @@ fn carry_into_part<'a, D: Databases>(
     }
 }
 
-// Merges the log of the new file into the file, and gives the file its name.
+// Merges the log of the incomplete new file into it, and renames it to its final name.
 fn finish<'a>(rt: &HostRuntime, to: &'a str, part: &Pair) -> Result<(), Failure<'a>> {
     match make_whole(rt, part.file.as_str()) {
         Ok(()) => {}
@@ -74,8 +74,8 @@ fn finish<'a>(rt: &HostRuntime, to: &'a str, part: &Pair) -> Result<(), Failure<
     Ok(())
 }
 
-// Lets the meters of a database continue in the part of a new file, and gives the part its name.
-// Returns the number of meters.
+// Lets the meters of a database continue in an incomplete new file, and renames it to its final
+// name. Returns the number of meters.
 fn carry_whole<'a, D: Databases>(
     rt: &HostRuntime,
     databases: &D,
@@ -98,9 +98,9 @@ fn carry_whole<'a, D: Databases>(
 /// Begins a new file in which the meters of an open database continue from their last entries.
 /// Returns the number of meters.
 ///
-/// On failure the part is removed. If only the sync of the folder failed, the new file has its
-/// name. A part that an interrupted call left is removed first: no other process has the old file
-/// open.
+/// On failure the incomplete file is removed. If only the sync of the folder failed, the new file
+/// keeps its name. An incomplete file that an interrupted call left is removed first, because no
+/// other process has the old file open.
 pub fn carry_open<'a, D: Databases>(
     rt: &HostRuntime,
     databases: &D,
@@ -119,7 +119,7 @@ pub fn carry_open<'a, D: Databases>(
     carried
 }
 
-// Prints how many meters continue.
+// Prints how many meters continue in the new file.
 fn say_carried(rt: &HostRuntime, count: u64) -> Ending<'static> {
     match write!(io::writer(rt), "carried {count} meters\n") {
         Ok(()) => Ending::Fine,
@@ -127,7 +127,7 @@ fn say_carried(rt: &HostRuntime, count: u64) -> Ending<'static> {
     }
 }
 
-/// Writes what a refusal means, and in which file it occurred.
+/// Writes the meaning of a refusal, and the file in which it occurred.
 pub(crate) fn write_refusal<W: Write>(errors: &mut W, path: &str, why: Refusal) -> io::Result<()> {
     match meaning_of(Kind::Refused, u32::from(why.number())) {
         Some(meaning) => write!(
@@ -141,7 +141,7 @@ pub(crate) fn write_refusal<W: Write>(errors: &mut W, path: &str, why: Refusal) 
     }
 }
 
-// Writes which meter of a file has no entry yet.
+// Writes the message that a meter of a file has no entry yet at the requested time.
 fn write_not_yet<W: Write>(errors: &mut W, path: &str, meter: &Name) -> io::Result<()> {
     let name = from_utf8(meter.as_bytes()).unwrap_or("a meter");
     let path = Named(path);
@@ -151,7 +151,7 @@ fn write_not_yet<W: Write>(errors: &mut W, path: &str, meter: &Name) -> io::Resu
     )
 }
 
-/// Writes a line that says why meters do not continue in another file.
+/// Writes a line that says why the meters of a file could not continue in another.
 pub fn write_why<W: Write>(errors: &mut W, why: &NotCarried<'_>) -> io::Result<()> {
     match why {
         NotCarried::Failed(failure) => write!(errors, "sunreg: {failure}\n"),
@@ -175,14 +175,15 @@ pub(crate) fn say_refused(rt: &HostRuntime, path: &str, why: Refusal) -> Ending<
     Ending::Refused
 }
 
-// Reports which meter has no entry yet.
+// Reports that a meter of a file has no entry yet at the requested time.
 fn say_not_yet(rt: &HostRuntime, path: &str, meter: &Name) -> Ending<'static> {
     let mut errors = Escaped::new(rt.stderr());
     let _said = write_not_yet(&mut errors, path, meter);
     Ending::Refused
 }
 
-// Lets the meters of the file at a path continue.
+// Lets the meters of the file at a path continue in an incomplete new file, and renames it to its
+// final name.
 fn carry_in<'a, D: Databases>(
     rt: &HostRuntime,
     databases: &D,
@@ -197,8 +198,8 @@ fn carry_in<'a, D: Databases>(
     }
 }
 
-// Lets the meters of a file continue in the part of a new one, and gives the part its name. On
-// failure the part is removed.
+// Lets the meters of a file continue in an incomplete new file, and renames it to its final name.
+// On failure the incomplete file is removed.
 fn carry_into<'a, D: Databases>(
     rt: &HostRuntime,
     databases: &D,
@@ -219,9 +220,9 @@ fn carry_into<'a, D: Databases>(
     ending
 }
 
-/// Begins a new file in which each open meter of an office's file continues: from its last entry,
-/// at the end of the file or at a time. The old file is only copied, so a process may be running
-/// its office.
+/// Begins a new file in which each open meter of an office continues from its last entry: the last
+/// one in the file, or the one at a given time. The old file is only copied, so another process may
+/// be running its office.
 pub fn carry<'a, D: OfficeFiles>(
     rt: &HostRuntime,
     files: &D,

@@ -1,4 +1,4 @@
-//! Copies a file and its log.
+//! Copies a database file together with its log.
 use sqlite::Unknown;
 use std::env;
 use std::fs::{self, File, OpenOptions};
@@ -10,11 +10,11 @@ use stored_files::{
     real_path, whole_file,
 };
 
-/// How often a copy is tried again if the log is merged into its file meanwhile.
+/// How often a copy is repeated if the log is merged into its file during the copy.
 const TRIES: u32 = 8;
 
-/// The length of a log's header in bytes. After a log was merged into its file, the header has
-/// another salt.
+/// The length of a log's header in bytes. Merging a log into its file changes the salt in this
+/// header.
 const HEADER: u64 = 32;
 
 /// A file and its log.
@@ -24,15 +24,15 @@ pub(crate) struct Pair {
     pub(crate) log: String,
 }
 
-/// Removes both, if they exist.
+/// Removes the file and the log, if they exist.
 pub(crate) fn remove(rt: &HostRuntime, pair: &Pair) {
     let _gone = fs::remove_file(rt, pair.file.as_str());
     let _gone = fs::remove_file(rt, pair.log.as_str());
 }
 
-/// Returns the real path of a file, and of its log. Fails if another program left a journal beside
-/// the file, which is then incomplete. The log may have lost commits: [`sound_pair_at`] rejects
-/// that.
+/// Returns the real paths of a file and its log. Fails if another program left a rollback journal
+/// beside the file, because the file is then incomplete. The log may have lost commits, which
+/// [`sound_pair_at`] rejects.
 pub(crate) fn pair_at(rt: &HostRuntime, path: &str) -> Result<Pair, FileFault> {
     match fs::exists(rt, path) {
         Ok(true) => {}
@@ -58,7 +58,7 @@ pub(crate) fn sound_pair_at(rt: &HostRuntime, path: &str) -> Result<Pair, FileFa
     pair_at(rt, path)
 }
 
-// Returns the first bytes of a log, up to the length of its header, or none if there is no log.
+// Returns the header of a log: its first bytes, or no bytes if there is no log.
 fn header_of(rt: &HostRuntime, log: &str) -> io::Result<Vec<u8>> {
     let mut header = Vec::new(rt.alloc());
     match File::open(rt, log) {
@@ -71,7 +71,7 @@ fn header_of(rt: &HostRuntime, log: &str) -> io::Result<Vec<u8>> {
     }
 }
 
-// Copies a file into a new file, which only its owner can read and write. Syncs the new file.
+// Copies a file into a new file, which only its owner can read and write, and syncs it.
 fn copy_file(rt: &HostRuntime, from: &str, to: &str) -> io::Result<()> {
     let mut original = File::open(rt, from)?;
     let mut copy = OpenOptions::new()
@@ -84,9 +84,9 @@ fn copy_file(rt: &HostRuntime, from: &str, to: &str) -> io::Result<()> {
     copy.sync_all()
 }
 
-// Copies a file and then its log. Returns whether the log's header is unchanged: then no checkpoint
-// ran meanwhile, and the two copies belong together. The copied log has what an office wrote
-// meanwhile, up to the end of some commit.
+// Copies a file and then its log. Returns whether the log's header is unchanged. If it is, no
+// checkpoint ran during the copy, and the two copies belong together. The copied log has what an
+// office wrote during the copy, up to the end of some commit.
 fn copy_pair(rt: &HostRuntime, source: &Pair, part: &Pair) -> io::Result<bool> {
     let before = header_of(rt, source.log.as_str())?;
     copy_file(rt, source.file.as_str(), part.file.as_str())?;
@@ -99,7 +99,7 @@ fn copy_pair(rt: &HostRuntime, source: &Pair, part: &Pair) -> io::Result<bool> {
     Ok(before.as_slice() == after.as_slice())
 }
 
-/// Copies a file and its log, and copies both again if a checkpoint ran meanwhile. Returns whether
+/// Copies a file and its log, and repeats the copy if a checkpoint ran during it. Returns whether
 /// the copies belong together.
 pub(crate) fn copy_settled(rt: &HostRuntime, source: &Pair, copy: &Pair) -> io::Result<bool> {
     for _ in 0..TRIES {
@@ -111,7 +111,7 @@ pub(crate) fn copy_settled(rt: &HostRuntime, source: &Pair, copy: &Pair) -> io::
     Ok(false)
 }
 
-// Returns whether the log of a copy has all its commits. Fails if that is unknown.
+// Returns whether the log of a copy has lost no commit. Fails if that cannot be found out.
 fn is_sound(rt: &HostRuntime, copy: &Pair) -> io::Result<bool> {
     match check_beside(rt, copy.file.as_str()) {
         Ok(()) => Ok(true),
@@ -121,8 +121,8 @@ fn is_sound(rt: &HostRuntime, copy: &Pair) -> io::Result<bool> {
     }
 }
 
-/// Like [`copy_settled`], but copies again if the copied log has lost commits. An office may have
-/// written while its frames were read, so that the copy has later frames without earlier ones.
+/// Like [`copy_settled`], but also repeats the copy if the copied log has lost commits. If an
+/// office wrote while the log was read, the copy can have later frames without earlier ones.
 pub(crate) fn copy_sound(rt: &HostRuntime, source: &Pair, copy: &Pair) -> io::Result<bool> {
     for _ in 0..TRIES {
         if copy_settled(rt, source, copy)? && is_sound(rt, copy)? {
@@ -133,8 +133,8 @@ pub(crate) fn copy_sound(rt: &HostRuntime, source: &Pair, copy: &Pair) -> io::Re
     Ok(false)
 }
 
-/// Merges the log of an office's file into the file, which is then complete without it. No other
-/// process may have them open.
+/// Merges the log of an office's file into the file, which then needs no log. No other process may
+/// have them open.
 pub(crate) fn make_whole(rt: &HostRuntime, file: &str) -> Result<(), CopyFault> {
     match whole_file(rt, file, Unknown) {
         Ok(_files) => Ok(()),
@@ -142,8 +142,8 @@ pub(crate) fn make_whole(rt: &HostRuntime, file: &str) -> Result<(), CopyFault> 
     }
 }
 
-// Returns the names of a copy that is only read: in the folder of temporary files, by the current
-// time.
+// Returns the names of a temporary copy that is only read. They are in the folder of temporary
+// files, and contain the current time.
 fn passing_names(rt: &HostRuntime) -> Result<Pair, FileFault> {
     let alloc = rt.alloc();
     let (Ok(folder), Ok(now)) = (env::temp_dir(rt), SystemTime::now(rt)) else {
@@ -162,8 +162,8 @@ fn passing_names(rt: &HostRuntime) -> Result<Pair, FileFault> {
     Ok(Pair { file, log })
 }
 
-/// Opens a copy of the database at a path. The copy disappears when the connection is closed. The
-/// file, its folder and other processes are undisturbed.
+/// Opens a copy of the database at a path. The copy is gone once the connection is closed. The
+/// file, its folder and other processes are not disturbed.
 pub(crate) fn open_copy(
     rt: &HostRuntime,
     path: &str,
@@ -175,7 +175,7 @@ pub(crate) fn open_copy(
         Ok(false) => Err(FileFault::Busy),
         Err(_) => Err(FileFault::Unreadable),
     };
-    // (an open file exists until it is closed)
+    // (an open file exists until it is closed, so the names can be removed at once)
     remove(rt, &copy);
     opened
 }

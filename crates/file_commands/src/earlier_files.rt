@@ -1,4 +1,4 @@
-//! Earlier files of a continued office, whose energy a run reports too.
+//! The earlier files of an office, whose energy a run reports too.
 use crate::carries::write_refusal;
 use crate::files::{OfficeFiles, Opening};
 use crate::joined_reports::{NotJoined, join_in, last_of};
@@ -11,7 +11,8 @@ use stored_files::{Databases, Ending, Failure, JoinedOffice};
 // The name of any register: all registers are read.
 const ANY: &[u8] = b"any";
 
-// Adds what a file reports of all its registers, or reports why it does not continue the others.
+// Adds the energy that a file has for all its registers. If the file does not continue the earlier
+// ones, reports why.
 fn join<'a, D: Databases, K: Keeping, E: Write>(
     rt: &HostRuntime,
     databases: &D,
@@ -38,7 +39,8 @@ fn join<'a, D: Databases, K: Keeping, E: Write>(
     }
 }
 
-// Returns what the files report of their registers, one after another. One file is open at a time.
+// Returns the energy that the files have for their registers. They are read in order, one file open
+// at a time.
 fn keep_all<'a, D: Databases, E: Write>(
     rt: &HostRuntime,
     databases: &D,
@@ -58,7 +60,7 @@ fn keep_all<'a, D: Databases, E: Write>(
     Ok(joined)
 }
 
-// Returns the registers that were kept.
+// Returns the registers of the earlier files, with their energy.
 fn registers_of<'a>(held: JoinedOffice<HeldRegisters>) -> Result<Vec<EarlierRegister>, Ending<'a>> {
     let JoinedOffice { kept, .. } = held;
     let HeldRegisters { kept } = kept;
@@ -68,7 +70,7 @@ fn registers_of<'a>(held: JoinedOffice<HeldRegisters>) -> Result<Vec<EarlierRegi
     }
 }
 
-// Compares the current file with those before it.
+// Checks that the current file continues the earlier ones.
 fn hold<'a, D: Databases, E: Write>(
     rt: &HostRuntime,
     databases: &D,
@@ -88,13 +90,13 @@ fn hold<'a, D: Databases, E: Write>(
     }
 }
 
-/// Returns the files before the last.
+/// Returns all files except the last one.
 pub fn but_last<'a, 'f>(paths: &'f [&'a str]) -> &'f [&'a str] {
     let count = paths.len().saturating_sub(1);
     &paths[..count]
 }
 
-// Reports the number of earlier files whose energy is reported too, and the first of them.
+// Reports how many earlier files have their energy reported too, and names the first of them.
 fn say_earlier<E: Write>(errors: &mut E, current: &str, paths: &[&str]) {
     if let Some(first) = paths.first() {
         let count = paths.len();
@@ -106,9 +108,9 @@ fn say_earlier<E: Write>(errors: &mut E, current: &str, paths: &[&str]) {
     }
 }
 
-/// Returns what earlier files, the oldest first, report of their registers, if the current file
-/// continues them. The current file may be new. All files are only read, one after another. Writes
-/// their number, or why a file does not continue the others, to `errors`.
+/// Returns the energy that earlier files, the oldest first, have for their registers. Fails if the
+/// current file, which may be new, does not continue them. All files are only read, one after the
+/// other. Writes their number, or why a file does not continue the others, to `errors`.
 pub fn earlier_registers<'a, D: OfficeFiles, E: Write>(
     rt: &HostRuntime,
     files: &D,

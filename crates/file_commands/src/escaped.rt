@@ -8,12 +8,12 @@ pub struct Escaped<W: Write + Drop> {
     output: W,
 }
 
-// Returns whether a byte is written unchanged.
+// Returns whether a byte is written without an escape.
 fn is_plain(byte: u8) -> bool {
     byte == b'\n' || !byte.is_ascii_control()
 }
 
-// Returns the bytes before the first that is escaped.
+// Returns the bytes before the first byte that must be escaped.
 fn plain_front(bytes: &[u8]) -> &[u8] {
     match bytes.iter().position(|byte| !is_plain(*byte)) {
         Some(count) => bytes.get(..count).unwrap_or(bytes),

@@ -1,4 +1,4 @@
-//! The system's files as databases.
+//! The files of the system, opened as databases.
 use crate::copies::open_copy;
 use sqlite::{Connection, FileFrom, FileStore, Unknown};
 use stored_files::{Databases, FileConnection, FileFault, make_file, open_file};
@@ -6,24 +6,25 @@ use stored_files::{Databases, FileConnection, FileFault, make_file, open_file};
 /// How a database is opened.
 #[derive(Clone, Copy)]
 pub enum Opening {
-    /// In its file, which is written to.
+    /// The file itself is opened, for writing.
     InPlace,
-    /// In its file, or in a copy if the system does not let this process write the file.
+    /// The file itself is opened; a copy instead, if the system does not let this process write the
+    /// file.
     ToRead,
-    /// In a copy. The file and its folder are undisturbed.
+    /// A copy of the file is opened. The file and its folder are not disturbed.
     Copied,
 }
 
 /// The files of an office as databases, which each command opens as it needs.
 ///
-/// What the commands do is proved over any such files. Only the program names the system's files,
-/// since each call over them costs the prover half a minute.
+/// The proofs cover any such files. Only the program itself names the files of the system, because
+/// the prover needs half a minute for each call over them.
 pub trait OfficeFiles: Databases + Copy {
-    /// Returns the same files, opened in this way.
+    /// Returns the same files, to be opened in this way.
     fn opened(&self, opening: Opening) -> Self;
 }
 
-/// The system's files, opened in this way.
+/// The files of the system, and how they are opened.
 #[derive(Clone, Copy)]
 pub struct Files<'r> {
     rt: &'r HostRuntime,
@@ -31,7 +32,7 @@ pub struct Files<'r> {
 }
 
 impl<'r> Files<'r> {
-    /// Returns the system's files, each opened in its place.
+    /// Returns the files of the system, each opened in place.
     pub fn of(rt: &'r HostRuntime) -> Files<'r> {
         let opening = Opening::InPlace;
         Files { rt, opening }
@@ -60,7 +61,7 @@ impl Databases for Files<'_> {
     }
 }
 
-// Opens the database in a file, or a copy of it if the system refuses to open the file.
+// Opens the database in a file; a copy of it instead, if the system refuses to open the file.
 fn open_to_read(rt: &HostRuntime, path: &str) -> Result<FileConnection<Unknown>, FileFault> {
     match open_file(rt, path, Unknown) {
         Err(FileFault::Unreadable) => open_copy(rt, path),

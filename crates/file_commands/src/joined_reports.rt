@@ -18,17 +18,17 @@ use stored_files::{
     Databases, Ending, Failure, JoinFault, JoinedOffice, Named, ending_of, join_stored,
 };
 
-// What to do if files do not continue each other.
+// What to do if the files do not continue each other.
 const REMEDY: &str =
     "name the files oldest first, each carried from the one before, and void what the older one booked after the carry";
 
-// Returns the name of a meter.
+// Returns the name of an installation's meter.
 fn name_of(row: &Installation) -> &str {
     from_utf8(row.opening.meter.as_bytes()).unwrap_or("?")
 }
 
-// Reports a meter that continues no earlier one: where it begins, and the last entry of the meter
-// that it should continue.
+// Reports a meter that does not continue the earlier one: where it begins, and the last entry of
+// the earlier meter.
 fn say_apart<E: Write>(errors: &mut E, before: &str, path: &str, apart: &Apart) {
     let (before, path) = (Named(before), Named(path));
     let begins = &apart.begins.opening;
@@ -57,7 +57,7 @@ fn say_apart<E: Write>(errors: &mut E, before: &str, path: &str, apart: &Apart) 
     );
 }
 
-// Reports why a file does not continue those before it.
+// Reports why a file does not continue the earlier ones.
 fn say_unjoined<E: Write>(errors: &mut E, before: &str, path: &str, why: &Unjoined) {
     if let Unjoined::Apart(apart) = why {
         return say_apart(errors, before, path, apart);
@@ -82,7 +82,7 @@ fn say_unjoined<E: Write>(errors: &mut E, before: &str, path: &str, why: &Unjoin
     }
 }
 
-// Reports that a file has another zone.
+// Reports that a file has another time zone than the earlier ones.
 fn say_other_zone<E: Write>(errors: &mut E, before: &str, path: &str) {
     let (before, path) = (Named(before), Named(path));
     let _said = write!(
@@ -92,17 +92,17 @@ fn say_other_zone<E: Write>(errors: &mut E, before: &str, path: &str) {
     );
 }
 
-/// Why a file does not continue those before it.
+/// Why a file does not continue the earlier ones.
 #[derive(Drop)]
 pub(crate) enum NotJoined<'a> {
     Failed(Failure<'a>),
-    /// Its store failed, or memory ran out.
+    /// The store of the file failed, or memory ran out.
     Refused(Refusal),
-    /// It does not continue them, and the reason was reported.
+    /// The file does not continue the earlier ones, and the reason was already reported.
     Apart,
 }
 
-// Returns why an office in a database does not continue the earlier ones. Reports the reason.
+// Returns why the office in a database does not continue the earlier ones, and reports the reason.
 fn not_joined<'a, E: Write>(
     errors: &mut E,
     before: &str,
@@ -123,7 +123,8 @@ fn not_joined<'a, E: Write>(
     }
 }
 
-/// Adds what one file reports. Writes why it does not continue those before it to `errors`.
+/// Adds what one file has for the report. If the file does not continue the earlier ones, writes
+/// why to `errors`.
 pub(crate) fn join_in<'a, D: Databases, K: Keeping, E: Write>(
     rt: &HostRuntime,
     databases: &D,
@@ -144,7 +145,8 @@ pub(crate) fn join_in<'a, D: Databases, K: Keeping, E: Write>(
     }
 }
 
-// Returns what the files report of a register, one after another. One file is open at a time.
+// Returns what the files have for the report on a register. They are read in order, one file open
+// at a time.
 fn join_all<'a, D: Databases, K: Keeping>(
     rt: &HostRuntime,
     databases: &D,
@@ -179,7 +181,7 @@ fn join_all<'a, D: Databases, K: Keeping>(
     Ok(joined)
 }
 
-// Returns how a command ended, after its output is flushed.
+// Flushes the output, and returns how the command ended.
 fn ended<W: Write + Drop>(output: &mut Buffered<W>, status: ExitStatus) -> Ending<'static> {
     match output.flush() {
         Ok(()) => ending_of(status),
@@ -187,14 +189,14 @@ fn ended<W: Write + Drop>(output: &mut Buffered<W>, status: ExitStatus) -> Endin
     }
 }
 
-// Prints the report of what files report.
+// Prints the report over all files.
 fn print_report(rt: &HostRuntime, joined: JoinedFiles, form: &ReportForm) -> Ending<'static> {
     let mut output = Buffered::new(io::writer(rt));
     let status = report_joined(joined, form, &mut output);
     ended(&mut output, status)
 }
 
-// Prints the report if the register is recorded in one of the files.
+// Prints the report, if one of the files has the register.
 fn report_recorded(
     rt: &HostRuntime,
     path: &str,
@@ -213,7 +215,7 @@ fn report_recorded(
     }
 }
 
-// Prints the statement of what files report.
+// Prints the statement over all files.
 fn print_statement(
     rt: &HostRuntime,
     joined: &JoinedStatement,
@@ -226,7 +228,7 @@ fn print_statement(
     }
 }
 
-// Prints the statement if the register is recorded in one of the files.
+// Prints the statement, if one of the files has the register.
 fn state_recorded(
     rt: &HostRuntime,
     path: &str,
@@ -245,7 +247,7 @@ fn state_recorded(
     }
 }
 
-/// Returns the last of the files.
+/// Returns the last of the files, or an empty path without files.
 pub fn last_of<'a>(paths: &[&'a str]) -> &'a str {
     match paths.last() {
         Some(path) => *path,
@@ -253,7 +255,7 @@ pub fn last_of<'a>(paths: &[&'a str]) -> &'a str {
     }
 }
 
-// Prints the energy of a register.
+// Prints the energy of a register over several files.
 fn report_register<'a, D: Databases>(
     rt: &HostRuntime,
     databases: &D,
@@ -267,7 +269,7 @@ fn report_register<'a, D: Databases>(
     }
 }
 
-// Prints the statement of a register's meters.
+// Prints the statement of a register's meters over several files.
 fn state_register<'a, D: Databases>(
     rt: &HostRuntime,
     databases: &D,

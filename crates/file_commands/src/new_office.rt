@@ -11,7 +11,7 @@ use stored_files::{
     length_of, log_of, real_path,
 };
 
-// Returns why no office can be created in a file that is not empty.
+// Returns the failure for a file that is not empty, in which no office can be created.
 fn why_occupied<'a, D: Databases>(databases: &D, path: &'a str) -> Failure<'a> {
     match databases.make(path) {
         Ok(connection) if is_bare(&connection) => Failure::Occupied { path },
@@ -23,7 +23,7 @@ fn why_occupied<'a, D: Databases>(databases: &D, path: &'a str) -> Failure<'a> {
     }
 }
 
-// Creates the tables of a new office in a part, and merges the part's log into its file.
+// Creates the tables of a new office in an incomplete file, and merges its log into it.
 fn fill_part<'a, D: Databases>(
     rt: &HostRuntime,
     databases: &D,
@@ -45,7 +45,7 @@ fn fill_part<'a, D: Databases>(
     }
 }
 
-// Replaces an empty file by a part, which gets that file's permissions.
+// Replaces an empty file by a complete new one, which gets the empty file's permissions.
 fn replace_empty(rt: &HostRuntime, part: &Pair, path: &str) -> io::Result<()> {
     let rights = fs::metadata(rt, path)?.permissions();
     fs::set_permissions(rt, part.file.as_str(), rights)?;
@@ -53,7 +53,7 @@ fn replace_empty(rt: &HostRuntime, part: &Pair, path: &str) -> io::Result<()> {
     rename_over(rt, part.file.as_str(), path)
 }
 
-// Gives a complete part its name, which is free or an empty file's.
+// Renames a complete new file to its final name, which is free or belongs to an empty file.
 fn name_new<'a>(
     rt: &HostRuntime,
     path: &'a str,
@@ -70,8 +70,8 @@ fn name_new<'a>(
     }
 }
 
-// Creates an office as a part, and then gives the part its name. On failure the part is removed. If
-// only the sync of the folder failed, the office has its name.
+// Creates an office in an incomplete file, and renames it to its final name. On failure the
+// incomplete file is removed. If only the sync of the folder failed, the office keeps its name.
 fn make_office<'a, D: Databases>(
     rt: &HostRuntime,
     databases: &D,
@@ -96,8 +96,8 @@ fn make_office<'a, D: Databases>(
     }
 }
 
-// Creates an office at a path without a file, or with an empty one, and without a log that has
-// bytes.
+// Creates an office at a path that has no file, or an empty one. The path's log must not exist, or
+// be empty.
 fn create_in<'a, D: Databases>(
     rt: &HostRuntime,
     databases: &D,
@@ -119,7 +119,7 @@ fn create_in<'a, D: Databases>(
     make_office(rt, databases, path, zone, length.is_some())
 }
 
-/// Creates an office whose days are those of a zone.
+/// Creates an office whose days are counted in a time zone.
 pub fn create<'a, D: Databases>(
     rt: &HostRuntime,
     databases: &D,

@@ -1,4 +1,4 @@
-//! Opens an office's file, and reports what is unusual about it.
+//! Opens an office's file, and reports unusual conditions.
 use crate::escaped::Escaped;
 use sqlite::Connection;
 use std::io::{IsTerminal, Write};
@@ -6,7 +6,7 @@ use stored_files::{
     Databases, Failure, Named, check_regular, is_bare, is_blank, is_office, length_of, log_of,
 };
 
-/// The length in bytes from which a file takes a second or more to open.
+/// The length in bytes at which a file begins to take a second or more to open.
 const LARGE: u64 = 16_000_000;
 
 // Reports that a file has no log beside it.
@@ -31,8 +31,8 @@ fn say_opening<E: Write>(rt: &HostRuntime, errors: &mut E, path: &str, bytes: u6
     }
 }
 
-/// Opens the office in the database at a path. Reports a log that is missing, and fails if the log
-/// has no file.
+/// Opens the office in the database at a path. Reports if its log is missing, and fails if a log
+/// exists without its file.
 pub fn open_in<'a, D: Databases>(
     rt: &HostRuntime,
     databases: &D,
@@ -42,7 +42,8 @@ pub fn open_in<'a, D: Databases>(
     open_telling(rt, databases, path, false, &mut errors)
 }
 
-/// Like [`open_in`], but reports to `errors`. A new file has no log yet, which is not reported.
+/// Like [`open_in`], but writes its reports to `errors`. A new file has no log yet, and nothing is
+/// reported about that.
 pub(crate) fn open_telling<'a, D: Databases, E: Write>(
     rt: &HostRuntime,
     databases: &D,

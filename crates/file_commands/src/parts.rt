@@ -1,4 +1,4 @@
-//! Files that are written as NAME.part, and renamed to NAME once they are complete.
+//! New files, which are written as NAME.part, and renamed to NAME once they are complete.
 use crate::copies::{Pair, remove};
 use std::alloc::AllocError;
 use std::fs::{self, File, OpenOptions};
@@ -6,11 +6,12 @@ use std::io::{self, ErrorKind};
 use std::os::unix::fs::OpenOptionsExt;
 use stored_files::{CopyFault, Databases, Failure, FileFault, real_path};
 
-/// The suffixes of names that belong to other files: the log, the files that other programs create
-/// beside a database, and an incomplete file.
+/// The endings of names that belong to other files: a log, a file that another program creates
+/// beside a database, or an incomplete file.
 const RESERVED: [&'static str; 4] = ["-wal", "-journal", "-shm", ".part"];
 
-/// Returns whether anything has this name. A name that the system cannot look up counts as taken.
+/// Returns whether a file or folder has this name. If the system cannot look up a name, the name
+/// counts as taken.
 pub fn is_there(rt: &HostRuntime, path: &str) -> bool {
     match fs::symlink_metadata(rt, path) {
         Ok(_) => true,
@@ -18,12 +19,12 @@ pub fn is_there(rt: &HostRuntime, path: &str) -> bool {
     }
 }
 
-/// Returns the name of a file until it is complete.
+/// Returns the name that a file has until it is complete.
 pub fn part_name(rt: &HostRuntime, to: &str) -> Result<String, AllocError> {
     format!(in rt.alloc(); "{to}.part")
 }
 
-// Returns whether a name has a reserved suffix.
+// Returns whether a name has one of the reserved endings.
 fn is_reserved(path: &str) -> bool {
     RESERVED.iter().any(|end| path.ends_with(*end))
 }
@@ -39,7 +40,7 @@ pub(crate) fn check_name(to: &str) -> Result<(), Failure<'_>> {
     Ok(())
 }
 
-// Returns the names of an incomplete file and its log.
+// Returns the names for an incomplete file and its log.
 fn pair_for<'a>(rt: &HostRuntime, to: &str) -> Result<Pair, Failure<'a>> {
     match (part_name(rt, to), format!(in rt.alloc(); "{to}.part-wal")) {
         (Ok(file), Ok(log)) => Ok(Pair { file, log }),
@@ -47,7 +48,7 @@ fn pair_for<'a>(rt: &HostRuntime, to: &str) -> Result<Pair, Failure<'a>> {
     }
 }
 
-// Rejects a name that is reserved or taken, or whose log exists.
+// Rejects a name that has a reserved ending, that is taken, or whose log exists.
 fn check_free<'a>(rt: &HostRuntime, to: &'a str) -> Result<(), Failure<'a>> {
     check_name(to)?;
     let Ok(log) = format!(in rt.alloc(); "{to}-wal") else {
@@ -62,8 +63,8 @@ fn check_free<'a>(rt: &HostRuntime, to: &'a str) -> Result<(), Failure<'a>> {
     Ok(())
 }
 
-/// Returns the names of an incomplete file and its log. Fails if any of these names, or of the
-/// final ones, is taken.
+/// Returns the names for an incomplete file and its log. Fails if one of them is taken, or one of
+/// the final names.
 pub(crate) fn part_of<'a>(rt: &HostRuntime, to: &'a str) -> Result<Pair, Failure<'a>> {
     check_free(rt, to)?;
     let part = pair_for(rt, to)?;
@@ -96,7 +97,7 @@ pub(crate) fn unwritable(to: &str) -> Failure<'_> {
     }
 }
 
-// Creates the part's file.
+// Creates the incomplete file, which is still empty.
 fn begin<'a>(rt: &HostRuntime, to: &'a str, part: Pair) -> Result<Pair, Failure<'a>> {
     match make_empty(rt, part.file.as_str()) {
         Ok(()) => Ok(part),
@@ -104,13 +105,13 @@ fn begin<'a>(rt: &HostRuntime, to: &'a str, part: Pair) -> Result<Pair, Failure<
     }
 }
 
-/// Begins a new file. Fails if its name, or a name that it needs, is taken.
+/// Begins a new file: creates it under its incomplete name. Fails if a name that it needs is taken.
 pub(crate) fn begin_part<'a>(rt: &HostRuntime, to: &'a str) -> Result<Pair, Failure<'a>> {
     let part = part_of(rt, to)?;
     begin(rt, to, part)
 }
 
-// Returns whether a part may be removed: it is a regular file, or only its log exists.
+// Returns whether an incomplete file may be removed: it is a regular file, or only its log exists.
 fn is_left_over(rt: &HostRuntime, part: &Pair) -> bool {
     match fs::symlink_metadata(rt, part.file.as_str()) {
         Ok(found) => found.is_file(),
@@ -118,8 +119,8 @@ fn is_left_over(rt: &HostRuntime, part: &Pair) -> bool {
     }
 }
 
-// Removes the part that an interrupted command left. Returns false if the part is not a regular
-// file, or if another process has it open.
+// Removes the incomplete file that an interrupted command left. Returns false if it is not a
+// regular file, or if another process has it open.
 fn clear_left_over<D: Databases>(rt: &HostRuntime, databases: &D, part: &Pair) -> bool {
     if !is_left_over(rt, part) {
         return false;
@@ -131,7 +132,7 @@ fn clear_left_over<D: Databases>(rt: &HostRuntime, databases: &D, part: &Pair) -
     true
 }
 
-// Removes what an interrupted command left, and then creates the part's file.
+// Removes the incomplete file that an interrupted command left, and creates an empty one.
 fn begin_again<'a, D: Databases>(
     rt: &HostRuntime,
     databases: &D,
@@ -148,7 +149,7 @@ fn begin_again<'a, D: Databases>(
     begin(rt, to, part)
 }
 
-/// Removes what an interrupted command left, and then begins a new file.
+/// Removes the incomplete file that an interrupted command left, and begins a new file.
 pub(crate) fn begin_part_again<'a, D: Databases>(
     rt: &HostRuntime,
     databases: &D,
@@ -159,7 +160,7 @@ pub(crate) fn begin_part_again<'a, D: Databases>(
     begin_again(rt, databases, to, part)
 }
 
-/// Like [`begin_part_again`], but the new name may belong to an empty file with an empty log.
+/// Like [`begin_part_again`], but the final name may belong to an empty file whose log is empty.
 pub(crate) fn begin_new_part<'a, D: Databases>(
     rt: &HostRuntime,
     databases: &D,
@@ -170,20 +171,21 @@ pub(crate) fn begin_new_part<'a, D: Databases>(
     begin_again(rt, databases, to, part)
 }
 
-// Syncs the folder of a file, so that its names are on the disk.
+// Syncs the folder of a file, so that the names in it are on the disk.
 fn sync_folder(rt: &HostRuntime, path: &str) -> io::Result<()> {
     let mut folder = fs::canonicalize(rt, path)?;
     folder.pop();
     File::open(rt, folder.as_str())?.sync_all()
 }
 
-/// Renames a file over another, which may be replaced, and syncs their folder.
+/// Renames a file to the name of another, which it replaces, and syncs their folder.
 pub(crate) fn rename_over(rt: &HostRuntime, part: &str, to: &str) -> io::Result<()> {
     fs::rename(rt, part, to)?;
     sync_folder(rt, to)
 }
 
-// Gives a file a free name, without links. On failure nothing has the name.
+// Renames a file to a free name, on a file system without hard links. On failure the name stays
+// free.
 fn claim_name(rt: &HostRuntime, part: &str, to: &str) -> io::Result<()> {
     drop(File::create_new(rt, to)?);
     match rename_over(rt, part, to) {
@@ -195,9 +197,9 @@ fn claim_name(rt: &HostRuntime, part: &str, to: &str) -> io::Result<()> {
     }
 }
 
-// Gives a file a free name, in one step if the file system has links, and syncs the folder. If the
-// old name cannot be removed, or the folder cannot be synced, the file has the name although this
-// fails.
+// Renames a file to a free name and syncs the folder, in one step if the file system has hard
+// links. This can fail although the file has its new name: if the old name cannot be removed, or
+// the folder cannot be synced.
 fn link_name(rt: &HostRuntime, part: &str, to: &str) -> io::Result<()> {
     match fs::hard_link(rt, part, to) {
         Ok(()) => {}
@@ -208,22 +210,23 @@ fn link_name(rt: &HostRuntime, part: &str, to: &str) -> io::Result<()> {
     sync_folder(rt, to)
 }
 
-/// Creates an empty log beside a new file, so that a log that is missing later is noticed. A
-/// failure loses nothing.
+/// Creates an empty log beside a new file, so that a log that is missing later is noticed. If this
+/// fails, nothing is lost.
 pub(crate) fn make_empty_log(rt: &HostRuntime, to: &str) {
     if let Ok(log) = format!(in rt.alloc(); "{to}-wal") {
         let _made = make_empty(rt, log.as_str());
     }
 }
 
-// Removes a part's log, which was merged into its file, and gives the file its name.
+// Removes the log of an incomplete file, which was merged into it, and renames the file to its
+// final name.
 fn name_part(rt: &HostRuntime, to: &str, pair: &Pair) -> io::Result<()> {
     fs::remove_file(rt, pair.log.as_str())?;
     link_name(rt, pair.file.as_str(), to)
 }
 
-/// Gives a complete part, whose log was merged into its file, its name. Fails if the name is taken.
-/// `link_name` may fail although the file has its name.
+/// Renames a complete file, whose log was merged into it, to its final name. Fails if the name is
+/// taken. `link_name` may fail although the file has its new name.
 pub(crate) fn finish_part<'a>(
     rt: &HostRuntime,
     to: &'a str,

@@ -26,7 +26,7 @@ use Rattle.http_answer.specs.Replies.{ask, command_reply, fault, found_reply, qu
 use Rattle.http_answer.specs.Requests.{name_asked}
 use Rattle.http_answer.specs.Whole.{BodyGives, IsCommand, IsReply, bad_head_status}
 
--- The response to a failed test does not depend on the body.
+-- If a test of the head fails, the response does not depend on the body.
 fails : (office : Office) (table : Table) (start : Start) (body : List ℕ) (given : Result Command CommandFault) (status : Status) → head_fault table start ≡ Some status
     → fault status ≡ reply_of office table start body given
 fails office table start body given status h = sym (ap (λ o. unless_failed o (found_reply office start body given (route_in table start.target) (name_in table start.target))) h)

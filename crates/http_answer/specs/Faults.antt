@@ -3,17 +3,17 @@ use Rattle.std.specs.Prelude.{ℕ, List, [], ◌∷◌, ◌++◌, codes, decimal
 use Rattle.point_list.specs.declared.fault.FaultyRow.{FaultyRow}
 use Rattle.point_list.specs.Faults.{fault_number}
 
--- A row and the number of its fault.
+-- A faulty row as JSON: its row number and the number of its fault.
 abbrev pub row_text : FaultyRow → List ℕ
 row_text faulty =
     codes "[" ++ decimal faulty.row ++ codes "," ++ decimal (fault_number faulty.fault) ++ codes "]"
 
--- Rows after other rows, each after a comma.
+-- Each further row as JSON, with a comma before it.
 abbrev pub more_rows : List FaultyRow → List ℕ
 more_rows [] = []
 more_rows (faulty ∷ rows) = codes "," ++ row_text faulty ++ more_rows rows
 
--- Rows with commas between them.
+-- All rows as JSON, with commas between them.
 abbrev pub rows_text : List FaultyRow → List ℕ
 rows_text [] = []
 rows_text (faulty ∷ rows) = row_text faulty ++ more_rows rows

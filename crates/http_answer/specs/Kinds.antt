@@ -5,7 +5,7 @@ use Rattle.office_events.specs.declared.answers.Answer.TheVariants.{Noted, Done,
 use Rattle.office_events.specs.declared.answers.CommandKind.{CommandKind}
 use Rattle.office_events.specs.declared.answers.CommandKind.TheVariants as kind
 
--- The name of a kind of command.
+-- The name of this kind of command in a response.
 abbrev pub kind_name : CommandKind → List ℕ
 kind_name kind.Device = codes "device"
 kind_name kind.List = codes "list"
@@ -19,12 +19,12 @@ kind_name kind.Close = codes "close"
 kind_name kind.Void = codes "void"
 kind_name kind.Start = codes "start"
 
--- The body of the response to an executed command.
+-- The JSON body of the response to an executed command, with the command's kind.
 abbrev pub done_text : CommandKind → List ℕ
 done_text k = codes "{\"done\":\"" ++ kind_name k ++ codes "\"}"
 
--- The kind of the command that was executed, now or for an earlier request with the same
--- idempotency key.
+-- The kind of the executed command, which may have been executed for an earlier request with the
+-- same idempotency key. None for an event that is no command.
 abbrev pub kind_answered : Answer → Option CommandKind
 kind_answered Noted = None
 kind_answered (Done k) = Some k

@@ -37,31 +37,31 @@ abbrev pub reply_bytes : Reply → List ℕ
 reply_bytes (Json status body) = json_reply status body
 reply_bytes (Lines lines) = text_head ++ lines
 
--- The response to a request that fails before the office is asked.
+-- The JSON response with this status, for a request that fails before the office is asked.
 abbrev pub fault : Status → Reply
 fault status = Json status (fault_text status)
 
--- The response that reports a refusal.
+-- The JSON response that reports a refusal of the office, by its number.
 abbrev pub refused : Refusal → Reply
 refused why = Json (status_of why) (refused_text (refusal_number why))
 
--- The response with an answer of the office, by the text of its row.
+-- The response to a query with one row: the row as JSON, or the refusal.
 abbrev pub row_reply : {X : Type 0} → (X → List ℕ) → Result X Refusal → Reply
 row_reply text (Ok row) = Json Fine (text row)
 row_reply text (Err why) = refused why
 
--- The response with an answer of the office, by its lines of text.
+-- The response to a query with many rows: the rows as lines of text, or the refusal.
 abbrev pub lines_reply : {X : Type 0} → (X → List ℕ) → Result X Refusal → Reply
 lines_reply text (Ok rows) = Lines (text rows)
 lines_reply text (Err why) = refused why
 
--- The response for the poll of a number. A parameter that is no number has no poll.
+-- The response to a query for the poll with this number. Without a number it is "not found".
 abbrev pub poll_reply : Office → Option ℕ → Reply
 poll_reply office None = refused refusal.NotFound
 poll_reply office (Some number) = row_reply poll_text (office.poll number)
 
--- The response to a query, by its route and the route's parameter. The other routes are those of
--- commands.
+-- The response to a query, by its route and the route's parameter. A route that is no query gets
+-- its response elsewhere.
 abbrev pub question_reply : Office → Route → Option (List ℕ) → Reply
 question_reply office route.Meter taken = row_reply meter_text (office.meter (name_asked taken))
 question_reply office route.Poll taken = poll_reply office (number_asked taken)
@@ -70,21 +70,21 @@ question_reply office route.Intervals taken =
 question_reply office route.Days taken = lines_reply days_text (office.days (name_asked taken))
 question_reply office _ taken = fault NotThere
 
--- The response to a body that gives no command. It refuses a negative number, or a command for
--- which memory ran out, without asking the office.
+-- The response to a body that gives no command. The office is not asked.
 abbrev pub fault_said : CommandFault → Reply
 fault_said Malformed = fault BadRequest
 fault_said Negative = refused refusal.Limit
 fault_said (Faulty rows) = Json Unprocessable (faults_text rows)
 fault_said Memory = refused refusal.Memory
 
--- The response to a command, by what its body gives.
+-- The response to a command: the office's answer if the body gives a command, or the fault of the
+-- body.
 abbrev pub command_reply : (Command → Result CommandKind Refusal) → Result Command CommandFault
     → Reply
 command_reply ask (Ok command) = row_reply done_text (ask command)
 command_reply ask (Err why) = fault_said why
 
--- The caller's number of the request, or 0 if there is none.
+-- The request number that the headers give, or 0 without one.
 abbrev pub number_or_zero : Option ℕ → ℕ
 number_or_zero None = 0
 number_or_zero (Some number) = number
@@ -98,12 +98,12 @@ asked_with headers request command = record {
   command = command;
 }
 
--- The command of a request, as the office gets it.
+-- The command of a request, with its idempotency key and the bytes that are stored of the request.
 abbrev pub asked_of : Start → (body : List ℕ) → Command → Asked
 asked_of start body command =
     asked_with (post_headers_of start.headers) (kept_request start.method start.target body) command
 
--- The office's answer to the command of a request.
+-- The office's answer to the command that a request has.
 abbrev pub ask : Office → Start → (body : List ℕ) → Command → Result CommandKind Refusal
 ask office start body command = office.asked (asked_of start body command)
 
@@ -117,20 +117,20 @@ route_reply office start body given route.Intervals taken =
 route_reply office start body given route.Days taken = question_reply office route.Days taken
 route_reply office start body given _ taken = command_reply (ask office start body) given
 
--- The response by the route that was found. Without a route it is 404.
+-- The response for the route of the target. Without a route it is 404.
 abbrev pub found_reply : Office → Start → (body : List ℕ) → Result Command CommandFault
     → Option Route → Option (List ℕ) → Reply
 found_reply office start body given None taken = fault NotThere
 found_reply office start body given (Some route) taken =
     route_reply office start body given route taken
 
--- The fault of the first failed test, otherwise the response.
+-- The response with the status of the first failed test; this reply if no test failed.
 abbrev pub unless_failed : Option Status → Reply → Reply
 unless_failed None reply = reply
 unless_failed (Some status) reply = fault status
 
--- The response to a request with this head and this body, where the body gives this command or
--- fault.
+-- The response to a request with this head and this body. `given` is the command or fault that the
+-- body gives.
 abbrev pub reply_of : Office → Table → Start → (body : List ℕ) → Result Command CommandFault → Reply
 reply_of office table start body given =
     unless_failed (head_fault table start)

@@ -1,4 +1,4 @@
--- What a request gives the office beside its command.
+-- What the office gets of a request besides its command.
 use Rattle.std.specs.Prelude.{ℕ, List, ◌∷◌, ◌++◌, Option, option_and_then}
 use Rattle.http_request.specs.Values.{number_in}
 use Rattle.office_events.specs.Names.{named}

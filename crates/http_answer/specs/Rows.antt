@@ -1,4 +1,4 @@
--- The JSON of a meter and of a poll. Names consist of bytes that JSON need not escape.
+-- The JSON of a meter and of a poll. Names need no escaping in JSON.
 use Rattle.std.specs.Prelude.{ℕ, Bool, true, false, List, ◌++◌, codes, decimal, Option, Some, None}
 use Rattle.std.specs.Fmt.{signed_decimal}
 use Rattle.poll_core.specs.Outcomes.{outcome_code, outcome_number}
@@ -11,7 +11,8 @@ abbrev pub bool_text : Bool → List ℕ
 bool_text true = codes "true"
 bool_text false = codes "false"
 
--- A meter: its last entry, its range, and its total energy in mWh as a string of digits.
+-- The JSON of a meter: its last entry, its range, and its total energy in mWh as a string of
+-- digits.
 abbrev pub meter_text : Installation → List ℕ
 meter_text row =
     codes "{\"at\":" ++ decimal row.last.at
@@ -24,14 +25,14 @@ meter_text row =
     ++ codes ",\"total\":\"" ++ decimal row.total
     ++ codes "\"}"
 
--- How a poll ended: the time, the number of the outcome, and its code. All are 0 while the poll is
--- pending.
+-- The end of a poll: its time, the number of its outcome, and the outcome's code. All are 0 while
+-- the poll is pending.
 pub record Ending : Type 0 where
   pub moment : ℕ
   pub outcome : ℕ
   pub code : ℕ
 
--- How a poll ended, or all 0 while it is pending.
+-- The end of a poll; all fields are 0 while the poll is pending.
 abbrev pub ending_of : Option EndedPoll → Ending
 ending_of None = record { moment = 0; outcome = 0; code = 0 }
 ending_of (Some ended) =
@@ -41,7 +42,7 @@ ending_of (Some ended) =
       code = outcome_code ended.outcome;
     }
 
--- A poll, with these fields for its end.
+-- The JSON of a poll, with these fields for its end.
 abbrev pub poll_text_with : Ending → PollRow → List ℕ
 poll_text_with ending row =
     codes "{\"code\":" ++ decimal ending.code
@@ -52,6 +53,6 @@ poll_text_with ending row =
     ++ codes ",\"started\":" ++ decimal row.poll.at
     ++ codes "}"
 
--- A poll, with its outcome if it has ended.
+-- The JSON of a poll, with its outcome if it has ended.
 abbrev pub poll_text : PollRow → List ℕ
 poll_text row = poll_text_with (ending_of row.ended) row

@@ -18,13 +18,14 @@ use Rattle.http_answer.specs.Offices.{Office}
 use Rattle.http_answer.specs.Replies.{ask, command_reply, fault, reply_bytes, reply_of}
 use Rattle.http_answer.specs.Requests.{name_asked}
 
--- A command of this route whose head passes all tests.
+-- The head passes all tests, and its target has this route of a command.
 pub record IsCommand (table : Table) (start : Start) (route : Route) : Type 0 where
   pub passes : head_fault table start ≡ None
   pub leads : route_in table start.target ≡ Some route
   pub changes : is_question route ≡ false
 
--- What the body of a command's request gives. Running out of memory is no property of the body.
+-- The body of a request for a command gives this command or fault. `Memory` is excluded, because
+-- running out of memory is no property of the body.
 abbrev pub BodyGives : Table → Start → (body : List ℕ) → Result Command CommandFault → Type 0
 BodyGives table start body given =
     (route : Route) → IsCommand table start route
@@ -48,14 +49,14 @@ pub record RepliesToBadHead (bytes reply : List ℕ) : Type 0 where
   pub bad : IsBadHead bytes
   pub is : reply ≡ reply_bytes (fault (bad_head_status bytes))
 
--- The response to the command of a request, by what its body gives.
+-- The response to a request for a command, where its body gives this command or fault.
 abbrev pub reply_to_command : Office → Table → (bytes : List ℕ) → Head
     → Result Command CommandFault → List ℕ
 reply_to_command office table bytes at given =
     reply_bytes
     (command_reply (ask office (start_at bytes at) (body_of table bytes at)) given)
 
--- The response to the bytes that were read.
+-- This is the response to the bytes that were read, which hold a bad head or a complete request.
 abbrev pub IsReply : Office → Table → (bytes reply : List ℕ) → Type 0
 IsReply office table bytes reply =
     RepliesToBadHead bytes reply ⊎ RepliesToRequest office table bytes reply

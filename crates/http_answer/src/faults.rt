@@ -7,7 +7,7 @@ ghost use Rattle.http_answer.specs.Faults.{faults_text, more_rows};
 use crate::sending::Text;
 use point_list::FaultyRow;
 
-// Appends a row after `key`.
+// Appends `key` and a faulty row as JSON.
 fn push_row(text: &mut Text, key: &[u8], faulty: FaultyRow)
     requires room { length text.old + length key.now + 60 ≤ 8192 }
     requires low { faulty.row ≤ 514 }
@@ -20,7 +20,7 @@ fn push_row(text: &mut Text, key: &[u8], faulty: FaultyRow)
     text.push(b"]");
 }
 
-// Appends rows, each after a comma.
+// Appends faulty rows as JSON, each with a comma before it.
 fn push_rows(text: &mut Text, rows: &[FaultyRow])
     requires room { length text.old + 12 * length rows.now ≤ 8000 }
     requires low { All (λ faulty. faulty.row ≤ 514) rows.now }
@@ -32,8 +32,8 @@ fn push_rows(text: &mut Text, rows: &[FaultyRow])
     }
 }
 
-/// Formats the body of the response to a list with faulty rows: each row with the least number of
-/// its faults.
+/// Formats the body of the response to a list with faulty rows: each row number with the least
+/// number among its faults.
 pub fn faults_body(rows: &[FaultyRow]) -> Text
     requires { AreFew rows.now }
     ensures { result ≡ faults_text rows.now }

@@ -1,4 +1,4 @@
-//! What a request gives the office beside its command.
+//! What the office gets of a request besides its command.
 ghost use Rattle.std.specs.Prelude.{◌≡◌, IfOk, option_map};
 ghost use Rattle.http_request.specs.Asking.{Says};
 ghost use Rattle.http_request.specs.Tests.{PostHeaders};

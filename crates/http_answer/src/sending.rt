@@ -1,4 +1,4 @@
-//! The text of a response, and its way to a link. No function here allocates.
+//! Formats responses, and sends them to a link. No function here allocates.
 
 mod bodies;
 mod outbox;

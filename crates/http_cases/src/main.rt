@@ -1,6 +1,6 @@
-//! Runs the golden tests below a folder, which the first argument names, or below the working
-//! directory. Each case is a text with requests and the responses that they must get. The program
-//! reports each case that differs, and at the end how many agree.
+//! Runs the golden tests below the folder that the first argument names, by default the working
+//! directory. Each golden test is a text with requests, and the responses that they must get. The
+//! program reports each test that differs, and at the end how many agree.
 #![tactic(auto)]
 
 mod case_text;
@@ -14,7 +14,7 @@ use crate::playing::play;
 use std::process::ExitCode;
 use std::{env, fs, io};
 
-/// How many cases agree, and how many do not.
+/// How many golden tests agree, and how many differ.
 #[derive(Clone, Copy)]
 struct Tally {
     agree: u64,
@@ -45,7 +45,7 @@ fn play_all(rt: &HostRuntime) -> io::Result<Tally> {
     Ok(tally)
 }
 
-// Runs the cases of a folder, in the order of their names.
+// Runs the golden tests of a folder, in the order of their names.
 fn play_subject(rt: &HostRuntime, subject: &str, tally: &mut Tally) -> io::Result<()> {
     for name in &names_in(rt, subject)? {
         let Some(stem) = name.as_str().strip_suffix(".http") else {
@@ -62,8 +62,8 @@ fn play_subject(rt: &HostRuntime, subject: &str, tally: &mut Tally) -> io::Resul
     Ok(())
 }
 
-// Runs the case in a file twice, with requests that arrive complete and byte by byte. Reports where
-// the responses differ, if they do.
+// Runs the golden test in a file twice: with requests that arrive at once, and byte by byte. If the
+// responses differ from the expected ones, reports where.
 fn agrees(rt: &HostRuntime, input: &str, wanted: &str) -> io::Result<bool> {
     let text = fs::read_to_string(rt, input)?;
     let wanted = fs::read(rt, wanted)?;

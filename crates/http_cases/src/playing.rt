@@ -1,4 +1,4 @@
-//! Runs a case over an office in memory.
+//! Runs a golden test over an office in memory.
 use crate::case_text::decode;
 use crate::replies::{run, serve};
 use interval_core::Zone;
@@ -11,8 +11,8 @@ use std::alloc::{AllocError, Global};
 
 type MemoryOffice = Office<ListBooks>;
 
-/// Returns the responses to the requests of a case, each with a line feed after it. `serve` reads a
-/// request `piece` bytes at a time.
+/// Returns the responses to the requests of a golden test, each followed by a line feed. `serve`
+/// reads a request in pieces of `piece` bytes.
 pub(crate) fn play(alloc: Global, text: &str, piece: usize) -> Result<Vec<u8>, AllocError> {
     match open_office(alloc) {
         Some(mut office) => play_blocks(alloc, &mut office, text, piece),
@@ -39,8 +39,8 @@ fn play_blocks(
     Ok(printed)
 }
 
-// Runs a block: `serve MOMENT` or `run MOMENT` and the request below it, or lines of a script below
-// any other line.
+// Runs a block of the text. A block that begins with `serve MOMENT` or `run MOMENT` has a request.
+// Any other block has lines of a script.
 fn play_block(
     alloc: Global,
     office: &mut MemoryOffice,
@@ -66,7 +66,7 @@ fn play_block(
     Ok(())
 }
 
-// Executes the lines of a script. Each must be accepted.
+// Executes the lines of a script, which set up the office. The office must accept each of them.
 fn set_up(
     alloc: Global,
     office: &mut MemoryOffice,

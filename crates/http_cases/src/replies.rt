@@ -1,4 +1,4 @@
-//! The responses of `serve` and of `run`.
+//! The responses of the commands `serve` and `run`.
 use http_peers::reply_site_over;
 use mb_wire::MemoryLink;
 use memory_books::ListBooks;
@@ -11,13 +11,14 @@ use run_http::{
 use run_status::Counts;
 use std::alloc::{AllocError, Global};
 
-// The name that `--host-name` gives.
+// The host name that the option `--host-name` would give.
 static NAMES: [&str; 1] = ["office.example"];
 
 // The text that is printed if there is no response.
 static NO_REPLY: &[u8] = b"no reply";
 
-/// Appends the response of `serve` to a request, which it reads `piece` bytes at a time.
+/// Appends the response of the command `serve` to a request, which it reads in pieces of `piece`
+/// bytes.
 pub(crate) fn serve(
     alloc: Global,
     office: &mut Office<ListBooks>,
@@ -36,8 +37,8 @@ pub(crate) fn serve(
     }
 }
 
-/// Appends the response of `run` to the bytes of a client, with the headers for browsers. The
-/// response is that of the run itself, or that of its office.
+/// Appends the response of the command `run` to the bytes of a client, with the headers for
+/// browsers. The response comes from the run's own routes or from its office.
 pub(crate) fn run(
     alloc: Global,
     office: &mut Office<ListBooks>,
@@ -57,7 +58,8 @@ pub(crate) fn run(
     printed.extend_from_slice(&told)
 }
 
-// Appends the response of a run's own route. The run has counted nothing, and has no earlier files.
+// Appends the response of one of the run's own routes. The run has counted no event, and has no
+// earlier files.
 fn reply_of_run(
     alloc: Global,
     office: &mut Office<ListBooks>,

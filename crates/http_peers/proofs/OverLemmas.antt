@@ -1,4 +1,4 @@
--- Lemmas on the energy of a register over earlier files.
+-- Lemmas on the energy of an accounting register over earlier files.
 use Rattle.std.proofs.Common.{◌≡◌, ℕ, inl, inr, List, [], ◌∷◌, ◌++◌, map, Some, Result, Ok, Err, IsErr, refl, sym, ap, subst, ◌∙◌}
 use Rattle.std.specs.Prelude.{OnOk}
 use Rattle.std.specs.declared.alloc.Global.{Global}
@@ -32,7 +32,7 @@ use Rattle.carried_books.proofs.JoiningLemmas.Reports.{report_with, with_number}
 use Rattle.run_http.specs.RegisterReplies.{with_energy_reply}
 use Rattle.http_peers.specs.EnergyOver.{AsksEnergyOver, RepliesEnergyOver, ReportsOver, TellsReportOver}
 
--- what was written, where that ended well
+-- If the status is `Fine`, the complete text was written.
 pub put_whole : (text : List ℕ) (status : ExitStatus) (had holds : List ℕ) → status ≡ Fine → IsTold text Fine status (Some had) (Some holds) → holds ≡ had ++ text
 put_whole text status had holds fine (inl told) = told.1
 put_whole text status had holds fine (inr failed) = absurd (let e : Fine ≡ Failed = sym fine ∙ failed.0 in cc e)
@@ -85,7 +85,7 @@ module _ {B : Type 0} (ledger : B → Ledger) (a b : Office B) (zone : Zone) (ea
     puts = puts;
   }
 
-  -- there was no memory for the report
+  -- If memory ran out for the report, the postcondition does not define its text.
   pub unwritten : {E : Type 0} (had holds : List ℕ) (days : Vec DayTotal Global) (result : Result (Result (Unit {0}) Refusal) E) → OnlyAsks ledger a b (Ok days)
       → IsErr result → AsksEnergyOver ledger a b zone earlier register form had holds result
   unwritten had holds days (Ok told) asks fault = cc fault

@@ -1,4 +1,4 @@
--- What peers ask, one after the other.
+-- Lemmas on the requests of clients to the office, one after the other.
 use Rattle.std.proofs.Common.{◌≡◌, inl, inr, ℕ, true, false, Bool, List, [], ◌∷◌, ◌++◌, Option, None, Result, refl, sym, ap, ◌∙◌, subst}
 use Rattle.std.specs.declared.alloc.Global.{Global}
 use Rattle.std.specs.declared.vec.Vec.{Vec}
@@ -72,7 +72,7 @@ may_of : (may : Bool) (bytes : List ℕ) (head_state : HeadState) → IsRunRoute
 may_of true bytes head_state is = refl
 may_of false bytes head_state is = cc is
 
--- what is left to the office may ask
+-- A request that the run's own routes leave to the office has passed the test of its host.
 pub may_ask_of : (names : List (List ℕ)) (request : List ℕ) → IsFor names request None → (left read : List ℕ) → request ≡ read ++ left → MayAsk names read
 may_ask_of names request for left read is = record {
   tested = request;

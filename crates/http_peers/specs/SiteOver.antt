@@ -15,7 +15,7 @@ use Rattle.run_http.specs.StatusRoute.{with_reply}
 use Rattle.run_http.specs.Texts.SiteText.{with_site}
 use Rattle.run_http.specs.declared.texts.site.SiteLine.{SiteLine}
 
--- the line of a register with this latest meter over all files
+-- The line of a register, with the latest of its meters over all files, if there is one.
 abbrev pub line_of : Register → Option LatestMeter → SiteLine
 line_of register None =
     record { row = record { register = register; meter = None }; earlier = None }
@@ -24,15 +24,15 @@ line_of register (Some told) = record {
   earlier = told.earlier;
 }
 
--- the line of a register at which earlier files have these meters
+-- The line of a register, with the meters that earlier files have at it.
 abbrev pub line_after : (earlier : List Installation) → SiteRow → SiteLine
 line_after earlier row = line_of row.register (latest_meter earlier row.meter)
 
--- Each register's line has the latest meter of the office and the earlier files.
+-- The line of a register, with its latest meter over the office and the earlier files.
 abbrev pub line_over : List EarlierRegister → SiteRow → SiteLine
 line_over earlier row = line_after (earlier_meters earlier row.register.name) row
 
--- the lines of the office's answer, or its refusal
+-- The lines of the office's answer, or the office's refusal.
 abbrev pub IsTold : List EarlierRegister → Result (Vec SiteRow Global) Refusal
     → Result (Vec SiteLine Global) Refusal → Type 0
 IsTold earlier (Ok rows) (Ok lines) = lines.items ≡ map (line_over earlier) rows.items
@@ -40,7 +40,7 @@ IsTold earlier (Ok rows) (Err why) = ⊥
 IsTold earlier (Err why) (Ok lines) = ⊥
 IsTold earlier (Err why) (Err told) = told ≡ why
 
--- the reply to the office's answer; a refusal is reported as for any other question
+-- The reply with the office's answer. A refusal is reported as for any other query.
 abbrev pub with_site_over : List EarlierRegister → (at : ℕ) → Result (Vec SiteRow Global) Refusal
     → List ℕ → List ℕ
 with_site_over earlier at (Ok rows) text =

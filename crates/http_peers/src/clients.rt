@@ -13,20 +13,20 @@ use std::net::Shutdown;
 pub(crate) struct Client {
     alloc: Global,
     pub(crate) stream: TcpStream,
-    /// The bytes of its request so far.
+    /// The bytes of its request that have arrived.
     pub(crate) request: Vec<u8>,
     /// Whether its socket may have unread input or room for output.
     pub(crate) ready: bool,
-    /// Until when further input is dropped, once the reply is written.
+    /// The run's time in seconds until which further input is dropped, once the reply is written.
     pub(crate) lingers: Option<u64>,
     reply: Outbox,
-    /// The rows that its reply still lacks.
+    /// The rows of its reply that are not yet made.
     pub(crate) rows: Option<RowsLeft>,
     ended: bool,
     over: bool,
 }
 
-// The part of a piece that still fits: no request needs more room.
+// Returns the part of a piece that fits into the buffer for a request. No request needs more room.
 fn fitting<'p>(request: &[u8], piece: &'p [u8]) -> &'p [u8] {
     let room = MOST_ROOM.saturating_sub(request.len());
     piece.get(..room).unwrap_or(piece)
@@ -47,27 +47,28 @@ impl Client {
         }
     }
 
-    /// Whether the connection can be dropped.
+    /// Returns whether the connection can be dropped.
     pub(crate) fn is_over(&self) -> bool {
         self.over
     }
 
-    /// Whether its request was answered.
+    /// Returns whether its request has a reply, complete or in part.
     pub(crate) fn has_reply(&self) -> bool {
         !self.reply.is_empty() || self.rows.is_some() || self.lingers.is_some()
     }
 
-    /// Whether the next piece of its reply can be made.
+    /// Returns whether the next piece of its reply can be made: the earlier pieces were written,
+    /// and rows are left.
     pub(crate) fn wants_rows(&self) -> bool {
         !self.over && self.rows.is_some() && self.reply.is_written()
     }
 
-    /// The bytes of its reply that are in memory.
+    /// Returns how many bytes of its reply are in memory.
     pub(crate) fn held_bytes(&self) -> usize {
         self.reply.len()
     }
 
-    // Appends a piece to the request. Input after the request is dropped.
+    // Appends a piece to the request. If the request already has a reply, the piece is dropped.
     fn keep_piece(&mut self, piece: &[u8]) -> Went {
         if self.has_reply() {
             return Went::On;
@@ -81,7 +82,7 @@ impl Client {
         }
     }
 
-    // Reads a piece of at most 4,096 bytes.
+    // Reads a piece of at most 4,096 bytes from the socket.
     fn read(&mut self) -> Went {
         let mut room = [0u8; 4096];
         match self.stream.read(&mut room) {
@@ -94,7 +95,7 @@ impl Client {
         }
     }
 
-    // Reads until the socket has no more, 16 pieces at most.
+    // Reads until the socket has no more input, at most 16 pieces.
     fn read_all(&mut self) -> Went {
         for _read in 0..MOST_CALLS {
             let went = self.read();
@@ -105,13 +106,13 @@ impl Client {
         Went::On
     }
 
-    // Whether its reply is under way.
+    // Returns whether its reply is still being sent.
     fn is_replying(&self) -> bool {
         self.has_reply() && self.lingers.is_none()
     }
 
-    /// Reads input, and returns whether an answer is due: to a complete request, or to a malformed
-    /// head.
+    /// Reads input, and returns whether a reply is due: the request is complete, or its head is
+    /// bad.
     pub(crate) fn read_request(&mut self, router: &Router<Route>) -> bool {
         if self.is_replying() {
             self.ready = false;
@@ -128,8 +129,8 @@ impl Client {
         false
     }
 
-    /// Starts the reply; `rows` are sent after it. The request is dropped, since nobody needs it
-    /// any more.
+    /// Starts the reply. `rows` are the rows that are sent after it. The request is dropped, since
+    /// it is no longer needed.
     pub(crate) fn start_reply(&mut self, asked: PeerReply, rows: Option<RowsLeft>) {
         match asked {
             PeerReply::Open => self.over = self.ended,
@@ -143,7 +144,7 @@ impl Client {
         }
     }
 
-    /// Replaces the written piece of its reply by the next one.
+    /// Replaces the piece of the reply that was written by the next piece.
     pub(crate) fn append_rows(&mut self, more: Vec<u8>, is_last: bool) {
         self.reply = Outbox::of(more);
         if is_last {
@@ -151,12 +152,12 @@ impl Client {
         }
     }
 
-    /// Cuts its reply: the client sees an incomplete body.
+    /// Ends the connection before the reply is complete, so the client sees an incomplete body.
     pub(crate) fn cut_reply(&mut self) {
         self.over = true;
     }
 
-    /// Writes what the socket accepts of the reply, and shuts the output once the reply is
+    /// Writes as much of the reply as the socket accepts, and shuts the output once the reply is
     /// complete. Further input is dropped for a second or two: closing a socket with unread input
     /// resets the connection, and the client may then lose its reply.
     pub(crate) fn write_reply(&mut self, time: u64) {
@@ -180,7 +181,7 @@ impl Client {
         }
     }
 
-    /// Whether the reply is complete and the time for further input is over.
+    /// Returns whether the reply is complete, and the time for dropping further input is over.
     pub(crate) fn is_done(&self, time: u64) -> bool {
         match self.lingers {
             Some(until) => until <= time,

@@ -21,7 +21,7 @@ pub struct EarlierFiles<'a> {
     pub registers: &'a [EarlierRegister],
 }
 
-// Writes the report on days. It fails only where memory runs out.
+// Writes the report on days. It fails only if memory runs out.
 fn put_days(days: &[DayTotal], form: &ReportForm, output: &mut Vec<u8>) -> Result<(), AllocError>
     ensures { OnOk result (output.new.items
         ≡ output.old.items ++ report_text form.now days.now) }
@@ -55,9 +55,9 @@ fn put_energy_over<B: Books>(
 }
 
 /// Appends the reply with the report on a register's days: those of earlier files, then those of
-/// the office. All days are in the site's time zone. Where the form's range has both ends, only the
-/// quarter hours of its days, and of two days more at each end, are read. Where memory runs out, a
-/// part of the reply is appended.
+/// the office. All days are in the site's time zone. If the form's range has both ends, only the
+/// quarter hours of its days and of two more days at each end are read. If memory runs out, a part
+/// of the reply is appended.
 pub fn reply_energy_over<B: Books>(
     alloc: Global,
     text: &mut Vec<u8>,
@@ -75,7 +75,8 @@ pub fn reply_energy_over<B: Books>(
     put_energy_reply(text, &answer, &body)
 }
 
-// Whether an earlier register has this name. `None` is a name that no register can have.
+// Returns whether an earlier file's register has this name. `None` is a name that no register can
+// have.
 fn is_of(it: &EarlierRegister, register: &Option<Name>) -> bool
     ensures { result ≡ is_named register.now it.now.name }
 {
@@ -85,14 +86,15 @@ fn is_of(it: &EarlierRegister, register: &Option<Name>) -> bool
     }
 }
 
-// The first index of an earlier register with this name.
+// Returns the first index of a register with this name among those of earlier files.
 fn first_of(registers: &[EarlierRegister], register: &Option<Name>) -> Option<usize>
     ensures { result ≡ position (λ it. is_named register.now it.name) registers.now }
 {
     registers.iter().position(|it| is_of(it, register))
 }
 
-/// Returns the first index of a register among those of earlier files.
+/// Returns the first index of a register with this name among those of earlier files, if they have
+/// it.
 pub fn place_among(registers: &[EarlierRegister], register: &Option<Name>) -> Option<usize>
     ensures first { result ≡ position (λ it. is_named register.now it.name) registers.now }
     ensures within { IfSome result (λ place. place < length registers.now) }

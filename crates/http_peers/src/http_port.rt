@@ -31,13 +31,14 @@ use std::alloc::{AllocError, Global};
 use std::io::ErrorKind;
 use std::mem;
 
-// The most pieces of a reply that are sent to one client in a row: more than a turn's share allows.
+// The most pieces of a reply that are sent to one client in a row. The turn's share of responses
+// ends sooner.
 const MOST_PIECES: u32 = 64;
 
 /// The token of the listener. The token of a connection is its slot, which is lower.
 pub const PORT_TOKEN: usize = MOST_PEERS;
 
-/// A listener and up to 64 connections. The event loop marks what is ready, and serves one slot
+/// A listener and up to 64 connections. The event loop marks ready connections, and serves one slot
 /// after the other.
 #[derive(Drop)]
 pub struct HttpPort {
@@ -47,19 +48,19 @@ pub struct HttpPort {
     router: Router<Route>,
     peers: Peers,
     connections: Vec<Option<Client>>,
-    /// What may still be sent in this turn.
+    /// The part of this turn's share of responses that is left.
     share: TurnShare,
     /// The slot that is served first.
     first: usize,
     room: KeptRoom,
     repeats: Repeats,
-    /// Whether a command was rejected for want of room, and nobody has logged that yet.
+    /// Whether a command was rejected for want of room, and that was not logged yet.
     is_full: bool,
-    /// Whether a file of the office is gone: then every command is rejected.
+    /// Whether a file of the office is gone. If it is, every command is rejected.
     is_lost: bool,
 }
 
-// The bytes of a reply.
+// Returns the number of bytes of a reply.
 fn size_of(asked: &PeerReply) -> usize {
     match asked {
         PeerReply::Replied(reply) => reply.len(),
@@ -68,9 +69,9 @@ fn size_of(asked: &PeerReply) -> usize {
 }
 
 impl HttpPort {
-    /// Returns a port without connections. The caller has registered the listener under
-    /// [`PORT_TOKEN`]. The port accepts `clients` connections at once, 64 at most. Fails where
-    /// memory runs out.
+    /// Makes a port without connections. The caller has registered the listener under
+    /// [`PORT_TOKEN`]. The port accepts `clients` connections at once, at most 64. Fails if memory
+    /// runs out.
     pub fn new(
         alloc: Global,
         listener: TcpListener,
@@ -95,19 +96,20 @@ impl HttpPort {
         })
     }
 
-    /// Begins a turn with a whole share. The share bounds how long HTTP keeps devices waiting.
+    /// Begins a turn with its full share of responses. The share bounds how long HTTP keeps devices
+    /// waiting.
     pub fn begin_turn(&mut self) {
         self.share = TurnShare::whole();
     }
 
-    /// Returns the slot that is served first: the slot after the last reply's.
+    /// Returns the slot that is served first: the slot after that of the last reply.
     pub fn first(&self) -> usize
         ensures { result ≡ self.now.first }
     {
         self.first
     }
 
-    // Takes a reply off the turn's share, and moves on to the next slot.
+    // Subtracts a reply from the turn's share, and lets the next turn begin with the next slot.
     fn record_reply(&mut self, slot: usize, bytes: usize, milliseconds: u64) {
         self.share = self.share.after(bytes, milliseconds);
         self.first = place_at(slot, 1);
@@ -121,7 +123,8 @@ impl HttpPort {
         mem::replace(&mut self.is_full, false)
     }
 
-    /// Drops the kept reply, since the office may have recorded something.
+    /// Drops the reply that was kept for a repeated request. Call it when the office may have
+    /// recorded something.
     pub fn forget_replies(&mut self) {
         self.repeats.forget();
     }
@@ -133,7 +136,8 @@ impl HttpPort {
         self.is_lost = true;
     }
 
-    /// Whether a file of the office is gone. Each command's acknowledgement asks for that first.
+    /// Returns whether a file of the office is gone. Each acknowledgement of a command checks this
+    /// first.
     pub fn has_lost(&self) -> bool
         ensures { result ≡ self.now.is_lost }
     {
@@ -151,7 +155,8 @@ impl HttpPort {
         }
     }
 
-    // Whether another reply may be made, by the bytes of those that clients have not read yet.
+    // Returns whether another reply may be made. It may not while clients have too many bytes of
+    // replies unread.
     fn may_reply(&self) -> bool {
         let mut held = 0usize;
         for connection in &self.connections {
@@ -160,13 +165,13 @@ impl HttpPort {
         may_reply(held)
     }
 
-    /// Whether a connection can be served without waiting.
+    /// Returns whether a connection can be served without waiting.
     pub fn is_ready(&self) -> bool {
         let may_reply = self.may_reply();
         self.connections.iter().any(|it| is_ready(it, may_reply))
     }
 
-    /// Whether a connection may wait at the listener.
+    /// Returns whether a new connection may be waiting at the listener.
     pub fn is_waiting(&self) -> bool
         ensures { result ≡ self.now.waiting }
     {
@@ -181,8 +186,8 @@ impl HttpPort {
         }
     }
 
-    /// Drops connections whose time is over at `time`, and those that have their complete reply. In
-    /// seconds.
+    /// Drops connections whose deadline has passed, and those that got their complete reply. `time`
+    /// is in seconds of the run's time.
     pub fn sweep(&mut self, time: u64) {
         for slot in 0..MOST_PEERS {
             let is_late = self.peers.is_over(slot, time);
@@ -192,8 +197,8 @@ impl HttpPort {
         }
     }
 
-    // Whether a new connection finds a slot: a free one, one whose client has its reply, or one
-    // whose client has sent no request for a second.
+    // Returns whether a new connection can get a slot: a free slot, that of a client that has its
+    // reply, or that of a client that has sent no request for a second.
     fn has_room(&self, time: u64) -> bool {
         let Some(slot) = place_for(&self.peers.places) else {
             return false;
@@ -222,14 +227,14 @@ impl HttpPort {
         }
     }
 
-    // Drops the connection that the slot had before.
+    // Drops the earlier connection of a slot.
     fn vacate_slot(&mut self, slot: usize) {
         if slot < self.connections.len() {
             self.connections[slot] = None;
         }
     }
 
-    /// Accepts waiting connections while there are slots.
+    /// Accepts connections that wait at the listener, as many as get a slot.
     pub fn accept(&mut self, registry: &Registry, time: u64) {
         for _connection in 0..MOST_PEERS {
             if !self.waiting || !self.has_room(time) {
@@ -245,8 +250,8 @@ impl HttpPort {
         }
     }
 
-    // Routes a complete request to its answer; `rows` gets the rows that later pieces send. Hosts
-    // are checked before all else, then the room for commands.
+    // Routes a complete request and makes its reply. `rows` gets the rows that later pieces send.
+    // The host is checked first, and then the room for commands.
     #[tactic(auto, using(crate::proofs::PeersAsking::nobody_asks, crate::proofs::PeersAsking::both_ask))]
     fn reply<B: Books>(
         &self,
@@ -285,7 +290,8 @@ impl HttpPort {
         }
     }
 
-    // Sends the kept reply where the same request came before and nothing was recorded since.
+    // Sends the kept reply if the request equals the kept one and nothing was recorded since.
+    // Otherwise makes a reply.
     #[tactic(auto, using(crate::proofs::PeersAsking::nobody_asks))]
     fn reply_again<B: Books>(
         &mut self,
@@ -306,7 +312,8 @@ impl HttpPort {
         asked
     }
 
-    // Keeps a reply with energy. A command may have changed the energy, so it drops the kept reply.
+    // Keeps a reply about energy for a repeated request. A command may have changed the energy, so
+    // it drops the kept reply.
     fn keep_reply(&mut self, names: &[&str], request: &[u8], asked: &PeerReply) {
         if is_command(request) {
             self.repeats.forget();
@@ -318,7 +325,7 @@ impl HttpPort {
         }
     }
 
-    // Adds the headers that protect browsers.
+    // Adds the headers for browsers to a reply.
     fn add_browser_headers(&self, names: &[&str], request: &[u8], asked: PeerReply) -> PeerReply {
         match asked {
             PeerReply::Replied(reply) => match for_browsers(self.alloc, names, request, &reply) {
@@ -330,7 +337,7 @@ impl HttpPort {
         }
     }
 
-    // Whether the connection of a slot is served now.
+    // Returns whether the connection of a slot is served now.
     fn has_turn(&self, slot: usize) -> bool {
         match self.connections.get(slot) {
             Some(connection) => {
@@ -340,7 +347,7 @@ impl HttpPort {
         }
     }
 
-    // Takes the connection out of a slot that is served now.
+    // Removes the connection from its slot, if it is served now.
     fn take_ready(&mut self, slot: usize) -> Option<Client> {
         if self.has_turn(slot) && slot < self.connections.len() {
             return self.connections[slot].take();
@@ -348,7 +355,8 @@ impl HttpPort {
         None
     }
 
-    // Writes what the socket accepts, and returns the connection to its slot unless it is over.
+    // Writes what the socket accepts, and puts the connection back into its slot unless it has
+    // ended.
     fn return_client(&mut self, slot: usize, mut client: Client, time: u64) {
         client.write_reply(time);
         if client.is_over() {
@@ -359,7 +367,7 @@ impl HttpPort {
         }
     }
 
-    // Cuts replies that have rows left: a void may have changed these rows.
+    // Cuts off the replies that have rows left, because a void may have changed these rows.
     fn cut_replies(&mut self) {
         for slot in 0..MOST_PEERS {
             if slot < self.connections.len() && has_rows_left(&self.connections[slot]) {
@@ -368,16 +376,16 @@ impl HttpPort {
         }
     }
 
-    // Serves a slot with rows left first in the next turn: replies end one after the other, so no
-    // client waits for all of them.
+    // If the reply of a slot has rows left, lets the next turn begin with this slot. Replies end
+    // one after the other, so no client waits for all of them.
     fn keep_first(&mut self, slot: usize, has_more: bool) {
         if has_more {
             self.first = slot;
         }
     }
 
-    // Accounts for a reply: its share of the turn, the room of its command, and the rows that a
-    // void may change.
+    // Accounts for a reply: its part of the turn's share, the room of its command, and the rows
+    // that a void may change.
     fn count_reply(&mut self, slot: usize, request: &[u8], asked: &PeerReply, milliseconds: u64) {
         self.record_reply(slot, size_of(asked), milliseconds);
         self.is_full = self.is_full || self.room.lacks(request);
@@ -387,7 +395,7 @@ impl HttpPort {
         }
     }
 
-    // Replaces the acknowledgement of a command by fault 503 where a file of the office is gone.
+    // Replaces the acknowledgement of a command by fault 503 if a file of the office is gone.
     fn confirmed<R: RunSystem>(
         &mut self,
         rt: &R,
@@ -404,7 +412,7 @@ impl HttpPort {
         answer_status(self.alloc, StatusRoute::Rejected(Status::Unavailable), told)
     }
 
-    // Answers the complete request of a client.
+    // Makes the reply to the complete request of a client.
     fn answer_request<R: RunSystem, B: Books>(
         &mut self,
         rt: &R,
@@ -454,7 +462,7 @@ impl HttpPort {
         }
     }
 
-    // Sends pieces while the socket accepts them and the turn has some share left.
+    // Sends pieces of a reply while the socket accepts them and the turn has some share left.
     fn send_pieces<R: std::rt::Clock, B: Books>(
         &mut self,
         rt: &R,
@@ -474,7 +482,7 @@ impl HttpPort {
         }
     }
 
-    // Reads from a client and answers its request, or continues its reply.
+    // Reads from a client and answers its request, or sends more of its reply.
     fn serve_client<R: RunSystem, B: Books>(
         &mut self,
         rt: &R,
@@ -494,7 +502,7 @@ impl HttpPort {
         self.send_pieces(rt, slot, client, office, now);
     }
 
-    /// Serves the connection of a slot, if it is ready and its turn has come.
+    /// Serves the connection of a slot, if the connection is ready and the turn's share allows it.
     #[tactic(auto, using(crate::proofs::PeersAsking::nobody_asks, crate::proofs::PeersAsking::both_ask))]
     pub fn attend<R: RunSystem, B: Books>(
         &mut self,

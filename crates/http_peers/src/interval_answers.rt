@@ -1,4 +1,4 @@
-//! Answers with many quarter hours, which are written in pieces.
+//! Replies with many quarter hours, which are written in pieces.
 ghost use Rattle.std.specs.Prelude.{ℕ, List};
 ghost use Rattle.http_peers.specs.PeersAsk.{PeersAsk};
 
@@ -13,10 +13,11 @@ use run_http::{
 };
 use std::alloc::{AllocError, Global};
 
-/// The seconds of quarter hours in one piece: a thousand lines of at most 32 bytes each.
+/// The length in seconds of the quarter hours in one piece: a thousand lines of at most 32 bytes
+/// each.
 const PIECE_SECONDS: u64 = 900_000;
 
-// Answers with the quarter hours of a span in one piece.
+// Makes the reply with the quarter hours of a span, in one piece.
 #[tactic(auto, using(crate::proofs::PeersAsking::asks_rows))]
 fn answer_intervals<B: Books>(
     alloc: Global,
@@ -33,8 +34,8 @@ fn answer_intervals<B: Books>(
     }
 }
 
-// The answer whose first piece was written. Where the office refuses it, there is none, and the
-// caller asks for the whole answer.
+// Returns the reply whose first piece was written. If the office refused the query, there is no
+// such reply, and the caller makes the complete one.
 fn begun_answer(
     text: Vec<u8>,
     begun: Result<Result<RowsLeft, Refusal>, AllocError>,
@@ -50,7 +51,7 @@ fn begun_answer(
     }
 }
 
-// Begins the answer with the quarter hours of a span, where they fill more than one piece.
+// Begins the reply with the quarter hours of a span, if they fill more than one piece.
 #[tactic(auto, using(crate::proofs::PeersAsking::nobody_asks, crate::proofs::PeersAsking::only_asks))]
 fn begin_span<B: Books>(
     alloc: Global,
@@ -75,7 +76,7 @@ fn begin_span<B: Books>(
     begun_answer(text, begun, rows)
 }
 
-/// Answers with the quarter hours of a span, or with the first piece of them.
+/// Makes the reply with the quarter hours of a span, or its first piece.
 pub(crate) fn answer_span<B: Books>(
     alloc: Global,
     office: &mut Office<B>,
@@ -91,7 +92,7 @@ pub(crate) fn answer_span<B: Books>(
     }
 }
 
-/// Begins the office's own answer with all quarter hours of a meter, where a request asks for them
+/// Begins the office's own reply with all quarter hours of a meter, if the request asks for them
 /// and they fill more than one piece.
 #[tactic(auto, using(crate::proofs::PeersAsking::nobody_asks, crate::proofs::PeersAsking::only_asks))]
 pub(crate) fn begin_all<B: Books>(
@@ -117,8 +118,8 @@ pub(crate) fn begin_all<B: Books>(
     begun_answer(text, begun, rows)
 }
 
-/// Appends the next piece of an answer, or its end, and returns whether that was the end. None
-/// where the store failed or memory ran out.
+/// Appends the next piece of a reply, or its end, and returns whether it was the end. `None` if the
+/// store failed or memory ran out.
 #[tactic(auto, using(crate::proofs::PeersAsking::nobody_asks, crate::proofs::PeersAsking::asks_told))]
 pub(crate) fn append_piece<B: Books>(
     alloc: Global,

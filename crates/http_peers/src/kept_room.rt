@@ -6,15 +6,15 @@ ghost use Rattle.http_peers.specs.KeptRoom.{Acknowledges, Counts, IsCommand, Lac
 use http_request::{HeadState, parse_head};
 use run_http::PeerReply;
 
-/// The bytes of requests that may still be stored. The office stores each command that acts for
-/// good, and reads all of them whenever its file is opened.
+/// The number of bytes of requests that may still be stored. The office stores each executed
+/// command permanently, and reads all of them whenever it opens its file.
 #[derive(Clone, Copy, Debug, PartialEq, Eq)]
 pub struct KeptRoom {
     left: u64,
 }
 
-/// Whether a request is a command (POST). The head is parsed as the office parses it: empty lines
-/// may precede it (RFC 9112, section 2.2).
+/// Returns whether a request is a command (POST). The head is parsed as the office parses it: empty
+/// lines may precede it (RFC 9112, section 2.2).
 pub(crate) fn is_command(request: &[u8]) -> bool
     ensures { IsCommand request.now result }
 {
@@ -25,7 +25,8 @@ pub(crate) fn is_command(request: &[u8]) -> bool
     }
 }
 
-// Whether the office acted, now or when the same command came before.
+// Returns whether a reply has status 200: the office executed the command, now or for an earlier
+// request with the same idempotency key.
 fn has_acted(reply: &PeerReply) -> bool
     ensures { result ≡ kept.has_acted reply.now }
 {
@@ -35,7 +36,8 @@ fn has_acted(reply: &PeerReply) -> bool
     }
 }
 
-/// Whether a reply acknowledges a command: the client may then rely on the command's record.
+/// Returns whether a reply acknowledges a command. The client may then rely on the record of the
+/// command.
 pub(crate) fn is_acknowledged(request: &[u8], reply: &PeerReply) -> bool
     ensures { Acknowledges request.now reply.now result }
 {
@@ -43,7 +45,7 @@ pub(crate) fn is_acknowledged(request: &[u8], reply: &PeerReply) -> bool
 }
 
 impl KeptRoom {
-    /// Returns the room that `taken` bytes leave of `most`; without a limit where `most` is `None`.
+    /// Returns the room that `taken` bytes leave of `most`. If `most` is `None`, there is no limit.
     pub fn new(most: Option<u64>, taken: u64) -> KeptRoom
         ensures { result.left ≡ kept.room_of most taken }
     {
@@ -54,23 +56,23 @@ impl KeptRoom {
         KeptRoom { left }
     }
 
-    /// Whether a request is a command that is longer than the room.
+    /// Returns whether a request is a command that is longer than the room.
     pub fn lacks(&self, request: &[u8]) -> bool
         ensures { Lacks self.now.left request.now result }
     {
         is_command(request) && request.len() as u64 > self.left
     }
 
-    /// Whether a request is a command to reject: it is longer than the room, or a file of the
-    /// office is gone.
+    /// Returns whether to reject a request: it is a command, and longer than the room, or a file of
+    /// the office is gone.
     pub fn rejects(&self, request: &[u8], is_lost: bool) -> bool
         ensures { Rejects self.now.left is_lost request.now result }
     {
         is_command(request) && (request.len() as u64 > self.left || is_lost)
     }
 
-    /// Counts the whole request of a command that acted. The office stores less: no head, and a
-    /// retry not twice.
+    /// Subtracts a command that acted from the room, by the length of its complete request. The
+    /// office stores less: it stores no head, and no retry.
     pub fn count(&mut self, request: &[u8], reply: &PeerReply)
         ensures { Counts self.old.left self.new.left request.now reply.now }
     {

@@ -1,9 +1,9 @@
-//! The times at which an event comes.
+//! The time of an event.
 
-/// The times at which an event comes, by two clocks.
+/// The time of an event, by two clocks.
 #[derive(Clone, Copy)]
 pub struct Now {
-    /// Seconds of the run's own time, which measures waits.
+    /// The time of the run in seconds, by which it measures waits.
     pub time: u64,
     /// The timestamp that the office gets, in seconds since 1970-01-01 UTC.
     pub moment: u64,

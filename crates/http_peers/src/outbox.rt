@@ -1,4 +1,4 @@
-//! Bytes that wait for a socket.
+//! Bytes that wait to be written to a socket.
 ghost use Rattle.std.specs.Prelude.{◌≡◌, ◌==◌, ◌≤◌, ◌++◌, [], drop, length, nat_le, OnOk};
 ghost use Rattle.http_peers.specs.Outbox.{went_of};
 
@@ -6,7 +6,7 @@ use mio::net::TcpStream;
 use std::alloc::{AllocError, Global};
 use std::io::{ErrorKind, Write};
 
-/// The most reads, or writes, of a socket in a row.
+/// The most reads in a row from a socket, and the most writes in a row.
 pub(crate) const MOST_CALLS: u32 = 16;
 
 /// The outcome of a read or a write.
@@ -55,28 +55,28 @@ impl Outbox {
         Outbox::of(Vec::new(alloc))
     }
 
-    /// Whether the outbox has no bytes, written ones included.
+    /// Returns whether the outbox holds no bytes. Bytes that were already written count.
     pub fn is_empty(&self) -> bool
         ensures { result ≡ (length self.now.bytes.items == 0) }
     {
         self.bytes.is_empty()
     }
 
-    /// Returns the count of its bytes, written ones included.
+    /// Returns the number of its bytes. Bytes that were already written count.
     pub fn len(&self) -> usize
         ensures { result ≡ length self.now.bytes.items }
     {
         self.bytes.len()
     }
 
-    /// Whether all bytes were written.
+    /// Returns whether all bytes were written.
     pub fn is_written(&self) -> bool
         ensures { result ≡ nat_le (length self.now.bytes.items) self.now.written }
     {
         self.written >= self.bytes.len()
     }
 
-    /// Appends bytes to the unsent ones. Fails where memory runs out.
+    /// Appends bytes to the unsent ones. Fails if memory runs out.
     pub fn put(&mut self, bytes: &[u8]) -> Result<(), AllocError>
         ensures { OnOk result (drop self.new.written self.new.bytes.items
             ≡ drop self.old.written self.old.bytes.items ++ bytes.now) }
@@ -88,7 +88,7 @@ impl Outbox {
         self.bytes.extend_from_slice(bytes)
     }
 
-    // Writes once.
+    // Writes unsent bytes to the socket, with one call.
     fn write(&mut self, stream: &TcpStream) -> Went
         ensures bytes { self.new.bytes ≡ self.old.bytes }
         ensures written { self.old.written ≤ self.new.written }
@@ -107,8 +107,8 @@ impl Outbox {
         }
     }
 
-    /// Writes until the socket accepts no more, 16 times at most. [`Went::On`] where all bytes were
-    /// written, or where the socket may accept more at once.
+    /// Writes until the socket accepts no more, at most 16 times. Returns [`Went::On`] if all bytes
+    /// were written, or if the socket may accept more at once.
     pub fn write_all(&mut self, stream: &TcpStream) -> Went
         ensures bytes { self.new.bytes ≡ self.old.bytes }
         ensures written { self.old.written ≤ self.new.written }

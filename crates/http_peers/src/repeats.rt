@@ -1,10 +1,10 @@
-//! A reply that is sent again to the same request while nothing is recorded.
+//! Keeps a reply, and sends it again to an equal request while nothing is recorded.
 ghost use Rattle.std.specs.Prelude.{◌≡◌, IfSome, None};
 ghost use Rattle.http_peers.specs.Repeats as repeats;
 
 use std::alloc::Global;
 
-// The most bytes of a reply that is kept; a reply with months is shorter.
+// The most bytes of a reply that is kept. A report on months is shorter.
 const MOST_BYTES: usize = 65_536;
 
 /// A request and its reply.
@@ -14,14 +14,14 @@ pub(crate) struct Replied {
     pub(crate) reply: Vec<u8>,
 }
 
-/// The latest reply with energy. Energy is summed over all rows of a register; a crowd with the
-/// same question would cause the same sum again and again.
+/// The latest reply about energy. The energy of a register is summed over all its rows, and many
+/// clients with the same query would repeat that sum.
 #[derive(Drop)]
 pub(crate) struct Repeats {
     pub(crate) latest: Option<Replied>,
 }
 
-// Copies a request and its reply. None where memory runs out.
+// Copies a request and its reply. Returns `None` if memory runs out.
 fn copied(alloc: Global, request: &[u8], reply: &[u8]) -> Option<Replied>
     ensures { IfSome result (λ it. repeats.IsOf request.now reply.now it) }
 {
@@ -61,8 +61,8 @@ impl Repeats {
         self.latest = None;
     }
 
-    /// Returns a copy of the kept reply if the request is the same to the byte. None where memory
-    /// runs out.
+    /// Returns a copy of the kept reply if the request equals the kept one to the byte. Returns
+    /// `None` if memory runs out.
     pub(crate) fn again(&self, alloc: Global, request: &[u8]) -> Option<Vec<u8>>
         ensures { IfSome result (λ reply.
             repeats.WasReplied self.now.latest request.now reply.items) }

@@ -1,4 +1,4 @@
-//! The answer to each route of a run, but those with many quarter hours.
+//! Makes the reply of each route of a run, except those with many quarter hours.
 ghost use Rattle.std.specs.Prelude.{ℕ, List};
 ghost use Rattle.http_peers.specs.PeersAsk.{PeersAsk};
 
@@ -17,7 +17,7 @@ use run_http::{
 };
 use std::alloc::Global;
 
-/// Answers a route that needs nothing of the office.
+/// Makes the reply of a route that does not ask the office.
 pub(crate) fn answer_status(alloc: Global, route: StatusRoute, told: &RunTold<'_>) -> PeerReply {
     let mut text = Vec::new(alloc);
     let monitor = told.monitor;
@@ -68,7 +68,7 @@ pub(crate) fn answer_site<B: Books>(
     }
 }
 
-/// Answers with the entries of a meter, from an index on.
+/// Answers with the entries of a meter, beginning with a given sequence number.
 #[tactic(auto, using(crate::proofs::PeersAsking::asks_rows))]
 pub(crate) fn answer_entries<B: Books>(
     alloc: Global,
@@ -136,7 +136,7 @@ fn answer_energy_over<B: Books>(
     }
 }
 
-/// Answers with the energy of a register, over earlier files where they have it.
+/// Answers with the energy of a register, together with earlier files that have the register.
 pub(crate) fn answer_days<B: Books>(
     alloc: Global,
     office: &mut Office<B>,

@@ -1,4 +1,4 @@
-//! What the answers of a run need besides the office.
+//! What the replies of a run depend on besides the office.
 use crate::energy_over::EarlierFiles;
 use run_status::{DeviceLack, RunMonitor};
 
@@ -11,8 +11,8 @@ pub struct RunTold<'a> {
     pub earlier: &'a EarlierFiles<'a>,
 }
 
-/// The clock, and the last look at the files of the office.
+/// The clock, and the latest check of the office's files.
 pub trait RunSystem: std::rt::Clock {
-    /// Whether the paths of the office's files led to its open files at the last look.
+    /// Returns whether, at the latest check, the paths of the office's files led to its open files.
     fn are_files_there(&self) -> bool;
 }

@@ -10,7 +10,7 @@ use office_events::{Installation, Refusal};
 use run_http::{SiteLine, put_site_reply};
 use std::alloc::{AllocError, Global};
 
-// The line of a register at which earlier files have these meters.
+// Returns the line of a register, with the meters that earlier files have at it.
 fn line_after(earlier: &[Installation], row: &SiteRow) -> SiteLine
     ensures { result ≡ site.line_after earlier.now row.now }
 {
@@ -29,7 +29,7 @@ fn line_after(earlier: &[Installation], row: &SiteRow) -> SiteLine
     }
 }
 
-// The lines of registers.
+// Returns the lines of registers.
 fn lines_over(
     alloc: Global,
     earlier: &[EarlierRegister],
@@ -45,7 +45,7 @@ fn lines_over(
     Ok(lines)
 }
 
-// The lines, or the refusal of the office.
+// Returns the lines, or the refusal of the office.
 fn told_of(
     alloc: Global,
     earlier: &[EarlierRegister],
@@ -78,8 +78,8 @@ fn put_answer(
 }
 
 /// Appends the reply with the registers of the office, each with its latest meter in the office and
-/// in earlier files. `moment` is in seconds since 1970-01-01 UTC. Where memory runs out, a part of
-/// the reply is appended.
+/// in earlier files. `moment` is in seconds since 1970-01-01 UTC. If memory runs out, a part of the
+/// reply is appended.
 pub fn reply_site_over<B: Books>(
     alloc: Global,
     text: &mut Vec<u8>,

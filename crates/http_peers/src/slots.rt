@@ -5,8 +5,8 @@ use crate::clients::Client;
 use run_schedule::{MOST_PEERS, Peers, TurnShare};
 use std::alloc::{AllocError, Global};
 
-/// Whether the connection of a slot has unread input and may be attended now. Without room for more
-/// replies, only a connection with a reply under way is.
+/// Returns whether the connection of a slot is ready for input or output and may be served now.
+/// While no further reply may be made, only a connection whose reply is being sent may.
 pub(crate) fn is_ready(connection: &Option<Client>, may_reply: bool) -> bool {
     match connection {
         Some(client) => client.ready && (may_reply || client.has_reply()),
@@ -14,8 +14,9 @@ pub(crate) fn is_ready(connection: &Option<Client>, may_reply: bool) -> bool {
     }
 }
 
-/// Whether the connection of a slot is attended with what is left of the turn's share. Requests and
-/// further rows wait for a turn with some share left; a reply under way is always written on.
+/// Returns whether the connection of a slot is served with the rest of the turn's share. New
+/// replies and further rows wait for a turn with some share left. A reply that is being sent is
+/// always continued.
 pub(crate) fn is_attended(connection: &Option<Client>, share: TurnShare) -> bool {
     match connection {
         Some(client) => {
@@ -26,7 +27,7 @@ pub(crate) fn is_attended(connection: &Option<Client>, share: TurnShare) -> bool
     }
 }
 
-/// The bytes of a reply that a slot still holds.
+/// Returns how many bytes of a reply the connection of a slot has in memory.
 pub(crate) fn held_bytes(connection: &Option<Client>) -> usize {
     match connection {
         Some(client) => client.held_bytes(),
@@ -34,7 +35,7 @@ pub(crate) fn held_bytes(connection: &Option<Client>) -> usize {
     }
 }
 
-/// Whether the reply of a slot has further rows.
+/// Returns whether the reply of a slot has rows left.
 pub(crate) fn has_rows_left(connection: &Option<Client>) -> bool {
     match connection {
         Some(client) => client.rows.is_some(),
@@ -42,7 +43,7 @@ pub(crate) fn has_rows_left(connection: &Option<Client>) -> bool {
     }
 }
 
-/// Whether the connection of a slot got its complete reply and may be dropped.
+/// Returns whether the connection of a slot got its complete reply and may be dropped.
 pub(crate) fn is_done(connection: &Option<Client>, time: u64) -> bool {
     match connection {
         Some(client) => client.is_done(time),
@@ -50,7 +51,7 @@ pub(crate) fn is_done(connection: &Option<Client>, time: u64) -> bool {
     }
 }
 
-/// Opens this many slots, and shuts the others.
+/// Makes the slots of a port: this many are open, and the others are shut.
 pub(crate) fn open_slots(clients: usize) -> Peers {
     let mut peers = Peers::new();
     for slot in clients..MOST_PEERS {
@@ -59,7 +60,7 @@ pub(crate) fn open_slots(clients: usize) -> Peers {
     peers
 }
 
-/// Records in its slot whether a client waits for its reply or got it.
+/// Records in a slot whether its client waits for a reply or got it.
 pub(crate) fn record_state(peers: &mut Peers, slot: usize, client: &Client)
     requires { slot < 64 }
 {
@@ -73,7 +74,7 @@ pub(crate) fn record_state(peers: &mut Peers, slot: usize, client: &Client)
     }
 }
 
-/// One slot for each connection, all of them empty.
+/// Makes one empty slot for each connection.
 pub(crate) fn empty_slots(alloc: Global) -> Result<Vec<Option<Client>>, AllocError> {
     let mut connections = Vec::new(alloc);
     for _place in 0..MOST_PEERS {

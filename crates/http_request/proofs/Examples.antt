@@ -14,7 +14,7 @@ by_number = refl
 with_a_port : is_known [] (codes "127.0.0.1:8080") ≡ true
 with_a_port = refl
 
--- Any port is accepted, since a port may be forwarded.
+-- Any port is accepted, because a port may be forwarded.
 with_another_port : is_known [] (codes "127.0.0.1:8081") ≡ true
 with_another_port = refl
 
@@ -50,7 +50,7 @@ nothing = refl
 a_port_alone : is_known [] (codes ":8080") ≡ false
 a_port_alone = refl
 
--- A name that was given is accepted.
+-- A name among the given names is accepted.
 
 a_given_name : is_known (codes "Office.example" ∷ []) (codes "office.Example:443") ≡ true
 a_given_name = refl

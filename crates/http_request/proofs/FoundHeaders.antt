@@ -1,4 +1,4 @@
--- The headers that the program found, in the words of the tests.
+-- Lemmas on how the definitions of the tests express what the program found of a header.
 use Rattle.std.proofs.Common.{◌≡◌, ◌≤◌, ℕ, List, [], ◌∷◌, length, refl, sym, ap, arith}
 use Rattle.std.specs.Prelude.{codes}
 use Rattle.http_request.specs.Head.Headers.{Gives, values_of}

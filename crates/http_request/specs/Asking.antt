@@ -15,13 +15,14 @@ pub record LeadsTo (table : Table) (start : Start) (found : Found) : Type 0 wher
   pub route : route_in table start.target ≡ Some found.route
   pub name : name_of found ≡ name_in table start.target
 
--- The size, caller and number that the headers give.
+-- The parsed headers have this body size, caller and request number.
 pub record Says (headers : PostHeaders) (posted : Posted) : Type 0 where
   pub size : size_in headers ≡ Some posted.size
   pub caller : caller_in headers ≡ Some posted.caller
   pub number : request_in headers ≡ Some posted.number
 
--- The parsed headers if all tests pass, otherwise the status of the first failed test.
+-- Tests the headers of a POST. The result is the parsed headers if all tests pass, or the status of
+-- the first failed test.
 abbrev pub TestsPost : PostHeaders → Result Posted Status → Type 0
 TestsPost headers (Ok posted) = (post_fault headers ≡ None) × Says headers posted
 TestsPost headers (Err status) = post_fault headers ≡ Some status
@@ -33,7 +34,8 @@ AsksFor table start (Command found posted) =
     LeadsTo table start found × (is_question found.route ≡ false)
     × Says (post_headers_of start.headers) posted
 
--- The request of a head if all tests pass, otherwise the status of the first failed test.
+-- Tests a head. The result is its query or command if all tests pass, or the status of the first
+-- failed test.
 abbrev pub TestsHead : Table → Start → Result Ask Status → Type 0
 TestsHead table start (Ok ask) = (head_fault table start ≡ None) × AsksFor table start ask
 TestsHead table start (Err status) = head_fault table start ≡ Some status

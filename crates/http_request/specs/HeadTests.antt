@@ -39,12 +39,13 @@ abbrev pub has_other_method : Option Route → List ℕ → Bool
 has_other_method None method = false
 has_other_method (Some route) method = not (has_method route method)
 
--- The target has the route of a query.
+-- The target's route is a query. False for a command and for a target without a route.
 abbrev pub asks : Option Route → Bool
 asks None = false
 asks (Some route) = is_question route
 
--- Each test with the status of its failure. A query has only these first two tests.
+-- The tests of a head in order, each with the status of its failure: the route, the method, and for
+-- a command the headers of a POST.
 abbrev pub head_tests : Table → Start → List (Bool × Status)
 head_tests table start =
     (is_none (route_in table start.target), NotFound)

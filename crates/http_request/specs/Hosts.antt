@@ -1,4 +1,4 @@
--- Which hosts may ask: what the Host header of a request must name (RFC 9110, section 7.2).
+-- Which requests are served, by their Host header (RFC 9110, section 7.2).
 use Rattle.std.specs.Prelude.{ℕ, ◌==◌, Bool, true, false, ◌&&◌, ◌||◌, List, [], ◌∷◌, length, take, drop, map, codes}
 use Rattle.std.specs.Borrow.{Bor}
 use Rattle.std.specs.Char.{is_ascii_digit}
@@ -28,29 +28,29 @@ is_host name value =
 abbrev pub is_among : (names : List (List ℕ)) → (value : List ℕ) → Bool
 is_among names value = list_any (λ name. is_host name value) names
 
--- A name of this machine, or a given name.
+-- The header's value is a name of this machine or one of the given names, with or without a port.
 abbrev pub is_known : (given : List (List ℕ)) → (value : List ℕ) → Bool
 is_known given value = is_among own_names value || is_among given value
 
--- A request without Host may ask, and one whose only Host is known. With two Host headers it may
--- not (RFC 9112, section 3.2).
+-- A request may be served if it has no Host header, or one Host header with a known name. With two
+-- Host headers it may not (RFC 9112, section 3.2).
 abbrev pub may_ask_with : (given : List (List ℕ)) → Times → Bool
 may_ask_with given Missing = true
 may_ask_with given (Alone value) = is_known given value
 may_ask_with given Repeated = false
 
--- The Host header of the head lets it ask.
+-- The Host header of this head lets the request be served.
 abbrev pub may_ask : (given : List (List ℕ)) → Start → Bool
 may_ask given start = may_ask_with given (times (values_of (codes "host") start.headers))
 
--- The same for the bytes that were read. Bytes without a complete head have no Host, so they may
--- ask. A later test rejects a bad head.
+-- The bytes that were read pass the test of the Host header. Bytes without a complete head pass it
+-- too, because a later test rejects a bad head.
 abbrev pub may_ask_in : (given : List (List ℕ)) → List ℕ → HeadState → Bool
 may_ask_in given bytes Open = true
 may_ask_in given bytes TooLarge = true
 may_ask_in given bytes NoHead = true
 may_ask_in given bytes (Whole at) = may_ask given (start_at bytes at)
 
--- The names as lists of bytes.
+-- The current bytes of each borrowed name.
 abbrev pub texts : List (Bor (List ℕ)) → List (List ℕ)
 texts names = map (λ name. name.now) names

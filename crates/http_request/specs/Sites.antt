@@ -9,7 +9,9 @@ use Rattle.http_request.specs.declared.head.head.Head.{Head}
 use Rattle.http_request.specs.declared.head.head.HeadState.{HeadState}
 use Rattle.http_request.specs.declared.head.head.HeadState.TheVariants.{Open, TooLarge, NoHead, Whole}
 
--- A request without the header came from no browser, or from an old one. No browser sends two.
+-- The values of Sec-Fetch-Site say that a page of another site sent the request. A repeated header
+-- counts as such, because no browser sends two. A missing header does not: the request came from no
+-- browser, or from an old one.
 abbrev pub says_cross_site : Times → Bool
 says_cross_site Missing = false
 says_cross_site (Alone value) = bytes_eq value (codes "cross-site")
@@ -19,7 +21,8 @@ says_cross_site Repeated = true
 abbrev pub is_cross_site : Start → Bool
 is_cross_site start = says_cross_site (times (values_of (codes "sec-fetch-site") start.headers))
 
--- The same for the bytes that were read. Bytes without a head have no such header.
+-- The head in these bytes says that a page of another site sent the request. Bytes without a
+-- complete head do not.
 abbrev pub is_cross_site_in : List ℕ → HeadState → Bool
 is_cross_site_in bytes Open = false
 is_cross_site_in bytes TooLarge = false

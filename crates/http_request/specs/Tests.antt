@@ -6,7 +6,8 @@ use Rattle.http_request.specs.Values.{digits_in, number_in}
 use Rattle.http_request.specs.declared.status.Status.{Status}
 use Rattle.http_request.specs.declared.status.Status.TheVariants.{BadRequest, LengthRequired, ContentTooLarge}
 
--- The status of the first failed test.
+-- The status of the first test that failed. Each pair has whether its test failed, and the status
+-- for that.
 abbrev pub first_failed : List (Bool × Status) → Option Status
 first_failed [] = None
 first_failed (row ∷ rows) = if row.0 then Some row.1 else first_failed rows
@@ -57,15 +58,15 @@ post_headers_of headers = record {
   number = times (values_of (codes "office-request") headers);
 }
 
--- The size of the body in bytes.
+-- The value of Content-Length: the size of the body in bytes.
 abbrev pub size_in : PostHeaders → Option ℕ
 size_in headers = option_and_then digits_in (value_in headers.size)
 
--- The caller.
+-- The value of Office-Caller, if it is a valid name.
 abbrev pub caller_in : PostHeaders → Option (List ℕ)
 caller_in headers = option_and_then named (value_in headers.caller)
 
--- The caller's number of the request.
+-- The value of Office-Request: the caller's number of this request.
 abbrev pub request_in : PostHeaders → Option ℕ
 request_in headers = option_and_then number_in (value_in headers.number)
 

@@ -11,7 +11,7 @@ use crate::routing::{Found, Route, route_of};
 use crate::status::Status;
 use matchit::Router;
 
-/// A tested request, by its head.
+/// A request whose head passed all tests: a query or a command.
 #[derive(Clone, Copy)]
 pub enum Ask<'b> {
     /// A query. Its body is not read.

@@ -9,7 +9,7 @@ ghost use Rattle.http_request.specs.Hosts.{texts};
 
 use crate::head::{Given, Head, HeadState, header_value, same_name};
 
-// Returns at most the first `count` bytes. Unlike a slice, it accepts a count past the end.
+// Returns the first `count` bytes, or all bytes if there are fewer.
 fn front_of(bytes: &[u8], count: usize) -> &[u8]
     ensures { result.now ≡ take count bytes.now }
 {
@@ -71,7 +71,8 @@ fn is_given(given: &[&str], value: &[u8]) -> bool
     is_one_of(given, value)
 }
 
-// Returns whether a head names a known host, or no host.
+// Returns whether the Host header of a head lets the request be served: it is missing, or given
+// once with a known name.
 fn names_known(given: &[&str], bytes: &[u8], head: &Head) -> bool
     requires placed { IsPlaced bytes.now head.now }
     ensures { result ≡ hosts.may_ask (texts given.now) (start_at bytes.now head.now) }

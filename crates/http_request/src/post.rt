@@ -14,7 +14,7 @@ use office_events::Name;
 /// The most bytes that a body may have.
 pub const MOST_BODY: usize = 65_536;
 
-/// What the headers of a command say.
+/// The parsed headers of a command.
 #[derive(Clone, Copy)]
 pub struct Posted {
     /// The size of the body in bytes, from `Content-Length`.

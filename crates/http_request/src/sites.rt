@@ -6,7 +6,8 @@ ghost use Rattle.http_request.specs.Sites as sites;
 
 use crate::head::{Given, Head, HeadState, header_value};
 
-// Returns whether a head says that a page of another site sent it.
+// Returns whether the `Sec-Fetch-Site` header of a head says that a page of another site sent the
+// request.
 fn says_cross_site(bytes: &[u8], head: &Head) -> bool
     requires placed { IsPlaced bytes.now head.now }
     ensures { result ≡ sites.is_cross_site (start_at bytes.now head.now) }

@@ -116,7 +116,7 @@ pub fn a_command_tells_its_size(
     ensures { body_size router.now (start_at bytes.now head.now) ≡ posted.now.size }
 {}
 
-/// Theorem: two parses of the same bytes find the same head.
+/// Theorem: two results of parsing a head from the same bytes have the same spans.
 pub fn one_head(bytes: &[u8], one: &Head, other: &Head)
     requires one { IsHeadAt bytes.now one.now }
     requires other { IsHeadAt bytes.now other.now }
@@ -130,7 +130,7 @@ pub fn no_request(router: &Router<Route>, bytes: &[u8], head: &Head)
     ensures { IsWhole router.now bytes.now head.now → ⊥ }
 {}
 
-/// Theorem: the head that parses a complete request gives the request that the bytes hold.
+/// Theorem: a complete head and body are the one request that the bytes hold.
 pub fn a_look_finds_the_request(router: &Router<Route>, bytes: &[u8], head: &Head)
     requires { IsWhole router.now bytes.now head.now }
     ensures { HoldsRequest router.now bytes.now (start_at bytes.now head.now)

@@ -1,4 +1,4 @@
--- The bytes that one call reads and writes.
+-- Lemmas on the bytes that one call reads and writes.
 use Rattle.std.proofs.Common.{◌≡◌, ◌∙◌, ◌≤◌, ◌+◌, ◌-◌, ◌^◌, min, arith, ℕ, Bool, true, false, not, ◌&&◌, List, [], ◌++◌, Option, Some, None, Result, Ok, Err, inl, inr, refl, sym, ap, subst}
 use Rattle.std.specs.Io.KnownBytes.{Appends, Keeps}
 use Rattle.std.specs.Prelude.{is_err}
@@ -36,12 +36,12 @@ keeps_append None b h = tt
 keeps_append (Some x) None h = absurd h
 keeps_append (Some x) (Some y) h = h ∙ sym (append-nil x)
 
--- The bytes that were written since an earlier time, if nothing was written in between.
+-- If nothing was written in between, the bytes written since an earlier time are the same.
 pub gives_since : (sent : Result (Unit {0}) LinkFailed) (a b c : Option (List ℕ)) (bytes : List ℕ) → Keeps a b → Gives sent b c bytes → Gives sent a c bytes
 gives_since (Ok x) a b c bytes h gives = Appends-trans a b c [] bytes (keeps_append a b h) gives
 gives_since (Err e) a b c bytes h gives = (gives.0, gives.1, gives.2, Appends-trans a b c [] gives.0 (keeps_append a b h) gives.3)
 
--- The bytes that were read are all that arrived.
+-- If the buffer was empty, its bytes are all bytes that arrived.
 pub came_is : (old new : List ℕ) (r s : Option (List ℕ)) → old ≡ [] → (came : Came old new r s) → new ≡ came.chunk
 came_is old new r s empty came = came.bytes ∙ ap (λ o. o ++ came.chunk) empty
 
@@ -179,7 +179,7 @@ fault_sent (Err e) cut = refl
 fault_sent (Ok x) None = refl
 fault_sent (Ok x) (Some why) = refl
 
--- A writer over a link with these counts, to which bytes were written, and which was finished.
+-- A writer with these counts of its link was given bytes, and was then finished.
 pub record IsFinished (first put last : Outgoing) (sent : Result (Unit {0}) LinkFailed) : Type 0 where
   pub works : first.failed ≡ false
   pub puts : OnlyGives first put
@@ -211,7 +211,7 @@ finished_takes first put last sent before after done from to = to ∙ done.finis
 
 -- ---- The number of reads.
 
--- The reads since a new inbox was made.
+-- A new buffer makes at most 100,000 reads, and the link counts them.
 pub few_takes : {X : Type 0} (result : Result X TakeFault) (old new : Inbox) (taken later : ℕ) → old.takes ≡ 0 → CountsTakes result old new taken later
     → (count : ℕ) → taken ≡ min count (2 ^ 64 - 1) → later ≤ min (count + MOST_TAKES) (2 ^ 64 - 1)
 few_takes result old new taken later none takes count is =
@@ -254,7 +254,7 @@ bare_does : (link : Passage) (read : List ℕ) (sent : Result (Unit {0}) LinkFai
 bare_does link read (Ok x) h = h
 bare_does link read (Err e) h = h
 
--- The response after a head was read.
+-- The response that is written after a head was read, for want of memory.
 pub bare_replied : (inbox full : Inbox) (head_state : HeadState) (sent : Result (Unit {0}) LinkFailed) (result : Result (Unit {0}) HandleFault)
     (remaining mid later given given_mid later_given : Option (List ℕ)) (was between last : Option LastTake)
     → bytes_in inbox ≡ [] → ReadsHead (Ok head_state) (bytes_in inbox) (bytes_in full) remaining mid → StopsAtOnce IsOpenHead inbox full was between → Keeps given given_mid

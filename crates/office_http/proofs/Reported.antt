@@ -1,4 +1,4 @@
--- Reports that are the response to the bytes that were read.
+-- Lemmas on reports that are streamed as the response to a request.
 use Rattle.std.proofs.Common.{◌≡◌, ◌∙◌, ◌⊎◌, true, ℕ, zero, suc, ◌+◌, ◌<◌, ◌≤◌, List, [], ◌∷◌, ◌++◌, length, take, drop, Option, Some, None, Result, Ok, Err, inl, inr, refl, sym, ap, subst, arith, append_assoc}
 use Rattle.std.specs.Prelude.{flat_map}
 use Rattle.std.specs.Option.{option_and_then}
@@ -38,11 +38,11 @@ use Rattle.office_http.proofs.Served.{StandsStill}
 abbrev most : ℕ
 most = 18446744073709551615
 
--- The lines of rows, and the line with their number.
+-- The lines of the rows, followed by the line with their number.
 abbrev pub report_text : {T : Type 0} → (line : T → List ℕ) → List T → List ℕ
 report_text line rows = flat_map line rows ++ end_line (length rows)
 
--- A sink that writes rows as lines.
+-- The step of a sink that writes a row as a line.
 abbrev pub takes_lines : {T : Type 0} → (line : T → List ℕ) → Report → T → Report → Type 0
 takes_lines line old row new = PutsLine (line row) old new
 
@@ -63,7 +63,7 @@ whole_at line (row ∷ rows) =
     let end = end_line (length (row ∷ rows)) in
     ap (λ head. (text_head ++ lines) ++ (head ++ end)) (head_later (length (row ∷ rows)) (omega arith)) ∙ append_assoc text_head lines end
 
--- A report that was ended.
+-- A report that ended after all its rows.
 ended_whole : {T : Type 0} (line : T → List ℕ) (rows : List T) (start lines : Report) (out : Outgoing) (cut : Option Refusal)
     → TakesAll (takes_lines line) start rows lines → start.count ≡ 0 → length rows ≤ most → EndsReport lines (Ok tt) out cut
     → sending.Puts start.out out (text_head ++ report_text line rows) × (cut ≡ None)
@@ -80,7 +80,7 @@ ended_refused start lines why out cut same none ends =
     let end = ends.0 (ap (λ (r : Report). r.count) same ∙ none) in
     (subst (λ (r : Report). sending.Puts r.out out (reply_bytes (refused why))) same end.0, end.1)
 
--- The rest of a response.
+-- The part of a response that is missing if the report ended early.
 missing_is : {T : Type 0} (line : T → List ℕ) (rows first : List T) (n : ℕ) (row : T) (rest : List T) → first ≡ take n rows → first ≡ row ∷ rest
     → text_head ++ report_text line rows ≡ (text_head ++ flat_map line first) ++ (flat_map line (drop n rows) ++ end_line (length rows))
 missing_is line rows first n row rest is some =
@@ -132,7 +132,7 @@ module _ {B : Type 0} (ledger : B → Ledger) (past : History) (at : ℕ) (read 
   abbrev Answers : Result (Unit {0}) Refusal → Type 0
   Answers answer = answer ≡ Err refusal.Stopped → is_stopped old ≡ true
 
-  -- A complete report.
+  -- The response is the complete report.
   whole_served : (text : List ℕ) (from out : Outgoing) (cut : Option Refusal) → failures_of ledger new ≡ failures_of ledger old → AsksNothing routes read
       → ((office : Office) → AnswersAt (ledger (books_in old)).zone past at office → IsReply office routes read (text_head ++ text))
       → StandsStill ledger past old new → sending.Puts from out (text_head ++ text) × (cut ≡ None) → Puts ledger past at read old new from out cut
@@ -150,7 +150,7 @@ module _ {B : Type 0} (ledger : B → Ledger) (past : History) (at : ℕ) (read 
         puts = put.0;
       })
 
-  -- A report on an unknown name.
+  -- The response says that the name is unknown.
   unknown_served : (why : Refusal) (from out : Outgoing) (cut : Option Refusal) → failures_of ledger new ≡ failures_of ledger old → AsksNothing routes read
       → ((office : Office) → AnswersAt (ledger (books_in old)).zone past at office → IsReply office routes read (reply_bytes (refused why)))
       → StandsStill ledger past old new → sending.Puts from out (reply_bytes (refused why)) × (cut ≡ None) → Puts ledger past at read old new from out cut
@@ -168,7 +168,7 @@ module _ {B : Type 0} (ledger : B → Ledger) (past : History) (at : ℕ) (read 
         puts = put.0;
       })
 
-  -- A report for which the store failed before the first row.
+  -- The response says that the store failed before the first row.
   failed_served : (takes_memory : Type 0) (why : Refusal) (from out : Outgoing) (cut : Option Refusal) → IsOutside takes_memory (failures_of ledger old) (failures_of ledger new) why → Told why
       → StandsStill ledger past old new → sending.Puts from out (reply_bytes (refused why)) × (cut ≡ None) → Puts ledger past at read old new from out cut
   failed_served takes_memory why from out cut outside told stands put =
@@ -185,7 +185,7 @@ module _ {B : Type 0} (ledger : B → Ledger) (past : History) (at : ℕ) (read 
         puts = put.0;
       })
 
-  -- A report for which the store failed after a row.
+  -- The response is cut off, because the store failed after a row.
   cut_served : (why : Refusal) (text put rows : List ℕ) (count : ℕ) (from to out : Outgoing) (cut : Option Refusal) → IsOutside ⊥ (failures_of ledger old) (failures_of ledger new) why
       → AsksNothing routes read
       → ((office : Office) → AnswersAt (ledger (books_in old)).zone past at office → IsReply office routes read text)
@@ -204,7 +204,7 @@ module _ {B : Type 0} (ledger : B → Ledger) (past : History) (at : ℕ) (read 
         puts = subst (λ o. sending.Puts from o put) (sym ends.0) puts;
       })
 
-  -- The store failed after these rows.
+  -- The report if the store failed after these rows.
   after_rows : {T : Type 0} (line : T → List ℕ) (rows first : List T) (n : ℕ) (start lines : Report) (why : Refusal) (out : Outgoing) (cut : Option Refusal)
       → first ≡ take n rows → TakesAll (takes_lines line) start first lines → start.count ≡ 0 → EndsReport lines (Err why) out cut
       → IsOutside ⊥ (failures_of ledger old) (failures_of ledger new) why → Told why → AsksNothing routes read
@@ -219,7 +219,7 @@ module _ {B : Type 0} (ledger : B → Ledger) (past : History) (at : ℕ) (read 
       cut_served why (text_head ++ report_text line rows) (text_head ++ flat_map line first) (flat_map line (drop n rows)) (length rows)
       start.out lines.out out cut outside nothing replies stands (missing_is line rows first n row rest is refl) begun.puts (ends.1 some)
 
-  -- The rows of a meter.
+  -- The report on the rows of a meter.
   pub rows_told : {T : Type 0} (line : T → List ℕ) (rows : Option (List T)) (start lines : Report) (answer : Result (Unit {0}) Refusal) (out : Outgoing) (cut : Option Refusal)
       → HandsRows (takes_lines line) rows (failures_of ledger old) (failures_of ledger new) start lines answer → start.count ≡ 0 → EndsReport lines answer out cut
       → length (rows_in rows) ≤ most → AsksNothing routes read
@@ -245,7 +245,7 @@ module _ {B : Type 0} (ledger : B → Ledger) (past : History) (at : ℕ) (read 
     | inr fails ↦ after_rows line rows (take hands.begun.0 rows) hands.begun.0 start lines why out cut refl hands.begun.1 none ends fails (λ is. told (ap Err is)) nothing replies stands
   ]
 
-  -- The days of a known register.
+  -- The report on the days of a register that exists.
   days_whole : (name : Option (List ℕ)) (start lines : Report) (x : Unit {0}) (out : Outgoing) (cut : Option Refusal)
       → HandsDays (takes_lines day_line) (ledger (books_in old)).zone (facts_of past) name (failures_of ledger old) (failures_of ledger new) start lines (Ok x)
       → start.count ≡ 0 → EndsReport lines (Ok x) out cut → AsksNothing routes read

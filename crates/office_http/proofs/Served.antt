@@ -1,4 +1,4 @@
--- Responses to the bytes that were read.
+-- Lemmas on the response to the bytes that were read.
 use Rattle.std.proofs.Common.{◌≡◌, ◌∙◌, ℕ, Bool, true, false, List, Option, Some, None, Result, Ok, Err, inl, inr, refl, sym, ap, subst}
 use Rattle.std.specs.Prelude.{◌||◌}
 use Rattle.office_events.specs.declared.answers.Answer.{Answer}
@@ -24,7 +24,7 @@ use Rattle.office_http.specs.Wants.Wanting.{AsksNothing, IsAskedFor, IsNoCommand
 use Rattle.office_http.specs.Answering.{AnswersAt, told}
 use Rattle.office_http.specs.Serving.{Lasts, Serves}
 
--- An office that was asked nothing keeps its records.
+-- If the office was not asked, its store keeps its records.
 keeps_same : {B : Type 0} (ledger : B → Ledger) (old new : Run B) → new ≡ old → KeepsFacts (ledger (books_in old)) (ledger (books_in new))
 keeps_same {B} ledger old new same =
     subst (λ (o : Run B). KeepsFacts (ledger (books_in old)) (ledger (books_in o))) (sym same) (record { facts = λ known h. h; left = λ left may. may })
@@ -39,7 +39,7 @@ pub still : {B T : Type 0} (ledger : B → Ledger) (past : History) (old new : R
     → Stands ledger past old → StandsStill ledger past old new
 still ledger past old new answer asks stands = record { stands = asks.stands past stands; keeps = asks.keeps }
 
--- A response that needs no office.
+-- The response does not depend on the office.
 pub told_off : {B : Type 0} (ledger : B → Ledger) (past : History) (at : ℕ) (read : List ℕ) (old new : Run B) (text : List ℕ)
     → new ≡ old → AsksNothing routes read → ((office : Office) → IsReply office routes read text) → Stands ledger past old
     → Serves ledger past at read old new None text
@@ -55,7 +55,7 @@ told_off ledger past at read old new text same nothing reply stands = record {
 not_stopped : refusal.Memory ≡ refusal.Stopped → ⊥
 not_stopped is = cc is
 
--- Memory ran out before the office was asked.
+-- The response says that memory ran out before the office was asked.
 pub no_memory : {B : Type 0} (ledger : B → Ledger) (past : History) (at : ℕ) (read : List ℕ) (old new : Run B)
     → new ≡ old → Stands ledger past old → Serves ledger past at read old new None (reply_bytes (refused refusal.Memory))
 no_memory ledger past at read old new same stands = record {
@@ -67,7 +67,7 @@ no_memory ledger past at read old new same stands = record {
   leaves = inr (refl, keeps_same ledger old new same);
 }
 
--- The answer to a query for one row.
+-- The response to a query for one row.
 pub row_told : {B T : Type 0} (ledger : B → Ledger) (past : History) (at : ℕ) (read : List ℕ) (old new : Run B) (text : T → List ℕ)
     (found : Option T) (answer : Result T Refusal) → IsRowFound found (failures_of ledger old) (failures_of ledger new) answer
     → AsksNothing routes read → ((office : Office) → AnswersAt (ledger (books_in old)).zone past at office → IsReply office routes read (reply_bytes (row_reply text (or_not_found found))))
@@ -99,7 +99,7 @@ row_told ledger past at read old new text found (Err why) (inr fails) nothing re
   leaves = inr (refl, stands.keeps);
 }
 
--- The answer to a command.
+-- The response to a command.
 pub command_told : {B : Type 0} (ledger : B → Ledger) (past : History) (at : ℕ) (read : List ℕ) (old new : Run B) (asked : Asked)
     (answer : Result Answer Refusal) → IsAskedFor routes read asked
     → IsAnswer past at (event.Asked asked) (failures_of ledger old) (failures_of ledger new) answer
@@ -137,19 +137,19 @@ or_none : (b : Bool) → (b || false) ≡ b
 or_none true = refl
 or_none false = refl
 
--- A command stops no office.
+-- Executing a command does not stop the office.
 pub lasts_fed : {B : Type 0} (ledger : B → Ledger) (old new : Run B) (asked : Asked) (answer : Result Answer Refusal)
     → Ends ledger old new (event.Asked asked) answer → Lasts ledger old new
 lasts_fed ledger old new asked answer ends = record { stopped = ends.stops ∙ or_none (is_stopped old); clean = ends.clean; zone = ends.zone }
 
--- A query stops no office.
+-- Answering a query does not stop the office.
 pub lasts_asked : {B T : Type 0} (ledger : B → Ledger) (old new : Run B) (answer : Result T Refusal) → OnlyAsks ledger old new answer → Lasts ledger old new
 lasts_asked ledger old new answer asks = record { stopped = asks.stays; clean = asks.clean; zone = asks.zone }
 
 pub lasts_same : {B : Type 0} (ledger : B → Ledger) (office : Run B) → Lasts ledger office office
 lasts_same ledger office = record { stopped = refl; clean = λ x. x; zone = refl }
 
--- A body that gives no command.
+-- The response to a body that gives no command.
 pub no_command_told : {B : Type 0} (ledger : B → Ledger) (past : History) (at : ℕ) (read : List ℕ) (office : Run B) (why : CommandFault)
     → IsNoCommand routes read why → Stands ledger past office → Serves ledger past at read office office None (reply_bytes (fault_said why))
 no_command_told ledger past at read office why (inl memory) stands =

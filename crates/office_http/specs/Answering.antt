@@ -1,4 +1,4 @@
--- The answers of an office that matches what it accepted, if its store and memory do not fail.
+-- What an office answers if it matches its accepted events, and its store and memory do not fail.
 use Rattle.std.specs.Prelude.{◌≡◌, ℕ, List, map, Option, Some, None, Result, Ok, Err}
 use Rattle.std.specs.Option.{option_and_then}
 use Rattle.interval_core.specs.Days.{account_of}
@@ -21,23 +21,23 @@ use Rattle.office_core.specs.Asking.{AreDaysNamed, intervals_of, or_not_found}
 use Rattle.http_answer.specs.Kinds.{kind_answered}
 use Rattle.http_answer.specs.Offices.{Office}
 
--- The result of a command: the kind that was executed, now or for an earlier request with the same
--- idempotency key. A command is answered with Noted only if a wrong answer of the store was taken
--- as true.
+-- The result of a command by its kind. Without a kind the store is damaged, because the office
+-- answers a command with Noted only after a wrong answer of the store.
 abbrev pub or_damaged : Option CommandKind → Result CommandKind Refusal
 or_damaged None = Err (refusal.Store store.Damaged)
 or_damaged (Some kind) = Ok kind
 
--- The result of a command, by the office's answer.
+-- The result of a command, from the office's answer.
 abbrev pub told : Result Answer Refusal → Result CommandKind Refusal
 told (Ok answer) = or_damaged (kind_answered answer)
 told (Err why) = Err why
 
--- The name is that of a register. A missing name is not.
+-- An accounting register has this name. No register has a missing name.
 abbrev pub IsRegister : List Fact → (name : Option (List ℕ)) → Type 0
 IsRegister facts name = option_and_then (register_of facts) name ≡ None → ⊥
 
--- The days are those of a register, in the office's zone. A name that is no register has no days.
+-- The answer has the days of the register, in the office's time zone. A name without a register has
+-- no answer.
 pub record AnswersDays (zone : Zone) (facts : List Fact)
     (answer : Option (List ℕ) → Result (List DayTotal) Refusal) : Type 0 where
   pub known : (name : Option (List ℕ)) (days : List DayTotal) → IsRegister facts name
@@ -45,8 +45,8 @@ pub record AnswersDays (zone : Zone) (facts : List Fact)
   pub unknown : (name : Option (List ℕ)) → option_and_then (register_of facts) name ≡ None
       → answer name ≡ Err refusal.NotFound
 
--- The records of what was accepted answer each query, and the definition of decisions answers each
--- command.
+-- The office's answers: those to queries follow from the records of its accepted events, those to
+-- commands from the rules for commands.
 pub record AnswersAt (zone : Zone) (past : History) (at : ℕ) (office : Office) : Type 0 where
   pub meter : (name : Option (List ℕ))
       → office.meter name ≡ or_not_found (option_and_then (meter_of (facts_of past)) name)

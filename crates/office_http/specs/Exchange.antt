@@ -32,7 +32,7 @@ fault_number Short = 3
 fault_number TurnsUsed = 4
 fault_number Cut = 5
 
--- The fault of a call that could read no more.
+-- The fault of a call whose reading stopped for this cause.
 abbrev pub as_fault : TakeFault → HandleFault
 as_fault take.Read = Read
 as_fault take.Short = Short
@@ -47,14 +47,14 @@ is_link_fault (Err Short) = false
 is_link_fault (Err TurnsUsed) = false
 is_link_fault (Err Cut) = false
 
--- The result of a request with a response: a write failed, the response was cut off, or neither.
+-- The result of a call that wrote a response: the response is cut off, a write failed, or neither.
 abbrev pub ended : (sent : Result (Unit {0}) LinkFailed) → (cut : Option Refusal)
     → Result (Unit {0}) HandleFault
 ended (Err failed) cut = Err Write
 ended (Ok x) None = Ok x
 ended (Ok x) (Some why) = Err Cut
 
--- The result is that of a request with a response.
+-- The result can be that of a call with a response: success, a failed write, or a cut response.
 abbrev pub IsEnd : Result (Unit {0}) HandleFault → Type 0
 IsEnd (Ok x) = Unit {0}
 IsEnd (Err Write) = Unit {0}
@@ -63,7 +63,7 @@ IsEnd (Err Read) = ⊥
 IsEnd (Err Short) = ⊥
 IsEnd (Err TurnsUsed) = ⊥
 
--- The model of a link before and after a call.
+-- What a link has still to deliver and has received, before and after a call.
 pub record Passage : Type 0 where
   pub remaining : Option (List ℕ)
   pub later_remaining : Option (List ℕ)
@@ -94,7 +94,8 @@ pub record HasHead (read : List ℕ) : Type 0 where
   pub finds : Looks read head_state
   pub come : is_open head_state ≡ false
 
--- The call wrote the response to the bytes. If a write failed, the link got a beginning of it.
+-- The call wrote the response to the bytes that were read. If a write failed, the link got only a
+-- beginning of the response.
 pub record GivesReply {B : Type 0} (ledger : B → Ledger) (past : History) (at : ℕ)
     (old new : Office B)
     (given later_given : Option (List ℕ)) (read : List ℕ) (result : Result (Unit {0}) HandleFault)
@@ -106,15 +107,16 @@ pub record GivesReply {B : Type 0} (ledger : B → Ledger) (past : History) (at 
   pub serves : Serves ledger past at read old new cut put
   pub gives : Gives sent given later_given put
 
--- The same, as a property of what the office accepted before.
+-- For every history that the office matched, the call wrote the response to the bytes that were
+-- read.
 abbrev pub GivesReplyTo : {B : Type 0} → (read : List ℕ) → (B → Ledger) → (at : ℕ)
     → (old new : Office B) → (given later_given : Option (List ℕ)) → Result (Unit {0}) HandleFault
     → History → Type 0
 GivesReplyTo read ledger at old new given later_given result past =
     GivesReply ledger past at old new given later_given read result
 
--- The bytes hold a head or a bad one. Reading stopped once they held a complete request or a bad
--- head, and the call wrote a response.
+-- The bytes hold a complete or a bad head. Reading stopped once they held a complete request or a
+-- bad head, and the call wrote a response.
 pub record Replies {B : Type 0} (ledger : B → Ledger) (at : ℕ) (old new : Office B) (link : Passage)
     (read : List ℕ) (result : Result (Unit {0}) HandleFault) : Type 0 where
   pub head : HasHead read
@@ -158,8 +160,8 @@ pub record CountsLink (result : Result (Unit {0}) HandleFault)
   pub few : (count : ℕ) → taken ≡ min count (2 ^ 64 - 1)
       → later_taken ≤ min (count + MOST_TAKES) (2 ^ 64 - 1)
 
--- There was no memory for a request. After a head or a bad one, the response reports that, and no
--- office is asked.
+-- The call had no memory for a request. After a complete or bad head, its response reports that;
+-- the office is not asked.
 pub record RepliesBare (link : Passage) (read : List ℕ) (result : Result (Unit {0}) HandleFault)
     : Type 0 where
   pub sent : Result (Unit {0}) LinkFailed
@@ -168,8 +170,8 @@ pub record RepliesBare (link : Passage) (read : List ℕ) (result : Result (Unit
   pub stops : StopsReading read link.last
   pub gives : Gives sent link.given link.later_given (reply_bytes (refused refusal.Memory))
 
--- Without memory for a request, the bytes hold no complete request and no bad head. Nothing was
--- written.
+-- The call had no memory for a request, and read no complete request and no bad head. It wrote
+-- nothing.
 pub record ReadsOnBare (link : Passage) (read : List ℕ) : Type 0 where
   pub goes_on : IsUnfinished routes read
   pub nothing : Keeps link.given link.later_given
@@ -183,7 +185,7 @@ DoesBare link read (Err Read) = ReadsOnBare link read
 DoesBare link read (Err Short) = ReadsOnBare link read × IsAtEnd link.later_remaining
 DoesBare link read (Err TurnsUsed) = ReadsOnBare link read
 
--- Without memory for a request, the call read these bytes from the link, and acted on them.
+-- The call had no memory for a request. It read these bytes from the link, and acted on them.
 pub record HandlesBare (link : Passage) (result : Result (Unit {0}) HandleFault) : Type 0 where
   pub read : List ℕ
   pub takes : Consumes link.remaining link.later_remaining read

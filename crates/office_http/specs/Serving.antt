@@ -1,4 +1,4 @@
--- The response to the bytes that were read, and what the office has accepted then.
+-- The response to the bytes that were read, and the events that the office has then accepted.
 use Rattle.std.specs.Prelude.{◌≡◌, ◌⊎◌, ◌++◌, ℕ, Bool, true, List, Option, Some, None, Result}
 use Rattle.interval_core.specs.declared.zone.Zone.{Zone}
 use Rattle.office_events.specs.declared.answers.Answer.{Answer}
@@ -25,19 +25,20 @@ use Rattle.http_answer.specs.Whole.{IsReply}
 use Rattle.office_http.specs.Wants.Wanting.{AsksNothing, AsksOffice}
 use Rattle.office_http.specs.Answering.{AnswersAt}
 
--- The bytes ask the office for this command, or for nothing that would change it.
+-- With a command: the bytes hold a request for it. Without one: the bytes hold no request for any
+-- command.
 abbrev pub Asks : (read : List ℕ) → Option Asked → Type 0
 Asks read None = AsksNothing routes read
 Asks read (Some asked) = AsksOffice routes read asked
 
--- What the office has accepted after this command was asked.
+-- The history of the office after this command. Without a command it is unchanged.
 abbrev pub with_asked : History → (at : ℕ) → Option Asked → History
 with_asked past at None = past
 with_asked past at (Some asked) =
     with_answer past at (event.Asked asked) (decision_of past at (event.Asked asked))
 
--- The response is the office's answer, by the records of what it accepted. The office has also
--- accepted the command of the bytes, if any.
+-- The response is the office's answer by the records of its accepted events. If the bytes hold a
+-- command, the history continues with it.
 pub record IsAnswered (zone : Zone) (past : History) (at : ℕ) (read reply : List ℕ)
     (later : History)
     : Type 0 where
@@ -56,8 +57,8 @@ pub record IsUnavailable (past : History) (had_stopped : Bool) (before after : F
   pub tells : reply ≡ reply_bytes (refused why)
   pub unchanged : later ≡ past
 
--- The response, by how often the store had failed before and after. It is cut off if the store
--- fails while its rows are written.
+-- The response, by the count of the store's failures before and after. If the store fails while
+-- rows are written, the response is cut off.
 abbrev pub IsServed : Zone → (past : History) → (at : ℕ) → (read : List ℕ) → (had_stopped : Bool)
     → (before after : Failures) → (cut : Option Refusal) → (reply : List ℕ) → (later : History)
     → Type 0
@@ -73,13 +74,13 @@ pub record IsCutOff (put reply : List ℕ) : Type 0 where
   pub count : ℕ
   pub lacks : reply ≡ put ++ (rows ++ end_line count)
 
--- The written bytes are the complete response, or a beginning of it if it was cut off.
+-- The written bytes are the complete response, or if it was cut off a beginning of it.
 abbrev pub IsPut : (cut : Option Refusal) → (put reply : List ℕ) → Type 0
 IsPut None put reply = reply ≡ put
 IsPut (Some why) put reply = IsCutOff put reply
 
--- The office executed the command of the bytes, with this answer. A crash leaves the records from
--- before, or also those of this command.
+-- The office executed the command of the bytes, with this answer. A crash leaves the earlier
+-- records, with those of this command completely or not at all.
 pub record IsFed (old new : Ledger) (past : History) (at : ℕ) (read : List ℕ) (later : History) :
     Type 0 where
   pub asked : Asked
@@ -88,8 +89,8 @@ pub record IsFed (old new : Ledger) (past : History) (at : ℕ) (read : List ℕ
   pub accepts : later ≡ with_answer past at (event.Asked asked) answer
   pub leaves : Leaves old new (LeftByEvent past at (event.Asked asked) answer)
 
--- The office was fed that command, or nothing. Without a command, a crash leaves the same records
--- as before.
+-- The office executed the command of the bytes, or had none. Without a command, a crash leaves the
+-- earlier records.
 abbrev pub LeavesServed : (old new : Ledger) → (past : History) → (at : ℕ) → (read : List ℕ)
     → (later : History) → Type 0
 LeavesServed old new past at read later =
@@ -107,15 +108,15 @@ pub record Serves {B : Type 0} (ledger : B → Ledger) (past : History) (at : �
   pub stands : Stands ledger later new
   pub leaves : LeavesServed (ledger (books_in old)) (ledger (books_in new)) past at read later
 
--- The response was written through a writer.
+-- The call wrote its response through a writer, which the two states `from` and `to` describe.
 pub record Puts {B : Type 0} (ledger : B → Ledger) (past : History) (at : ℕ) (read : List ℕ)
     (old new : Run B) (from to : Outgoing) (cut : Option Refusal) : Type 0 where
   pub put : List ℕ
   pub serves : Serves ledger past at read old new cut put
   pub puts : sending.Puts from to put
 
--- For any content of the store, no request stops the office. A wrong answer of the store that was
--- taken as true stays recorded as such, and the zone stays.
+-- For any content of the store, no request stops the office or changes its zone. If the office ever
+-- took a wrong answer of the store as true, that stays recorded.
 pub record Lasts {B : Type 0} (ledger : B → Ledger) (old new : Run B) : Type 0 where
   pub stopped : is_stopped new ≡ is_stopped old
   pub clean : (ledger (books_in new)).is_clean → (ledger (books_in old)).is_clean

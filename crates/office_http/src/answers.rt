@@ -19,7 +19,8 @@ use office_core::Office;
 use office_events::{Answer, Asked, CommandKind, Event, Name, Refusal, StoreCause};
 use office_rules::facts_are_lawful;
 
-// Converts the answer to a command. `Noted` answers no command, so it means a damaged store.
+// Converts the office's answer to a command into its kind. `Noted` is no answer to a command, so it
+// means a damaged store.
 fn told(answer: Result<Answer, Refusal>) -> Result<CommandKind, Refusal>
     ensures { result ≡ answering.told answer }
 {
@@ -29,7 +30,7 @@ fn told(answer: Result<Answer, Refusal>) -> Result<CommandKind, Refusal>
     }
 }
 
-// Executes a command on the office.
+// Executes a command on the office, and writes the response.
 fn put_asked<'l, L: Link, B: Books>(
     bytes: &[u8],
     asked: Asked,
@@ -46,7 +47,7 @@ fn put_asked<'l, L: Link, B: Books>(
     Replied { writer, cut: None }
 }
 
-// Queries the poll of a number.
+// Queries the poll with the number in the target, and writes the response.
 fn put_poll_asked<'l, L: Link, B: Books>(
     bytes: &[u8],
     number: Option<u64>,
@@ -71,7 +72,7 @@ fn put_poll_asked<'l, L: Link, B: Books>(
     }
 }
 
-// Queries the interval rows of a meter.
+// Queries the interval rows of a meter, and streams them as the response.
 fn put_intervals<'l, L: Link, B: Books>(
     bytes: &[u8],
     meter: &Option<Name>,
@@ -92,7 +93,7 @@ fn put_intervals<'l, L: Link, B: Books>(
     lines.end(answer)
 }
 
-// Queries the days of a register.
+// Queries the days of a register, and streams them as the response.
 fn put_days<'l, L: Link, B: Books>(
     bytes: &[u8],
     register: &Option<Name>,
@@ -142,7 +143,7 @@ fn put_question<'l, L: Link, B: Books>(
     }
 }
 
-/// Writes the response to the bytes that were read, after asking the office for what they want.
+/// Asks the office for what the request wants, and writes the response.
 pub fn put_reply<'l, L: Link, B: Books>(
     bytes: &[u8],
     want: Want<'_>,

@@ -22,7 +22,7 @@ use office_core::Office;
 use office_events::Refusal;
 use std::alloc::Global;
 
-/// Returns the result of a request whose response was written or cut off.
+/// Returns the result of a call that wrote a response, complete or cut off.
 pub(crate) fn ended(sent: Result<(), LinkFailed>, cut: Option<Refusal>) -> Result<(), HandleFault>
     ensures { result ≡ ended sent cut }
 {
@@ -33,7 +33,7 @@ pub(crate) fn ended(sent: Result<(), LinkFailed>, cut: Option<Refusal>) -> Resul
     }
 }
 
-/// Reads a head into room on the stack, and responds that there is no memory for more.
+/// Reads a head into a buffer on the stack, and writes the response that memory ran out.
 pub(crate) fn refuse<L: Link>(link: &mut L) -> Result<(), HandleFault>
     ensures handles { HandlesBare (passage (L.remaining link.old) (L.remaining link.new)
         (L.given link.old) (L.given link.new) (L.last link.new)) result }
@@ -50,7 +50,7 @@ pub(crate) fn refuse<L: Link>(link: &mut L) -> Result<(), HandleFault>
     ended(sent, None)
 }
 
-/// Responds to a request that was read.
+/// Writes the response to a request that was read.
 pub(crate) fn reply<L: Link, B: Books>(
     bytes: &[u8],
     want: Want<'_>,

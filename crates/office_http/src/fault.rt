@@ -15,7 +15,7 @@ pub enum HandleFault {
     Write,
     /// The input ended inside the request.
     Short,
-    /// 100,000 reads were made.
+    /// The limit of 100,000 reads was reached.
     TurnsUsed,
     /// The store failed while rows were written, so the response is cut off.
     Cut,

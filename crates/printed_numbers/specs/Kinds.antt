@@ -1,4 +1,4 @@
--- The words that precede numbers.
+-- The kinds of printed numbers, and the word that precedes each.
 use Rattle.std.specs.Prelude.{ℕ, List, [], ◌∷◌, Option, codes}
 use Rattle.std.specs.List.{find}
 use Rattle.std.specs.Str.{bytes_eq}
@@ -17,11 +17,11 @@ word_of ChainFault = codes "fault"
 word_of HttpFault = codes "fault"
 word_of Status = codes "status"
 
--- All kinds, in the order in which a word is matched.
+-- All kinds, in the order in which they are searched for a word.
 abbrev pub kinds : List Kind
 kinds =
     Refused ∷ Held ∷ Lost ∷ Malformed ∷ Exception ∷ RowFault ∷ ChainFault ∷ HttpFault ∷ Status ∷ []
 
--- The first kind with this word.
+-- The first kind whose word this is.
 abbrev pub kind_named : List ℕ → Option Kind
 kind_named word = find (λ kind. bytes_eq word (word_of kind)) kinds

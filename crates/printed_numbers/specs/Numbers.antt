@@ -1,11 +1,11 @@
--- The numbers that each kind has.
+-- Which numbers each kind has.
 use Rattle.std.specs.Prelude.{◌≡◌, ℕ, Bool, ◌==◌, ◌&&◌, ◌||◌, IfSome, Option, is_some, nat_le}
 use Rattle.std.specs.Borrow.{Bor}
 use Rattle.printed_numbers.specs.declared.kind.Kind.{Kind}
 use Rattle.printed_numbers.specs.declared.kind.Kind.TheVariants.{Refused, Held, Lost, Malformed, Exception, RowFault, ChainFault, HttpFault, Status}
 use Rattle.printed_numbers.specs.declared.meaning.Meaning.{Meaning}
 
--- The number is in this range, with both ends.
+-- The number is from `first` to `last`, both included.
 abbrev pub is_from : (first last number : ℕ) → Bool
 is_from first last number = nat_le first number && nat_le number last
 
@@ -31,11 +31,11 @@ has_number ChainFault number = is_from 1 4 number
 has_number HttpFault number = is_fault_status number
 has_number Status number = nat_le number 3
 
--- A meaning names its own kind and number.
+-- The meaning belongs to this kind and this number.
 abbrev pub IsMeaningOf : Kind → ℕ → Bor Meaning → Type 0
 IsMeaningOf kind number meaning = (meaning.now.kind ≡ kind) × (meaning.now.number ≡ number)
 
--- The meaning of the number, exactly if the kind has the number.
+-- The result is the meaning of the number. It exists exactly if the kind has the number.
 abbrev pub Answers : Kind → ℕ → Option (Bor Meaning) → Type 0
 Answers kind number result =
     (is_some result ≡ has_number kind number) × IfSome result (IsMeaningOf kind number)

@@ -11,15 +11,15 @@ pub enum Kind {
     Held,
     /// `poll 7 lost 1`: the session ended before the poll was settled.
     Lost,
-    /// `poll 7 malformed 5`: the response was wrong.
+    /// `poll 7 malformed 5`: the response of a device was malformed.
     Malformed,
     /// `poll 7 exception 2`: the device responded with an exception instead of registers.
     Exception,
-    /// `row 3 fault 7`: a row of a point list is no point.
+    /// `row 3 fault 7`: a row of a point list describes no valid point.
     RowFault,
-    /// `fault 2 40070`: a device has no chain of models.
+    /// `fault 2 40070`: a device has no valid chain of SunSpec models.
     ChainFault,
-    /// `{"fault":404}`: an HTTP request was wrong.
+    /// `{"fault":404}`: the server rejected an HTTP request.
     HttpFault,
     /// The exit status of the program.
     Status,
@@ -37,7 +37,7 @@ static KINDS: [Kind; 9] = [
     Kind::Status,
 ];
 
-/// Returns all kinds, in the order in which a word is matched.
+/// Returns all kinds, in the order in which they are searched for a word.
 pub fn kinds() -> &'static [Kind]
     ensures { result.now ≡ kinds }
 {
@@ -47,7 +47,7 @@ pub fn kinds() -> &'static [Kind]
 impl Kind {
     ghost use Rattle.printed_numbers.specs.Kinds.{word_of};
 
-    /// Returns the word that precedes the number.
+    /// Returns the word that precedes a number of this kind.
     pub fn word(self) -> &'static str
         ensures { result.now ≡ word_of self }
     {
@@ -63,8 +63,8 @@ impl Kind {
     }
 }
 
-/// Returns the first kind with this word. Three kinds have `fault`; the first of them is
-/// `RowFault`.
+/// Returns the first kind whose word this is. Three kinds have the word `fault`; the first of them
+/// is `RowFault`.
 pub fn kind_named(word: &str) -> Option<Kind>
     ensures { result ≡ kind_named word.now }
 {

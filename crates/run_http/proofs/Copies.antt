@@ -1,4 +1,4 @@
--- The effect of journal lines, steps and records on a copy of a meter's quarter hours.
+-- Lemmas on what journal lines, steps and records change of a copy of a meter's quarter hours.
 pub mod StayingEntries
 pub mod StayingShares
 pub mod StayingRows

@@ -28,7 +28,7 @@ least = record {
   ended = false;
 }
 
--- A closed meter with a name of the greatest length and the greatest number in each field.
+-- A closed meter whose name has the greatest length, and whose fields have the greatest numbers.
 abbrev greatest : Installation
 greatest = record {
   opening = record {
@@ -58,7 +58,7 @@ the_greatest : meters_text (greatest ∷ [])
 unfolding digits
 the_greatest = refl
 
--- The meters keep their order.
+-- The lines of the meters are in the order of the meters.
 both : meters_text (greatest ∷ least ∷ [])
     ≡ codes "Z-3456789_123456 18446744073709551614 18446744073709551615 4294967295 10 18446744073709551615 ended\na 0 0 0 -10 0 open\nend 2\n"
 unfolding digits
@@ -75,7 +75,7 @@ a_register = refl
 sixteen_bytes : IsRegisterTarget (codes "/registers/a234567890123456/meters") (asks (codes "a234567890123456"))
 sixteen_bytes = refl
 
--- A malformed name is that of no register.
+-- A malformed name is the name of no register.
 seventeen_bytes : IsRegisterTarget (codes "/registers/a2345678901234567/meters") (Some (Meters None))
 seventeen_bytes = refl
 
@@ -85,7 +85,7 @@ no_bytes = refl
 a_digit_first : IsRegisterTarget (codes "/registers/1/meters") (Some (Meters None))
 a_digit_first = refl
 
--- A similar target is left to the office.
+-- A target that is not exactly a target of the run is left to the office.
 one_byte_less : IsRegisterTarget (codes "/registers/main/meter") None
 one_byte_less = refl
 
@@ -106,7 +106,7 @@ past_the_last_moment = refl
 past_a_place : meter_target (codes "/meters/m1/entries/0/1") ≡ None
 past_a_place = refl
 
--- An empty last segment is malformed, and is not one segment more.
+-- An empty last segment is a malformed number. It does not count as one segment too many.
 no_place : meter_target (codes "/meters/m1/entries/") ≡ Some (Own (Rejected BadRequest))
 no_place = refl
 

@@ -6,13 +6,13 @@ use Rattle.run_http.specs.declared.route.RunRoute.TheVariants.{Own, Metrics, Sit
 use Rattle.run_http.specs.declared.route.StatusRoute.{StatusRoute}
 use Rattle.run_http.specs.declared.route.StatusRoute.TheVariants.{Status, Page, Rejected}
 
--- A part of the page has its own Cache-Control header.
+-- The route is a part of the page, which has its own Cache-Control header.
 abbrev pub is_part : StatusRoute → Bool
 is_part Status = false
 is_part (Page part) = true
 is_part (Rejected status) = false
 
--- The route is that of a part of the page.
+-- The request's route is a part of the page.
 abbrev pub is_page : Option RunRoute → Bool
 is_page None = false
 is_page (Some (Own own)) = is_part own
@@ -24,30 +24,30 @@ is_page (Some (Voids meter)) = false
 is_page (Some (Energy register form)) = false
 is_page (Some (Meters register)) = false
 
--- The headers for browsers. The body is what Content-Type says (WHATWG, Fetch, section 3.6), and no
--- page of another site gets it (section 3.7). Only parts of the page may be cached (RFC 9111,
--- section 5.2.2.5).
+-- The headers for browsers. The browser takes the body for what Content-Type says (WHATWG, Fetch,
+-- section 3.6), and shares it with no page of another site (section 3.7). Only parts of the page
+-- may be cached (RFC 9111, section 5.2.2.5).
 abbrev pub headers_for : (is_page : Bool) → List ℕ
 headers_for true =
     codes "X-Content-Type-Options: nosniff\r\nCross-Origin-Resource-Policy: same-origin\r\n"
 headers_for false =
     codes "X-Content-Type-Options: nosniff\r\nCross-Origin-Resource-Policy: same-origin\r\nCache-Control: no-store\r\n"
 
--- The index of the line feed (10) that ends the first line. A response that was cut off before it
--- stays as it is.
+-- The index of the line feed (10) that ends the first line of a response. None if the response was
+-- cut off within its first line.
 abbrev pub first_line_end : List ℕ → Option ℕ
 first_line_end reply = position (λ byte. byte == 10) reply
 
--- The headers are inserted after this index.
+-- The response with `more` inserted after this index. Without an index it is unchanged.
 abbrev pub put_at : (more reply : List ℕ) → Option ℕ → List ℕ
 put_at more reply None = reply
 put_at more reply (Some at) = take (at + 1) reply ++ more ++ drop (at + 1) reply
 
--- The headers are inserted after the first line.
+-- The response with `more` inserted after its first line.
 abbrev pub with_headers : (more reply : List ℕ) → List ℕ
 with_headers more reply = put_at more reply (first_line_end reply)
 
--- The response to a request, with the headers for browsers.
+-- `told` is the response to the request with the headers for browsers inserted.
 pub record IsForBrowsers (names : List (List ℕ)) (bytes reply told : List ℕ) : Type 0 where
   pub route : Option RunRoute
   pub for : IsFor names bytes route

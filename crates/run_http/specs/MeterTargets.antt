@@ -11,81 +11,84 @@ use Rattle.run_http.specs.declared.route.RunRoute.{RunRoute}
 use Rattle.run_http.specs.declared.route.RunRoute.TheVariants.{Own, Intervals, Entries, Voids}
 use Rattle.run_http.specs.declared.route.StatusRoute.TheVariants.{Rejected}
 
--- What follows a word at the beginning of a text.
+-- The rest of the text after `word`, if the text begins with it.
 abbrev pub after : (word text : List ℕ) → Option (List ℕ)
 after word text =
     if bytes_eq (take (length word) text) word then Some (drop (length word) text) else None
 
--- The index of the first slash (47).
+-- The index of the first slash (47) in the text.
 abbrev pub slash_in : List ℕ → Option ℕ
 slash_in text = position (λ byte. byte == 47) text
 
--- The span between two timestamps, if there are both.
+-- The span from one timestamp until another, if both exist.
 abbrev pub span_till : (from till : Option ℕ) → Option Span
 span_till None till = None
 span_till (Some from) None = None
 span_till (Some from) (Some till) = Some (Between from till)
 
--- The span between two timestamps of one to nineteen digits each.
+-- The span between two texts, if each is a timestamp of one to nineteen digits.
 abbrev pub span_of : (from till : List ℕ) → Option Span
 span_of from till = span_till (digits_in from) (digits_in till)
 
--- A target without a span is malformed. A malformed name is that of no meter.
+-- The route to the quarter hours of a meter in a span. Without a span it is 400, and a malformed
+-- name is the name of no meter.
 abbrev pub intervals_asked : (name : List ℕ) → Option Span → RunRoute
 intervals_asked name None = Own (Rejected BadRequest)
 intervals_asked name (Some span) = Intervals (named name) span
 
--- A target with more segments has no route.
+-- The route to quarter hours for two timestamps. If the second has a slash, the target has too many
+-- segments and no route.
 abbrev pub intervals_till : (name from till : List ℕ) → Option RunRoute
 intervals_till name from till =
     if is_some (slash_in till) then None else Some (intervals_asked name (span_of from till))
 
--- The route to quarter hours, if there is a second timestamp.
+-- The route to quarter hours for the text after `intervals`, cut at its first slash.
 abbrev pub intervals_cut : (name text : List ℕ) → Option ℕ → Option RunRoute
 intervals_cut name text None = None
 intervals_cut name text (Some at) = intervals_till name (take at text) (drop (at + 1) text)
 
--- The route by what follows the segment `intervals`.
+-- The route for the text after the segment `intervals`.
 abbrev pub intervals_in : (name text : List ℕ) → Option RunRoute
 intervals_in name text = intervals_cut name text (slash_in text)
 
--- A target without a sequence number is malformed.
+-- The route to the entries of a meter from a sequence number on. Without a number it is 400.
 abbrev pub entries_asked : (name : List ℕ) → (place : Option ℕ) → RunRoute
 entries_asked name None = Own (Rejected BadRequest)
 entries_asked name (Some place) = Entries (named name) place
 
--- The route by what follows the segment `entries`.
+-- The route for the text after the segment `entries`. With a further slash there is none.
 abbrev pub entries_at : (name place : List ℕ) → Option RunRoute
 entries_at name place =
     if is_some (slash_in place) then None else Some (entries_asked name (digits_in place))
 
--- The route by what follows the name and a slash.
+-- The route for what follows the meter's name: the segment `intervals` or `entries` with its text,
+-- or neither.
 abbrev pub rows_asked : (name : List ℕ) → (intervals entries : Option (List ℕ))
     → Option RunRoute
 rows_asked name None None = None
 rows_asked name None (Some text) = entries_at name text
 rows_asked name (Some text) entries = intervals_in name text
 
--- The route by what follows the name of the meter and a slash.
+-- The route for the text after the meter's name and a slash.
 abbrev pub rows_in : (name text : List ℕ) → Option RunRoute
 rows_in name text =
     if bytes_eq text (codes "voids") then Some (Voids (named name))
     else rows_asked name (after (codes "intervals/") text) (after (codes "entries/") text)
 
--- The route, if there is a slash after the name of the meter.
+-- The route for the text after `/meters/`, cut at its first slash. Without a slash there is none.
 abbrev pub meter_cut : (text : List ℕ) → Option ℕ → Option RunRoute
 meter_cut text None = None
 meter_cut text (Some at) = rows_in (take at text) (drop (at + 1) text)
 
--- The route by what follows the segment `meters`.
+-- The route for the text after `/meters/`.
 abbrev pub meter_in : List ℕ → Option RunRoute
 meter_in text = meter_cut text (slash_in text)
 
--- The route, if the target begins with the segment `meters`.
+-- The route of a target that begins with `/meters/`. Any other target has none here.
 abbrev pub meter_asked : Option (List ℕ) → Option RunRoute
 meter_asked None = None
 meter_asked (Some text) = meter_in text
 
--- The route of a target for rows of a meter.
+-- The route of a target that asks for rows of a meter, if it is such a target.
 abbrev pub meter_target : (target : List ℕ) → Option RunRoute
 meter_target target = meter_asked (after (codes "/meters/") target)

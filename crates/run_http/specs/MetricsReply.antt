@@ -12,7 +12,7 @@ use Rattle.run_http.specs.Texts.MetricsText.{with_metrics}
 use Rattle.run_status.specs.declared.status.counts.Counts.{Counts}
 use Rattle.run_status.specs.declared.status.status.DeviceState.{DeviceState}
 
--- The metrics, or the refusal of the query.
+-- The response with the metrics, or with the refusal of the query.
 abbrev pub with_metrics_reply : Counts → List DeviceState → Result (Vec SiteRow Global) Refusal
     → List ℕ → List ℕ
 with_metrics_reply counts devices (Ok rows) text =

@@ -12,17 +12,18 @@ use Rattle.http_request.specs.declared.head.head.HeadState.TheVariants.{Open, To
 use Rattle.interval_core.specs.Lines.{intervals_text}
 use Rattle.run_http.specs.MeterTargets.{after}
 
--- For any answers of the office, the response to these bytes has all quarter hours of the meter.
+-- The bytes request all quarter hours of the meter: for any answers of the office, its answer on
+-- them is the response.
 abbrev pub AsksAllRows : Table → (bytes : List ℕ) → (meter : Option (List ℕ)) → Type 0
 AsksAllRows table bytes meter = (office : Office)
     → IsReply office table bytes (reply_bytes (lines_reply intervals_text (office.intervals meter)))
 
--- Only a void is a POST to a target that begins with `/meters/`.
+-- The request may be a void: a POST to a target that begins with `/meters/`.
 abbrev pub may_void_by : (method target : List ℕ) → Bool
 may_void_by method target =
     bytes_eq method (codes "POST") && is_some (after (codes "/meters/") target)
 
--- The complete head may be that of a void.
+-- The bytes hold a complete head, and its request may be a void.
 abbrev pub may_void_in : (bytes : List ℕ) → HeadState → Bool
 may_void_in bytes Open = false
 may_void_in bytes TooLarge = false
@@ -30,7 +31,7 @@ may_void_in bytes NoHead = false
 may_void_in bytes (Whole at) =
     may_void_by (span_bytes bytes at.method) (span_bytes bytes at.target)
 
--- The result for the head that parsing the bytes finds, if it finds one.
+-- The result says whether the bytes hold a request that may be a void, by parsing their head.
 pub record MayVoid (bytes : List ℕ) (result : Bool) : Type 0 where
   pub head_state : HeadState
   pub looks : Looks bytes head_state

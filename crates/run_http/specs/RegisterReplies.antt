@@ -1,4 +1,4 @@
--- The responses to queries for the energy of a register, by the office's answers.
+-- The responses to queries for the energy of an accounting register, by the office's answers.
 use Rattle.std.specs.Prelude.{◌≡◌, ℕ, false, List, map, Option, Some, Result, Ok, Err, IfOk, OnOk, codes}
 use Rattle.std.specs.Option.{option_and_then}
 use Rattle.std.specs.Io.KnownBytes.{Appends}
@@ -23,13 +23,14 @@ use Rattle.office_core.specs.declared.office.Office.{Office}
 use Rattle.run_http.specs.SiteReply.{with_refusal}
 use Rattle.run_http.specs.StatusRoute.{with_reply}
 
--- The rest of a report is written, unless memory runs out.
+-- The remaining text of a report is written, unless memory runs out.
 pub record PutsLast {W E : Type 0} (contents : W → Option (List ℕ))
     (result : Result (Result (Unit {0}) Refusal) E) (old new : ReportRows W) : Type 0 where
   pub finishes : Finishes contents old new
   pub whole : OnOk result (new.failed ≡ false)
 
--- The report on the days of the register within the range of the form, in the office's zone.
+-- This is the report on the register's days within the range of the form, in the office's time
+-- zone.
 abbrev pub IsReport : Zone → History → (register : Option (List ℕ)) → ReportForm
     → (Is : List ℕ → Type 0) → Type 0
 IsReport zone past register form Is =
@@ -47,7 +48,7 @@ pub record ReportsDays (zone : Zone) (past : History) (register : Option (List �
       IsFound (there ≡ Some tt) there before after answer
   pub report : OnOk answer (IsReport zone past register form Is)
 
--- The same, by what the office accepted.
+-- For every history that the office matched, `ReportsDays` describes the report.
 abbrev pub TellsDaysReport : {B : Type 0} → (B → Ledger) → (old new : Office B)
     → (register : Option (List ℕ)) → ReportForm → Result (Unit {0}) Refusal → (Is : List ℕ → Type 0)
     → Type 0
@@ -64,12 +65,12 @@ pub record AsksEnergy {B : Type 0} (ledger : B → Ledger) (old new : Office B)
   pub gives : IfOk result (λ told. told ≡ answer)
   pub tells : OnOk result (TellsDaysReport ledger old new register form answer (Appends had holds))
 
--- The report, or the refusal as for any other query.
+-- The response with the report, or with the refusal.
 abbrev pub with_energy_reply : Result (Unit {0}) Refusal → (report : List ℕ) → List ℕ → List ℕ
 with_energy_reply (Ok done) report text = with_reply Fine (codes "text/plain") report text
 with_energy_reply (Err why) report text = with_refusal why text
 
--- The office is queried once, and its answer is the response, unless memory runs out.
+-- The office is queried once, and its report or refusal is the response, unless memory runs out.
 pub record RepliesEnergy {B : Type 0} (ledger : B → Ledger) (old new : Office B)
     (register : Option (List ℕ)) (form : ReportForm) (from to : List ℕ) {E : Type 0}
     (result : Result (Unit {0}) E) : Type 0 where

@@ -20,17 +20,18 @@ use Rattle.run_http.specs.declared.route.StatusRoute.TheVariants.{Rejected}
 
 -- ---- Ranges of days.
 
--- The range from one day until another.
+-- The range of days from `first` until before `last`.
 abbrev pub from_till : (first last : Date) → DayRange
 from_till first last = record { from = Some first; till = Some last }
 
--- The texts spell two days, and `backward` says whether the second is before the first.
+-- The texts spell the two days of the range. `backward` says whether the second day is before the
+-- first.
 abbrev pub SpellRange : (from till : List ℕ) → DayRange → (backward : Bool) → Type 0
 SpellRange from till range backward =
     (first last : Date) × Spells from first × Spells till last × (range ≡ from_till first last)
     × (is_backward range ≡ backward)
 
--- The texts spell a range, unless one of them is no day, or the range ends before it begins.
+-- The two texts spell this range. None if a text is no day, or if the range ends before it begins.
 abbrev pub IsRangeOf : (from till : List ℕ) → Option DayRange → Type 0
 IsRangeOf from till (Some range) = SpellRange from till range false
 IsRangeOf from till None =
@@ -39,76 +40,78 @@ IsRangeOf from till None =
 
 -- ---- Targets.
 
--- A line for each period, in mWh.
+-- The form of a report with one line for each period, in mWh.
 abbrev pub lines_of : DayRange → Period → ReportForm
 lines_of range period =
     record { range = range; period = period; unit = MilliwattHours; format = Text }
 
--- A target without a range is malformed. A malformed name is that of no register.
+-- The route to the energy on the days of a range. Without a range it is 400, and a malformed name
+-- is the name of no register.
 abbrev pub days_asked : (name : List ℕ) → Option DayRange → RunRoute
 days_asked name None = Own (Rejected BadRequest)
 days_asked name (Some range) = Energy (named name) (lines_of range period.Day)
 
--- The route to the energy of all days by month.
+-- The route to the energy of a register by month, over all its days.
 abbrev pub months_asked : (name : List ℕ) → RunRoute
 months_asked name = Energy (named name) (lines_of all_days period.Month)
 
--- A target with more segments has no route.
+-- The route for two days, unless `goes_on`: then the target has too many segments and no route.
 abbrev pub IsDaysUnless : (goes_on : Bool) → (name from till : List ℕ) → Option RunRoute → Type 0
 IsDaysUnless true name from till route = route ≡ None
 IsDaysUnless false name from till route =
     (range : Option DayRange) × IsRangeOf from till range × (route ≡ Some (days_asked name range))
 
--- The route to days, if the second day ends the target.
+-- The route for two days, if the second one ends the target.
 abbrev pub IsDaysTill : (name from till : List ℕ) → Option RunRoute → Type 0
 IsDaysTill name from till route = IsDaysUnless (is_some (slash_in till)) name from till route
 
--- What follows the segment `days`: a day, a slash and another day.
+-- The route for the text after the segment `days`, cut at its first slash into two days.
 abbrev pub IsDaysCut : (name text : List ℕ) → (at : Option ℕ) → Option RunRoute → Type 0
 IsDaysCut name text None route = route ≡ None
 IsDaysCut name text (Some at) route = IsDaysTill name (take at text) (drop (at + 1) text) route
 
--- The route by what follows the segment `days`.
+-- The route for the text after the segment `days`.
 abbrev pub IsDaysIn : (name text : List ℕ) → Option RunRoute → Type 0
 IsDaysIn name text route = IsDaysCut name text (slash_in text) route
 
--- The route by what follows the name and a slash.
+-- The route for the text after `days/`. Without that segment there is none.
 abbrev pub IsDaysAsked : (name : List ℕ) → (days : Option (List ℕ)) → Option RunRoute → Type 0
 IsDaysAsked name None route = route ≡ None
 IsDaysAsked name (Some text) route = IsDaysIn name text route
 
--- The route to months or days.
+-- The route to the energy by month, if `is_months`, otherwise to the energy by day.
 abbrev pub IsEnergyAsked : (is_months : Bool) → (name text : List ℕ) → Option RunRoute → Type 0
 IsEnergyAsked true name text route = route ≡ Some (months_asked name)
 IsEnergyAsked false name text route = IsDaysAsked name (after (codes "days/") text) route
 
--- The route by what asks for energy.
+-- The route to the energy of a register, for the text after the register's name and a slash.
 abbrev pub IsEnergyIn : (name text : List ℕ) → Option RunRoute → Type 0
 IsEnergyIn name text route = IsEnergyAsked (bytes_eq text (codes "months")) name text route
 
--- The route to the meters of a register, or to its energy.
+-- The route to the meters of a register, if `is_meters`, otherwise to its energy.
 abbrev pub IsRowsAsked : (is_meters : Bool) → (name text : List ℕ) → Option RunRoute → Type 0
 IsRowsAsked true name text route = route ≡ Some (Meters (named name))
 IsRowsAsked false name text route = IsEnergyIn name text route
 
--- The route by what follows the name of the register and a slash.
+-- The route for the text after the register's name and a slash.
 abbrev pub IsRowsIn : (name text : List ℕ) → Option RunRoute → Type 0
 IsRowsIn name text route = IsRowsAsked (bytes_eq text (codes "meters")) name text route
 
--- The route, if there is a slash after the name of the register.
+-- The route for the text after `/registers/`, cut at its first slash. Without a slash there is
+-- none.
 abbrev pub IsRegisterCut : (text : List ℕ) → (at : Option ℕ) → Option RunRoute → Type 0
 IsRegisterCut text None route = route ≡ None
 IsRegisterCut text (Some at) route = IsRowsIn (take at text) (drop (at + 1) text) route
 
--- The route by what follows the segment `registers`.
+-- The route for the text after `/registers/`.
 abbrev pub IsRegisterIn : (text : List ℕ) → Option RunRoute → Type 0
 IsRegisterIn text route = IsRegisterCut text (slash_in text) route
 
--- The route, if the target begins with the segment `registers`.
+-- The route of a target that begins with `/registers/`. Any other target has none here.
 abbrev pub IsRegisterAsked : Option (List ℕ) → Option RunRoute → Type 0
 IsRegisterAsked None route = route ≡ None
 IsRegisterAsked (Some text) route = IsRegisterIn text route
 
--- The route of a target for a register.
+-- The route of a target for an accounting register.
 abbrev pub IsRegisterTarget : (target : List ℕ) → Option RunRoute → Type 0
 IsRegisterTarget target route = IsRegisterAsked (after (codes "/registers/") target) route

@@ -27,7 +27,7 @@ use Rattle.run_http.specs.declared.route.StatusRoute.TheVariants.{Status, Page, 
 use Rattle.web_page.specs.Parts.{body_of, content_type_of, part_of}
 use Rattle.web_page.specs.declared.parts.PagePart.{PagePart}
 
--- The three fixed paths, and those of the page.
+-- The route of a target with a fixed path: the three of the run, and those of the page's parts.
 abbrev pub path_named : (target : List ℕ) → Option RunRoute
 path_named target =
     if bytes_eq target (codes "/status") then Some (Own Status)
@@ -35,40 +35,41 @@ path_named target =
     else if bytes_eq target (codes "/site") then Some Site
     else option_map (λ part. Own (Page part)) (part_of target)
 
--- Otherwise rows of a meter.
+-- The route that was found, or if there is none, the route to rows of a meter.
 abbrev pub or_meter : (target : List ℕ) → Option RunRoute → Option RunRoute
 or_meter target None = meter_target target
 or_meter target (Some route) = Some route
 
--- The route of a fixed path, or of rows of a meter.
+-- The route of a target that has a fixed path, or that asks for rows of a meter.
 abbrev pub plain_target : (target : List ℕ) → Option RunRoute
 plain_target target = or_meter target (path_named target)
 
--- Otherwise the energy or the meters of a register.
+-- The route that was found, or if there is none, the route to the energy or the meters of a
+-- register.
 abbrev pub IsElse : (target : List ℕ) → Option RunRoute → Option RunRoute → Type 0
 IsElse target None route = IsRegisterTarget target route
 IsElse target (Some plain) route = route ≡ Some plain
 
--- The route of a target without a question mark.
+-- The route of a target that has no question mark, if it is one of the run's own.
 abbrev pub IsWholeTarget : (target : List ℕ) → Option RunRoute → Type 0
 IsWholeTarget target route = IsElse target (plain_target target) route
 
--- A target with a question mark has no route.
+-- The route of a target. A target with a question mark has none.
 abbrev pub IsTargetUnless : (has_query : Bool) → (target : List ℕ) → Option RunRoute → Type 0
 IsTargetUnless true target route = route ≡ None
 IsTargetUnless false target route = IsWholeTarget target route
 
--- The route of a target.
+-- The route of a target, if it is one of the run's own.
 abbrev pub IsTarget : (target : List ℕ) → Option RunRoute → Type 0
 IsTarget target route = IsTargetUnless (has_query target) target route
 
--- Only GET is allowed.
+-- The route for this method: only GET is allowed, and other methods get 405.
 abbrev pub route_by : (method : List ℕ) → Option RunRoute → Option RunRoute
 route_by method None = None
 route_by method (Some route) =
     if bytes_eq method (codes "GET") then Some route else Some (Own (Rejected MethodNotAllowed))
 
--- The route of a method and a target.
+-- The route of a request with this method and target, if it is one of the run's own.
 abbrev pub IsRouteNamed : (method target : List ℕ) → Option RunRoute → Type 0
 IsRouteNamed method target route =
     (asked : Option RunRoute) × IsTarget target asked × (route ≡ route_by method asked)
@@ -81,11 +82,12 @@ IsRouteIn bytes NoHead route = route ≡ None
 IsRouteIn bytes (Whole at) route =
     IsRouteNamed (span_bytes bytes at.method) (span_bytes bytes at.target) route
 
--- A page of another site may link to the page, and ask for nothing else.
+-- The request is a GET for the page itself. A page of another site may link to the page, and may
+-- request nothing else.
 abbrev pub is_link_to_page : (method target : List ℕ) → Bool
 is_link_to_page method target = bytes_eq method (codes "GET") && bytes_eq target (codes "/")
 
--- The head asks for the page itself.
+-- The bytes hold a complete head that asks for the page itself.
 abbrev pub asks_for_page : List ℕ → HeadState → Bool
 asks_for_page bytes Open = false
 asks_for_page bytes TooLarge = false
@@ -93,33 +95,33 @@ asks_for_page bytes NoHead = false
 asks_for_page bytes (Whole at) =
     is_link_to_page (span_bytes bytes at.method) (span_bytes bytes at.target)
 
--- A page of another site asks for more than the page itself.
+-- A page of another site sent the request, and it is not for the page itself.
 abbrev pub is_forbidden : List ℕ → HeadState → Bool
 is_forbidden bytes head_state =
     is_cross_site_in bytes head_state && not (asks_for_page bytes head_state)
 
--- The route, unless the request is forbidden.
+-- The route of the request; 403 if it is forbidden.
 abbrev pub IsPermittedUnless : (forbidden : Bool) → List ℕ → HeadState → Option RunRoute → Type 0
 IsPermittedUnless true bytes head_state route = route ≡ Some (Own (Rejected Forbidden))
 IsPermittedUnless false bytes head_state route = IsRouteIn bytes head_state route
 
--- The route, or 403 for a page of another site.
+-- The route of the request; 403 if a page of another site sent it, except for the page itself.
 abbrev pub IsPermitted : List ℕ → HeadState → Option RunRoute → Type 0
 IsPermitted bytes head_state route =
     IsPermittedUnless (is_forbidden bytes head_state) bytes head_state route
 
--- The host is tested first, by the given names.
+-- The route of the request; 421 if the host test failed. `may` is its result.
 abbrev pub IsRunRoute : (may : Bool) → List ℕ → HeadState → Option RunRoute → Type 0
 IsRunRoute true bytes head_state route = IsPermitted bytes head_state route
 IsRunRoute false bytes head_state route = route ≡ Some (Own (Rejected Misdirected))
 
--- The route of the head that parsing the bytes finds.
+-- The route of the request that the bytes hold. `names` are the accepted host names.
 pub record IsFor (names : List (List ℕ)) (bytes : List ℕ) (route : Option RunRoute) : Type 0 where
   pub head_state : HeadState
   pub looks : Looks bytes head_state
   pub asks : IsRunRoute (may_ask_in names bytes head_state) bytes head_state route
 
--- The route is that of the energy of a register.
+-- The route asks for the energy of a register.
 abbrev pub is_energy : Option RunRoute → Bool
 is_energy None = false
 is_energy (Some (Own own)) = false
@@ -131,7 +133,7 @@ is_energy (Some (Voids meter)) = false
 is_energy (Some (Energy register form)) = true
 is_energy (Some (Meters register)) = false
 
--- Whether the bytes ask for the energy of a register.
+-- The result says whether the bytes request the energy of a register.
 pub record AsksEnergy (names : List (List ℕ)) (bytes : List ℕ) (result : Bool) : Type 0 where
   pub route : Option RunRoute
   pub for : IsFor names bytes route
@@ -149,7 +151,7 @@ with_start_of status kind size text =
 abbrev pub with_start : HttpStatus → (kind body : List ℕ) → List ℕ → List ℕ
 with_start status kind body text = with_start_of status kind (length body) text
 
--- A response with a body.
+-- A complete response: its status line, its headers and its body.
 abbrev pub with_reply : HttpStatus → (kind body : List ℕ) → List ℕ → List ℕ
 with_reply status kind body text =
     with_start status kind body text ++ codes "\r\n\r\n" ++ body

@@ -7,16 +7,16 @@ use Rattle.office_books.specs.declared.entries.MeterEntry.{MeterEntry}
 use Rattle.office_books.specs.declared.entries.MeterEntry.TheVariants.{Opening, Later}
 use Rattle.office_books.specs.Entries.{entries_at}
 
--- An entry is voided. An opening is never voided.
+-- The entry is voided. The opening entry never is.
 abbrev pub is_voided : MeterEntry → Bool
 is_voided (Opening last) = false
 is_voided (Later row sf) = not row.stands
 
--- The voided ones of these entries, in order.
+-- The entries among these that are voided, in order.
 abbrev pub voided_in : List MeterEntry → List MeterEntry
 voided_in entries = filter is_voided entries
 
--- The voided entries of a meter, if there is a meter of the name.
+-- The voided entries of the meter with this name. None without such a meter.
 abbrev pub voids_of : List Fact → (meter : Option (List ℕ)) → Option (List MeterEntry)
 voids_of facts meter =
     option_map (λ opening. voided_in (entries_at facts (Some opening)))

@@ -1,4 +1,4 @@
-//! The response of the office to gathered bytes.
+//! The office's reply to the bytes that a client has sent so far.
 ghost use Rattle.office_http.specs.Serving.{Lasts};
 ghost use Rattle.run_http.specs.Answer.{Asks};
 
@@ -8,7 +8,7 @@ use office_core::Office;
 use office_http::{HandleFault, handle};
 use std::alloc::Global;
 
-/// The result of the bytes of a client.
+/// What the server does with the bytes that a client has sent so far.
 #[derive(Drop)]
 pub enum PeerReply {
     /// The bytes hold no complete request. The office was not asked.
@@ -19,7 +19,8 @@ pub enum PeerReply {
     Failed,
 }
 
-/// Asks the office what the bytes of a client ask for. `moment` is in seconds since 1970-01-01 UTC.
+/// Lets the office answer the request that the bytes of a client hold. `moment` is in seconds since
+/// 1970-01-01 UTC.
 ///
 /// If the bytes hold no complete request, call it again with more bytes.
 pub fn ask<B: Books>(

@@ -3,7 +3,7 @@ use interval_core::Share;
 use office_books::RowSink;
 use std::alloc::{AllocError, Global};
 
-/// The rows so far, unless memory ran out.
+/// The rows that the sink has received. `is_whole` is false once memory ran out for a row.
 #[derive(Drop)]
 pub struct KeptRows {
     rows: Vec<Share>,

@@ -16,7 +16,7 @@ use office_core::Office;
 use office_events::{Name, Refusal};
 use std::alloc::{AllocError, Global};
 
-/// The most entries of a response.
+/// The most entries that one response has.
 pub const MOST_ENTRIES: u32 = 4096;
 
 /// Queries the quarter hours of a meter.

@@ -7,7 +7,7 @@ use http_request::{Status, digits};
 use office_books::Span;
 use office_events::Name;
 
-/// Returns what follows `word` at the beginning of a text.
+/// Returns the rest of a text after `word`, if the text begins with it.
 pub(crate) fn after<'t>(word: &[u8], text: &'t [u8]) -> Option<&'t [u8]>
     ensures { option_map (λ rest. rest.now) result ≡ targets.after word.now text.now }
 {
@@ -42,7 +42,7 @@ fn intervals_asked(name: &[u8], span: Option<Span>) -> RunRoute
     }
 }
 
-// Parses the two timestamps. The second must end the target.
+// Parses the two timestamps of a target. The second one must end the target.
 fn intervals_till(name: &[u8], from: &[u8], till: &[u8]) -> Option<RunRoute>
     ensures { result ≡ targets.intervals_till name.now from.now till.now }
 {
@@ -52,7 +52,7 @@ fn intervals_till(name: &[u8], from: &[u8], till: &[u8]) -> Option<RunRoute>
     Some(intervals_asked(name, span_of(from, till)))
 }
 
-// Parses what follows the segment `intervals`.
+// Parses the text after the segment `intervals`.
 fn intervals_in(name: &[u8], text: &[u8]) -> Option<RunRoute>
     ensures { result ≡ targets.intervals_in name.now text.now }
 {

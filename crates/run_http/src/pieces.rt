@@ -21,7 +21,7 @@ use office_rules::facts_are_lawful;
 use run_status::{put, put_number, put_word};
 use std::alloc::{AllocError, Global};
 
-/// The rest of a response with quarter hours of a meter.
+/// What is left of a response with quarter hours of a meter.
 #[derive(Drop)]
 pub struct RowsLeft {
     meter: Option<Name>,
@@ -91,7 +91,7 @@ fn begin_rows<B: Books>(
     }
 }
 
-// Queries the rows that are queried later, for their size only.
+// Queries the rows that are still to be queried, and only measures them.
 fn ask_sizes<B: Books>(
     alloc: Global,
     office: &mut Office<B>,
@@ -285,7 +285,7 @@ fn count_of(left: &RowsLeft) -> Option<usize>
 }
 
 /// Appends the last rows of a response, and the number of all its rows. Call it when no rows are
-/// left to query. If memory runs out, a part remains.
+/// still to be queried. If memory runs out, a part remains.
 pub fn end_rows(text: &mut Vec<u8>, left: &RowsLeft) -> Result<(), AllocError>
     ensures { OnOk result (TellsRest left.now text.old.items text.new.items) }
 {

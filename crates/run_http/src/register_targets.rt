@@ -76,7 +76,7 @@ fn months_asked(name: &[u8]) -> RunRoute
     }
 }
 
-// Parses the two days. The second must end the target.
+// Parses the two days of a target. The second one must end the target.
 fn days_till(name: &[u8], from: &[u8], till: &[u8]) -> Option<RunRoute>
     ensures { targets.IsDaysTill name.now from.now till.now result }
 {
@@ -86,7 +86,7 @@ fn days_till(name: &[u8], from: &[u8], till: &[u8]) -> Option<RunRoute>
     Some(days_asked(name, range_of(from, till)))
 }
 
-// Parses what follows the segment `days`.
+// Parses the text after the segment `days`.
 fn days_in(name: &[u8], text: &[u8]) -> Option<RunRoute>
     ensures { targets.IsDaysIn name.now text.now result }
 {
@@ -96,7 +96,7 @@ fn days_in(name: &[u8], text: &[u8]) -> Option<RunRoute>
     }
 }
 
-// Parses what asks for energy after the name of a register.
+// Parses the text after the name of a register as a target for energy.
 fn energy_in(name: &[u8], text: &[u8]) -> Option<RunRoute>
     ensures { targets.IsEnergyIn name.now text.now result }
 {

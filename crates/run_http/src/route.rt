@@ -23,8 +23,8 @@ pub enum StatusRoute {
     Status,
     /// A part of the page.
     Page(PagePart),
-    /// A fault: 421 for a host that may not ask; 403 for a page of another site; 405 for a method
-    /// other than GET; 400 for a malformed part of the target.
+    /// The status that rejects a request. A host that fails the test gets 421, and a page of
+    /// another site 403. A method other than GET gets 405, and a malformed part of the target 400.
     Rejected(Status),
 }
 
@@ -42,7 +42,7 @@ pub enum RunRoute {
         meter: Option<Name>,
         span: Span,
     },
-    /// The entries of a meter from a sequence number on, as text. Voided ones are among them.
+    /// The entries of a meter from a sequence number on, as text, with voided entries among them.
     Entries {
         meter: Option<Name>,
         from: u64,
@@ -150,7 +150,8 @@ fn asks_for_page(request: &[u8], head_state: &HeadState) -> bool
     }
 }
 
-// Returns whether a page of another site asks for more than the page itself, to which it may link.
+// Returns whether a page of another site sent the request, and it is not for the page itself. Such
+// a page may link to the page.
 fn is_forbidden(request: &[u8], head_state: &HeadState) -> bool
     requires { Looks request.now head_state.now }
     ensures { result ≡ texts.is_forbidden request.now head_state.now }
@@ -158,7 +159,7 @@ fn is_forbidden(request: &[u8], head_state: &HeadState) -> bool
     is_cross_site(request, head_state) && !asks_for_page(request, head_state)
 }
 
-// Finds the route of a request whose host may ask, or rejects a page of another site.
+// Finds the route of a request that passed the host test; 403 if a page of another site sent it.
 fn permitted_route(request: &[u8], head_state: &HeadState) -> Option<RunRoute>
     requires { Looks request.now head_state.now }
     ensures { texts.IsPermitted request.now head_state.now result }
@@ -173,8 +174,8 @@ fn permitted_route(request: &[u8], head_state: &HeadState) -> Option<RunRoute>
 /// Finds the route of a request among the run's own routes, once its head is complete and within
 /// its limits.
 ///
-/// The route is a fault if the host may not ask, by `names`, or if a page of another site asks.
-/// `None` leaves the request to the office.
+/// The route is 421 if the host is not among `names` or those of this machine, and 403 for a page
+/// of another site. `None` leaves the request to the office.
 pub fn run_route(names: &[&str], request: &[u8]) -> Option<RunRoute>
     ensures { texts.IsFor (hosts.texts names.now) request.now result }
 {

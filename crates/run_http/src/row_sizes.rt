@@ -63,7 +63,7 @@ impl RowSizes {
         }
     }
 
-    /// Returns the sizes. Fails if memory ran out for a line.
+    /// Returns the sizes of all rows. Fails if memory ran out for a line.
     pub fn whole(&self) -> Result<Sizes, AllocError>
         ensures whole { IfOk result (λ sizes. self.now.is_whole ≡ true) }
         ensures sizes { IfOk result (λ sizes. sizes ≡ self.now.sizes) }

@@ -14,8 +14,8 @@ use office_core::Office;
 use office_events::{Name, Refusal};
 use std::alloc::{AllocError, Global};
 
-// The most entries of one query, and the most queries. Together they cover all sequence numbers of
-// 64 bits.
+// The most entries that one query returns, and the most queries. Together they cover all sequence
+// numbers of 64 bits.
 const PIECE: u32 = 65536;
 
 const MOST_PIECES: u64 = 281_474_976_710_655;

@@ -1,4 +1,4 @@
--- Which file is active, name by name.
+-- Lemmas on which file is the active one, found name by name.
 use Rattle.std.proofs.Common.{◌≡◌, ◌⊎◌, inl, inr, ℕ, ◌+◌, ◌<◌, ◌≤◌, nat_lt, Bool, true, false, List, [], ◌∷◌, ◌++◌, Some, None, refl, sym, ap, ◌∙◌, subst, arith}
 use Rattle.std.specs.Prelude.{Option, codes, Contains, ◌||◌}
 use Rattle.std.specs.Borrow.{Bor}
@@ -22,7 +22,7 @@ or_left : (a b : Bool) → a ≡ true → (a || b) ≡ true
 or_left true b is = refl
 or_left false b is = absurd (cc)
 
--- A name that belongs to no period of the run's own length.
+-- A file name whose period does not have the run's own length.
 pub told_by_other : (file : List ℕ) (length : Period) (name : List ℕ) (r : Option (Bor (List ℕ))) → IsPeriodIn file length name None
     → IsPeriodIn file (other_length length) name r → IsToldBy file length name r
 told_by_other file length name (Some text) own is = record {
@@ -35,7 +35,7 @@ told_by_other file length name None own other = λ text is.
       | inr spelled ↦ other text (record { spelled = spelled; named = is.named })
     ]
 
--- Two periods have two files.
+-- The files of two different periods have different names.
 same_text : (file text other : List ℕ) → file_of file text ≡ file_of file other → text ≡ other
 same_text file text other both =
     let fronts : stem_of file ++ codes "-" ++ text ≡ stem_of file ++ codes "-" ++ other = append_cancel_right _ _ (suffix_of file) both in

@@ -1,4 +1,4 @@
--- What lies between a beginning and an end.
+-- Lemmas on the part of a file name between its beginning and its end.
 use Rattle.std.proofs.Common.{◌≡◌, ◌≢◌, List, ℕ, ◌++◌, Some, None, sym, ◌∙◌, ap, append_assoc}
 use Rattle.std.specs.Prelude.{Option, codes, false, true}
 use Rattle.std.specs.Borrow.{Bor}
@@ -40,7 +40,7 @@ pub no_name : (file name : List ℕ) (period : Period) → ((text : List ℕ) �
     → IsPeriodIn file period name None
 no_name file name period none = λ text called. none text called.named
 
--- No other text lies there.
+-- If the text in a file name does not have the form of a period, the name has no period.
 pub other_text : (file name text : List ℕ) (period : Period) → stem_of file ++ codes "-" ++ text ++ suffix_of file ≡ name → spells period text ≡ false
     → IsPeriodIn file period name None
 other_text file name text period is unspelled = λ other called.

@@ -1,4 +1,4 @@
--- The clocks of zones.
+-- Lemmas on the clocks of time zones.
 use Rattle.std.proofs.Common.{◌≡◌, ◌∙◌, ℕ, true, false, refl, sym, ap, subst, arith, to_z, of_z, to_z-of_z, w64}
 use Rattle.std.specs.Prelude.{ℤ, pos, negsuc, neg_ℤ, ◌+ℤ◌, ◌*ℤ◌, ◌≤ℤ◌, ◌<ℤ◌, unsigned_abs}
 use Rattle.std.specs.Cmp.{int_ranks}
@@ -17,7 +17,7 @@ use Rattle.jiff.specs.Words.{plain_zone}
 use Rattle.interval_core.specs.Zone.{day_at, offset_of, rule_of}
 use Rattle.interval_core.specs.declared.zone.Zone.{Zone}
 
--- No clock is further from UTC than 25:59:59.
+-- The offset of a time zone from UTC is at most 25:59:59, ahead or back.
 in_range : (zone : TimeZone) (n : ℤ) → IsOffsetSeconds (offset_at zone n)
 unfolding offset_at
 in_range UTC n = zero_in_range
@@ -29,7 +29,7 @@ in_range (Tzif z) n = (Table.offset_at z.now n).in_range
 offset_range : (zone : Zone) (moment : ℕ) → IsOffsetSeconds (offset_of zone moment)
 offset_range zone moment = in_range (plain_zone (rule_of zone)) (pos moment *ℤ pos 1_000_000_000)
 
--- A time at which no clock has reached the next day.
+-- At such a time, the next day has not begun in any time zone.
 pub not_past : (zone : Zone) (last : ℤ) (at : ℕ) → (pos at +ℤ pos 93_599) <ℤ ((last +ℤ pos 1) *ℤ pos 86_400) → day_at zone at ≤ℤ last
 not_past zone last at early =
     let bound = offset_range zone at in
@@ -41,7 +41,7 @@ natural : (z : ℤ) → FitsUnsignedBits 64 z → z ≡ pos (unsigned_abs z)
 natural (pos n) fits = refl
 natural (negsuc n) fits = absurd fits
 
--- A number of 64 bits that fits an unsigned number is that number.
+-- An integer in this range that fits an unsigned number of 64 bits is that number.
 pub as_natural : (z : ℤ) (n : ℕ) → IsBetween (neg_ℤ (pos 1_000_000_000_000)) (pos 1_000_000_000_000) z
     → FitsUnsignedBits 64 (to_z w64 (of_z w64 z)) → n ≡ unsigned_abs (to_z w64 (of_z w64 z)) → z ≡ pos n
 as_natural z n bound fits is =

@@ -3,8 +3,8 @@ ghost use Rattle.std.specs.Prelude.{◌≡◌};
 ghost use Rattle.run_schedule.specs.FileMarks as marks;
 ghost use Rattle.run_schedule.specs.FileMarks.{IsStill};
 
-/// What the system reports of a file. The number of links is not compared: a path that leads to the
-/// inode is one of its links, and a second link does the file no harm.
+/// What the system reports of a file. The number of links is not compared, because a further link
+/// does the file no harm.
 #[derive(Clone, Copy, Debug, PartialEq, Eq)]
 pub struct FileMark {
     pub device: u64,

@@ -1,6 +1,6 @@
-//! The kinds of cases.
+//! The kinds of golden tests.
 
-/// The command that reads a case.
+/// The command that reads the text of a golden test.
 #[derive(Clone, Copy, PartialEq, Eq)]
 pub(crate) enum Command {
     Replay,
@@ -9,7 +9,7 @@ pub(crate) enum Command {
     Plan,
 }
 
-/// The command that reads a case, and whether each line of the case is a separate text.
+/// The command that reads a golden test, and whether it reads each line as a separate text.
 #[derive(Clone, Copy)]
 pub(crate) struct Kind {
     pub(crate) command: Command,
@@ -30,7 +30,7 @@ fn by_lines(command: Command) -> Option<Kind> {
     })
 }
 
-/// Returns the kind of a case, by the extension of its file.
+/// Returns the kind of a golden test, by the extension of its file.
 pub(crate) fn kind_of(ending: &str) -> Option<Kind> {
     match ending {
         "script" => whole(Command::Replay),

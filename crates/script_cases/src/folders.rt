@@ -1,4 +1,4 @@
-//! Folders of cases.
+//! The names in folders of golden tests.
 use std::alloc::Global;
 use std::{fs, io};
 
@@ -12,7 +12,7 @@ pub(crate) fn names_in(rt: &HostRuntime, folder: &str) -> io::Result<Vec<String>
     Ok(names)
 }
 
-/// Returns the paths of the folders in a folder, sorted.
+/// Returns the paths of the subfolders of a folder, sorted.
 pub(crate) fn folders_in(rt: &HostRuntime, folder: &str) -> io::Result<Vec<String>> {
     let mut paths = Vec::new(rt.alloc());
     for entry in fs::read_dir(rt, folder)? {

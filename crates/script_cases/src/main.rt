@@ -1,6 +1,6 @@
-//! Runs the golden tests below a folder, which the first argument names, or below the working
-//! directory. Each case is a text that a command reads, and what the command must print. The
-//! program reports each case that differs, and at the end how many agree.
+//! Runs the golden tests below the folder that the first argument names, by default the working
+//! directory. Each golden test is a text that a command reads, and the output that the command must
+//! print. The program reports each test that differs, and at the end how many agree.
 #![tactic(auto)]
 
 mod case_kind;
@@ -14,7 +14,7 @@ use script_run::Loopback;
 use std::process::ExitCode;
 use std::{env, fs, io};
 
-/// How many cases agree, and how many do not.
+/// How many golden tests agree, and how many differ.
 #[derive(Clone, Copy)]
 struct Tally {
     agree: u64,
@@ -46,7 +46,7 @@ fn play_all(rt: &HostRuntime) -> io::Result<Tally> {
     Ok(tally)
 }
 
-// Runs the cases of a folder, in the order of their names.
+// Runs the golden tests of a folder, in the order of their names.
 fn play_subject<'r>(
     rt: &'r HostRuntime,
     loopback: &mut Loopback<'r, HostRuntime>,
@@ -71,7 +71,7 @@ fn play_subject<'r>(
     Ok(())
 }
 
-// Runs the case in a file. Reports where its output differs from the expected one, if it does.
+// Runs the golden test in a file. If its output differs from the expected one, reports where.
 fn play_case<'r>(
     rt: &'r HostRuntime,
     loopback: &mut Loopback<'r, HostRuntime>,

@@ -1,4 +1,4 @@
-//! Runs a case.
+//! Runs a golden test.
 use crate::case_kind::{Command, Kind};
 use command_io::ExitStatus;
 use interval_core::Zone;
@@ -6,8 +6,8 @@ use script_run::{Loopback, loop_text, replay};
 use std::io::{self, ErrorKind, Write};
 use sunspec_text::{chain_text, plan_text};
 
-/// Returns the output of a case: that of its text, or that of each line after the first. The first
-/// line of a plan's case is not part of its text.
+/// Returns the output of a golden test: that of its text, or that of each line after the first one.
+/// For `plan` the first line is not part of the text.
 pub(crate) fn play<'r>(
     rt: &'r HostRuntime,
     loopback: &mut Loopback<'r, HostRuntime>,
@@ -35,7 +35,7 @@ pub(crate) fn play<'r>(
     Ok(printed)
 }
 
-// Runs a text, and appends its output. The output must imply the status.
+// Runs a text, and appends its output. The exit status must be the one that the output implies.
 fn play_text<'r>(
     rt: &'r HostRuntime,
     loopback: &mut Loopback<'r, HostRuntime>,
@@ -93,7 +93,7 @@ fn read_zone(text: &str) -> io::Result<Zone> {
     }
 }
 
-// Returns the zone that the second line names, as `# zone TEXT`.
+// Returns the time zone that the second line of a text names, as `# zone TEXT`.
 fn zone_of(text: &[u8]) -> &str {
     let second = after_first(text).split(|byte| *byte == b'\n').next();
     match second.and_then(|line| line.strip_prefix(b"# zone ".as_slice())) {
@@ -102,7 +102,7 @@ fn zone_of(text: &[u8]) -> &str {
     }
 }
 
-// Returns a text after its first line.
+// Returns the rest of a text after its first line.
 fn after_first(text: &[u8]) -> &[u8] {
     match text.iter().position(|byte| *byte == b'\n') {
         Some(at) => text.get(at + 1..).unwrap_or(b""),
@@ -110,8 +110,8 @@ fn after_first(text: &[u8]) -> &[u8] {
     }
 }
 
-// Returns whether the output ends with a refusal of the input: `bad line N`, `too long`, `fault ..`
-// or `row R fault N`.
+// Returns whether the last line of the output refuses the input: `bad line N`, `too long`, `fault
+// ..` or `row R fault N`.
 fn is_refused(printed: &[u8]) -> bool {
     let ended = printed.strip_suffix(b"\n".as_slice()).unwrap_or(printed);
     let last = ended.rsplit(|byte| *byte == b'\n').next().unwrap_or(ended);
@@ -120,7 +120,7 @@ fn is_refused(printed: &[u8]) -> bool {
         .any(|word| last.starts_with(word))
 }
 
-/// Returns the number of the first line in which two texts differ, from 1.
+/// Returns the number of the first line in which two texts differ. Lines are numbered from 1.
 pub(crate) fn differs_at(left: &[u8], right: &[u8]) -> Option<u64> {
     if left == right {
         return None;

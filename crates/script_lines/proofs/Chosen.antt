@@ -1,4 +1,4 @@
--- The choice of a test or a table.
+-- Lemmas on choosing by a test or from a table.
 use Rattle.std.proofs.Common.{◌≡◌, ◌⊎◌, inl, inr, ℕ, Bool, true, false, List, [], ◌∷◌, Some, Option, refl, subst}
 use Rattle.std.specs.Prelude.{if◌then◌else◌, map, option_map}
 use Rattle.std.specs.Borrow.{Bor}
@@ -28,12 +28,13 @@ pub found_meaning : {T : Type 0} (table : List (Bor (List ℕ) × T)) (word : Li
 found_meaning [] word = refl
 found_meaning (entry ∷ table) word = first_meaning (bytes_eq entry.0.now word) entry _ (meaning_in (map entry_of table) word) (found_meaning table word)
 
--- P is true for each word of a table and its meaning.
+-- P is true for each word of the table and its meaning.
 abbrev pub Each : {T : Type 0} → (T → List ℕ → Type 0) → List (List ℕ × T) → Type 0
 Each P [] = Unit {0}
 Each P (entry ∷ table) = P entry.1 entry.0 × Each P table
 
--- Then P is true for a word and its meaning.
+-- If P is true for each entry of a table, it is true for a word and the meaning that the table has
+-- for it.
 pub meant : {T : Type 0} (P : T → List ℕ → Type 0) (table : List (List ℕ × T)) (word : List ℕ) (v : T) → Each P table → meaning_in table word ≡ Some v → P v word
 meant P [] word v each h = cc h
 meant P (entry ∷ table) word v each h =

@@ -1,11 +1,12 @@
--- The result of `make` on the values of words, and the fields that the words spell.
+-- Lemmas that connect the result of `make` on the values of words with the fields that the words
+-- spell.
 use Rattle.std.proofs.Common.{◌≡◌, ℕ, List, [], ◌∷◌, Some, None, Option, refl, sym, ap, ◌∙◌, subst}
 use Rattle.std.specs.Prelude.{option_map}
 use Rattle.script_lines.specs.LineWords.Fields.{Kind, Value, Field, Of, Spell, first_value, missing, spelled, ◌>>=◌}
 use Rattle.script_lines.specs.LineReader.{Values, made}
 use Rattle.script_lines.proofs.Chosen.{same}
 
--- The fields of values.
+-- The fields that have these values.
 abbrev pub fields : (kinds : List Kind) → Values kinds → List Field
 fields [] values = []
 fields (kind ∷ kinds) values = Of kind values.0 ∷ fields kinds values.1
@@ -22,7 +23,7 @@ paired (Some x) words v h =
     let p = same (x, words) v h in
     (ap (λ (q : _ × List (List ℕ)). Some q.0) p, ap (λ (q : _ × List (List ℕ)). q.1) p)
 
--- A parsed value is spelled by the first word, or may be missing.
+-- If a value was parsed, the first word spells it, or the word is missing and may be.
 pub first_spelled : (kind : Kind) (words : List (List ℕ)) (first : Value kind × List (List ℕ)) (more : List Field)
     → first_value kind words ≡ Some first → Spell first.1 more → Spell words (Of kind first.0 ∷ more)
 first_spelled kind [] first more h rest =
@@ -37,7 +38,7 @@ first_read : (kind : Kind) (value : Value kind) (words : List (List ℕ)) (more 
 first_read kind value [] more h = ([], ap (option_map (λ v. (v, []))) h.0, h.1)
 first_read kind value (word ∷ words) more h = (words, ap (option_map (λ v. (v, words))) h.0, h.1)
 
--- The result is that of values which the words spell.
+-- If `made` has a result, the words spell the values from which it was made.
 pub made_spelled : {X : Type 0} (kinds : List Kind) (make : Values kinds → X) (words : List (List ℕ)) (x : X) → made kinds make words ≡ Some x
     → (values : Values kinds) × Spell words (fields kinds values) × (make values ≡ x)
 made_spelled [] make [] x h = (tt, tt, same (make tt) x h)
@@ -56,7 +57,7 @@ spelled_made (kind ∷ kinds) make values words h =
     let first = first_read kind values.0 words (fields kinds values.1) h in
     rw first.1 (spelled_made kinds (λ rest. make (values.0, rest)) values.1 first.0 first.2)
 
--- A function of the result.
+-- `made` with a function applied to its result.
 pub made_again : {X Y : Type 0} (kinds : List Kind) (make : Values kinds → X) (f : X → Y) (words : List (List ℕ)) (x : X)
     → made kinds make words ≡ Some x → made kinds (λ values. f (make values)) words ≡ Some (f x)
 made_again kinds make f words x h =

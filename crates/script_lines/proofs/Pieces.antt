@@ -1,4 +1,4 @@
--- Words that spell a device and bytes.
+-- Lemmas on words that spell a device and bytes.
 use Rattle.std.proofs.Common.{◌≡◌, inl, inr, ℕ, ◌<◌, ◌&&◌, true, List, [], ◌∷◌, Some, None, Option, refl, sym, ap, ◌∙◌, arith}
 use Rattle.std.specs.Prelude.{nat_le, length, IsSome, Result, Ok, Err}
 use Rattle.std.specs.Result.{result_ok}

@@ -1,4 +1,5 @@
--- The results of the private parsers of a line, word by word. `Forms` defines the lines themselves.
+-- The results of the private functions that parse a line word by word. `Forms` defines the lines
+-- themselves.
 use Rattle.std.specs.Prelude.{◌≡◌, ◌<◌, ℕ, List, [], ◌∷◌, Option, Some, None, codes, length}
 use Rattle.office_events.specs.declared.commands.Command.TheVariants as command
 use Rattle.office_events.specs.declared.events.Event.TheVariants as event
@@ -14,22 +15,23 @@ use Rattle.script_lines.specs.declared.verbs.Question.TheVariants as question
 use Rattle.script_lines.specs.declared.script.ScriptLine.{ScriptLine}
 use Rattle.script_lines.specs.declared.script.ScriptLine.TheVariants as line
 
--- A value of each kind.
+-- One value for each of the kinds.
 abbrev pub Values : List Kind → Type 0
 Values [] = Unit {0}
 Values (kind ∷ kinds) = Value kind × Values kinds
 
--- The line, if no word is left.
+-- The line if no word is left after it, otherwise None.
 abbrev pub said_last : ScriptLine → List (List ℕ) → Option ScriptLine
 said_last line words = nothing_more words >>= λ none. Some line
 
--- The result of `make` on the values of all words.
+-- Parses each word as a value of its kind, and applies `make` to the values. None if a word does
+-- not fit, or if words are left.
 abbrev pub made : {X : Type 0} (kinds : List Kind) → (Values kinds → X) → List (List ℕ) → Option X
 made [] make words = nothing_more words >>= λ none. Some (make none)
 made (kind ∷ kinds) make words =
     first_value kind words >>= λ first. made kinds (λ values. make (first.0, values)) first.1
 
--- The kinds of the words after a verb.
+-- The kinds of the words that follow a verb.
 abbrev pub kinds_of : Verb → List Kind
 kinds_of verb.Device = AnyName ∷ Number ∷ Number ∷ Number ∷ []
 kinds_of verb.List = AnyName ∷ Hex ∷ []
@@ -49,7 +51,7 @@ kinds_of verb.Tick = []
 kinds_of verb.Gone = AnyName ∷ []
 kinds_of verb.Failed = AnyName ∷ []
 
--- The line of a verb with these values.
+-- The line with this verb, timestamp and values.
 abbrev pub line_of : (verb : Verb) → (at : ℕ) → Values (kinds_of verb) → ScriptLine
 line_of verb.Device at v =
     line.Event at
@@ -116,7 +118,7 @@ line_of verb.Tick at v = line.Event at event.Tick
 line_of verb.Gone at v = line.Event at (event.Gone v.0 closing.Gone)
 line_of verb.Failed at v = line.Event at (event.Gone v.0 closing.Failed)
 
--- The line of a verb, if the words after it have the right kinds.
+-- The line with this verb and timestamp, if the words after the verb have the right kinds.
 abbrev pub said_by : Verb → (at : ℕ) → List (List ℕ) → Option ScriptLine
 said_by verb.Device at words = made (kinds_of verb.Device) (line_of verb.Device at) words
 said_by verb.List at words = made (kinds_of verb.List) (line_of verb.List at) words
@@ -136,21 +138,21 @@ said_by verb.Tick at words = made (kinds_of verb.Tick) (line_of verb.Tick at) wo
 said_by verb.Gone at words = made (kinds_of verb.Gone) (line_of verb.Gone at) words
 said_by verb.Failed at words = made (kinds_of verb.Failed) (line_of verb.Failed at) words
 
--- The kinds of the words after the verb of a query.
+-- The kinds of the words that follow the verb of a query.
 abbrev pub kinds_asked : Question → List Kind
 kinds_asked question.Meter = AnyName ∷ []
 kinds_asked question.Intervals = AnyName ∷ []
 kinds_asked question.Days = AnyName ∷ []
 kinds_asked question.Poll = Number ∷ []
 
--- The query with these values.
+-- The query with this verb and these values.
 abbrev pub line_asked : (question : Question) → Values (kinds_asked question) → ScriptLine
 line_asked question.Meter v = line.Meter v.0
 line_asked question.Intervals v = line.Intervals v.0
 line_asked question.Days v = line.Days v.0
 line_asked question.Poll v = line.Poll v.0
 
--- The query, if the words after its verb have the right kinds.
+-- The query with this verb, if the words after the verb have the right kinds.
 abbrev pub asked_by : Question → List (List ℕ) → Option ScriptLine
 asked_by question.Meter words = made (kinds_asked question.Meter) (line_asked question.Meter) words
 asked_by question.Intervals words =
@@ -180,7 +182,7 @@ verbs =
     ∷ (codes "failed", verb.Failed)
     ∷ []
 
--- The verb of a name.
+-- The verb of an event or a command with this name.
 abbrev pub verb_of : List ℕ → Option Verb
 verb_of word = meaning_in verbs word
 
@@ -193,35 +195,36 @@ questions =
     ∷ (codes "poll", question.Poll)
     ∷ []
 
--- The verb of a query of a name.
+-- The verb of a query with this name.
 abbrev pub question_of : List ℕ → Option Question
 question_of word = meaning_in questions word
 
--- The line after its timestamp.
+-- The line whose timestamp is `at`, from the words after the timestamp.
 abbrev pub timed_said : ℕ → List (List ℕ) → Option ScriptLine
 timed_said at [] = None
 timed_said at (word ∷ words) = verb_of word >>= λ verb. said_by verb at words
 
--- A line that begins with a timestamp, or a query.
+-- The line whose first word is `word`. If `word` is a number, it is the timestamp; otherwise it
+-- must be the verb of a query.
 abbrev pub said_from : Option ℕ → List ℕ → List (List ℕ) → Option ScriptLine
 said_from None word words = question_of word >>= λ question. asked_by question words
 said_from (Some at) word words = timed_said at words
 
--- The line that the words spell.
+-- The line that the words spell, if they spell one.
 abbrev pub line_said : List (List ℕ) → Option ScriptLine
 line_said [] = None
 line_said (word ∷ words) = said_from (number_of word) word words
 
--- A device and bytes, which may be missing.
+-- The name of a device, and bytes in hexadecimal. The bytes may be missing.
 abbrev pub device_bytes_said : List (List ℕ) → Option (Option (List ℕ) × List ℕ)
 device_bytes_said words = made (AnyName ∷ Hex ∷ []) (λ values. (values.0, values.1.0)) words
 
--- The words spell a device and at least one byte.
+-- The result is a device with at least one byte.
 abbrev pub SaysPiece : Option (Option (List ℕ) × List ℕ) → Type 0
 SaysPiece found =
     (device : Option (List ℕ)) × (piece : List ℕ) × (found ≡ Some (device, piece))
     × (0 < length piece)
 
--- The words spell a line with at least one byte.
+-- The result is a line with at least one byte.
 abbrev pub SaysBytes : Option ScriptLine → Type 0
 SaysBytes found = (said : ScriptLine) × (found ≡ Some said) × (0 < length (bytes_in said))

@@ -8,12 +8,12 @@ use Rattle.script_lines.specs.declared.line_fault.LineFault.TheVariants.{Bad, Me
 use Rattle.script_lines.specs.declared.script.ScriptLine.{ScriptLine}
 use Rattle.script_lines.specs.declared.script.ScriptLine.TheVariants.{Event, List as PointList}
 
--- The words spell this line, and no other.
+-- The words spell this line, and no other line.
 pub record IsOnly (words : List (List ℕ)) (line : ScriptLine) : Type 0 where
   pub is : IsLine words line
   pub only : (other : ScriptLine) → IsLine words other → other ≡ line
 
--- The bytes of a line: those of a device, or of a point list.
+-- The bytes in a line: those that a device sent, or those of a point list. Other lines have none.
 abbrev pub bytes_in : ScriptLine → List ℕ
 bytes_in (Event at (Bytes device piece)) = piece
 bytes_in (PointList at list) = list.text
@@ -25,8 +25,8 @@ pub record BringBytes (words : List (List ℕ)) : Type 0 where
   pub is : IsLine words line
   pub some : 0 < length (bytes_in line)
 
--- The line that the words spell, or Bad if they spell none. Memory can run out only for a line with
--- bytes.
+-- The result of parsing: the only line that the words spell, `Bad` if they spell none, or `Memory`.
+-- Memory can run out only for a line with bytes.
 abbrev pub Reads : List (List ℕ) → Result ScriptLine LineFault → Type 0
 Reads words (Ok line) = IsOnly words line
 Reads words (Err Bad) = (line : ScriptLine) → IsLine words line → ⊥

@@ -1,4 +1,4 @@
-//! Parses commands, after their verb.
+//! Parses the words of commands after their verb.
 ghost use Rattle.std.specs.Prelude.{◌≡◌};
 ghost use Rattle.script_lines.specs.LineReader.{said_by, said_last};
 ghost use Rattle.office_events.specs.declared.events.Event.TheVariants as event;
@@ -22,7 +22,7 @@ fn command_line(at: u64, command: Command, words: &mut Words<'_>) -> Option<Scri
     event_line(at, Event::Command(command), words)
 }
 
-// `NAME UNIT TIMEOUT WINDOW`.
+// Parses `NAME UNIT TIMEOUT WINDOW`: a new device.
 pub(crate) fn device(at: u64, words: &mut Words<'_>) -> Option<ScriptLine>
     ensures { result ≡ said_by verb.Device at words.old }
 {
@@ -35,7 +35,7 @@ pub(crate) fn device(at: u64, words: &mut Words<'_>) -> Option<ScriptLine>
     command_line(at, command, words)
 }
 
-// `NAME DEVICE FUNCTION ADDRESS SCALE`.
+// Parses `NAME DEVICE FUNCTION ADDRESS SCALE`: a new accounting register.
 pub(crate) fn register(at: u64, words: &mut Words<'_>) -> Option<ScriptLine>
     ensures { result ≡ said_by verb.Register at words.old }
 {
@@ -49,7 +49,7 @@ pub(crate) fn register(at: u64, words: &mut Words<'_>) -> Option<ScriptLine>
     command_line(at, command, words)
 }
 
-// `REGISTER METER RAW SF CEILING`, and `RANGE` may follow.
+// Parses `REGISTER METER RAW SF CEILING [RANGE]`: a meter is installed.
 pub(crate) fn install(at: u64, words: &mut Words<'_>) -> Option<ScriptLine>
     ensures { result ≡ said_by verb.Install at words.old }
 {
@@ -64,7 +64,7 @@ pub(crate) fn install(at: u64, words: &mut Words<'_>) -> Option<ScriptLine>
     command_line(at, command, words)
 }
 
-// `REGISTER LAST ROLLS METER RAW SF CEILING`, and `RANGE` may follow.
+// Parses `REGISTER LAST ROLLS METER RAW SF CEILING [RANGE]`: a meter is exchanged for another.
 pub(crate) fn exchange(at: u64, words: &mut Words<'_>) -> Option<ScriptLine>
     ensures { result ≡ said_by verb.Exchange at words.old }
 {
@@ -81,7 +81,7 @@ pub(crate) fn exchange(at: u64, words: &mut Words<'_>) -> Option<ScriptLine>
     command_line(at, command, words)
 }
 
-// `REGISTER BEFORE AFTER`.
+// Parses `REGISTER BEFORE AFTER`: a counter is reset.
 pub(crate) fn reset(at: u64, words: &mut Words<'_>) -> Option<ScriptLine>
     ensures { result ≡ said_by verb.Reset at words.old }
 {
@@ -93,7 +93,7 @@ pub(crate) fn reset(at: u64, words: &mut Words<'_>) -> Option<ScriptLine>
     command_line(at, command, words)
 }
 
-// `REGISTER BEFORE AFTER SF`.
+// Parses `REGISTER BEFORE AFTER SF`: a counter is set to another value and scale.
 pub(crate) fn rescale(at: u64, words: &mut Words<'_>) -> Option<ScriptLine>
     ensures { result ≡ said_by verb.Rescale at words.old }
 {
@@ -106,7 +106,7 @@ pub(crate) fn rescale(at: u64, words: &mut Words<'_>) -> Option<ScriptLine>
     command_line(at, command, words)
 }
 
-// `REGISTER RAW ROLLS`, and `AT` may follow.
+// Parses `REGISTER RAW ROLLS [AT]`: a reading by hand.
 pub(crate) fn manual(at: u64, words: &mut Words<'_>) -> Option<ScriptLine>
     ensures { result ≡ said_by verb.Manual at words.old }
 {
@@ -119,7 +119,7 @@ pub(crate) fn manual(at: u64, words: &mut Words<'_>) -> Option<ScriptLine>
     command_line(at, command, words)
 }
 
-// `REGISTER RAW ROLLS`.
+// Parses `REGISTER RAW ROLLS`: a meter is closed.
 pub(crate) fn close(at: u64, words: &mut Words<'_>) -> Option<ScriptLine>
     ensures { result ≡ said_by verb.Close at words.old }
 {
@@ -131,7 +131,7 @@ pub(crate) fn close(at: u64, words: &mut Words<'_>) -> Option<ScriptLine>
     command_line(at, command, words)
 }
 
-// `METER PLACE`.
+// Parses `METER PLACE`: an entry is voided.
 pub(crate) fn void_entry(at: u64, words: &mut Words<'_>) -> Option<ScriptLine>
     ensures { result ≡ said_by verb.Void at words.old }
 {
@@ -142,7 +142,7 @@ pub(crate) fn void_entry(at: u64, words: &mut Words<'_>) -> Option<ScriptLine>
     command_line(at, command, words)
 }
 
-// `DEVICE FROM`.
+// Parses `DEVICE FROM`: a round is started.
 pub(crate) fn round(at: u64, words: &mut Words<'_>) -> Option<ScriptLine>
     ensures { result ≡ said_by verb.Round at words.old }
 {

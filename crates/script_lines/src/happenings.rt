@@ -1,4 +1,4 @@
-//! Parses events and queries, after their verb.
+//! Parses the words of events and queries after their verb.
 ghost use Rattle.std.specs.Prelude.{◌≡◌};
 ghost use Rattle.script_lines.specs.LineReader.{asked_by, said_by, said_last};
 ghost use Rattle.script_lines.specs.declared.script.ScriptLine.TheVariants as line;
@@ -18,7 +18,7 @@ pub(crate) fn event_line(at: u64, event: Event, words: &mut Words<'_>) -> Option
     Some(ScriptLine::Event { at, event })
 }
 
-// `DEVICE FUNCTION ADDRESS COUNT`.
+// Parses `DEVICE FUNCTION ADDRESS COUNT`: a read is started.
 pub(crate) fn start(at: u64, words: &mut Words<'_>) -> Option<ScriptLine>
     ensures { result ≡ said_by verb.Start at words.old }
 {
@@ -32,7 +32,7 @@ pub(crate) fn start(at: u64, words: &mut Words<'_>) -> Option<ScriptLine>
     Some(ScriptLine::Start { at, start })
 }
 
-// `DEVICE`.
+// Parses `DEVICE`: the device was connected.
 pub(crate) fn connect(at: u64, words: &mut Words<'_>) -> Option<ScriptLine>
     ensures { result ≡ said_by verb.Connect at words.old }
 {
@@ -46,7 +46,7 @@ pub(crate) fn tick(at: u64, words: &mut Words<'_>) -> Option<ScriptLine>
     event_line(at, Event::Tick, words)
 }
 
-// `DEVICE`.
+// Parses `DEVICE`: the device closed its connection.
 pub(crate) fn gone(at: u64, words: &mut Words<'_>) -> Option<ScriptLine>
     ensures { result ≡ said_by verb.Gone at words.old }
 {
@@ -54,7 +54,7 @@ pub(crate) fn gone(at: u64, words: &mut Words<'_>) -> Option<ScriptLine>
     event_line(at, event, words)
 }
 
-// `DEVICE`.
+// Parses `DEVICE`: a read or a write of the connection failed.
 pub(crate) fn failed(at: u64, words: &mut Words<'_>) -> Option<ScriptLine>
     ensures { result ≡ said_by verb.Failed at words.old }
 {

@@ -18,7 +18,7 @@ use std::alloc::{AllocError, Global};
 impl ScriptLine {
     ghost use Rattle.script_lines.specs.Seen.{Reads};
 
-    /// Parses a line. `Memory` is returned only for a line with bytes.
+    /// Parses a line of a script. Only a line with bytes can fail with `Memory`.
     pub fn read(alloc: Global, line: &[u8]) -> Result<ScriptLine, LineFault>
         ensures { Reads (words_of line.now) result }
     {
@@ -111,7 +111,7 @@ fn line_by(
     }
 }
 
-// `DEVICE HEX`: a point list.
+// Parses `DEVICE HEX`: a point list, as the bytes of its CSV.
 fn list_line(
     alloc: Global,
     at: u64,
@@ -129,7 +129,7 @@ fn list_line(
     }
 }
 
-// `DEVICE HEX`: bytes that a device sent.
+// Parses `DEVICE HEX`: bytes that a device sent.
 fn bytes_line(
     alloc: Global,
     at: u64,
@@ -147,7 +147,8 @@ fn bytes_line(
     }
 }
 
-// Parses a device and bytes in hexadecimal. A missing last word means no bytes.
+// Parses the name of a device, and bytes in hexadecimal. If the last word is missing, there are no
+// bytes.
 fn device_bytes(
     alloc: Global,
     words: &mut Words<'_>,

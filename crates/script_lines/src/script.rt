@@ -4,7 +4,7 @@ ghost use Rattle.std.specs.Prelude.{◌≡◌, ◌↔◌, IfSome, IsSome};
 use mb_wire::ReadSpan;
 use office_events::{Event, Name, Piece};
 
-/// A read to start, with its numbers as written.
+/// The start of a read, with its numbers as the line has them.
 #[derive(Clone, Copy, Debug, PartialEq, Eq)]
 pub struct GivenStart {
     /// `None` if the text is no name.
@@ -17,7 +17,7 @@ pub struct GivenStart {
 impl GivenStart {
     ghost use Rattle.mb_wire.specs.Spans.{IsSpan, code_of};
 
-    /// Returns the registers to read, if one read can have them.
+    /// Returns the Modbus registers to read, if one read can cover them.
     pub fn span(&self) -> Option<ReadSpan>
         ensures lawful { IsSome result ↔ IsSpan self.now.function self.now.address self.now.count }
         ensures function { IfSome result (λ span. code_of span.function ≡ self.now.function) }

@@ -14,7 +14,7 @@ use script_text::{
 use std::alloc::Global;
 use std::io::{self, ErrorKind, Read, Write};
 
-// Feeds an event to the office, and writes its answer.
+// Gives an event to the office, and writes the office's answer.
 fn feed_event<B: Books, W: Write>(
     office: &mut Office<B>,
     at: u64,
@@ -27,7 +27,7 @@ fn feed_event<B: Books, W: Write>(
     }
 }
 
-// Feeds a point list, or writes its faulty rows.
+// Stores a point list in the office, or writes the list's faulty rows.
 fn feed_rows<B: Books, W: Write>(
     alloc: Global,
     office: &mut Office<B>,
@@ -53,7 +53,7 @@ fn feed_rows<B: Books, W: Write>(
     feed_event(office, at, &Event::Command(Command::PutList(put)), output)
 }
 
-// Writes the number of rows, or the refusal that ended them.
+// Writes the number of rows, or the refusal that ended the query.
 fn write_count<W: Write>(
     answered: Result<(), Refusal>,
     failed: bool,
@@ -111,7 +111,7 @@ fn play_line<B: Books, W: Write>(
     }
 }
 
-// Executes the lines of a text, up to the first that has none of the forms.
+// Executes the lines of a text in order, up to the first line that cannot be parsed.
 fn play_text<B: Books, W: Write>(
     alloc: Global,
     office: &mut Office<B>,
@@ -136,7 +136,7 @@ fn play_text<B: Books, W: Write>(
     Ok(ExitStatus::Fine)
 }
 
-// Opens an office over the store, at its latest timestamp.
+// Opens an office over the store, at the latest timestamp in the store.
 fn open_office<B: Books>(alloc: Global, books: B) -> Result<Office<B>, Refusal> {
     let mut books = books;
     let moment = match books.latest() {
@@ -149,7 +149,7 @@ fn open_office<B: Books>(alloc: Global, books: B) -> Result<Office<B>, Refusal> 
     }
 }
 
-// Opens the office, and executes the lines of a text over it.
+// Opens an office over the store, and executes the lines of a text.
 fn play_books<B: Books, W: Write>(
     alloc: Global,
     books: B,

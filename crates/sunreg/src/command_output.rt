@@ -1,12 +1,13 @@
-//! The output of a command over an office.
+//! The output of a command that works on an office.
 use command_io::Buffered;
 use std::alloc::Global;
 use std::io::{self, LineWriter, Write};
 
-/// A writer that writes in pieces of some 8 KiB, or by lines. By lines it may also keep a copy.
+/// A writer that writes in pieces of some 8 KiB, or line by line. Line by line it may also keep a
+/// copy of its output.
 ///
-/// It is one type, so that the commands over an office's file are compiled once, and not for each
-/// way of printing.
+/// It is one type, so that the commands over an office's file are compiled once, and not once for
+/// each way of printing.
 #[derive(Drop)]
 pub(crate) enum CommandOutput<W: Write + Drop> {
     Pieces(Buffered<W>),
@@ -23,12 +24,13 @@ impl<W: Write + Drop> CommandOutput<W> {
         Ok(CommandOutput::Lines(LineWriter::new(alloc, output)?))
     }
 
-    /// Creates a writer by lines that keeps a copy of its output, as far as memory allows.
+    /// Makes a writer that writes line by line, and keeps a copy of its output as far as memory
+    /// allows.
     pub(crate) fn keeping(alloc: Global, output: W) -> io::Result<CommandOutput<W>> {
         Ok(CommandOutput::Kept(LineWriter::new(alloc, output)?, Vec::new(alloc)))
     }
 
-    /// Returns the copy of the output.
+    /// Returns the copy of the output; empty if no copy is kept.
     pub(crate) fn kept(&self) -> &[u8] {
         match self {
             CommandOutput::Pieces(_) | CommandOutput::Lines(_) => &[],

@@ -1,4 +1,4 @@
-//! The commands, over the process's streams and sockets.
+//! Executes commands with the streams, files and sockets of the process.
 use crate::completions::completions;
 use crate::ended;
 use crate::entering::enter;
@@ -196,7 +196,7 @@ fn stand_in<'a>(rt: &HostRuntime, host: &'a str, port: u16, connections: u32) ->
     }
 }
 
-// Returns the status of a command, after its output is flushed.
+// Flushes the output, and returns the status of the command.
 fn flushed<W: Write>(status: ExitStatus, output: &mut Buffered<W>) -> ExitStatus {
     match output.flush() {
         Ok(()) => status,

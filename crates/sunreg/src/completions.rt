@@ -1,4 +1,4 @@
-//! The completions of the command line for bash, generated from the table of commands.
+//! Prints the command line's completions for bash, which it generates from the table of commands.
 use command_io::Buffered;
 use command_words::{CommandText, OptionText, ProgramText, Value, program};
 use std::io::{self, Write};
@@ -19,7 +19,7 @@ const TAIL: &str = "\
 complete -F _sunreg sunreg
 ";
 
-// Returns the name that the help shows for an option's value, if it has one.
+// Returns the name that the help shows for an option's value. A flag has none.
 fn value_of<'a>(value: Value<'a>) -> Option<&'a str> {
     match value {
         Value::Required(shown)
@@ -41,14 +41,14 @@ fn write_names<W: Write>(commands: &[CommandText<'_>], output: &mut W) -> io::Re
     Ok(())
 }
 
-// Writes the names of all commands, and `help`.
+// Writes the names of all commands, followed by `help`.
 fn write_all_names<W: Write>(program: &ProgramText<'_>, output: &mut W) -> io::Result<()> {
     write_names(program.commands, output)?;
     write_names(program.later, output)?;
     output.write_all(b"help")
 }
 
-// Writes the words that may follow a command's option.
+// Writes the words that an option of a command accepts.
 fn write_chosen<W: Write>(
     command: &str,
     option: &str,
@@ -60,8 +60,7 @@ fn write_chosen<W: Write>(
     output.write_all(b"' ;;\n")
 }
 
-// Writes what may follow a command's option: one of some words, a file, or a value that is unknown
-// here.
+// Writes what may follow an option of a command: one of its words, a file, or any value.
 fn write_value<W: Write>(command: &str, option: &OptionText<'_>, output: &mut W) -> io::Result<()> {
     if let Value::Chosen { choices, .. } = option.value {
         return write_chosen(command, option.name, choices, output);
@@ -117,7 +116,7 @@ fn write_options<W: Write>(commands: &[CommandText<'_>], output: &mut W) -> io::
     Ok(())
 }
 
-// Writes for each command what may follow its options.
+// Writes for every command what may follow each of its options.
 fn write_all_values<W: Write>(program: &ProgramText<'_>, output: &mut W) -> io::Result<()> {
     output.write_all(b"    *) case ${COMP_WORDS[1]}\" \"${COMP_WORDS[COMP_CWORD - 1]} in\n")?;
     write_values(program.commands, output)?;
@@ -125,7 +124,7 @@ fn write_all_values<W: Write>(program: &ProgramText<'_>, output: &mut W) -> io::
     output.write_all(b"    *) case ${COMP_WORDS[1]} in\n")
 }
 
-// Writes for each command its options, and the words that may follow the command.
+// Writes for every command its options, and the words that may follow its name.
 fn write_all_options<W: Write>(program: &ProgramText<'_>, output: &mut W) -> io::Result<()> {
     write_options(program.commands, output)?;
     write_options(program.later, output)?;

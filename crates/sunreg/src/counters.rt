@@ -1,4 +1,4 @@
-//! Counters of devices, each read once over a socket.
+//! Reads the counters of devices, each once over a socket.
 use crate::run_words::bare_host;
 use crate::scans::connect;
 use command_words::Device;
@@ -15,11 +15,11 @@ use stored_files::Failure;
 /// Why a counter could not be read.
 #[derive(Clone, Copy, Debug, Drop)]
 pub(crate) enum Unread<'a> {
-    /// The address of the device was not given.
+    /// The arguments give no address for this device.
     Nowhere {
         device: Name,
     },
-    /// The device was not connected.
+    /// No connection to the device could be made.
     Unconnected(Failure<'a>),
     /// The read failed.
     Broken {
@@ -27,7 +27,7 @@ pub(crate) enum Unread<'a> {
         port: u16,
         fault: ScanFault,
     },
-    /// The device did not return the counter.
+    /// The device sent no value of the counter.
     Untold {
         host: &'a str,
         port: u16,
@@ -57,7 +57,7 @@ impl<'a> Display for Unread<'a> {
     }
 }
 
-// Returns the given address of a device.
+// Returns the device with this name and its address, if the arguments list it.
 fn place_of<'a>(places: &[Device<'a>], name: &Name) -> Option<Device<'a>> {
     for place in places {
         if place.name.as_bytes() == name.as_bytes() {
@@ -74,7 +74,7 @@ fn scale_of(source: ScaleSource) -> CounterScale {
     }
 }
 
-// Reads a counter over a new link. The read may be tried twice, so it has the time of two
+// Reads a counter over a new link. Two attempts are possible, so the link has the time for two
 // responses.
 fn shown_within<'a, L: Link>(
     rt: &HostRuntime,
@@ -109,8 +109,8 @@ fn shown_within<'a, L: Link>(
     }
 }
 
-/// Returns what the counter of a register shows now, read at the first address of its device's host
-/// that responds.
+/// Returns the present counter of a register. It is read from the first address of the device's
+/// host that accepts the connection.
 pub(crate) fn shown_at<'a>(
     rt: &HostRuntime,
     places: &[Device<'a>],

@@ -1,4 +1,4 @@
-//! Enters lines of standard input into an office's file.
+//! Enters the lines of standard input into an office's file.
 use crate::counters::shown_at;
 use crate::offices::{OWN_HOST, over_office};
 use crate::surroundings::Surroundings;
@@ -14,14 +14,15 @@ use std::str::from_utf8;
 use stored_files::{Databases, Ending, Failure, Named, ending_of};
 use stored_office::{Task, ending_of_done};
 
-// Reports why a file, or the counter of a register, that a line names cannot be read.
+// Reports why a file that a line names cannot be read, or why the counter of a register that it
+// names cannot.
 fn say_unread<D: Display>(rt: &HostRuntime, name: &str, why: &D) {
     let mut errors = Escaped::new(rt.stderr());
     let _said = write!(errors, "sunreg: {}: {why}\n", Named(name));
 }
 
-// Returns the bytes of a regular file, or at most one piece more than a file may have. Other files
-// are refused, since opening a pipe would block.
+// Returns the bytes of a regular file, at most one piece more than a file may have. Any other file
+// is refused, because opening a pipe would block.
 fn read_within(rt: &HostRuntime, alloc: Global, name: &str) -> io::Result<Vec<u8>> {
     if !fs::metadata(rt, name)?.is_file() {
         return Err(io::Error::from(ErrorKind::InvalidInput));
@@ -85,8 +86,8 @@ impl NamedFiles for Surroundings<'_> {
     }
 }
 
-/// Requests of an office what the lines of standard input request, for a caller, or only checks the
-/// lines.
+/// Executes the commands in the lines of standard input on an office, for a caller; or only checks
+/// the lines.
 pub(crate) fn enter<'a, D: Databases + NamedFiles>(
     rt: &HostRuntime,
     files: &D,

@@ -1,13 +1,13 @@
-//! Explains a printed number.
+//! Explains a number that the program printed.
 use command_io::Buffered;
 use printed_numbers::{Kind, Meaning, kinds, meaning_of};
 use std::io::{self, Write};
 use stored_files::{Ending, Failure};
 
-/// The greatest printed number.
+/// The greatest number that the program can print after a word.
 const MOST_NUMBER: u32 = 999;
 
-// Returns what has such a number, if its word is ambiguous.
+// Returns the words that say what the number belongs to, for kinds that share a word.
 fn owner(kind: Kind) -> &'static str {
     match kind {
         Kind::RowFault => " of a point list row",
@@ -22,7 +22,7 @@ fn owner(kind: Kind) -> &'static str {
     }
 }
 
-// Returns the meaning of a number of a kind, if this is the kind's word.
+// Returns the meaning of a number of this kind, if `what` is the word of the kind.
 fn meaning_at(kind: Kind, what: &str, number: u32) -> Option<&'static Meaning> {
     if kind.word() == what {
         meaning_of(kind, number)
@@ -49,8 +49,8 @@ fn write_meaning<W: Write>(meaning: &Meaning, output: &mut W) -> io::Result<()> 
     write!(output, "What to do: {remedy}.\n")
 }
 
-// Writes the meanings of the number after the word, with an empty line between two. Returns how
-// many there are.
+// Writes each meaning of the number after this word, with an empty line between two meanings.
+// Returns how many there are.
 fn write_meanings<W: Write>(what: &str, number: u32, output: &mut W) -> io::Result<u32> {
     let mut count: u32 = 0;
     for kind in kinds() {
@@ -75,7 +75,7 @@ fn has_number(what: &str, number: u32) -> bool {
         .any(|kind| meaning_at(*kind, what, number).is_some())
 }
 
-// Writes the numbers that may follow a word.
+// Writes the numbers that the program can print after a word.
 fn write_numbers<W: Write>(what: &str, output: &mut W) -> io::Result<()> {
     for number in 0..=MOST_NUMBER {
         if has_number(what, number) {
@@ -85,7 +85,7 @@ fn write_numbers<W: Write>(what: &str, output: &mut W) -> io::Result<()> {
     Ok(())
 }
 
-// Writes what is wrong with the arguments, and what is allowed.
+// Writes what is wrong with the arguments, and which ones are allowed.
 fn write_fault<W: Write>(what: &str, number: &str, output: &mut W) -> io::Result<()> {
     if is_word(what) {
         write!(
@@ -116,7 +116,7 @@ fn wrong(rt: &HostRuntime, what: &str, number: &str) -> Ending<'static> {
     }
 }
 
-/// Prints what a number means that follows a word.
+/// Prints the meaning of a number that the program printed after a word.
 pub(crate) fn explain(rt: &HostRuntime, what: &str, number: &str) -> Ending<'static> {
     let Ok(value) = number.parse::<u32>() else {
         return wrong(rt, what, number);

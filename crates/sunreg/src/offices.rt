@@ -1,4 +1,4 @@
-//! The commands over an office's file.
+//! The commands that work on an office's file.
 ghost use Rattle.std.specs.Prelude.{IfOk};
 ghost use Rattle.stored_office.specs.Tasks.Tasks.{IsOf};
 
@@ -19,8 +19,8 @@ use stored_office::{Done, Task, carry_out_stored, ending_of_done, may_be_ahead, 
 /// The host on which HTTP is served.
 pub(crate) const OWN_HOST: &str = "127.0.0.1";
 
-/// Executes a task over the office in the database at a path, and flushes its output. After a
-/// round, reports what its refusals and rejected readings mean.
+/// Executes a task over the office in a database, and flushes the task's output. After a round,
+/// reports the meaning of its refusals and rejected readings.
 pub(crate) fn over_office<'a, D: Databases + NamedFiles>(
     rt: &HostRuntime,
     files: &D,
@@ -34,7 +34,7 @@ pub(crate) fn over_office<'a, D: Databases + NamedFiles>(
     over_connection(rt, files, path, connection, task, &mut clock)
 }
 
-// Executes a task over a connection to an office, by a clock.
+// Executes a task over a connection to an office, with the timestamps of a clock.
 fn over_connection<'a, D: Databases + NamedFiles, C: Clock>(
     rt: &HostRuntime,
     files: &D,
@@ -60,7 +60,7 @@ fn over_connection<'a, D: Databases + NamedFiles, C: Clock>(
         &mut errors,
     );
     match (output.flush(), done) {
-        // (the output after its reader has closed it is dropped)
+        // (if the reader of the output has closed it, the rest is dropped)
         (Err(error), Ok(Done::Ran(end))) if error.kind() == ErrorKind::BrokenPipe => {
             Ok(Done::Ran(end))
         }
@@ -78,8 +78,8 @@ fn over_connection<'a, D: Databases + NamedFiles, C: Clock>(
     }
 }
 
-// Reports a latest record that is later than the clock: both times, and what can be done. Returns
-// whether the record is later.
+// If the latest record is later than the clock, reports both times and what to do. Returns whether
+// it is later.
 fn is_said_ahead<D: Databases, C: Clock>(
     rt: &HostRuntime,
     files: &D,
@@ -95,8 +95,8 @@ fn is_said_ahead<D: Databases, C: Clock>(
     }
 }
 
-// Returns the output of a task: by lines for a round and a run, in pieces for the others. The
-// output of a round is kept, to report what it means.
+// Returns the output of a task: line by line for a round and a run, in pieces for other tasks. The
+// output of a round is kept, so that its meaning can be reported.
 fn output_of<'r>(
     rt: &'r HostRuntime,
     task: Task<'_>,
@@ -113,8 +113,8 @@ fn output_of<'r>(
     }
 }
 
-// Returns the number of bytes of kept requests in a database, or 0 if the query fails. Opening the
-// store then reports the failure.
+// Returns how many bytes of accepted requests a database stores, or 0 if the query fails. If it
+// fails, opening the store reports the failure.
 fn kept_in<S: Alter + Drop>(connection: &mut Connection<S>) -> u64 {
     let Ok(row) = connection.query_row("SELECT sum(length(request)) FROM replies", &[]) else {
         return 0;
@@ -125,7 +125,7 @@ fn kept_in<S: Alter + Drop>(connection: &mut Connection<S>) -> u64 {
     }
 }
 
-// Runs the office in the database at a path.
+// Runs the office in a database.
 fn run_over<'a, D: Databases + NamedFiles>(
     rt: &HostRuntime,
     files: &D,
@@ -138,8 +138,8 @@ fn run_over<'a, D: Databases + NamedFiles>(
     run_opened(rt, files, path, connection, sites, settings, &mut clock)
 }
 
-/// Runs an office over a connection to the database at a path, by a clock, and watches the file and
-/// its log. The bytes of kept requests are counted once, before the store is opened.
+/// Runs an office over a connection to a database, with the timestamps of a clock, and watches the
+/// file and its log. The bytes of stored requests are counted once, before the store is opened.
 pub(crate) fn run_opened<'a, D: Databases + NamedFiles, C: Clock>(
     rt: &HostRuntime,
     files: &D,
@@ -164,8 +164,8 @@ pub(crate) fn run_opened<'a, D: Databases + NamedFiles, C: Clock>(
     over_connection(rt, files, path, connection, task, clock)
 }
 
-/// Polls devices on a schedule and serves HTTP. Of several files, the oldest first, the last is
-/// continued, and the energy of all is reported.
+/// Polls devices on a schedule and serves HTTP. If several files are given, the oldest first,
+/// records go into the last one, and the energy of all is reported.
 pub(crate) fn run<'a, D: OfficeFiles + NamedFiles>(
     rt: &HostRuntime,
     files: &D,

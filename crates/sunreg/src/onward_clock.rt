@@ -1,8 +1,8 @@
-//! The clock of an office's file, also over consecutive runs.
+//! The clock by which records get their timestamps, over one run or several.
 use run_schedule::OnwardTime;
 use socket_link::Clock;
 
-/// A clock that can be set never to go back.
+/// A clock, and the least time that it may return.
 #[derive(Drop)]
 pub(crate) struct OnwardClock<C: Clock + Drop> {
     clock: C,
@@ -17,7 +17,7 @@ impl<C: Clock + Drop> OnwardClock<C> {
         }
     }
 
-    /// From now on, returns no time before the latest so far.
+    /// Makes the latest time so far the least time that later calls return.
     pub(crate) fn go_on(&mut self) {
         self.time.go_on();
     }

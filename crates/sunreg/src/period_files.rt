@@ -1,4 +1,4 @@
-//! The files of a run that begins a new one each month or year, by their names.
+//! Finds the files of a run that begins a new file each month or year, by their names.
 use energy_report::Period;
 use file_commands::part_name;
 use run_schedule::{LedPeriod, file_of_period, period_of_file};
@@ -8,10 +8,10 @@ use std::os::unix::fs::MetadataExt;
 use std::str::from_utf8;
 use stored_files::{Failure, FileFault, is_blank, length_of, log_of};
 
-/// How many empty files in a row, which killed processes left, are removed.
+/// The most empty files in a row that are removed. Killed processes may have left them.
 const TRIES: u32 = 8;
 
-/// The current file of a run, and the text of its period. The run's own file has no period.
+/// The active file of a run, and the text of its period. The run's own file has no period.
 #[derive(Drop)]
 pub(crate) struct Led {
     pub(crate) path: String,
@@ -19,7 +19,7 @@ pub(crate) struct Led {
 }
 
 impl Led {
-    /// Returns the text of the period.
+    /// Returns the text of the active file's period, such as `2026-11`.
     pub(crate) fn period(&self) -> Option<&[u8]> {
         match &self.text {
             Some(text) => Some(text.as_slice()),
@@ -28,7 +28,7 @@ impl Led {
     }
 }
 
-// Returns the folder of a file, and its name in the folder.
+// Splits a path into the folder of a file, and the file's name.
 fn split_path(path: &str) -> (&str, &str) {
     match path.rsplit_once('/') {
         Some((folder, name)) => (if folder.is_empty() { "/" } else { folder }, name),
@@ -36,8 +36,8 @@ fn split_path(path: &str) -> (&str, &str) {
     }
 }
 
-// Returns the period of the current file, by the names beside the run's own file. A name that is no
-// text belongs to no period.
+// Finds the active file among the names in the folder of the run's own file, and returns its
+// period. A name that is not UTF-8 belongs to no period.
 fn period_beside(rt: &HostRuntime, file: &str, period: Period) -> io::Result<LedPeriod> {
     let (folder, name) = split_path(file);
     let mut led = LedPeriod::none();
@@ -54,7 +54,7 @@ fn period_beside(rt: &HostRuntime, file: &str, period: Period) -> io::Result<Led
     Ok(led)
 }
 
-/// Returns the path of the file of a period.
+/// Returns the path of the file for a period.
 pub(crate) fn path_of<'a>(
     rt: &HostRuntime,
     file: &str,
@@ -69,7 +69,7 @@ pub(crate) fn path_of<'a>(
     }
 }
 
-// Returns the run's own file, or the file of a period.
+// Returns the file for a period as the active one; without a period, the run's own file.
 fn led_path<'a>(rt: &HostRuntime, file: &str, text: Option<Vec<u8>>) -> Result<Led, Failure<'a>> {
     let path = match &text {
         Some(text) => path_of(rt, file, text.as_slice())?,
@@ -81,7 +81,7 @@ fn led_path<'a>(rt: &HostRuntime, file: &str, text: Option<Vec<u8>>) -> Result<L
     Ok(Led { path, text })
 }
 
-// Returns the current file, by the existing names.
+// Returns the active file by the names that exist.
 fn named_file<'a>(rt: &HostRuntime, file: &'a str, period: Period) -> Result<Led, Failure<'a>> {
     match period_beside(rt, file, period) {
         Ok(led) => led_path(rt, file, led.text),
@@ -94,7 +94,7 @@ fn named_file<'a>(rt: &HostRuntime, file: &'a str, period: Period) -> Result<Led
     }
 }
 
-// Returns whether the file of a period is empty. A killed process may leave it so on a file system
+// Returns whether the active file is empty. A killed process may leave it empty on a file system
 // without hard links.
 fn is_left_empty<'a>(rt: &HostRuntime, led: &Led) -> Result<bool, Failure<'a>> {
     let path = led.path.as_str();
@@ -105,7 +105,7 @@ fn is_left_empty<'a>(rt: &HostRuntime, led: &Led) -> Result<bool, Failure<'a>> {
     Ok(is_blank(length_of(rt, log.as_str())))
 }
 
-/// Returns the current file: the last file of a period beside the run's own file, or the own file
+/// Returns the active file: the latest file of a period beside the run's own file, or the own file
 /// if there is none. Removes empty files of periods.
 pub(crate) fn led_file<'a>(
     rt: &HostRuntime,
@@ -122,7 +122,8 @@ pub(crate) fn led_file<'a>(
     named_file(rt, file, period)
 }
 
-// Returns the texts of the earlier periods with a file beside the run's own, in order.
+// Returns the texts of the periods before `current` that have a file beside the run's own, in
+// order.
 fn periods_before(
     rt: &HostRuntime,
     file: &str,
@@ -149,7 +150,8 @@ fn periods_before(
     Ok(texts)
 }
 
-// Returns the paths of these files. The run's own file is the first, if it exists.
+// Returns the paths of the files for these periods, after the path of the run's own file if that
+// exists.
 fn paths_before<'a>(
     rt: &HostRuntime,
     file: &str,
@@ -173,8 +175,8 @@ fn paths_before<'a>(
     Ok(paths)
 }
 
-/// Returns the run's files beside its own that come before the one at `path`, the oldest first: its
-/// own, and then those of periods. No file comes before its own.
+/// Returns the files of a run that come before the file at `path`, the oldest first: the run's own
+/// file, and then those of periods. No file comes before the run's own.
 pub(crate) fn files_before<'a>(
     rt: &HostRuntime,
     file: &'a str,
@@ -198,7 +200,7 @@ pub(crate) fn files_before<'a>(
     }
 }
 
-// Returns whether two paths are names of the same file.
+// Returns whether two paths lead to the same file.
 fn are_one(rt: &HostRuntime, path: &str, other: &str) -> bool {
     match (
         fs::symlink_metadata(rt, path),
@@ -209,7 +211,7 @@ fn are_one(rt: &HostRuntime, path: &str, other: &str) -> bool {
     }
 }
 
-// Removes a second name, and syncs the folder.
+// Removes the second name of a file, and syncs the folder.
 fn remove_name(rt: &HostRuntime, path: &str, part: &str) -> io::Result<()> {
     fs::remove_file(rt, part)?;
     let mut folder = fs::canonicalize(rt, path)?;
@@ -217,8 +219,8 @@ fn remove_name(rt: &HostRuntime, path: &str, part: &str) -> io::Result<()> {
     File::open(rt, folder.as_str())?.sync_all()
 }
 
-/// Removes the name that a file had before it was complete, if a killed process left it beside the
-/// file's own. A file with two names cannot be opened.
+/// If a killed process left a file under both its incomplete name and its final name, removes the
+/// incomplete name. A file with two names cannot be opened.
 pub(crate) fn leave_one_name(rt: &HostRuntime, path: &str) {
     let Ok(part) = part_name(rt, path) else {
         return;

@@ -1,7 +1,7 @@
 //! A run that begins a new file each month or year.
 //!
-//! Each of its runs ends soon after the next period has begun. The meters then continue in the file
-//! of that period, over which the next run begins.
+//! It consists of runs over one file each. Such a run ends soon after the next period has begun.
+//! The meters then continue in the file of that period, and the next run begins over it.
 use crate::ended;
 use crate::offices::{OWN_HOST, run_opened};
 use crate::onward_clock::OnwardClock;
@@ -30,8 +30,8 @@ use std::time::{Duration, Instant};
 use stored_files::{CopyFault, Databases, Ending, Failure, FileFault, Named, told_zone};
 use stored_office::ending_of_done;
 
-/// The most tries to open a file that another process has open, and the most looks for a file that
-/// another process may be creating. `PAUSE` is the milliseconds between them.
+/// How often a file is tried that another process has open, and how often a file is looked for that
+/// another process may be creating. `PAUSE` is the time between two attempts, in milliseconds.
 const TRIES: u32 = 100;
 
 const LOOKS: u32 = 30;
@@ -42,7 +42,7 @@ const NOT_CARRIED: &str = "not carried: it stays in use, and sunreg tries again 
 
 const NAMED: &str = "carried: the new file is in use now";
 
-// Standard error, as far as it can be written without waiting for its reader.
+// Standard error, written only as far as its reader lets it without waiting.
 #[derive(Clone, Copy)]
 struct Unwaited<'r> {
     rt: &'r HostRuntime,
@@ -104,7 +104,7 @@ fn say_alone(rt: &HostRuntime, path: &str) {
     }
 }
 
-// Reports why the meters of a file do not continue in another, and the consequence.
+// Reports why the meters of a file could not continue in another, and what follows from that.
 fn say_not_carried(rt: &HostRuntime, from: &str, why: &NotCarried<'_>, comes: &str) {
     let mut lines = Vec::new(rt.alloc());
     let _written = write_why(&mut lines, why);
@@ -112,9 +112,9 @@ fn say_not_carried(rt: &HostRuntime, from: &str, why: &NotCarried<'_>, comes: &s
     say(rt, lines.as_slice());
 }
 
-/// The options of a run by periods: the files, whose last is the run's own, the period, and the
-/// number of earlier files by periods whose energy is reported too. That number is only given if a
-/// single file is.
+/// The options of a run that begins new files: the given files, whose last is the run's own, and
+/// the period. Also how many earlier files of periods have their energy reported too. That option
+/// is only given with a single file.
 #[derive(Clone, Copy)]
 pub(crate) struct PeriodWords<'r> {
     pub(crate) files: &'r [&'r str],
@@ -122,8 +122,8 @@ pub(crate) struct PeriodWords<'r> {
     pub(crate) earlier: Option<u32>,
 }
 
-// What is run: the run's own file and its periods. Also the earlier files whose energy is reported:
-// those that were given, and a number of those by periods.
+// What the options request: the run's own file and its periods, and the earlier files whose energy
+// is reported. These are the given ones, and a number of those of periods.
 #[derive(Clone, Copy)]
 struct Asked<'r> {
     rt: &'r HostRuntime,
@@ -141,8 +141,8 @@ impl Asked<'_> {
         self.earlier.is_some() || !self.given.is_empty()
     }
 
-    // Returns the greatest number of earlier files by periods. If earlier files were given, all
-    // files between those and the current one are reported.
+    // Returns the most earlier files of periods whose energy is reported. If earlier files were
+    // given, all files between those and the active one are included.
     fn most_earlier(&self) -> u32 {
         if self.given.is_empty() {
             self.earlier.unwrap_or(0)
@@ -152,10 +152,10 @@ impl Asked<'_> {
     }
 }
 
-// The file to continue in, and the time until which, if any.
+// In which file the run continues, and until when, if there is an end.
 #[derive(Drop)]
 enum Course {
-    // In the current file.
+    // In the active file.
     Stay(Option<u64>),
     // In a new file at this path.
     Carry(String, Option<u64>),
@@ -171,8 +171,8 @@ fn zone_in<S: Alter>(connection: &mut Connection<S>) -> Result<Zone, OpenFault> 
     }
 }
 
-// Returns the time of the latest entry of any meter, or 0 if there is none or the query fails.
-// Opening the store then reports the failure.
+// Returns the time of the latest entry of any meter; 0 if there is none, or if the query fails. If
+// it fails, opening the store reports the failure.
 fn latest_entry<S: Alter + Drop>(connection: &mut Connection<S>) -> u64 {
     let Ok(row) = connection.query_row("SELECT max(last_moment) FROM installations", &[]) else {
         return 0;
@@ -183,7 +183,7 @@ fn latest_entry<S: Alter + Drop>(connection: &mut Connection<S>) -> u64 {
     }
 }
 
-// Returns in which file the run continues, on a day in a zone.
+// Returns in which file the run continues on a given day in a time zone.
 fn course_on<'a, S: Alter + Drop>(
     asked: &Asked<'a>,
     led: &Led,
@@ -213,7 +213,8 @@ fn course_on<'a, S: Alter + Drop>(
     }
 }
 
-// Returns in which file the run continues at a time. After the last time there are no days.
+// Returns in which file the run continues at a given time. After the last timestamp there are no
+// days, so it stays in the active file.
 fn course_at<'a, S: Alter + Drop>(
     asked: &Asked<'a>,
     led: &Led,
@@ -230,7 +231,7 @@ fn course_at<'a, S: Alter + Drop>(
     }
 }
 
-// Adds the last `count` of these paths to others.
+// Appends the last `count` of these files to the paths.
 fn add_last<'p>(
     paths: &mut Vec<&'p str>,
     files: &'p [String],
@@ -243,7 +244,7 @@ fn add_last<'p>(
     Ok(())
 }
 
-// Returns these paths, and then the last `count` of the others.
+// Returns the given paths, followed by the last `count` of the other files.
 fn paths_of<'p>(
     rt: &HostRuntime,
     given: &'p [&'p str],
@@ -258,8 +259,8 @@ fn paths_of<'p>(
     Ok(paths)
 }
 
-// Returns what the files before the one at a path report of their registers. Never waits for the
-// reader of standard error.
+// Returns the energy that the files before the one at a path have for their registers. Does not
+// wait for the reader of standard error.
 fn registers_before<'a, D: OfficeFiles>(
     rt: &HostRuntime,
     files: &D,
@@ -277,7 +278,7 @@ fn registers_before<'a, D: OfficeFiles>(
 }
 
 // Handles earlier files that cannot be read, or do not continue each other. A run that has just
-// begun ends. A run that continues in another file reports only that file.
+// begun ends. A later run continues, and reports only the energy of its own file.
 fn untold(
     rt: &HostRuntime,
     path: &str,
@@ -295,7 +296,8 @@ fn untold(
     Ok(Vec::new(rt.alloc()))
 }
 
-// Returns what the files before the one at a path report of their registers, if that is requested.
+// Returns the energy that the files before the one at a path have for their registers, if the
+// options request it.
 fn told_before<D: OfficeFiles>(
     asked: &Asked<'_>,
     files: &D,
@@ -325,8 +327,8 @@ fn told_before<D: OfficeFiles>(
     }
 }
 
-// Runs over a connection to the file at a path, until a time. Returns `None` if the run ended at
-// that time, or because its time is up.
+// Runs over a connection to the file at a path, until a given time. Returns `None` if the run ended
+// at that time, or because its requested duration is over.
 fn run_in<D: Databases + NamedFiles, C: Clock + Drop>(
     asked: &Asked<'_>,
     files: &D,
@@ -351,7 +353,7 @@ fn run_in<D: Databases + NamedFiles, C: Clock + Drop>(
     }
 }
 
-// Opens the file at a path. A new file has no log yet, which is not reported.
+// Opens the file at a path. A new file has no log yet, and nothing is reported about that.
 fn open_once<'a, D: Databases>(
     rt: &HostRuntime,
     files: &D,
@@ -377,8 +379,8 @@ fn is_busy(failure: &Failure<'_>) -> bool {
     )
 }
 
-// Opens a file that this process just closed or created. If another process has opened it
-// meanwhile, waits for some seconds.
+// Opens a file that this process has just closed or created. If another process has opened it in
+// between, waits for some seconds.
 fn open_again<'a, D: Databases>(
     rt: &HostRuntime,
     files: &D,
@@ -395,7 +397,7 @@ fn open_again<'a, D: Databases>(
 }
 
 // Reads the files before the one at a path, opens that file, and runs over it. The file is new, or
-// was open before.
+// this process had it open before.
 fn run_at<D: OfficeFiles + NamedFiles, C: Clock + Drop>(
     asked: &Asked<'_>,
     files: &D,
@@ -435,8 +437,8 @@ fn is_unfinished(why: &NotCarried<'_>) -> bool {
     )
 }
 
-// Returns whether the new file exists although this call did not create it. If a part of it exists,
-// another run may be creating it, so this waits for its name.
+// Returns whether the new file exists although this call did not create it. If an incomplete file
+// exists, another run may be creating the new file, so this call waits for its final name.
 fn is_made(rt: &HostRuntime, to: &str, why: &NotCarried<'_>) -> bool {
     if is_unfinished(why) {
         for _look in 0..LOOKS {
@@ -449,8 +451,8 @@ fn is_made(rt: &HostRuntime, to: &str, why: &NotCarried<'_>) -> bool {
     is_there(rt, to)
 }
 
-// Lets the meters of the file at a path continue in another, and runs over that. If that fails, the
-// run continues over the old file, and tries again at the next hour.
+// Lets the meters of one file continue in another, and runs over that one. If the meters cannot
+// continue, runs over the old file until the next attempt, at the next full hour.
 fn carry_on<D: OfficeFiles + NamedFiles, C: Clock + Drop>(
     asked: &Asked<'_>,
     files: &D,
@@ -479,7 +481,8 @@ fn carry_on<D: OfficeFiles + NamedFiles, C: Clock + Drop>(
     run_at(asked, files, to, is_first, true, clock, until, left)
 }
 
-// Opens the current file. After an earlier run, waits for another process that has opened it.
+// Opens the active file. If this is not the first run, waits for another process that has the file
+// open.
 fn open_led<'a, D: Databases>(
     rt: &HostRuntime,
     files: &D,
@@ -493,7 +496,7 @@ fn open_led<'a, D: Databases>(
     }
 }
 
-// Runs over the current file, or over a new file that is due.
+// Runs over the active file, or over a new file if one is due.
 fn turn<D: OfficeFiles + NamedFiles, C: Clock + Drop>(
     asked: &Asked<'_>,
     files: &D,
@@ -525,7 +528,7 @@ fn turn<D: OfficeFiles + NamedFiles, C: Clock + Drop>(
     match course {
         Course::Stay(until) => {
             if asked.has_earlier() {
-                // (the earlier files are read before, with their own connections)
+                // (earlier files are read first, each over its own connection)
                 drop(connection);
                 return run_at(asked, files, path, is_first, false, clock, until, left);
             }
@@ -547,7 +550,7 @@ fn turn<D: OfficeFiles + NamedFiles, C: Clock + Drop>(
     }
 }
 
-// Returns how many seconds are left of the requested duration.
+// Returns how many seconds are left of the requested duration, if one was requested.
 fn left_of(rt: &HostRuntime, lasts: Option<u64>, begun: Option<Instant>) -> Option<u64> {
     let seconds = lasts?;
     let passed = match begun {
@@ -560,7 +563,7 @@ fn left_of(rt: &HostRuntime, lasts: Option<u64>, begun: Option<Instant>) -> Opti
     Some(seconds.saturating_sub(passed))
 }
 
-/// Polls devices on a schedule and serves HTTP, and begins a new file with each period.
+/// Polls devices on a schedule, serves HTTP, and begins a new file in each period.
 pub(crate) fn run_by_periods<'a, D: OfficeFiles + NamedFiles>(
     rt: &HostRuntime,
     files: &D,

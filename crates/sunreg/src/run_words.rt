@@ -1,11 +1,11 @@
-//! The settings of a run from its options, and the addresses of its devices.
+//! Returns the settings of a run from its options, and the addresses of its devices.
 use command_words::Device;
 use office_events::Name;
 use office_running::{Descriptors, Settings, Site};
 use std::net::{SocketAddr, ToSocketAddrs};
 use stored_files::Failure;
 
-/// The descriptors that every program has (POSIX, unistd.h).
+/// The file descriptors that every program has (POSIX, unistd.h).
 const STANDARD_OUTPUT: i32 = 1;
 
 pub(crate) const STANDARD_ERROR: i32 = 2;
@@ -54,7 +54,7 @@ pub(crate) fn bare_host(host: &str) -> &str {
     }
 }
 
-// Returns the first address of a device.
+// Returns a device with the first address of its host.
 fn site_of<'a>(rt: &HostRuntime, device: Device<'a>) -> Result<Site, Failure<'a>> {
     let Device { name, host, port } = device;
     let Ok(mut addresses) = (bare_host(host), port).to_socket_addrs(rt) else {
@@ -69,8 +69,8 @@ fn site_of<'a>(rt: &HostRuntime, device: Device<'a>) -> Result<Site, Failure<'a>
     }
 }
 
-/// Returns the addresses of devices. The names of their hosts are looked up once, before anything
-/// else.
+/// Returns the devices with the addresses of their hosts. The names of the hosts are looked up
+/// once, at the beginning.
 pub(crate) fn sites_of<'a>(
     rt: &HostRuntime,
     devices: &[Device<'a>],

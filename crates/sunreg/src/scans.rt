@@ -1,4 +1,4 @@
-//! Scans the models of a live device over a socket.
+//! Scans the SunSpec models of a live device over a socket.
 use command_io::Buffered;
 use device_scan::{ScanFault, ScanObserver};
 use mb_wire::Link;
@@ -11,14 +11,14 @@ use stored_files::{Ending, Failure, ending_of};
 use sun_chain::Model;
 use sunspec_text::{ScanForm, Site, scan_text};
 
-/// The seconds that a connection may take at each address of a host.
+/// The most seconds for connecting to each address of a host.
 const PATIENCE: u64 = 5;
 
-/// The seconds that a scan may take.
+/// The most seconds for a scan.
 const LONGEST: u64 = 600;
 
-/// The greatest length in bytes of a device's name in setup lines. The names of its registers are
-/// longer.
+/// The greatest length in bytes of a device's name in the lines that set a device up. The names of
+/// its registers are longer, and must fit too.
 const MOST_NAME: usize = 9;
 
 /// The address of a device, and its timeout.
@@ -30,7 +30,7 @@ pub(crate) struct Target<'a> {
     pub(crate) timeout: u32,
 }
 
-// Shows on a terminal which model is being read.
+// Shows on a terminal which model the scan is reading.
 #[derive(Clone, Copy)]
 struct Terminal<'a> {
     rt: &'a HostRuntime,
@@ -47,8 +47,8 @@ impl ScanObserver for Terminal<'_> {
     }
 }
 
-/// Connects to a device at the first of its host's addresses that accepts. Reads from the link time
-/// out after this many seconds.
+/// Connects to a device at the first address of its host that accepts. Reads from the link time out
+/// after `seconds`.
 pub(crate) fn connect<'a, R: Net>(
     net: &R,
     host: &'a str,
@@ -74,8 +74,8 @@ pub(crate) fn connect<'a, R: Net>(
     Err(Failure::Unconnected { host, port })
 }
 
-// Returns the form of the lines that set a device up, if its name leaves room for the names of its
-// registers.
+// Returns the form for lines that set up a device with this name. `None` if the name is invalid, or
+// leaves no room for the names of the device's registers.
 fn setup_form<'d>(device: &'d str, target: Target<'_>) -> Option<ScanForm<'d>> {
     if device.len() > MOST_NAME || Name::new(device.as_bytes()).is_none() {
         return None;
@@ -87,8 +87,8 @@ fn setup_form<'d>(device: &'d str, target: Target<'_>) -> Option<ScanForm<'d>> {
     }))
 }
 
-/// Prints the models of a device, or their point list, or the lines that set the device up under a
-/// name.
+/// Prints the SunSpec models of a device, or their point list, or the lines that set up the device
+/// under a name.
 pub(crate) fn scan<'a>(
     rt: &HostRuntime,
     target: Target<'a>,
@@ -124,7 +124,7 @@ fn wrong_name<'a>(rt: &HostRuntime, device: &str) -> Ending<'a> {
     }
 }
 
-// Scans over a new link, until a deadline.
+// Scans a device over a new link, until a deadline.
 fn scan_within<'a, L: Link>(
     rt: &HostRuntime,
     target: Target<'a>,

@@ -1,11 +1,11 @@
-//! The files and devices that a command over an office's file can reach.
+//! The files and devices that a command over an office's file may use.
 use command_words::{CommandLine, Device};
 use file_commands::{Files, OfficeFiles, Opening};
 use sqlite::{Connection, FileFrom, FileStore, Unknown};
 use stored_files::{Databases, FileFault};
 
-/// The databases, and the addresses of the devices whose counters are read. The files that lines
-/// name are the system's files.
+/// The databases, and the addresses of the devices whose counters are read. A line of input may
+/// name a file, which is then a file of the system.
 #[derive(Clone, Copy)]
 pub(crate) struct Surroundings<'r> {
     pub(crate) rt: &'r HostRuntime,
@@ -14,7 +14,7 @@ pub(crate) struct Surroundings<'r> {
 }
 
 impl<'r> Surroundings<'r> {
-    /// Returns the surroundings of a command, over the system's files.
+    /// Returns the files and devices for a command, with the files of the system.
     pub(crate) fn of(rt: &'r HostRuntime, line: &'r CommandLine<'r>) -> Surroundings<'r> {
         let places = match line {
             CommandLine::Enter { devices, .. } => devices.as_slice(),

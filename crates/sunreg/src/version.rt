@@ -1,9 +1,9 @@
-//! The program's version, and the logic that proves its sources.
+//! Prints the program's version, and the logic in which its sources are proved.
 use command_words::program;
 use std::io::{self, Write};
 use stored_files::{Ending, Failure};
 
-/// The logic of the kit: the last word that `rt version` prints.
+/// The logic of the Rattle toolchain: the last word that `rt version` prints.
 const LOGIC: &str = "dac8208d650f15bf";
 
 /// Prints the version and the logic.

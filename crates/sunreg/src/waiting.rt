@@ -1,10 +1,10 @@
-//! The message for a person who starts the program at a terminal without arguments.
+//! A message for a person who starts the program at a terminal without arguments.
 use std::io::{IsTerminal, Write};
 
 const WAITS: &[u8] =
     b"sunreg: reading a script from this terminal; end it with Ctrl-D, or see sunreg --help\n";
 
-/// Reports that a script is read, if standard input is a terminal.
+/// If standard input is a terminal, reports that the program waits for a script.
 pub(crate) fn say_waiting(rt: &HostRuntime) {
     if rt.stdin().is_terminal() {
         let mut errors = rt.stderr();

@@ -1,4 +1,4 @@
-//! Prints the plan of a point list.
+//! Prints the plan of a point list, the fewest reads that cover it.
 
 mod list_printout;
 mod plan_printout;

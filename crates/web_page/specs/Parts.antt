@@ -10,25 +10,26 @@ use Rattle.web_page.specs.declared.files.TheConstants.{PAGE, STYLE, SCRIPT, ICON
 abbrev pub parts : List PagePart
 parts = Page ∷ Style ∷ Script ∷ Icon ∷ []
 
--- The target of each part.
+-- The request target of each part of the page.
 abbrev pub target_of : PagePart → List ℕ
 target_of Page = codes "/"
 target_of Style = codes "/page.css"
 target_of Script = codes "/page.js"
 target_of Icon = codes "/icon.svg"
 
--- the part whose target it is, to the byte
+-- The part of the page with this target. Targets are compared byte by byte.
 abbrev pub part_of : (target : List ℕ) → Option PagePart
 part_of target = find (λ part. bytes_eq target (target_of part)) parts
 
--- All but the icon say how their characters are written.
+-- The value of the Content-Type header for each part. It names the character encoding, except for
+-- the icon.
 abbrev pub content_type_of : PagePart → List ℕ
 content_type_of Page = codes "text/html; charset=utf-8"
 content_type_of Style = codes "text/css; charset=utf-8"
 content_type_of Script = codes "text/javascript; charset=utf-8"
 content_type_of Icon = codes "image/svg+xml"
 
--- The constants are the files of web/, as they are.
+-- The bytes of each part. The constants have the unchanged bytes of the files in `web/`.
 abbrev pub body_of : PagePart → List ℕ
 body_of Page = PAGE.now
 body_of Style = STYLE.now

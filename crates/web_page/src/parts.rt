@@ -4,7 +4,7 @@ ghost use Rattle.web_page.specs.Parts.{body_of, content_type_of, part_of};
 
 use crate::files::{ICON, PAGE, SCRIPT, STYLE};
 
-/// A part of the page. A file in `web/` has the bytes of each part.
+/// A part of the page. The bytes of each part are those of a file in `web/`.
 #[derive(Clone, Copy, Debug, PartialEq, Eq)]
 pub enum PagePart {
     /// The page itself, in HTML.
@@ -16,8 +16,8 @@ pub enum PagePart {
     Icon,
 }
 
-/// Returns the part with this target of a request, such as `/page.css`. Targets are compared by
-/// bytes.
+/// Returns the part of the page with this request target, such as `/page.css`. Targets are compared
+/// byte by byte.
 pub fn part_of(target: &[u8]) -> Option<PagePart>
     ensures { result ≡ part_of target.now }
 {
@@ -35,7 +35,7 @@ pub fn part_of(target: &[u8]) -> Option<PagePart>
 }
 
 impl PagePart {
-    /// Returns the value of the header `Content-Type`.
+    /// Returns the value of the `Content-Type` header for this part.
     pub fn content_type(self) -> &'static [u8]
         ensures { result.now ≡ content_type_of self }
     {

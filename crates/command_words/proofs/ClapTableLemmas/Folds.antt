@@ -1,4 +1,4 @@
--- A fold over the items so far, with the next one.
+-- A fold over the first items of a list, extended by the next item.
 use Rattle.std.proofs.Common.{◌≡◌, ◌∙◌, ◌+◌, ◌<◌, ◌∷◌, [], ap, sym, ℕ, List, length, take, get_or}
 use Rattle.std.specs.Prelude.{fold}
 use Rattle.std.proofs.lemmas.List.{take_more}

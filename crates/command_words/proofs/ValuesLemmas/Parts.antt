@@ -82,7 +82,7 @@ pub distinct_more : (parts : List (Bor Text)) (i : ℕ) (d : Bor Text) → i < l
 distinct_more parts i d within so_far absent =
     ap (λ b. not b && are_distinct (names_in (texts (drop (i + 1) parts)))) (sym absent) ∙ (sym (distinct_at parts i d within) ∙ so_far)
 
--- The parts after one, as a slice.
+-- The parts after index `i`, as a slice.
 slice_after : (parts : List (Bor Text)) (i : ℕ) → take (length parts - (i + 1)) (drop (i + 1) parts) ≡ drop (i + 1) parts
 slice_after parts i = let size : length (drop (i + 1) parts) ≡ length parts - (i + 1) = length-drop (i + 1) parts in take_all _ (drop (i + 1) parts) (omega arith)
 

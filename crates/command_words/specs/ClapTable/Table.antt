@@ -1,4 +1,4 @@
--- The program of `clap` that tables describe.
+-- The program that tables describe, as a definition of `clap`.
 use Rattle.std.specs.Prelude.{◌≡◌, ℕ, Some, List, Result, true, fold, map}
 use Rattle.std.specs.Borrow.{Bor}
 use Rattle.clap.specs.Words.{App, FailsBy, Rule, Text, fault_of, new_app, new_rule, subcommand_of, subcommand_rows_of, with_rule, with_subcommand}
@@ -11,59 +11,60 @@ use Rattle.command_words.specs.declared.clap_table.tables.ProgramText.{ProgramTe
 use Rattle.command_words.specs.declared.clap_table.tables.Value.{Value}
 use Rattle.command_words.specs.declared.clap_table.tables.Value.TheVariants as value
 
--- An option `--name`, whose identifier is its name.
+-- The rule of an option `--name`, whose identifier is its name.
 abbrev pub long_rule : Text → Rule
 long_rule name = record (new_rule name) { long = Some name }
 
--- A required option with a value.
+-- The rule of a required option with a value.
 abbrev pub required_option : Text → Rule
 required_option name = record (long_rule name) { value_names = 1; required = true }
 
--- An optional option with a value.
+-- The rule of an optional option with a value.
 abbrev pub optional_option : Text → Rule
 optional_option name = record (long_rule name) { value_names = 1 }
 
--- An optional option that may be given several times.
+-- The rule of an optional option that may be given several times.
 abbrev pub repeated_option : Text → Rule
 repeated_option name = record (long_rule name) { value_names = 1; action = Some Append }
 
--- A required option that may be given several times.
+-- The rule of a required option that may be given several times.
 abbrev pub several_option : Text → Rule
 several_option name =
     record (long_rule name) { value_names = 1; required = true; action = Some Append }
 
--- A flag: an option without a value.
+-- The rule of a flag: an option without a value.
 abbrev pub flag : Text → Rule
 flag name = record (long_rule name) { action = Some SetTrue }
 
--- A flag that has a letter too.
+-- The rule of a flag that also has a short form of one letter.
 abbrev pub lettered_flag : ℕ → Text → Rule
 lettered_flag letter name = record (flag name) { short = Some letter }
 
--- A required positional argument.
+-- The rule of a required positional argument.
 abbrev pub word : Text → Rule
 word name = record (new_rule name) { value_names = 1; required = true }
 
--- A command with these options.
+-- A command with this name and these options.
 abbrev pub command_with : Text → List Rule → App
 command_with name options = fold with_rule (new_app name) options
 
--- A program whose arguments do not begin with its name, and that prints its version on request.
+-- The program `a`, whose arguments do not begin with its name, and which prints its version on
+-- request.
 abbrev pub as_program : App → App
 as_program a = record a { top = record a.top { no_binary_name = true; has_version = true } }
 
--- A program with these commands.
+-- The program `a` with these commands.
 abbrev pub with_apps : App → List App → App
 with_apps a commands = fold (λ a c. with_subcommand a c.top) a commands
 
--- A program with these commands, and after them the later ones.
+-- A program with this name, these commands, and then the later ones.
 abbrev pub program_with : Text → (commands later : List App) → App
 program_with name commands later =
     as_program (with_apps (with_apps (new_app name) commands) later)
 
 -- ---- what the tables describe
 
--- The rule of an option with this name and value.
+-- The rule of an option with this name, of the kind that the table gives.
 abbrev pub rule_by : Text → Value → Rule
 rule_by name (value.Required shown) = required_option name
 rule_by name (value.Optional shown) = optional_option name
@@ -74,15 +75,15 @@ rule_by name value.Absent = flag name
 rule_by name (value.Letter letter) = lettered_flag letter name
 rule_by name (value.Word shown choices) = word name
 
--- The rule of an option in the tables.
+-- The rule of an option that a table describes.
 abbrev pub option_rule : OptionText → Rule
 option_rule o = rule_by o.name.now o.value
 
--- A command with one more option of the tables.
+-- The command `a` with one more option that a table describes.
 abbrev pub with_option : App → OptionText → App
 with_option a o = with_rule a (option_rule o)
 
--- A command with these options of the tables.
+-- The command `a` with these options that tables describe.
 abbrev pub with_options : App → List OptionText → App
 with_options a options = fold with_option a options
 
@@ -90,11 +91,11 @@ with_options a options = fold with_option a options
 abbrev pub command_app : CommandText → App
 command_app c = with_options (new_app c.name.now) c.options.now
 
--- A program with one more command of the tables.
+-- The program `a` with one more command that a table describes.
 abbrev pub with_command : App → CommandText → App
 with_command a c = with_subcommand a (command_app c).top
 
--- A program with these commands of the tables.
+-- The program `a` with these commands that tables describe.
 abbrev pub with_commands : App → List CommandText → App
 with_commands a commands = fold with_command a commands
 
@@ -109,12 +110,12 @@ program_app p =
 abbrev pub texts : List (Bor Text) → List Text
 texts words = map (λ word. word.now) words
 
--- `clap` parses the arguments as this command, with these options.
+-- `clap` parses the arguments as a command of the program, with these option values.
 abbrev pub IsFound : ProgramText → List (Bor Text) → ArgMatches → Type 0
 IsFound program words found =
     subcommand_rows_of found ≡ subcommand_of (program_app program) (texts words)
 
--- The result fits the errors that `clap` may report for these arguments: without any, it is no
--- error.
+-- The result fits the errors that `clap` may report for these arguments. If there are none, the
+-- result is no error.
 abbrev pub Fails : {T : Type 0} → ProgramText → List (Bor Text) → Result T Error → Type 0
 Fails program words result = FailsBy (fault_of (program_app program) (texts words)) result

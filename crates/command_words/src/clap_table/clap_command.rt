@@ -9,7 +9,7 @@ use crate::clap_table::tables::{CommandText, OptionText, ProgramText, Value};
 use clap::{Arg, ArgAction, Command};
 use std::alloc::{AllocError, Global};
 
-// Returns the argument of `clap` for an option.
+// Returns the argument definition of `clap` for an option.
 fn argument<'a>(alloc: Global, option: OptionText<'a>) -> Arg<'a>
     ensures rule { rule_of result ≡ option_rule option.entry }
     ensures local { result.global ≡ false }

@@ -1,4 +1,4 @@
-//! What `clap` parses from the arguments.
+//! Parses arguments with `clap`.
 ghost use Rattle.std.specs.Prelude.{◌≡◌, IfOk, true};
 ghost use Rattle.clap.specs.Words.{is_simple_and_free};
 ghost use Rattle.command_words.specs.ClapTable.Table.{Fails, IsFound, program_app};

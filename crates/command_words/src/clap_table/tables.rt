@@ -18,10 +18,10 @@ pub enum Value<'a> {
     Several(&'a str),
     /// The option is a flag: it has no value, and is optional.
     Absent,
-    /// The option is a flag, and has a letter too: `-n`.
+    /// The option is a flag that also has a short form of one letter, such as `-n`.
     Letter(char),
-    /// No option, but a required positional argument, in the order of the table. If it is one of a
-    /// few words, `choices` has them.
+    /// A required positional argument instead of an option, in the order of the table. If only a
+    /// few words are accepted, `choices` has them.
     Word {
         shown: &'a str,
         choices: &'a [&'a str],
@@ -45,8 +45,8 @@ pub struct CommandText<'a> {
     pub options: &'a [OptionText<'a>],
 }
 
-/// A program with its commands, and with a version that it prints on request. The commands are in
-/// two parts, since the proofs about one long table take too many steps.
+/// A program with its commands and its version, which it prints on request. The commands are in two
+/// tables, because proofs about one long table take too many steps.
 #[derive(Clone, Copy)]
 pub struct ProgramText<'a> {
     pub name: &'a str,
@@ -54,6 +54,6 @@ pub struct ProgramText<'a> {
     pub about: &'a str,
     pub after: &'a str,
     pub commands: &'a [CommandText<'a>],
-    /// The commands after those of `commands`.
+    /// The commands that follow those of `commands`.
     pub later: &'a [CommandText<'a>],
 }

@@ -1,4 +1,4 @@
-//! The list of devices that one option names.
+//! Parses the list of devices in an option.
 ghost use Rattle.std.specs.Prelude.{◌≡◌, ◌<◌, ◌≤◌, IfOk, MatchResult, is_ok, length, option_map};
 ghost use Rattle.std.specs.List.{slice_split};
 ghost use Rattle.command_words.specs.Values.Devices.{CutsAtEquals, CutsAtLastColon, device_in, devices_in};
@@ -24,14 +24,14 @@ pub struct Device<'a> {
     pub port: u16,
 }
 
-// Splits at the first `=`.
+// Splits a part of the list at its first `=`.
 fn around_equals<'a>(part: &'a str) -> Option<(&'a str, &'a str)>
     ensures { CutsAtEquals part.now result }
 {
     part.split_once('=')
 }
 
-// Splits at the last `:`.
+// Splits an address at its last `:`.
 fn around_colon<'a>(address: &'a str) -> Option<(&'a str, &'a str)>
     ensures { CutsAtLastColon address.now result }
 {
@@ -55,14 +55,14 @@ fn device_in<'a>(part: &'a str) -> Option<Device<'a>>
     })
 }
 
-// Splits the text at its commas.
+// Splits a list at its commas.
 fn parts_of<'a>(alloc: Global, text: &'a str) -> Result<Vec<&'a str>, AllocError>
     ensures { IfOk result (λ parts. texts parts.items ≡ slice_split is_comma text.now) }
 {
     text.split(',').collect(alloc)
 }
 
-// Returns the name in a part, also if the part is no device.
+// Returns the name in a part of the list, even if the part is no device.
 fn name_of<'a>(part: &'a str) -> &'a str
     ensures { result.now ≡ name_in part.now }
 {
@@ -107,7 +107,7 @@ fn each_device<'a>(alloc: Global, parts: &[&'a str]) -> Result<Vec<Device<'a>>, 
     Ok(devices)
 }
 
-// Checks the number of parts. On error, returns the first part that is one too many.
+// Checks that the list has at most 64 parts. On error, returns the part after the 64th.
 fn few<'a>(parts: &[&'a str]) -> Result<(), ListFault<'a>>
     ensures { MatchResult result (λ _. length parts.now ≤ 64) (λ _. 64 < length parts.now) }
 {

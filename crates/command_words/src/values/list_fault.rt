@@ -10,9 +10,9 @@ use std::fmt::{Display, Formatter};
 pub enum DeviceFault {
     /// The part is not `NAME=HOST:PORT`, or its port is out of range.
     Malformed,
-    /// A later part has the same name.
+    /// Another part of the list has the same name.
     Repeated,
-    /// The part is one more than a list has.
+    /// The list has more than 64 parts, and this is the part after the 64th.
     TooMany,
 }
 

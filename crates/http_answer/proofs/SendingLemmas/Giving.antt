@@ -1,4 +1,4 @@
--- Bytes that are written in parts.
+-- Lemmas on bytes that are sent to a link in parts.
 use Rattle.std.proofs.Common.{◌≡◌, ◌∙◌, ℕ, Bool, true, false, List, [], ◌++◌, Option, Result, Ok, Err, refl, sym, ap, subst, append_assoc, is_err, not, ◌&&◌}
 use Rattle.std.specs.Io.KnownBytes.{Appends}
 use Rattle.std.proofs.KnownBytes.{Appends-nil, Appends-trans, Keeps-refl, Keeps-trans}
@@ -6,7 +6,7 @@ use Rattle.std.proofs.lemmas.List.{append-nil}
 use Rattle.mb_wire.specs.Links.{Gives, risen}
 use Rattle.http_answer.specs.Sending.Sending.{OnlyGives, Outgoing, Puts, Sends}
 
--- The rest of the buffer and more bytes are written together.
+-- The rest of the buffer and further bytes are sent with one write.
 pub Sends-given : {X E : Type 0} (result : Result X E) (base a b : Option (List ℕ)) (buffered kept : List ℕ) (old new : Bool) (all more : List ℕ) → old ≡ false → new ≡ is_err result → kept ≡ []
     → Sends base a buffered old all → (left : List ℕ) → buffered ++ more ≡ left → Gives result a b left → Sends base b kept new (all ++ more)
 Sends-given (Ok x) base a b buffered kept old new all more works failed none so_far left is gives =
@@ -30,7 +30,7 @@ Sends-given (Err e) base a b buffered kept old new all more works failed none so
       whole = λ w. absurd cc;
     }
 
--- Bytes are buffered.
+-- Further bytes are appended to the buffer.
 pub Sends-buffered : (base a : Option (List ℕ)) (buffered kept : List ℕ) (old new : Bool) (all more : List ℕ) → new ≡ old → kept ≡ buffered ++ more → Sends base a buffered old all → Sends base a kept new (all ++ more)
 Sends-buffered base a buffered kept old new all more same is so_far = record {
   sent = so_far.sent;
@@ -40,7 +40,7 @@ Sends-buffered base a buffered kept old new all more same is so_far = record {
   whole = λ w. ap (λ t. t ++ more) (so_far.whole (sym same ∙ w)) ∙ sym is;
 }
 
--- Bytes are lost.
+-- After a failed write, further bytes are lost.
 pub Sends-lost : (base a : Option (List ℕ)) (buffered : List ℕ) (old : Bool) (all more : List ℕ) → old ≡ true → Sends base a buffered old all → Sends base a buffered old (all ++ more)
 Sends-lost base a buffered old all more failed so_far = record {
   sent = so_far.sent;
@@ -50,14 +50,14 @@ Sends-lost base a buffered old all more failed so_far = record {
   whole = λ w. absurd cc;
 }
 
--- The buffer is written.
+-- The bytes of the buffer are written to the link.
 pub Sends-flushed : {X E : Type 0} (result : Result X E) (base a b : Option (List ℕ)) (buffered kept : List ℕ) (old new : Bool) (all : List ℕ) → old ≡ false → new ≡ is_err result → kept ≡ []
     → Sends base a buffered old all → Gives result a b buffered → Sends base b kept new all
 Sends-flushed result base a b buffered kept old new all works failed none so_far gives =
     subst (Sends base b kept new) (append-nil all)
     (Sends-given result base a b buffered kept old new all [] works failed none so_far buffered (append-nil buffered) gives)
 
--- A failure of one of two steps in turn is a failure of both together.
+-- If one of two consecutive steps fails, both together count as one failure.
 risen_twice : (a b c : Bool) (count : ℕ) → (a ≡ true → b ≡ true) → (b ≡ true → c ≡ true) → risen (c && not b) (risen (b && not a) count) ≡ risen (c && not a) count
 risen_twice true true true count ab bc = refl
 risen_twice true true false count ab bc = refl
@@ -80,20 +80,20 @@ OnlyGives-then {x = x} {y = y} {z = z} first next = record {
   last = next.last ∙ first.last;
 }
 
--- Bytes are written, and then more.
+-- One text is sent and then another, so both are sent in this order.
 pub Puts-then : {x y z : Outgoing} {s t : List ℕ} → Puts x y s → Puts y z t → Puts x z (s ++ t)
 Puts-then {x = x} {y = y} {z = z} {s = s} {t = t} first next = record {
   put = λ base all so_far. subst (Sends base z.given z.buffered z.failed) (append_assoc all s t) (next.put base (all ++ s) (first.put base all so_far));
   link = OnlyGives-then first.link next.link;
 }
 
--- All bytes were written to the link.
+-- Without a failed write and with an empty buffer, the link received all bytes.
 pub Sends-all : (base given : Option (List ℕ)) (buffered : List ℕ) (failed : Bool) (all : List ℕ) → failed ≡ false → buffered ≡ [] → Sends base given buffered failed all → Appends base given all
 Sends-all base given buffered failed all works none sends =
     let order : all ≡ sends.sent = sends.in_order ∙ ap (λ l. sends.sent ++ l) (sends.whole works ∙ none) ∙ append-nil sends.sent in
     subst (Appends base given) (sym order) sends.came
 
--- Nothing was written so far.
+-- If the link received nothing since `base` and the buffer is empty, nothing was sent.
 pub HasPut-none : (base given : Option (List ℕ)) (buffered : List ℕ) (failed : Bool) → given ≡ base → buffered ≡ [] → Sends base given buffered failed []
 HasPut-none base given buffered failed same none = record {
   sent = [];
@@ -103,7 +103,7 @@ HasPut-none base given buffered failed same none = record {
   whole = λ _. sym none;
 }
 
--- A call that writes nothing.
+-- A call that writes nothing changes only what `OnlyGives` allows.
 OnlyGives-none : (x : Outgoing) → OnlyGives x x
 OnlyGives-none x = record {
   link = refl;

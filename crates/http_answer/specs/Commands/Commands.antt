@@ -1,5 +1,5 @@
--- The command of each route, by the members of its body. `name` is the route's parameter: a
--- register, or for a void a meter. It is None if the parameter is no name.
+-- The command of each route, from the members of its JSON body. `name` is the route's parameter: an
+-- accounting register, or for a void a meter. It is None if the parameter is no valid name.
 use Rattle.std.specs.Prelude.{ℕ, List, Option, Some, None, Result, Ok, Err, codes}
 use Rattle.serde_json.specs.Data.{Data}
 use Rattle.http_answer.specs.Commands.Json.Tables.{close_members, device_members, exchange_members, fault_of, install_members, manual_members, register_fault, rescale_members, reset_members, void_members}
@@ -11,7 +11,7 @@ use Rattle.office_events.specs.declared.commands.Command.{Command}
 use Rattle.office_events.specs.declared.commands.Command.TheVariants as command
 use Rattle.http_answer.specs.Commands.Values.{integer_in, name_in, natural_in, optional_in, or_full_range, scale_in}
 
--- A new device.
+-- The command that adds a device.
 abbrev pub add_device : Data → Command
 add_device d = command.AddDevice (record {
   name = name_in (codes "name") d;
@@ -20,7 +20,7 @@ add_device d = command.AddDevice (record {
   window = natural_in (codes "window") d;
 })
 
--- A new register.
+-- The command that adds an accounting register.
 abbrev pub add_register : Data → Command
 add_register d = command.AddRegister (record {
   name = name_in (codes "name") d;
@@ -30,7 +30,7 @@ add_register d = command.AddRegister (record {
   scale = scale_in d;
 })
 
--- A meter is installed at a register.
+-- The command that installs a meter at an accounting register.
 abbrev pub install : Option (List ℕ) → Data → Command
 install name d = command.Install (record {
   register = name;
@@ -41,7 +41,7 @@ install name d = command.Install (record {
   range = or_full_range (optional_in (codes "range") d);
 })
 
--- A meter is closed, and another is installed at its register.
+-- The command that closes the meter at a register, and installs another there.
 abbrev pub exchange : Option (List ℕ) → Data → Command
 exchange name d = command.Exchange (record {
   register = name;
@@ -54,7 +54,7 @@ exchange name d = command.Exchange (record {
   range = or_full_range (optional_in (codes "range") d);
 })
 
--- The counter of a meter is reset.
+-- The command that records a reset of a meter's counter.
 abbrev pub reset : Option (List ℕ) → Data → Command
 reset name d = command.Reset (record {
   register = name;
@@ -62,7 +62,7 @@ reset name d = command.Reset (record {
   after = natural_in (codes "after") d;
 })
 
--- The counter of a meter changes its value and its scale.
+-- The command that records that a meter's counter was set to another value at another scale.
 abbrev pub rescale : Option (List ℕ) → Data → Command
 rescale name d = command.Rescale (record {
   register = name;
@@ -71,7 +71,7 @@ rescale name d = command.Rescale (record {
   sf = integer_in (codes "sf") d;
 })
 
--- A reading by hand, at the given timestamp if there is one.
+-- The command that enters a reading by hand. Its timestamp is optional.
 abbrev pub manual : Option (List ℕ) → Data → Command
 manual name d = command.Manual (record {
   register = name;
@@ -80,7 +80,7 @@ manual name d = command.Manual (record {
   at = optional_in (codes "at") d;
 })
 
--- A meter is closed with its last reading.
+-- The command that closes a meter with its last reading.
 abbrev pub close : Option (List ℕ) → Data → Command
 close name d = command.Close (record {
   register = name;
@@ -88,20 +88,20 @@ close name d = command.Close (record {
   rolls = natural_in (codes "rolls") d;
 })
 
--- An entry of a meter is voided.
+-- The command that voids an entry of a meter.
 abbrev pub void : Option (List ℕ) → Data → Command
 void name d = command.Void (record {
   meter = name;
   place = natural_in (codes "place") d;
 })
 
--- The command, unless the body has a fault.
+-- The command if the body has no fault, otherwise the fault.
 abbrev pub unless_fault : Option BodyFault → Command → Result Command BodyFault
 unless_fault None c = Ok c
 unless_fault (Some fault) c = Err fault
 
--- The command that the JSON body of a route's request gives, or the fault of the body. The body of
--- a list is no JSON, and a query has no command.
+-- The command that a JSON body gives for this route, or the fault of the body. A point list is no
+-- JSON and a query has no command, so both give `Malformed`.
 abbrev pub command_of : Route → Option (List ℕ) → Data → Result Command BodyFault
 command_of route.Devices name d = unless_fault (fault_of device_members d) (add_device d)
 command_of route.List name d = Err Malformed

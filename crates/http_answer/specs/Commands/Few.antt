@@ -1,4 +1,4 @@
--- The most faulty rows of a list.
+-- The most faulty rows that the program reports for a point list.
 use Rattle.std.specs.Prelude.{◌≤◌, List, length, All, Result, Ok, Err}
 use Rattle.office_events.specs.declared.commands.Command.{Command}
 use Rattle.point_list.specs.declared.fault.FaultyRow.{FaultyRow}
@@ -11,7 +11,7 @@ pub record AreFew (rows : List FaultyRow) : Type 0 where
   pub few : length rows ≤ 513
   pub low : All (λ faulty. faulty.row ≤ 514) rows
 
--- The faulty rows, if any, are at most 513.
+-- If the result is `Faulty`, its rows are within the bounds of `AreFew`.
 abbrev pub HasFewRows : Result Command CommandFault → Type 0
 HasFewRows (Ok c) = Unit {0}
 HasFewRows (Err Malformed) = Unit {0}

@@ -19,13 +19,13 @@ pub record IsJson (bytes : List ℕ) (d : Data) : Type 0 where
   pub utf8 : IsUtf8 bytes
   pub value : read bytes ≡ Some d
 
--- The fault of a JSON body, as a fault of a command.
+-- The fault of a JSON body, converted to the fault of a command.
 abbrev pub fault_told : BodyFault → CommandFault
 fault_told body.Malformed = Malformed
 fault_told body.Negative = Negative
 fault_told body.Memory = Memory
 
--- A result with a JSON body's fault, as the result of a command.
+-- The result of parsing a JSON body, converted to the result of a command.
 abbrev pub told : Result Command BodyFault → Result Command CommandFault
 told (Ok c) = Ok c
 told (Err fault) = Err (fault_told fault)
@@ -42,20 +42,21 @@ pub record IsNoJson (bytes : List ℕ) (given : Result Command CommandFault) : T
   pub none : (d : Data) → IsJson bytes d → ⊥
   pub gives : given ≡ Err Malformed
 
--- What a JSON body gives, unless memory runs out.
+-- The result for a body that should be JSON, unless memory runs out.
 abbrev pub IsBody : Route → Option (List ℕ) → (bytes : List ℕ) → Result Command CommandFault
     → Type 0
 IsBody at name bytes given =
     GivesJson at name bytes given ⊎ IsNoJson bytes given ⊎ (given ≡ Err Memory)
 
--- The bytes spell a point list, and the command stores it with its plan.
+-- The bytes are a point list as CSV. The command stores the list with its plan, the fewest reads
+-- that cover it.
 pub record GivesList (name : Option (List ℕ)) (bytes : List ℕ) (c : Command) : Type 0 where
   pub list : Planned
   pub spelled : SpellsList bytes list.points
   pub planned : IsPlanned list
   pub is : c ≡ PutList (record { device = name; list = list })
 
--- The bytes are a point list as CSV, not JSON.
+-- The result for a body that should be a point list as CSV.
 abbrev pub IsListBody : Option (List ℕ) → (bytes : List ℕ) → Result Command CommandFault → Type 0
 IsListBody name bytes (Ok c) = GivesList name bytes c
 IsListBody name bytes (Err Malformed) = ⊥
@@ -63,7 +64,7 @@ IsListBody name bytes (Err Negative) = ⊥
 IsListBody name bytes (Err (Faulty rows)) = AreFaults (list_faults (rows_read bytes)) rows
 IsListBody name bytes (Err Memory) = Unit {0}
 
--- What the body of a route's request gives. Memory says nothing about the body.
+-- The result for the body of a route's request. `Memory` says nothing about the body.
 abbrev pub Gives : Route → Option (List ℕ) → (bytes : List ℕ) → Result Command CommandFault → Type 0
 Gives route.List name bytes given = IsListBody name bytes given
 Gives route.Devices name bytes given = IsBody route.Devices name bytes given

@@ -8,11 +8,12 @@ use Rattle.office_events.specs.Names.{named}
 use Rattle.office_events.specs.declared.commands.GivenScale.{GivenScale}
 use Rattle.office_events.specs.declared.commands.GivenScale.TheVariants.{Fixed, Register}
 
--- The name that a member's text spells, or None if the text is no name.
+-- The name that the text of a member spells. None if the member is no text, or the text is no valid
+-- name.
 abbrev pub name_in : List ℕ → Data → Option (List ℕ)
 name_in member d = option_and_then named (text member d)
 
--- A number, or 0 if there is none.
+-- The number, or 0 without one.
 abbrev pub integer_or_zero : Option ℤ → ℤ
 integer_or_zero None = pos 0
 integer_or_zero (Some n) = n
@@ -22,24 +23,24 @@ abbrev pub magnitude : ℤ → ℕ
 magnitude (pos n) = n
 magnitude (negsuc n) = 0
 
--- The number of a member.
+-- The integer in a member, or 0 if the member is no integer.
 abbrev pub integer_in : List ℕ → Data → ℤ
 integer_in member d = integer_or_zero (whole member d)
 
--- The number of a member that is not negative.
+-- The number in a member, or 0 if it is negative or no integer.
 abbrev pub natural_in : List ℕ → Data → ℕ
 natural_in member d = magnitude (integer_in member d)
 
--- The number of an optional member that is not negative.
+-- The number in an optional member: None if it is no integer, and 0 if it is negative.
 abbrev pub optional_in : List ℕ → Data → Option ℕ
 optional_in member d = option_map magnitude (whole member d)
 
--- The range of a counter. If the body gives none, it is that of a counter of 32 bits.
+-- The range of a counter, or that of a 32-bit counter if the body gives none.
 abbrev pub or_full_range : Option ℕ → ℕ
 or_full_range None = MAX_RANGE
 or_full_range (Some range) = range
 
--- The scale: the number `fixed`, or the device holds it at the address `scale_at`.
+-- The scale: fixed by the member `fixed`, or read from the device at the address in `scale_at`.
 abbrev pub scale_in : Data → GivenScale
 scale_in d =
     if is_none (get (codes "fixed") d) then Register (natural_in (codes "scale_at") d)

@@ -3,10 +3,10 @@ use Rattle.std.specs.Prelude.{ℕ, List, ◌++◌, codes, decimal}
 use Rattle.http_request.specs.Status.Statuses.{number_of_status}
 use Rattle.http_request.specs.declared.status.Status.{Status}
 
--- The body for a refusal, by its number.
+-- The JSON body that reports a refusal, by the refusal's number.
 abbrev pub refused_text : ℕ → List ℕ
 refused_text number = codes "{\"refused\":" ++ decimal number ++ codes "}"
 
--- The body for a fault, by its status.
+-- The JSON body that reports a fault, by the response's status.
 abbrev pub fault_text : Status → List ℕ
 fault_text status = codes "{\"fault\":" ++ decimal (number_of_status status) ++ codes "}"

@@ -3,11 +3,12 @@ use Rattle.std.specs.Prelude.{ℕ, List, take, Option}
 use Rattle.http_answer.specs.Sending.Sending.{Progress}
 use Rattle.http_answer.specs.declared.sending.outbox.Outbox.{Outbox}
 
--- The buffered bytes.
+-- The bytes in the write buffer.
 abbrev pub buffered_in : Outbox → List ℕ
 buffered_in outbox = take outbox.filled outbox.buffered
 
--- How far the bytes for a link have come: written, buffered, or lost after a failed write.
+-- The state of the bytes for a link: those it received, those in the buffer, and whether a write
+-- failed.
 abbrev pub progress : (given : Option (List ℕ)) → Outbox → Progress
 progress given outbox = record {
   given = given;

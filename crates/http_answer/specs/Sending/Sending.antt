@@ -5,8 +5,8 @@ use base.Fml.{GName}
 use Rattle.mb_wire.specs.Links.{risen}
 use Rattle.mb_wire.specs.declared.link.LastTake.{LastTake}
 
--- All bytes so far begin with those written since `base`. The rest is buffered, or was lost after a
--- failed write.
+-- The link received a beginning of `all` since `base`. Without a failed write, the buffer holds
+-- exactly the rest.
 pub record Sends (base given : Option (List ℕ)) (buffered : List ℕ) (failed : Bool) (all : List ℕ) :
     Type 0 where
   pub sent : List ℕ
@@ -15,20 +15,20 @@ pub record Sends (base given : Option (List ℕ)) (buffered : List ℕ) (failed 
   pub came : Appends base given sent
   pub whole : failed ≡ false → left ≡ buffered
 
--- How far the bytes for a link have come: what was written, what is buffered after it, and whether
--- a write failed.
+-- The state of the bytes for a link: those it received, those in the buffer, and whether a write
+-- failed.
 pub record Progress : Type 0 where
   pub given : Option (List ℕ)
   pub buffered : List ℕ
   pub failed : Bool
 
--- The bytes follow all earlier ones.
+-- The bytes are sent after all earlier ones.
 abbrev pub PutsAfter : Progress → Progress → List ℕ → Type 0
 PutsAfter old new bytes =
     (base : Option (List ℕ)) (all : List ℕ) → Sends base old.given old.buffered old.failed all
     → Sends base new.given new.buffered new.failed (all ++ bytes)
 
--- No bytes follow the earlier ones.
+-- No bytes are sent beyond the earlier ones.
 abbrev pub PutsNothing : Progress → Progress → Type 0
 PutsNothing old new =
     (base : Option (List ℕ)) (all : List ℕ) → Sends base old.given old.buffered old.failed all
@@ -46,7 +46,7 @@ pub record Outgoing : Type 0 where
   pub buffered : List ℕ
   pub failed : Bool
 
--- All bytes for the link since it had got `base`.
+-- The bytes that were sent to this link since it had received `base`, in the buffer or beyond.
 abbrev pub HasPut : Option (List ℕ) → Outgoing → List ℕ → Type 0
 HasPut base out all = Sends base out.given out.buffered out.failed all
 
@@ -60,7 +60,7 @@ pub record OnlyGives (old new : Outgoing) : Type 0 where
   pub takes : new.takes ≡ old.takes
   pub last : new.last ≡ old.last
 
--- The bytes follow all earlier ones, and only writes reach the link.
+-- The bytes are sent after all earlier ones, and the link sees nothing but writes.
 pub record Puts (old new : Outgoing) (bytes : List ℕ) : Type 0 where
   pub put : (base : Option (List ℕ)) (all : List ℕ) → HasPut base old all
       → HasPut base new (all ++ bytes)

@@ -54,7 +54,7 @@ pub(crate) fn reset(register: Option<Name>, body: &Body) -> Result<Command, Body
     }))
 }
 
-// Reads the command that sets a counter at another scale.
+// Reads the command that sets a counter to another value and scale.
 pub(crate) fn rescale(register: Option<Name>, body: &Body) -> Result<Command, BodyFault>
     ensures { result ≡ command_of route.Rescale register (view body.now) }
 {
@@ -92,7 +92,7 @@ pub(crate) fn close(register: Option<Name>, body: &Body) -> Result<Command, Body
     }))
 }
 
-// Reads the command that voids an entry.
+// Reads the command that voids an entry of a meter.
 pub(crate) fn void(meter: Option<Name>, body: &Body) -> Result<Command, BodyFault>
     ensures { result ≡ command_of route.Void meter (view body.now) }
 {

@@ -88,7 +88,7 @@ impl Outbox {
         self.filled = end;
     }
 
-    // Writes bytes to the link at once. Nothing may be buffered.
+    // Writes bytes directly to the link. The buffer must be empty.
     fn pass<L: Link>(&mut self, link: &mut L, bytes: &[u8])
         requires works { self.old.failed ≡ false }
         requires empty { buffered_in self.old ≡ [] }
@@ -102,7 +102,7 @@ impl Outbox {
         self.failed = give_all(link, bytes).is_err();
     }
 
-    // Writes bytes after all earlier ones, through the buffer if they fit.
+    // Sends bytes after all earlier ones, through the buffer if they fit.
     pub(crate) fn put<L: Link>(&mut self, link: &mut L, bytes: &[u8])
         ensures sends { PutsAfter (progress (L.given link.old) self.old)
             (progress (L.given link.new) self.new) bytes.now }

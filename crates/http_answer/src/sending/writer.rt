@@ -47,7 +47,7 @@ impl<'l, L: Link> ReplyWriter<'l, L> {
         }
     }
 
-    /// Writes bytes after all earlier ones.
+    /// Sends bytes after all earlier ones, through the buffer.
     pub fn put(&mut self, bytes: &[u8])
         ensures { Puts self.old self.new bytes.now }
     {

@@ -1,4 +1,4 @@
--- Headers by name.
+-- Lemmas on finding headers by their names.
 use Rattle.std.proofs.Common.{◌≡◌, ◌∙◌, ℕ, ◌+◌, ◌<◌, Bool, true, false, List, [], ◌∷◌, ◌++◌, length, get_or, take, map, refl, sym, ap, subst, arith}
 use Rattle.std.specs.Prelude.{if◌then◌else◌, IsTrue, ◌↔◌}
 use Rattle.std.specs.Str.{bytes_eq}
@@ -27,7 +27,7 @@ one_more name xs x e = values_of-append name xs (x ∷ []) ∙ ap (λ vs. values
 pub none_more : (name : List ℕ) (xs : List (List ℕ × List ℕ)) (x : List ℕ × List ℕ) → same_name x.0 name ≡ false → values_of name (xs ++ x ∷ []) ≡ values_of name xs
 none_more name xs x e = values_of-append name xs (x ∷ []) ∙ ap (λ vs. values_of name xs ++ vs) (cond-false _ _ _ e) ∙ append-nil (values_of name xs)
 
--- One more header, with this name or another.
+-- The next header has the requested name or another one.
 pub more_given : (name bytes : List ℕ) (headers : List HeaderSpan) (i : ℕ) (d : HeaderSpan) (named value : List ℕ) → i < length headers
     → named ≡ span_bytes bytes (get_or headers i d).name → same_name named name ≡ true → value ≡ span_bytes bytes (get_or headers i d).value
     → values_of name (map (header_bytes bytes) (take (i + 1) headers)) ≡ values_of name (map (header_bytes bytes) (take i headers)) ++ value ∷ []

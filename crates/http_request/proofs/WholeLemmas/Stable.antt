@@ -1,4 +1,4 @@
--- A head stays the same when more bytes follow it.
+-- A complete head does not change when more bytes arrive.
 use Rattle.std.proofs.Common.{◌≡◌, ◌∙◌, ℕ, ◌+◌, ◌-◌, ◌<◌, ◌≤◌, List, [], ◌∷◌, ◌++◌, length, take, drop, map, Option, inl, inr, refl, sym, ap, subst, arith, append_assoc, length-drop, length-append}
 use Rattle.std.specs.Prelude.{All}
 use Rattle.std.proofs.lemmas.List.{drop-append-le, take-append-le}
@@ -74,7 +74,7 @@ head_stays a b at x =
       },
     )
 
--- The size of the body stays the same when more bytes follow.
+-- The size of the body does not change when more bytes arrive.
 size_stays : (table : Table) (mid new seen : List ℕ) (s t : Option (List ℕ)) (at : Head) (size : ℕ) → seen ≡ mid → size ≡ body_size table (start_at seen at) → IsHeadAt mid at → Came mid new s t → size ≡ body_size table (start_at new at)
 size_stays table mid new seen s t at size same is head came =
     is ∙ ap (λ b. body_size table (start_at b at)) same ∙ ap (body_size table) (sym (start_stays mid came.chunk at head)) ∙ ap (λ b. body_size table (start_at b at)) (sym came.bytes)
@@ -104,7 +104,7 @@ lacks_still table mid earlier seen at size same is head few =
     let start : body_size table (start_at (mid ++ earlier) at) ≡ size = ap (body_size table) (start_stays mid earlier at head) ∙ ap (λ b. body_size table (start_at b at)) (sym same) ∙ sym is in
     record { at = at; head = head_stays mid earlier at head; body = omega (arith, few, start) }
 
--- Reading the head stops in time, and the head has no body.
+-- If the request has no body, reading stops in time once its head is complete.
 pub stops_at_head : (table : Table) (old new : Inbox) (was now : Option LastTake) → StopsAtOnce IsOpenHead old new was now → StopsAtOnce (IsUnfinished table) old new was now
 stops_at_head table old new was now (inl none) = inl none
 stops_at_head table old new was now (inr some) = inr record {
@@ -115,7 +115,7 @@ stops_at_head table old new was now (inr some) = inr record {
   size = some.size;
 }
 
--- Reading the head and reading its body both stop in time.
+-- If reading the head and reading the body each stop in time, reading the request does.
 pub stops_at_body : (table : Table) (old mid new : Inbox) (seen chunk : List ℕ) (was then now : Option LastTake) (at : Head) (size : ℕ) → bytes_in mid ≡ bytes_in old ++ chunk → IsHeadAt (bytes_in mid) at
     → seen ≡ bytes_in mid → size ≡ body_size table (start_at seen at) → StopsAtOnce IsOpenHead old mid was then → StopsAtOnce (λ bytes. length bytes < at.len + size) mid new then now
     → StopsAtOnce (IsUnfinished table) old new was now

@@ -21,7 +21,7 @@ start_is bytes at x =
     let headers = x.0.1.1.headers in
     λ i. record { method = method i; target = target i; headers = headers i }
 
--- Two parses that find a head find the same head.
+-- Two results of parsing a head from the same bytes have the same parts.
 pub start_one : (bytes : List ℕ) (a b : Head) → IsHeadAt bytes a → IsHeadAt bytes b → (start_at bytes a ≡ start_at bytes b) × (a.len ≡ b.len)
 start_one bytes a b x y =
     let same = head_unique bytes a.len b.len x.0.0 y.0.0 x.0.1.0 y.0.1.0 in
@@ -38,7 +38,7 @@ lacks_not_whole table bytes at l w =
 pub open_not_whole : (table : Table) (bytes : List ℕ) (at : Head) → IsOpenHead bytes → IsWhole table bytes at → ⊥
 open_not_whole table bytes at o w = o.none at.len w.head.0.0 w.head.0.1.0
 
--- The request that the bytes hold.
+-- A complete head and body are the request that the bytes hold.
 pub request_of_whole : (table : Table) (bytes : List ℕ) (at : Head) → IsWhole table bytes at → HoldsRequest table bytes (start_at bytes at) (body_of table bytes at)
 request_of_whole table bytes at w = record {
   head = w.head.0.0;
@@ -49,7 +49,7 @@ request_of_whole table bytes at w = record {
   body_is = refl;
 }
 
--- Those requests are the same.
+-- Two requests that the same bytes hold are equal.
 pub one_request : (table : Table) (bytes : List ℕ) (start other_start : Start) (body other_body : List ℕ) → HoldsRequest table bytes start body → HoldsRequest table bytes other_start other_body
     → IsOneRequest start other_start body other_body
 one_request table bytes start other_start body other_body x y =

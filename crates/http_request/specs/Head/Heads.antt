@@ -18,7 +18,7 @@ pub record IsHead (bytes : List ℕ) (n : ℕ) (h : RequestHead) : Type 0 where
 abbrev pub HasNoHead : List ℕ → Type 0
 HasNoHead bytes = (n : ℕ) (h : RequestHead) → IsHead bytes n h → ⊥
 
--- The bytes in which a head has to end.
+-- The first 8,192 bytes. A head within the limits ends in them.
 abbrev pub front_of : List ℕ → List ℕ
 front_of bytes = take 8192 bytes
 
@@ -41,13 +41,13 @@ abbrev pub is_past_limits : List ℕ → Bool
 is_past_limits bytes =
     not (has_head_end (front_of bytes)) || nat_lt 65 (length (lines_of_head (front_of bytes)))
 
--- The spans of a head's parts give the parsed parts.
+-- The spans of the parsed head select from the bytes the method, the target and the headers of `h`.
 pub record Covers (bytes : List ℕ) (at : Head) (h : RequestHead) : Type 0 where
   pub method : span_bytes bytes at.method ≡ h.method
   pub target : span_bytes bytes at.target ≡ h.target
   pub headers : AreFieldsAt bytes at.headers at.count h.fields
 
--- All spans lie within the bytes.
+-- All spans of the head lie within the bytes.
 pub record IsPlaced (bytes : List ℕ) (at : Head) : Type 0 where
   pub method : IsWithin (length bytes) at.method
   pub target : IsWithin (length bytes) at.target
@@ -55,12 +55,13 @@ pub record IsPlaced (bytes : List ℕ) (at : Head) : Type 0 where
   pub len : at.len ≤ length bytes
   pub headers : All (IsHeaderWithin (length bytes)) (take at.count at.headers)
 
--- The bytes begin with this head, and its spans give its parts.
+-- The bytes begin with a head within the limits, and `at` holds the spans of its parts.
 abbrev pub IsHeadAt : List ℕ → Head → Type 0
 IsHeadAt bytes at =
     ((h : RequestHead) × (IsHead bytes at.len h × Covers bytes at h)) × IsPlaced bytes at
 
--- The result of parsing the bytes that were read.
+-- What the bytes hold: no complete head yet, a head past the limits, a malformed head, or a
+-- complete head.
 abbrev pub Looks : List ℕ → HeadState → Type 0
 Looks bytes Open = IsOpenHead bytes
 Looks bytes TooLarge = IsBadHead bytes × (is_past_limits bytes ≡ true)

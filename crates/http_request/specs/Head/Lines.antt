@@ -1,9 +1,9 @@
--- The lines of the bytes, and the empty line that ends a head.
+-- The lines of the received bytes, and the empty line that ends a head.
 use Rattle.std.specs.Prelude.{ℕ, ◌==◌, Bool, true, false, if◌then◌else◌, List, [], ◌∷◌, ◌++◌}
 use Rattle.std.specs.List.{list_any}
 
--- The lines that a line feed ended, each without it. The first begins with the bytes of `line`.
--- Bytes after the last line feed are no line yet.
+-- The lines that end with a line feed, each without it. The first line begins with the bytes of
+-- `line`. Bytes after the last line feed are not yet a line.
 abbrev pub ended_lines : List ℕ → List ℕ → List (List ℕ)
 ended_lines line [] = []
 ended_lines line (b ∷ bytes) =

@@ -1,4 +1,4 @@
--- What was read when reading ends.
+-- What the buffer holds when reading ends.
 use Rattle.std.specs.Prelude.{◌≡◌, ◌<◌, ◌≤◌, ℕ, false, ◌⊎◌, List, ◌++◌, length, Option, Result, Ok, Err}
 use Rattle.std.specs.Io.KnownBytes.{IsAtEnd}
 use Rattle.http_request.specs.Head.Heads.{IsOpenHead, Looks, is_open}
@@ -9,13 +9,13 @@ use Rattle.http_request.specs.declared.reading.inbox.Inbox.{Inbox}
 use Rattle.http_request.specs.declared.reading.inbox.TakeFault.{TakeFault}
 use Rattle.http_request.specs.declared.reading.inbox.TakeFault.TheVariants.{Read, Short, TurnsUsed}
 
--- If the cause is Short, no byte is left in the input.
+-- A read that ended with Short has no byte left in the input.
 abbrev pub EndsAt : TakeFault → Option (List ℕ) → Type 0
 EndsAt Read after = Unit {0}
 EndsAt Short after = IsAtEnd after
 EndsAt TurnsUsed after = Unit {0}
 
--- A head or a bad one was read; or a read failed, and the head is still incomplete.
+-- Either a complete or a bad head was read, or reading failed while the head was incomplete.
 abbrev pub ReadsHead : Result HeadState TakeFault → List ℕ → List ℕ → Option (List ℕ)
     → Option (List ℕ) → Type 0
 ReadsHead (Ok head_state) old new before after =
@@ -23,20 +23,20 @@ ReadsHead (Ok head_state) old new before after =
 ReadsHead (Err fault) old new before after =
     Came old new before after × IsOpenHead new × EndsAt fault after
 
--- The inbox has at least `count` bytes; or reading failed, and it has fewer.
+-- Either the buffer holds at least `count` bytes, or reading failed and the buffer holds fewer.
 abbrev pub ReadsUpTo : ℕ → {X : Type 0} → Result X TakeFault → List ℕ → List ℕ → Option (List ℕ)
     → Option (List ℕ) → Type 0
 ReadsUpTo count (Ok x) old new before after = Came old new before after × (count ≤ length new)
 ReadsUpTo count (Err fault) old new before after =
     Came old new before after × (length new < count) × EndsAt fault after
 
--- No read was made.
+-- No read was made: the count of reads and the link's last read are unchanged.
 pub record TakesNothing (old new : Inbox) (was now : Option LastTake) : Type 0 where
   pub takes : new.takes ≡ old.takes
   pub bytes : bytes_in new ≡ bytes_in old
   pub last : now ≡ was
 
--- The bytes before the last read were incomplete.
+-- The bytes before the last read were still incomplete, in the sense of `GoesOn`.
 pub record TakesWhatLacks (GoesOn : List ℕ → Type 0) (old new : List ℕ) (now : Option LastTake) :
     Type 0 where
   pub earlier : List ℕ
@@ -45,7 +45,8 @@ pub record TakesWhatLacks (GoesOn : List ℕ → Type 0) (old new : List ℕ) (n
   pub bytes : new ≡ (old ++ earlier) ++ chunk
   pub size : length chunk ≡ brought now
 
--- Reading stops in time: no read was made, or the bytes before the last read were incomplete.
+-- No read was made once the bytes were complete: either there was no read, or the bytes before the
+-- last read were incomplete.
 abbrev pub StopsAtOnce : (List ℕ → Type 0) → Inbox → Inbox → (was now : Option LastTake) → Type 0
 StopsAtOnce GoesOn old new was now =
     TakesNothing old new was now ⊎ TakesWhatLacks GoesOn (bytes_in old) (bytes_in new) now

@@ -9,35 +9,34 @@ use Rattle.http_request.specs.declared.reading.inbox.Inbox.{Inbox}
 use Rattle.http_request.specs.declared.reading.inbox.TakeFault.{TakeFault}
 use Rattle.http_request.specs.declared.reading.inbox.TakeFault.TheVariants.{Read, Short, TurnsUsed}
 
--- All bytes that were read.
+-- The bytes in the buffer: all that were read from the link.
 abbrev pub bytes_in : Inbox → List ℕ
 bytes_in inbox = take inbox.filled inbox.room.now
 
--- The size of the buffer.
+-- The capacity of the buffer in bytes.
 abbrev pub room_of : Inbox → ℕ
 room_of inbox = length inbox.room.now
 
--- The link counted the reads of the inbox, and `base` reads before them. A link's count stops at
--- 2^64 - 1.
+-- The link's count of reads is `base` plus the reads of this buffer. The count stops at 2^64 - 1.
 abbrev pub IsCounted : ℕ → ℕ → Inbox → Type 0
 IsCounted base taken inbox = taken ≡ min (base + inbox.takes) (2 ^ 64 - 1)
 
--- The buffer keeps its size, and the inbox counts the reads of the link. If the reads are used up,
--- there were 100,000 of them.
+-- The buffer keeps its capacity, and counts each read of the link. If the result is TurnsUsed, the
+-- buffer has made 100,000 reads.
 pub record CountsTakes {X : Type 0} (result : Result X TakeFault) (old new : Inbox)
     (before after : ℕ) : Type 0 where
   pub room : room_of new ≡ room_of old
   pub counts : (base : ℕ) → IsCounted base before old → IsCounted base after new
   pub used : result ≡ Err TurnsUsed → new.takes ≡ 100000
 
--- The new bytes follow those buffered, and the link consumed them.
+-- The bytes that the link delivered were appended to those in the buffer.
 pub record Came (old new : List ℕ) (before after : Option (List ℕ)) : Type 0 where
   pub chunk : List ℕ
   pub bytes : new ≡ old ++ chunk
   pub consumed : Consumes before after chunk
 
--- The effect of one more read. On a fault no byte arrives, and Short means that the input has
--- ended.
+-- The effect of one more read. After a failed read no byte is added, and Short means that the input
+-- has ended.
 abbrev pub TakesOn : {X : Type 0} → Result X TakeFault → List ℕ → List ℕ → Option (List ℕ)
     → Option (List ℕ) → Type 0
 TakesOn (Ok x) old new before after = Came old new before after
@@ -45,7 +44,7 @@ TakesOn (Err Read) old new before after = (new ≡ old) × Keeps before after
 TakesOn (Err Short) old new before after = (new ≡ old) × Keeps before after × IsAtEnd after
 TakesOn (Err TurnsUsed) old new before after = (new ≡ old) × Keeps before after
 
--- A read failed.
+-- Reading ended because a read failed.
 abbrev pub is_read_fault : {X : Type 0} → Result X TakeFault → Bool
 is_read_fault (Ok x) = false
 is_read_fault (Err Read) = true
@@ -66,7 +65,7 @@ brought_by (Ok End) = 0
 brought_by (Ok Idle) = 0
 brought_by (Err failed) = 0
 
--- The number of bytes that the last read returned.
+-- The number of bytes that the link's last read returned; 0 if there was no read.
 abbrev pub brought : Option LastTake → ℕ
 brought None = 0
 brought (Some take) = brought_by take.answer

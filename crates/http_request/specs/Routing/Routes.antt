@@ -9,29 +9,29 @@ use Rattle.matchit.specs.declared.error.InsertError.{InsertError}
 use Rattle.http_request.specs.declared.routing.routes.Route.{Route}
 use Rattle.http_request.specs.declared.routing.routes.Route.TheVariants.{Devices, List as ListRoute, Registers, Install, Exchange, Reset, Rescale, Manual, Close, Void, Days, Meter, Intervals, Poll}
 
--- The rows of a router with these routes.
+-- The routes of a router.
 abbrev pub Table : Type 0
 Table = RowsOf (RouteOf Route)
 
--- The rows with one more route, if its text is well formed.
+-- The table with one more route, from its parsed text. A malformed text adds no route.
 abbrev pub with_route : Result Scan InsertError → Route → Table → Table
 with_route (Ok s) value rows = placed (s.pattern, route_from s value) rows
 with_route (Err e) value rows = rows
 
--- The rows with one more route, by its text.
+-- The table with one more route, such as `/polls/{number}`.
 abbrev pub add : List ℕ → Route → Table → Table
 add text value rows = with_route (parse_route text) value rows
 
--- The text of a route is well formed, and conflicts with none of the rows.
+-- The parsed text of a route is well formed, and conflicts with no route of the table.
 abbrev pub FitsRead : Result Scan InsertError → Table → Type 0
 FitsRead (Ok s) rows = nearest s.pattern rows ≡ None
 FitsRead (Err e) rows = ⊥
 
--- The text is that of a route which conflicts with none of the rows.
+-- The text of a route is well formed, and conflicts with no route of the table.
 abbrev pub Fits : List ℕ → Table → Type 0
 Fits text rows = FitsRead (parse_route text) rows
 
--- All targets with a route.
+-- The table of all routes that the program serves.
 abbrev pub routes : Table
 routes =
     add (codes "/polls/{number}") Poll (
@@ -49,11 +49,11 @@ routes =
     add (codes "/devices/{name}/list") ListRoute (
     add (codes "/devices") Devices [])))))))))))))
 
--- The value of a route's first parameter, if the route has one.
+-- The value of the first parameter, if there is one.
 abbrev pub head_value : List (List ℕ × List ℕ) → Option (List ℕ)
 head_value [] = None
 head_value (p ∷ rest) = Some p.1
 
--- The value of a route's first parameter in a path.
+-- The value of the first parameter of route `r` in a path.
 abbrev pub param_of : RouteOf Route → List ℕ → Option (List ℕ)
 param_of r path = head_value (walk r.pattern r.text path r.names 0 0)

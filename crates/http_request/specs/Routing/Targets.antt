@@ -8,15 +8,15 @@ use Rattle.http_request.specs.declared.routing.routes.Route.{Route}
 use Rattle.http_request.specs.declared.routing.targets.Found.{Found}
 use Rattle.http_request.specs.declared.routing.routes.Route.TheVariants.{Devices, List as ListRoute, Registers, Install, Exchange, Reset, Rescale, Manual, Close, Void, Days, Meter, Intervals, Poll}
 
--- The target has a question mark.
+-- The request target contains a question mark.
 abbrev pub has_query : List ℕ → Bool
 has_query target = list_any (λ byte. byte == 63) target
 
--- The route of a target in a table.
+-- The route that the table has for a target, if any.
 abbrev pub first_route : Table → List ℕ → Option Route
 first_route table target = option_map (λ r. r.value) (first table target)
 
--- The value of the parameter of a target's route.
+-- The value of the parameter in a target, by the route that the table finds.
 abbrev pub first_name : Table → List ℕ → Option (List ℕ)
 first_name table target = option_and_then (λ r. param_of r target) (first table target)
 
@@ -24,11 +24,11 @@ first_name table target = option_and_then (λ r. param_of r target) (first table
 abbrev pub route_in : Table → List ℕ → Option Route
 route_in table target = if has_query target then None else first_route table target
 
--- The value of the route's parameter. It is not read from a target with a byte past ASCII.
+-- The value of the route's parameter; none if the target has a byte outside ASCII.
 abbrev pub name_in : Table → List ℕ → Option (List ℕ)
 name_in table target = if list_all is_ascii target then first_name table target else None
 
--- The bytes of the parameter's value.
+-- The bytes of the parameter's value, if the route has a parameter.
 abbrev pub name_of : Found → Option (List ℕ)
 name_of found = option_map (λ s. s.now) found.name
 

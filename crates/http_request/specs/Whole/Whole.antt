@@ -17,7 +17,7 @@ use Rattle.http_request.specs.declared.ask.Ask.{Ask}
 use Rattle.http_request.specs.declared.status.Status.{Status}
 use Rattle.http_request.specs.declared.status.Status.TheVariants.{BadRequest, FieldsTooLarge}
 
--- The size of the body, or 0 for a failed test or a query.
+-- The size of the body in bytes: 0 if a test failed, for a query, or without a size.
 abbrev pub size_unless : Option Status → Bool → Option ℕ → ℕ
 size_unless (Some status) question size = 0
 size_unless None true size = 0
@@ -31,12 +31,12 @@ body_size table start =
     size_unless (head_fault table start) (asks (route_in table start.target))
     (size_in (post_headers_of start.headers))
 
--- The head has arrived, and the complete body.
+-- The bytes hold a complete head, and after it the complete body.
 pub record IsWhole (table : Table) (bytes : List ℕ) (at : Head) : Type 0 where
   pub head : IsHeadAt bytes at
   pub body : at.len + body_size table (start_at bytes at) ≤ length bytes
 
--- The head has arrived, but not the complete body.
+-- The bytes hold a complete head, but end before its body does.
 pub record LacksBody (table : Table) (bytes : List ℕ) : Type 0 where
   pub at : Head
   pub head : IsHeadAt bytes at
@@ -46,7 +46,7 @@ pub record LacksBody (table : Table) (bytes : List ℕ) : Type 0 where
 abbrev pub IsUnfinished : Table → List ℕ → Type 0
 IsUnfinished table bytes = IsOpenHead bytes ⊎ LacksBody table bytes
 
--- The bytes parse as a complete request or a bad head.
+-- The bytes hold this complete request or bad head. An incomplete head is neither.
 abbrev pub Holds : Table → List ℕ → HeadState → Type 0
 Holds table bytes Open = ⊥
 Holds table bytes TooLarge = Looks bytes TooLarge
@@ -57,7 +57,7 @@ Holds table bytes (Whole at) = IsWhole table bytes at
 abbrev pub IsReadWhole : Table → List ℕ → Type 0
 IsReadWhole table bytes = (head_state : HeadState) × Holds table bytes head_state
 
--- A complete request or a bad head was read; or a read failed, and neither was read.
+-- Either a complete request or a bad head was read, or reading failed before that.
 abbrev pub ReadsRequest : Table → Result HeadState TakeFault → List ℕ → List ℕ → Option (List ℕ)
     → Option (List ℕ) → Type 0
 ReadsRequest table (Ok head_state) old new before after =
@@ -88,7 +88,7 @@ pub record HoldsRequest (table : Table) (bytes : List ℕ) (start : Start) (body
     pub whole : len + body_size table start ≤ length bytes
     pub body_is : body ≡ take (body_size table start) (drop len bytes)
 
--- The two requests are the same.
+-- The two requests have equal heads and equal bodies.
 pub record IsOneRequest (start other_start : Start) (body other_body : List ℕ) : Type 0 where
   pub one_start : start ≡ other_start
   pub one_body : body ≡ other_body

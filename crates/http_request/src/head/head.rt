@@ -24,7 +24,7 @@ pub struct Head {
     pub len: usize,
 }
 
-/// How far the bytes hold a head.
+/// The result of looking for a head in the bytes that were read.
 #[derive(Clone, Copy)]
 pub enum HeadState {
     /// No complete head yet: its end has not arrived.
@@ -70,7 +70,7 @@ fn head_of(bytes: &[u8]) -> Option<Head>
     })
 }
 
-// Returns the bytes in which a head has to end.
+// Returns the first 8,192 bytes, or all bytes if there are fewer. A head has to end in them.
 fn front_of(bytes: &[u8]) -> &[u8]
     ensures { result.now ≡ front_of bytes.now }
 {

@@ -20,7 +20,7 @@ pub(crate) fn same_name(one: &[u8], other: &[u8]) -> bool
     one.eq_ignore_ascii_case(other)
 }
 
-// Adds one value of the header to those found.
+// Adds a header's next value: the first makes it `Once`, any further one `Often`.
 fn one_more<'b>(found: Given<'b>, value: &'b [u8]) -> Given<'b>
     ensures { (values : List (List ℕ)) → Gives found.entry values
         → Gives result (values ++ value.now ∷ []) }

@@ -1,4 +1,4 @@
-//! Reads until the head has arrived, and until the body has arrived.
+//! Reads from a link until a head, and then a body, is complete.
 ghost use Rattle.std.specs.Prelude.{◌≡◌, ◌≤◌, ◌<◌, OnOk, length};
 ghost use Rattle.std.specs.Io.KnownBytes.{Keeps};
 ghost use Rattle.mb_wire.specs.Links.{risen};
@@ -10,7 +10,8 @@ use crate::head::{HeadState, parse_head};
 use crate::reading::inbox::{Inbox, TakeFault};
 use mb_wire::Link;
 
-/// Reads until the inbox holds a head or a bad one. The returned state is never `Open`.
+/// Reads until the buffer holds a complete or a bad head. The returned state is never `Open`. Fails
+/// if a read fails, the input ends, or 100,000 reads were made.
 pub fn read_head<L: Link>(inbox: &mut Inbox<'_>, link: &mut L) -> Result<HeadState, TakeFault>
     requires { 8192 ≤ room_of inbox.old }
     ensures reads { ReadsHead result (bytes_in inbox.old) (bytes_in inbox.new)
@@ -31,7 +32,8 @@ pub fn read_head<L: Link>(inbox: &mut Inbox<'_>, link: &mut L) -> Result<HeadSta
     }
 }
 
-/// Reads until the inbox holds `count` bytes in all.
+/// Reads until the buffer holds `count` bytes in all. Fails if a read fails, the input ends, or
+/// 100,000 reads were made.
 pub fn read_body<L: Link>(
     inbox: &mut Inbox<'_>,
     link: &mut L,

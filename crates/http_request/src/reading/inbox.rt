@@ -6,7 +6,7 @@ use std::error::Error;
 use std::fmt;
 use std::fmt::{Display, Formatter};
 
-/// The most reads of one inbox.
+/// The most reads that one buffer makes.
 pub const MOST_TAKES: u32 = 100_000;
 
 /// Why reading stopped.

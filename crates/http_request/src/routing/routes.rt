@@ -59,8 +59,8 @@ fn add(router: &mut Router<Route>, text: &str, route: Route) -> Result<(), Alloc
     }
 }
 
-// Adds the routes of the table to an empty router. With this body in `router`, which would drop the
-// router at each `?`, the prover needs a minute.
+// Adds all routes to an empty router. It is a function apart from `router`, because the prover
+// would need a minute for one function that drops the router at each `?`.
 fn fill(router: &mut Router<Route>) -> Result<(), AllocError>
     requires { router.old ≡ [] }
     ensures { OnOk result (router.new ≡ routes) }

@@ -1,4 +1,4 @@
--- The effect of a call that tests the host.
+-- Lemmas on the effect of a call that tests the host of a request.
 use Rattle.std.proofs.Common.{◌≡◌, ◌∙◌, ◌⊎◌, inl, inr, ℕ, false, true, List, [], ◌++◌, Option, None, Result, Ok, Err, refl, sym, ap, subst, append_assoc}
 use Rattle.std.specs.Io.KnownBytes.{Consumes, Keeps}
 use Rattle.std.proofs.KnownBytes.{Consumes-kept, Keeps-refl}
@@ -58,7 +58,7 @@ stops_both a b c chunk was then now came first (inr last) =
       size = last.size;
     }
 
--- All bytes were read from the link.
+-- If the buffer was empty, all its bytes were read from the link.
 took : (old new : List ℕ) (r s t : Option (List ℕ)) → old ≡ [] → Came old new r s → Keeps s t → Consumes r t new
 took old new r s t empty came keeps =
     subst (Consumes r t) (sym (came_is old new r s empty came)) (Consumes-kept r s t came.chunk came.consumed keeps)

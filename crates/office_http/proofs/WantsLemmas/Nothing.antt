@@ -1,4 +1,4 @@
--- When a request asks for no command.
+-- Bytes that hold no request for any command.
 use Rattle.std.proofs.Common.{◌≡◌, ◌∙◌, ◌≢◌, ℕ, true, false, List, Some, None, Result, Ok, Err, refl, sym, ap, subst}
 use Rattle.http_answer.specs.Commands.Given.{Gives}
 use Rattle.http_answer.specs.declared.commands.fault.CommandFault.{CommandFault}
@@ -29,7 +29,7 @@ use Rattle.office_http.specs.Wants.Wanting.{AsksNothing, AsksOffice}
 in_bad_head : (table : Table) (bytes : List ℕ) → IsBadHead bytes → AsksNothing table bytes
 in_bad_head table bytes bad asked asks = bad.none asks.holds.len asks.holds.head asks.holds.begins
 
--- A command that is asked for is that of the request that parsing finds.
+-- If the bytes hold a request for a command, its head is the one that parsing finds.
 start_is : (table : Table) (bytes : List ℕ) (at : Head) (asked : Asked) → IsWhole table bytes at → (asks : AsksOffice table bytes asked) → asks.start ≡ start_at bytes at
 start_is table bytes at asked whole asks = (one_request table bytes asks.start (start_at bytes at) asks.body (body_of table bytes at) asks.holds (request_of_whole table bytes at whole)).one_start
 
@@ -62,7 +62,7 @@ asks_a_question table bytes head_state.TooLarge found holds tests = cc tests
 asks_a_question table bytes head_state.NoHead found holds tests = cc tests
 asks_a_question table bytes (head_state.Whole at) found holds tests = tests.1.1
 
--- The body of the found request gives what the body of the asking request gives.
+-- The body that parsing finds gives the same result as the body of the request for the command.
 gives_again : (table : Table) (bytes : List ℕ) (at : Head) (found : Found) (posted : Posted) (asked : Asked) → IsWhole table bytes at
     → TestsHead table (start_at bytes at) (Ok (AskedCommand found posted)) → (asks : AsksOffice table bytes asked)
     → Gives found.route (name_asked (name_of found)) (body_of table bytes at) (Ok asks.command)
@@ -76,7 +76,7 @@ gives_again table bytes at found posted asked whole tests asks =
     (subst (λ n. Gives found.route (name_asked n) asks.body (Ok asks.command)) name
     (subst (λ r. Gives r (name_asked (name_in table asks.start.target)) asks.body (Ok asks.command)) route asks.gives))
 
--- A fault of the body other than running out of memory.
+-- The reason is a fault of the body, and not that memory ran out.
 abbrev pub IsNoMemory : CommandFault → Type 0
 IsNoMemory why = let given : Result Command CommandFault = Err why in given ≢ Err Memory
 

@@ -1,4 +1,4 @@
--- The office after connections.
+-- The state of the office after connections were served.
 use Rattle.std.specs.Prelude.{◌≡◌, ℕ, ◌≤◌, List, [], ◌∷◌, length, Option, Some, None}
 use Rattle.socket_link.specs.Clocks.{TellsMoment}
 use Rattle.office_events.specs.declared.events.Asked.{Asked}
@@ -11,35 +11,35 @@ use Rattle.office_http.specs.Serving.{with_asked}
 use Rattle.office_http.specs.Wants.Wanting.{AsksOffice}
 use Rattle.office_http.specs.Connections.Named.{MayAsk}
 
--- The bytes ask the office for this command, and their head may ask; or the office was asked for no
--- command.
+-- The connection's bytes hold this command, and its head passes the test of the host. Without a
+-- command, any bytes.
 abbrev pub AskedBy : (names : List (List ℕ)) → (read : List ℕ) → Option Asked → Type 0
 AskedBy names read None = Unit {0}
 AskedBy names read (Some asked) = MayAsk names read × AsksOffice routes read asked
 
--- A connection, and the command that it asked of an office with these names beside those of this
--- machine.
+-- A served connection: its time, the bytes that were read, and the command that the office was
+-- asked to execute, if any.
 pub record Connection (names : List (List ℕ)) : Type 0 where
   pub at : ℕ
   pub read : List ℕ
   pub asked : Option Asked
   pub asks : AskedBy names read asked
 
--- What the office accepted after these connections, the latest first. Each request is accepted,
--- refused or answered from a stored response, as its definition says.
+-- The history of the office after these connections. Each command is accepted, refused or answered
+-- from a stored response, as its definition says.
 abbrev pub history_with : {names : List (List ℕ)} → (past : History) → List (Connection names)
     → History
 history_with past [] = past
 history_with past (one ∷ earlier) = with_asked (history_with past earlier) one.at one.asked
 
--- Each connection has the clock's time for it, and the clock was read for nothing else.
+-- Each connection has the time that the clock gave for it, and nothing else read the clock.
 abbrev pub AreTimed : {names : List (List ℕ)} → (begun now : Option (List ℕ))
     → List (Connection names) → Type 0
 AreTimed begun now [] = now ≡ begun
 AreTimed begun now (one ∷ earlier) =
     (between : Option (List ℕ)) × AreTimed begun between earlier × TellsMoment between now one.at
 
--- The office matches what it accepted before, and one connection at this time.
+-- The office matches its earlier history followed by one connection at this time.
 pub record ServesOne {B : Type 0} (names : List (List ℕ)) (at : ℕ) (ledger : B → Ledger)
     (past : History) (office : Office B) : Type 0 where
   pub connection : Connection names

@@ -18,8 +18,8 @@ pub record IsFrontOf (front bytes : List ℕ) : Type 0 where
   pub rest : List ℕ
   pub is : bytes ≡ front ++ rest
 
--- The tested bytes hold a head that may ask, or no head yet. They are a beginning of what was read,
--- or the reverse.
+-- A test of the host passed: the tested bytes hold a head that passes, or no head yet. They are a
+-- beginning of the bytes that were read, or the reverse.
 pub record MayAsk (names : List (List ℕ)) (read : List ℕ) : Type 0 where
   pub tested : List ℕ
   pub same : IsFrontOf tested read ⊎ IsFrontOf read tested
@@ -34,8 +34,8 @@ pub record RepliesMisdirected (link : Passage) (result : Result (Unit {0}) Handl
     pub ends : result ≡ ended sent None
     pub gives : Gives sent link.given link.later_given (reply_bytes (fault Misdirected))
 
--- The call read a head that may not ask, and nothing more. The response is 421, and the office is
--- unchanged.
+-- The call read a head that fails the host test, and nothing more. The response is 421, and the
+-- office is unchanged.
 pub record TurnsAway {B : Type 0} (names : List (List ℕ)) (old new : Office B) (link : Passage)
     (read : List ℕ) (result : Result (Unit {0}) HandleFault) : Type 0 where
   pub head_state : HeadState
@@ -45,14 +45,14 @@ pub record TurnsAway {B : Type 0} (names : List (List ℕ)) (old new : Office B)
   pub replies : RepliesMisdirected link result
   pub unchanged : new ≡ old
 
--- The call read a head that may ask, or no head. Then it acts as `handle` does.
+-- The call read a head that passes the host test, or no head. It has the effect of `handle`.
 pub record LetsAsk {B : Type 0} (names : List (List ℕ)) (ledger : B → Ledger) (at : ℕ)
     (old new : Office B) (link : Passage) (read : List ℕ) (result : Result (Unit {0}) HandleFault)
     : Type 0 where
   pub may : MayAsk names read
   pub does : Does ledger at old new link read result
 
--- There was no memory. The host was not tested, and the office was not asked.
+-- The call had no memory for a request. It tested no host, and did not ask the office.
 pub record HasNoRoom {B : Type 0} (old new : Office B) (link : Passage) (read : List ℕ)
     (result : Result (Unit {0}) HandleFault) : Type 0 where
   pub does : DoesBare link read result

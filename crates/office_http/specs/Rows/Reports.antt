@@ -15,16 +15,16 @@ pub record Report : Type 0 where
 abbrev pub counted : ℕ → ℕ
 counted count = min count 18446744073709551615
 
--- The head of the response comes before the first line.
+-- The head of the response, which is written before the first line only.
 abbrev pub head_before : (count : ℕ) → List ℕ
 head_before count = if count == 0 then text_head else []
 
--- One more line is written.
+-- The report has one more line.
 pub record PutsLine (line : List ℕ) (old new : Report) : Type 0 where
   pub puts : Puts old.out new.out (head_before old.count ++ line)
   pub count : new.count ≡ counted (old.count + 1)
 
--- The head and the lines of rows. Without rows, nothing was written yet.
+-- The head of the response and the lines of the rows. Without rows, nothing is written yet.
 abbrev pub rows_begun : {T : Type 0} → (line : T → List ℕ) → List T → List ℕ
 rows_begun line [] = []
 rows_begun line (row ∷ rows) = text_head ++ flat_map line (row ∷ rows)

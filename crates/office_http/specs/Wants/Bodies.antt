@@ -1,4 +1,4 @@
--- A body gives one result.
+-- The body of a request gives one result.
 use Rattle.std.specs.Prelude.{◌≡◌, ◌≢◌, ℕ, List, Option, Result, Err}
 use Rattle.http_answer.specs.Commands.Given.{Gives}
 use Rattle.http_answer.specs.declared.commands.fault.CommandFault.{CommandFault}

@@ -1,4 +1,4 @@
--- What the bytes that were read want of an office.
+-- What a request wants of an office: a query, a command, or nothing.
 use Rattle.std.specs.Prelude.{◌≡◌, ◌⊎◌, ℕ, true, List, Ok, Err}
 use Rattle.http_answer.specs.Commands.Given.{Gives}
 use Rattle.http_answer.specs.Commands.Few.{HasFewRows}
@@ -33,41 +33,43 @@ pub record AsksOffice (table : Table) (bytes : List ℕ) (asked : Asked) : Type 
   pub gives : Gives route (name_asked (name_in table start.target)) body (Ok command)
   pub is : asked ≡ asked_of start body command
 
--- The bytes ask for no command.
+-- The bytes hold no request for any command.
 abbrev pub AsksNothing : Table → (bytes : List ℕ) → Type 0
 AsksNothing table bytes = (asked : Asked) → AsksOffice table bytes asked → ⊥
 
--- This is the response, with any answers of the office. The bytes ask for no command.
+-- The response to these bytes does not depend on the office, and the bytes hold no request for a
+-- command.
 pub record IsToldOff (table : Table) (bytes text : List ℕ) : Type 0 where
   pub nothing : AsksNothing table bytes
   pub reply : (office : Office) → IsReply office table bytes text
 
--- The bytes ask a query, and the office's answer is the response.
+-- The bytes hold a request with this query, and its response is the office's answer.
 pub record IsQuestion (table : Table) (bytes : List ℕ) (found : Found) : Type 0 where
   pub asks : is_question found.route ≡ true
   pub nothing : AsksNothing table bytes
   pub reply : (office : Office)
       → IsReply office table bytes (reply_bytes (question_reply office found.route (name_of found)))
 
--- The bytes ask for a command, and the office's answer is the response.
+-- The bytes hold a request for this command, and its response is the office's answer.
 pub record IsAskedFor (table : Table) (bytes : List ℕ) (asked : Asked) : Type 0 where
   pub asks : AsksOffice table bytes asked
   pub reply : (office : Office)
       → IsReply office table bytes (reply_bytes (row_reply done_text (office.asked asked)))
 
--- The body gives no command for this reason. Or memory ran out, which says nothing about the
+-- The body gives no command, for this reason. `Memory` as the reason says nothing about the
 -- request.
 abbrev pub IsNoCommand : Table → (bytes : List ℕ) → CommandFault → Type 0
 IsNoCommand table bytes why = (why ≡ Memory) ⊎ IsToldOff table bytes (reply_bytes (fault_said why))
 
--- What the bytes want of the office.
+-- What the bytes want of the office: nothing because of a failed test or a bad body, an answer to a
+-- query, or the execution of a command.
 abbrev pub Wants : Table → (bytes : List ℕ) → Want → Type 0
 Wants table bytes (want.Rejected status) = IsToldOff table bytes (reply_bytes (fault status))
 Wants table bytes (want.Answer found) = IsQuestion table bytes found
 Wants table bytes (want.Refused why) = IsNoCommand table bytes why
 Wants table bytes (want.Command asked) = IsAskedFor table bytes asked
 
--- The number of a list's faulty rows is bounded.
+-- If the result has faulty rows of a point list, their number is bounded.
 abbrev pub HasFewFaults : Want → Type 0
 HasFewFaults (want.Rejected status) = Unit {0}
 HasFewFaults (want.Answer found) = Unit {0}

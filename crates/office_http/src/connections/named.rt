@@ -36,7 +36,8 @@ pub fn turn_away<L: Link>(link: &mut L) -> Result<(), HandleFault>
     ended(sent, None)
 }
 
-// Reads a head, and if its host may ask also the body, and responds.
+// Reads a head. If its host passes the test, reads the body and serves the request; otherwise
+// writes 421.
 fn serve_named<L: Link, B: Books>(
     alloc: Global,
     router: &Router<Route>,

@@ -3,7 +3,7 @@ use socket_link::Clock;
 use std::io::{self, ErrorKind};
 use std::time::Duration;
 
-/// The seconds of the monotonic clock. If it can't be read, every deadline has passed.
+/// The monotonic clock in seconds. If the clock cannot be read, every deadline counts as passed.
 #[derive(Drop)]
 pub(crate) struct Even<'r, R: std::rt::Clock> {
     rt: &'r R,

@@ -1,4 +1,4 @@
-//! Theorems: what a body gives.
+//! Theorems: what the body of a request gives.
 ghost use Rattle.office_http.specs.Wants.Bodies.{BodiesGiveOne};
 
 use point_list::texts_spell_one_list;

@@ -1,4 +1,4 @@
-//! Exceptions of devices (MODBUS Application Protocol V1.1b3, section 7).
+//! The exception codes of devices (MODBUS Application Protocol V1.1b3, section 7).
 ghost use Rattle.printed_numbers.specs.Numbers.{Answers};
 ghost use Rattle.printed_numbers.specs.declared.kind.Kind.TheVariants.{Exception};
 

@@ -1,4 +1,4 @@
-//! Faults of HTTP requests.
+//! The faults of HTTP requests, by the status of the response.
 ghost use Rattle.printed_numbers.specs.Numbers.{Answers};
 ghost use Rattle.printed_numbers.specs.declared.kind.Kind.TheVariants.{HttpFault};
 
@@ -77,7 +77,7 @@ static TAKES_NO_COMMAND: Meaning = Meaning {
     remedy: "read what the run printed on standard error, then restart it with a larger --most-kept, or with its files in place",
 };
 
-/// Returns what is wrong with an HTTP request. The number is the status of the response.
+/// Returns the meaning of an HTTP fault. Its number is the status of the response.
 pub fn http_fault(number: u32) -> Option<&'static Meaning>
     ensures { Answers HttpFault number result }
 {

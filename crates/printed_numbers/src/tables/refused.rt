@@ -1,4 +1,4 @@
-//! Refusals of the office.
+//! The reasons for which the office refuses a line, a request or an event.
 ghost use Rattle.printed_numbers.specs.Numbers.{Answers};
 ghost use Rattle.printed_numbers.specs.declared.kind.Kind.TheVariants.{Refused};
 
@@ -141,7 +141,7 @@ static NOT_PLAUSIBLE: Meaning = Meaning {
     remedy: "void the later wrong reading first",
 };
 
-/// Returns why the office refuses a line, a request or an event.
+/// Returns the meaning of a number that says why the office refused a line, a request or an event.
 pub fn refusal(number: u32) -> Option<&'static Meaning>
     ensures { Answers Refused number result }
 {

@@ -1,4 +1,4 @@
-//! Exit statuses.
+//! The exit statuses of the program.
 ghost use Rattle.printed_numbers.specs.Numbers.{Answers};
 ghost use Rattle.printed_numbers.specs.declared.kind.Kind.TheVariants.{Status};
 
@@ -37,7 +37,7 @@ static FAILED: Meaning = Meaning {
     remedy: "read the second line on standard error",
 };
 
-/// Returns how the program ended.
+/// Returns the meaning of an exit status of the program.
 pub fn exit_status(number: u32) -> Option<&'static Meaning>
     ensures { Answers Status number result }
 {

@@ -1,4 +1,4 @@
--- Quarter hours of a meter, queried part by part.
+-- Lemmas on quarter hours of a meter that are queried part by part.
 use Rattle.std.proofs.Common.{◌≡◌, ℕ, ◌+◌, ◌<◌, ◌≤◌, nat_lt, nat_le, Bool, true, false, cond, ◌&&◌, List, [], ◌∷◌, ◌++◌, min, max, refl, sym, ap, ◌∙◌, inl, inr, Option, Some, None, arith}
 use Rattle.std.specs.Prelude.{All}
 use Rattle.std.specs.Option.{option_map}
@@ -73,14 +73,15 @@ empty_within from till (row ∷ rows) le =
       | inr e ↦ cond-false _ _ _ (ap (λ b. b && nat_lt row.start till) e) ∙ empty_within from till rows le
     ]
 
--- No row starts before a time.
+-- In a list whose rows all start at `till` or later, no row is within a span that ends at `till`.
 none_within : (from till : ℕ) (rows : List Share) → StartFrom till rows → rows_within (Between from till) rows ≡ []
 none_within from till [] h = refl
 none_within from till (row ∷ rows) h =
     cond-false _ _ _ (ap (λ b. nat_le from row.start && b) (not_before till row.start h.0) ∙ and_false (nat_le from row.start))
     ∙ none_within from till rows h.1
 
--- If all rows start at a time or later, a span that begins earlier may begin there.
+-- If all rows start at `at` or later, the rows of a span from an earlier time are those from `at`
+-- on.
 same_from : (from at till : ℕ) (rows : List Share) → from ≤ at → StartFrom at rows → rows_within (Between from till) rows ≡ rows_within (Between at till) rows
 same_from from at till [] le h = refl
 same_from from at till (row ∷ rows) le h =
@@ -93,7 +94,7 @@ of_first : (b : Bool) (row : Share) (all first others : List Share) → all ≡ 
 of_first true row all first others is = ap (λ rs. row ∷ rs) is
 of_first false row all first others is = is
 
--- Rows in order, in two parts.
+-- The rows of a span are those up to a time within it, followed by those from that time on.
 pub in_parts : (from at till : ℕ) (rows : List Share) → Rising rows → from ≤ at → at ≤ till
     → rows_within (Between from till) rows ≡ rows_within (Between from at) rows ++ rows_within (Between at till) rows
 in_parts from at till [] rising low high = refl
@@ -134,7 +135,7 @@ first_tests from low first start is le =
       | inr e ↦ let over : start < first = omega (arith, is, is_above from start e) in e ∙ sym (le_false first start over)
     ]
 
--- If all rows start at a time or later, a later first time leaves none out.
+-- If all rows start at `low` or later, raising the start of a span to `low` omits no row.
 from_first : (from low first till : ℕ) (rows : List Share) → first ≡ max from low → StartFrom low rows
     → rows_within (Between from till) rows ≡ rows_within (Between first till) rows
 from_first from low first till [] is h = refl
@@ -144,7 +145,7 @@ from_first from low first till (row ∷ rows) is h =
     (ap (λ b. b && nat_lt row.start till) (first_tests from low first row.start is h.0))
     (from_first from low first till rows is h.1)
 
--- The rows that are queried later, and the rows that are kept.
+-- The rows of a span are those that are queried later, followed by those that are kept.
 parted : (from low first last end till : ℕ) (rows : List Share) → Rising rows → StartFrom low rows → first ≡ max from low → end ≡ max first (min till last)
     → rows_within (Between from till) rows ≡ rows_within (Between first end) rows ++ rows_within (Between end till) rows
 parted from low first last end till rows rising start is ends =
@@ -166,7 +167,7 @@ asked_of : (facts : List Fact) (from till : ℕ) (opening : Option Opening)
 asked_of facts from till None = refl
 asked_of facts from till (Some opening) = refl
 
--- The rows of a meter in a span, by its records.
+-- The rows of a meter in a span, from the records of the store.
 between_rows : (facts : List Fact) (meter : List ℕ) (from till : ℕ)
     → rows_between facts (Some meter) from till ≡ rows_within (Between from till) (rows_of_meter facts meter)
 between_rows facts meter from till = asked_of facts from till (opening_of facts meter)
@@ -200,7 +201,7 @@ opening_named facts o meter there = ap (opening_of facts) (own_name facts meter 
 rows_named : (facts : List Fact) (o : Opening) (meter : List ℕ) → opening_of facts meter ≡ Some o → rows_of_meter facts meter ≡ rows_of_opening facts o
 rows_named facts o meter there = ap (rows_of_installed facts) there
 
--- All queried rows of a meter, in the two parts.
+-- All requested rows of a meter are those to query later, followed by the kept ones.
 pub all_parts : SharesAddUp → (facts : List Fact) (meter : List ℕ) (o : Opening) (from first last end till : ℕ) → AreLawful facts
     → opening_of facts meter ≡ Some o → first ≡ max from (quarter_of o.at) → end ≡ max first (min till last)
     → rows_between facts (Some meter) from till ≡ rows_between facts (Some meter) first end ++ rows_between facts (Some meter) end till
@@ -235,7 +236,7 @@ parts_of law facts meter None from at till h there low high =
     asked from till ∙ ap (λ rs. rs ++ []) (sym (asked from at)) ∙ ap (λ rs. rows_between facts (Some meter) from at ++ rs) (sym (asked at till))
 parts_of law facts meter (Some o) from at till h there low high = two_parts law facts meter o from at till h there low high
 
--- A chunk of the rows that are still to be queried, and the others.
+-- The rows that are still to be queried are those of the next chunk, followed by the others.
 pub a_piece : SharesAddUp → (facts : List Fact) (meter : Option (List ℕ)) (from at till : ℕ) → AreLawful facts
     → (from ≤ till → from ≤ at) → at ≤ till → (till ≤ from → at ≡ till)
     → rows_between facts meter from till ≡ rows_between facts meter from at ++ rows_between facts meter at till

@@ -45,12 +45,12 @@ entries_joined newer older =
     let own : EntryRow → Entry = λ row. row.entry in
     ap (map own) (filter-append (λ (row : EntryRow). row.stands) newer older) ∙ map-append own (journal.standing newer) (journal.standing older)
 
--- The quarter hour of the last valid entry before a sequence number.
+-- The quarter hour of the last entry before `place` that is not voided.
 abbrev pub quarter_before : Installed → (place : ℕ) → journal.Journal → ℕ
 quarter_before meter place lines =
     quarter_of (last_after meter (journal.entries_in (entries_before place (journal.rows_of meter.opening lines)))).at
 
--- The rows before it are those of the entries there.
+-- The rows before that quarter hour follow from the entries before `place` alone.
 rows_of_first : SharesAddUp → (meter : Installed) (place : ℕ) (lines : journal.Journal) → IsWellInstalled meter → AreFitting meter lines
     → let base = journal.entries_in (entries_before place (journal.rows_of meter.opening lines)) in
     rows_before (quarter_of (last_after meter base).at) (interval_rows meter lines)
@@ -113,7 +113,7 @@ moments_bounded : (facts : List Fact) → AreLawful facts → latest_in facts �
 moments_bounded [] h = omega arith
 moments_bounded (f ∷ facts) h = omega (arith, h.0.1, moments_bounded facts h.1)
 
--- An opened meter stays opened.
+-- A meter with an opening entry keeps it when records are added.
 still_opened : (further facts : List Fact) (meter : List ℕ) (opening : Opening) → AreLawful (further ++ facts) → opening_of facts meter ≡ Some opening
     → opening_of (further ++ facts) meter ≡ Some opening
 still_opened [] facts meter o h there = there
@@ -133,7 +133,7 @@ still_opened (fact.Poll p ∷ further) facts meter o h there = still_opened furt
 still_opened (fact.Outcome e ∷ further) facts meter o h there = still_opened further facts meter o h.1 there
 still_opened (fact.Reply r ∷ further) facts meter o h there = still_opened further facts meter o h.1 there
 
--- One more line, or none.
+-- The journal of a meter after a record: one more line, or no more.
 one_more : (place : ℕ) (line : journal.Line) (lines : journal.Journal) (meter m : List ℕ) → LinesFrom place lines
     → (meter ≡ m → LinesFrom place (line ∷ lines)) → LinesFrom place (cons_option (cond (same meter m) (Some line) None) lines)
 one_more place line lines meter m rest here =
@@ -161,7 +161,7 @@ lines_from (fact.Poll p ∷ further) meter place h = lines_from further meter pl
 lines_from (fact.Outcome e ∷ further) meter place h = lines_from further meter place (All-tail (VoidsFrom meter place) (fact.Outcome e) further h)
 lines_from (fact.Reply r ∷ further) meter place h = lines_from further meter place (All-tail (VoidsFrom meter place) (fact.Reply r) further h)
 
--- A meter, by its own opening.
+-- `StaysBefore` for a meter, by its own opening entry.
 stays_before : SharesAddUp → (further facts : List Fact) (o : Opening) (place : ℕ) → AreLawful (further ++ facts) → opening_of facts o.meter ≡ Some o
     → place ≤ next_place facts o → All (VoidsFrom o.meter place) further → StaysBefore further facts o.meter o place
 stays_before law further facts o place h there le void =

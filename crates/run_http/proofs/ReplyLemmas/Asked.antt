@@ -1,4 +1,4 @@
--- A request that asks the office for all quarter hours of a meter.
+-- Lemmas on a request for all quarter hours of a meter.
 use Rattle.std.proofs.Common.{◌≡◌, ℕ, List, Option, Ok, refl, sym, subst, arith}
 use Rattle.http_answer.specs.Offices.{Office}
 use Rattle.http_answer.specs.Replies.{lines_reply, question_reply, reply_bytes}
@@ -20,7 +20,7 @@ use Rattle.http_request.specs.declared.routing.targets.Found.{Found}
 use Rattle.interval_core.specs.Lines.{intervals_text}
 use Rattle.run_http.specs.OfficeRequests.{AsksAllRows}
 
--- A query has no body.
+-- The request of a query has no body.
 whole : (table : Table) (bytes : List ℕ) (at : Head) (found : Found) → IsHeadAt bytes at → TestsHead table (start_at bytes at) (Ok (Question found))
     → IsWhole table bytes at
 whole table bytes at found head tests = record {

@@ -1,4 +1,4 @@
--- Responses that are streamed in chunks.
+-- Lemmas on responses that are streamed in chunks.
 use Rattle.std.proofs.Common.{◌≡◌, inl, inr, ℕ, ◌+◌, ◌<◌, ◌≤◌, max, min, List, [], ◌∷◌, ◌++◌, length, Option, Some, Result, Ok, Err, true, refl, sym, ap, subst, ◌∙◌, append_assoc, length-append, zero-add, arith}
 use Rattle.std.specs.Prelude.{IsErr, OnOk, flat_map}
 use Rattle.std.specs.Option.{option_map, option_and_then}
@@ -47,7 +47,7 @@ use Rattle.run_http.proofs.ReplyLemmas.Voids.{mapped}
 abbrev text_of : (told : ℕ) → List Share → List ℕ
 text_of told rows = flat_map share_line rows ++ end_line (told + length rows)
 
--- A chunk, and the rest after it.
+-- The text of a chunk, followed by the text that is left, is the text that was left before.
 pub told_on : (from to : List ℕ) (piece others : List Share) (told later : ℕ) → to ≡ from ++ flat_map share_line piece → later ≡ told + length piece
     → to ++ text_of later others ≡ from ++ text_of told (piece ++ others)
 told_on from to piece others told later put counted =
@@ -63,7 +63,7 @@ told_on from to piece others told later put counted =
 end_settled : (first till last end : ℕ) → end ≡ max first (min till last) → first < end → end ≤ last
 end_settled first till last end is lt = omega (arith, is, lt)
 
--- The answer without its rows.
+-- The answer to a query for rows, without the rows.
 abbrev without_rows : Result (Vec Share Global) Refusal → Result (Unit {0}) Refusal
 without_rows (Ok rows) = Ok tt
 without_rows (Err why) = Err why
@@ -73,7 +73,7 @@ module _ {B : Type 0} (ledger : B → Ledger) (old new : Office B) where
   asks_without (Ok rows) asks = now_as ledger old new rows tt asks
   asks_without (Err why) asks = refused_as ledger old new why asks
 
-  -- The meter was installed, and this is its row.
+  -- A meter that was installed is found, and `it` is its row.
   found : (facts : List Fact) (it : Installation) (meter : List ℕ) → meter_of facts meter ≡ Some it
       → (o : Opening) × (opening_of facts meter ≡ Some o) × (installation_of facts o ≡ it)
   found facts it meter there = mapped (installation_of facts) (opening_of facts meter) it there
@@ -118,7 +118,7 @@ module _ {B : Type 0} (ledger : B → Ledger) (old new : Office B) where
       subst (λ (o : Option Opening). IsListed (option_map (rows_within (Between from till)) (option_map (rows_of_opening facts) o)) before after (Err why))
       meter_is.1 listed
 
-  -- The listed rows are those of the answer.
+  -- The rows that were listed are those of the office's answer.
   listed_as : {F : Type 0} (says : List Fact → Option (List Share)) (told : Result (Vec Share Global) Refusal) → AsksRows ledger old new says {E = F} (Ok told)
       → After ledger old new (λ past. IsListed (says (facts_of past)) (failures_of ledger old) (failures_of ledger new) told)
   listed_as says told asked = λ past stands clean.
@@ -164,7 +164,7 @@ module _ {B : Type 0} (ledger : B → Ledger) (old new : Office B) where
     );
   }
 
-  -- Memory ran out for the rows.
+  -- The beginning of a response if memory ran out for its rows.
   pub begins_lacked : {E F : Type 0} (it : Installation) (from till end : ℕ) (fault : F) (result : Result (Result RowsLeft Refusal) E)
       → AsksRows ledger old new (λ facts. intervals_within facts (Some it.opening.meter) (Between end till)) (Err fault) → IsErr result
       → BeginsReply ledger old new it from till intervals_text [] result
@@ -220,7 +220,7 @@ failed_some : (before after : Failures) (why : Refusal) → IsRowFound {T = Unit
 failed_some before after why (inl is) = cc is.0
 failed_some before after why (inr fault) = fault
 
--- The lines that were measured row by row.
+-- If all lines were measured row by row, the sizes are those of all rows.
 all_sized : (old new : RowSizes) (rows : List Share) → TakesAll SizesRow old rows new → new.is_whole ≡ true
     → (old.is_whole ≡ true) × (new.sizes.bytes ≡ old.sizes.bytes + length (flat_map share_line rows)) × (new.sizes.count ≡ old.sizes.count + length rows)
 all_sized old new [] is whole = (
@@ -235,7 +235,7 @@ all_sized old new (row ∷ rows) (next, first, rest) whole =
     length-append (share_line row) (flat_map share_line rows) in
     (one.0, omega (arith, later.1, one.1, line), omega (arith, later.2, one.2))
 
--- The size of a body, by the sizes of the rows that are still to be queried.
+-- The size of a response's body follows from the sizes of the rows that are still to be queried.
 body_is : (facts : List Fact) (left : RowsLeft) (sizes : Sizes) → AreSizes sizes (rows_between facts left.meter left.from left.till)
     → body_size left sizes ≡ length (text_left facts left)
 body_is facts left sizes are =
@@ -298,7 +298,7 @@ module _ {B : Type 0} (ledger : B → Ledger) (old mid new : Office B) where
     sizes = (refl, λ past stands clean. (tells past stands clean).answer);
   }
 
-  -- Memory ran out for a line.
+  -- The sizes if memory ran out for a line.
   pub sizes_none : {E : Type 0} (left : RowsLeft) (answer : Result (Unit {0}) Refusal) (result : Result (Result Sizes Refusal) E)
       → OnlyAsks ledger mid new answer → IsErr result → SizesRows ledger mid new left result
   sizes_none left answer (Ok told) asks is = cc is
@@ -310,7 +310,7 @@ module _ {B : Type 0} (ledger : B → Ledger) (old mid new : Office B) where
       → BeginsReply ledger old mid it from till reply put {E = E} (Ok (Ok left)) → OnlyAsks {T = Unit {0}} ledger old mid (Ok tt)
   first_asks it from till reply put left begins = subst (λ (a : Result (Unit {0}) Refusal). OnlyAsks ledger old mid a) begins.begins.0 begins.asks
 
-  -- A query after the first.
+  -- A query that follows the first query of a response.
   pub then_asks : {E : Type 0} (it : Installation) (from till : ℕ) (reply : List Share → List ℕ) (put : List ℕ) (left : RowsLeft)
       (answer : Result (Unit {0}) Refusal) → BeginsReply ledger old mid it from till reply put {E = E} (Ok (Ok left)) → OnlyAsks ledger mid new answer
       → OnlyAsks ledger old new answer
@@ -362,7 +362,7 @@ module _ {B : Type 0} (ledger : B → Ledger) (old mid new : Office B) where
         );
       }
 
-  -- Memory ran out.
+  -- The beginning of a response if memory ran out while its rows were measured.
   pub sizes_lacked : {E F : Type 0} (it : Installation) (from till : ℕ) (text put : List ℕ) (left : RowsLeft) (answer : Result (Unit {0}) Refusal)
       (result : Result (Result RowsLeft Refusal) F) → BeginsReply ledger old mid it from till intervals_text [] {E = E} (Ok (Ok left))
       → OnlyAsks ledger mid new answer → IsErr result → BeginsReply ledger old new it from till (with_rows text) put result
@@ -382,7 +382,7 @@ module _ {B : Type 0} (ledger : B → Ledger) (old new : Office B) where
   lacked_so it from till reply other put text fault (Ok told) begins is = cc is
   lacked_so it from till reply other put text fault (Err why) begins is = record { answer = begins.answer; asks = begins.asks; begins = tt }
 
-  -- The office's own response begins with its head.
+  -- The office's own response begins with the head of a text response.
   pub with_text_head : {E F : Type 0} (it : Installation) (from till : ℕ) (text put : List ℕ) (left : RowsLeft)
       → BeginsReply ledger old new it from till intervals_text [] {E = E} (Ok (Ok left)) → put ≡ text ++ text_head
       → BeginsReply ledger old new it from till (with_all_rows text) put {E = F} (Ok (Ok left))
@@ -404,7 +404,7 @@ module _ {B : Type 0} (ledger : B → Ledger) (old new : Office B) where
     );
   }
 
--- The kept rows are written last.
+-- At the end, the kept rows and the number of all rows are written.
 rest_told : (left : RowsLeft) (from between to : List ℕ) (count : ℕ) → between ≡ from ++ flat_map share_line left.last.items → count ≡ left.told + length left.last.items
     → to ≡ between ++ end_line count → TellsRest left from to
 rest_told left from between to count lines counted put = λ facts le.
@@ -431,7 +431,8 @@ text_stays law further facts meter o left h there named settled void =
     ∙ ap (λ m. rows_between facts m left.from left.till) (sym named) in
     ap (λ rs. text_of left.told (rs ++ left.last.items)) same
 
--- After one chunk the rest stays settled, and belongs to the same meter.
+-- After one chunk, the rows still to be queried are settled as before, and belong to the same
+-- meter.
 settled_on : (facts : List Fact) (left later : RowsLeft) (seconds : ℕ) → MovesOn left later seconds → IsSettled facts left → IsSettled facts later
 settled_on facts left later seconds moves settled = λ lt.
     let last : ℕ = last_quarter (option_and_then (meter_of facts) left.meter) in
@@ -443,7 +444,7 @@ settled_on facts left later seconds moves settled = λ lt.
     ] in
     omega (arith, upto, same, moves.till)
 
--- After some chunks.
+-- The state of a response after some chunks.
 record Goes (facts : List Fact) (meter : List ℕ) (left later : RowsLeft) (before after : List ℕ) : Type 0 where
   named : later.meter ≡ Some meter
   settled : IsSettled facts later

@@ -1,4 +1,4 @@
--- Rows that a sink kept, and the office's answer to the query for them.
+-- Lemmas on rows that a sink kept, and on the office's answer to the query for them.
 use Rattle.std.proofs.Common.{◌≡◌, ◌⊎◌, inl, inr, true, List, [], ◌∷◌, ◌++◌, Option, Some, None, Result, Ok, Err, IsErr, append-nil, append_assoc, refl, sym, ap, ◌∙◌}
 use Rattle.std.specs.declared.alloc.Global.{Global}
 use Rattle.std.specs.declared.vec.Vec.{Vec}
@@ -30,7 +30,7 @@ all_kept old new (row ∷ rows) (next, first, rest) whole =
     let one = first later.0 in
     (one.0, later.1 ∙ ap (λ t. t ++ rows) one.1 ∙ append_assoc old.rows.items (row ∷ []) rows)
 
--- The answer, with the rows that were kept.
+-- The answer to a query, with the rows that the sink kept.
 abbrev pub with_rows : Vec Share Global → Result (Unit {0}) Refusal → Result (Vec Share Global) Refusal
 with_rows rows (Ok x) = Ok rows
 with_rows rows (Err why) = Err why
@@ -85,7 +85,7 @@ asks_with ledger old new rows (Err why) asks = record {
   zone = asks.zone;
 }
 
--- All rows were kept.
+-- The response if all rows were kept.
 pub asked : {B E : Type 0} (ledger : B → Ledger) (old new : Office B) (says : List Fact → Option (List Share)) (from to : KeptRows) (kept : Vec Share Global)
     (answer : Result (Unit {0}) Refusal) → TellsRows KeepsRow ledger old new from to answer says → OnlyAsks ledger old new answer
     → from.rows.items ≡ [] → to.is_whole ≡ true → kept ≡ to.rows → AsksRows ledger old new says {E = E} (Ok (with_rows kept answer))
@@ -97,7 +97,7 @@ asked ledger old new says from to kept answer tells asks none whole is = record 
       listed (says (facts_of past)) (failures_of ledger old) (failures_of ledger new) from to kept answer (tells past stands clean) none whole is;
 }
 
--- Memory ran out for the rows.
+-- The response if memory ran out for the rows.
 pub lacked : {B E : Type 0} (ledger : B → Ledger) (old new : Office B) (says : List Fact → Option (List Share)) (kept : Vec Share Global)
     (answer : Result (Unit {0}) Refusal) (result : Result (Result (Vec Share Global) Refusal) E) → OnlyAsks ledger old new answer → IsErr result
     → AsksRows ledger old new says result

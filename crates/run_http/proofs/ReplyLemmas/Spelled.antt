@@ -1,4 +1,4 @@
--- Bytes that are no text spell no day.
+-- Bytes that are not UTF-8 spell no day.
 use Rattle.std.proofs.Common.{ℕ, zero, suc, ◌/◌, ◌%◌, ◌≤◌, ◌<◌, List, [], ◌∷◌, ◌++◌, None, subst, arith}
 use Rattle.std.specs.Prelude.{ℤ, pos, negsuc, ◌≤ℤ◌}
 use Rattle.std.specs.Str.{IsAscii, IsUtf8}
@@ -19,7 +19,7 @@ hyphen : (text : List ℕ) → IsAscii text → IsAscii (45 ∷ text)
 hyphen text is zero = omega arith
 hyphen text is (suc i) = is i
 
--- The ten characters of a day.
+-- The ten characters of a day such as `2026-11-25` are ASCII.
 ascii_by : (year month day : ℕ) → year ≤ 9999 → month ≤ 12 → day ≤ 31
     → IsAscii (year_text (pos year) ++ 45 ∷ [] ++ pad2 month ++ 45 ∷ [] ++ pad2 day)
 ascii_by year month day few_years few_months few_days =

@@ -3,12 +3,12 @@ use Rattle.std.specs.Prelude.{ℕ, List, ◌++◌, codes}
 use Rattle.run_http.specs.declared.texts.families.MetricKind.{MetricKind}
 use Rattle.run_http.specs.declared.texts.families.MetricKind.TheVariants.{Counter, Gauge}
 
--- The name of a type.
+-- The name of a metric's type in Prometheus's text format.
 abbrev pub kind_word : MetricKind → List ℕ
 kind_word Counter = codes "counter"
 kind_word Gauge = codes "gauge"
 
--- The help and the type of a metric.
+-- The two lines that describe a metric: its help and its type.
 abbrev pub family_text : (name help : List ℕ) → MetricKind → List ℕ
 family_text name help kind =
     codes "# HELP " ++ name ++ codes " " ++ help

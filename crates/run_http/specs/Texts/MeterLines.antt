@@ -1,4 +1,4 @@
--- The entries of a meter as lines, or the voided ones, and a line with their number.
+-- The lines of a meter's entries, or of its voided entries, and a last line with their number.
 use Rattle.std.specs.Prelude.{ℕ, ℤ, Bool, true, false, List, ◌++◌, length, flat_map, codes, decimal}
 use Rattle.std.specs.Fmt.{signed_decimal}
 use Rattle.energy_core.specs.Account.{moment_of}
@@ -12,7 +12,7 @@ use Rattle.meter_journal.specs.declared.lines.EntryRow.{EntryRow}
 use Rattle.office_books.specs.declared.entries.MeterEntry.{MeterEntry}
 use Rattle.office_books.specs.declared.entries.MeterEntry.TheVariants.{Opening, Later}
 
--- The kind of an entry.
+-- The word for the kind of an entry.
 abbrev pub kind_word : EntryKind → List ℕ
 kind_word Reading = codes " reading "
 kind_word Manual = codes " manual "
@@ -20,27 +20,27 @@ kind_word Closing = codes " closing "
 kind_word Reset = codes " reset "
 kind_word Rescale = codes " rescale "
 
--- The time, the counter, the rollovers since the entry before, and the value to which the counter
--- was set. A number is 0 if an entry of this kind has none.
+-- The numbers of an entry: its time, its counter, the rollovers since the previous entry, and the
+-- value to which the counter was set. A number that this kind of entry lacks is 0.
 abbrev pub numbers_text : Entry → List ℕ
 numbers_text (Step at raw rolls) =
     decimal at ++ codes " " ++ decimal raw ++ codes " " ++ decimal rolls ++ codes " 0"
 numbers_text (Change at before after sf) =
     decimal at ++ codes " " ++ decimal before ++ codes " 0 " ++ decimal after
 
--- Whether an entry is valid.
+-- The word for whether an entry is valid.
 abbrev pub standing_word : Bool → List ℕ
 standing_word true = codes " stands\n"
 standing_word false = codes " void\n"
 
--- PLACE KIND MOMENT RAW ROLLS AFTER SF, and whether the entry is valid. SF is the scale factor
--- after the entry.
+-- The line of an entry other than the opening: PLACE KIND MOMENT RAW ROLLS AFTER SF and whether it
+-- is valid. SF is the scale factor that holds after the entry.
 abbrev pub later_line : EntryRow → (sf : ℤ) → List ℕ
 later_line row sf =
     decimal row.place ++ kind_word row.kind ++ numbers_text row.entry ++ codes " "
     ++ signed_decimal sf ++ standing_word row.stands
 
--- The opening has the sequence number 1, and is always valid.
+-- The line of the opening entry, which has the sequence number 1 and is always valid.
 abbrev pub opening_line : Last → List ℕ
 opening_line last =
     codes "1 opening " ++ decimal last.at ++ codes " " ++ decimal last.raw ++ codes " 0 0 "
@@ -51,11 +51,11 @@ abbrev pub entry_line : MeterEntry → List ℕ
 entry_line (Opening last) = opening_line last
 entry_line (Later row sf) = later_line row sf
 
--- The lines of entries, and a line with their number.
+-- The lines of entries, and a last line with their number.
 abbrev pub entries_text : List MeterEntry → List ℕ
 entries_text entries = flat_map entry_line entries ++ end_line (length entries)
 
--- PLACE KIND MOMENT of a voided entry.
+-- The line of a voided entry: PLACE KIND MOMENT.
 abbrev pub void_row_line : EntryRow → List ℕ
 void_row_line row =
     decimal row.place ++ kind_word row.kind ++ decimal (moment_of row.entry) ++ codes "\n"
@@ -65,6 +65,6 @@ abbrev pub void_line : MeterEntry → List ℕ
 void_line (Opening last) = codes "1 opening " ++ decimal last.at ++ codes "\n"
 void_line (Later row sf) = void_row_line row
 
--- The lines of voided entries, and a line with their number.
+-- The lines of voided entries, and a last line with their number.
 abbrev pub voids_text : List MeterEntry → List ℕ
 voids_text entries = flat_map void_line entries ++ end_line (length entries)

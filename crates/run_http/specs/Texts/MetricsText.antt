@@ -9,7 +9,7 @@ use Rattle.run_http.specs.Texts.Families.{family_text}
 use Rattle.run_http.specs.declared.texts.families.MetricKind.TheVariants.{Counter, Gauge}
 use Rattle.run_status.specs.Status.StatusText.{with_name}
 
--- The polls that ended, by outcome.
+-- The metric with the number of ended polls, by outcome.
 abbrev pub with_outcomes : List ℕ → Counts → List ℕ
 with_outcomes text counts =
     text
@@ -20,7 +20,7 @@ with_outcomes text counts =
     ++ codes "\nsunreg_polls_total{outcome=\"malformed\"} " ++ decimal counts.malformed
     ++ codes "\nsunreg_polls_total{outcome=\"lost\"} " ++ decimal counts.lost
 
--- The accepted readings, and the refused events.
+-- The metrics with the numbers of accepted readings and of refused events.
 abbrev pub with_readings : List ℕ → Counts → List ℕ
 with_readings text counts =
     text ++ codes "\n"
@@ -30,7 +30,7 @@ with_readings text counts =
     (codes "Events of devices that the office refused.") Counter
     ++ codes "\nsunreg_refusals_total " ++ decimal counts.refusals
 
--- The rejected readings, by cause.
+-- The metric with the number of rejected readings, by cause.
 abbrev pub with_causes : List ℕ → List ℕ → List ℕ
 with_causes text held =
     text ++ codes "\n"
@@ -49,31 +49,31 @@ with_causes text held =
     ++ codes "\nsunreg_held_readings_total{cause=\"not_below_range\"} "
     ++ decimal (slice_index held 7)
 
--- Whether a device is connected, as 1 or 0.
+-- The value for whether a device is connected: 1 or 0.
 abbrev pub with_state : List ℕ → Bool → List ℕ
 with_state text true = text ++ codes "\"} 1"
 with_state text false = text ++ codes "\"} 0"
 
--- Whether each device is connected.
+-- A line for each device: whether it is connected.
 abbrev pub with_states : List ℕ → List DeviceState → List ℕ
 with_states text [] = text
 with_states text (device ∷ devices) =
     with_states (with_state (with_name text (codes "\nsunreg_device_connected{device=\"") device)
     device.connected) devices
 
--- The time of the latest reading of a device. A device without a reading has no line.
+-- The line with the time of a device's latest reading. A device without a reading has none.
 abbrev pub with_moment : List ℕ → DeviceState → Option ℕ → List ℕ
 with_moment text device None = text
 with_moment text device (Some moment) =
     with_name text (codes "\nsunreg_last_reading_timestamp_seconds{device=\"") device
     ++ codes "\"} " ++ decimal moment
 
--- The time of the latest reading of each device.
+-- A line for each device with a reading: the time of the latest one.
 abbrev pub with_moments : List ℕ → List DeviceState → List ℕ
 with_moments text [] = text
 with_moments text (device ∷ devices) = with_moments (with_moment text device device.latest) devices
 
--- The metrics of the devices.
+-- The metrics of the devices: whether they are connected, and the times of their latest readings.
 abbrev pub with_devices : List ℕ → List DeviceState → List ℕ
 with_devices text devices =
     with_moments
@@ -87,7 +87,7 @@ with_devices text devices =
     devices
     ++ codes "\n"
 
--- All metrics.
+-- The complete text with all metrics.
 abbrev pub with_metrics : List ℕ → Counts → List DeviceState → List SiteRow → List ℕ
 with_metrics text counts devices rows =
     with_meters

@@ -1,4 +1,4 @@
--- The meters at a register as lines, and a line with their number.
+-- The lines of the meters at an accounting register, and a last line with their number.
 use Rattle.std.specs.Prelude.{ℕ, Bool, true, false, List, ◌++◌, length, flat_map, codes, decimal}
 use Rattle.std.specs.Fmt.{signed_decimal}
 use Rattle.energy_core.specs.declared.entries.Last.{Last}
@@ -11,13 +11,14 @@ last_text last =
     codes " " ++ decimal last.at ++ codes " " ++ decimal last.raw ++ codes " "
     ++ signed_decimal last.sf
 
--- Whether a meter was closed.
+-- The word for whether a meter was closed.
 abbrev pub state_word : (ended : Bool) → List ℕ
 state_word true = codes " ended\n"
 state_word false = codes " open\n"
 
--- NAME OPENED AT RAW SF TOTAL, and whether the meter was closed. OPENED is the time of its opening.
--- AT, RAW and SF are those of its last valid entry. TOTAL is its total energy in mWh.
+-- The line of a meter: NAME OPENED AT RAW SF TOTAL, and whether it was closed. OPENED is the time
+-- of its opening entry. AT, RAW and SF are those of its last valid entry. TOTAL is its energy in
+-- mWh.
 abbrev pub meter_line : Installation → List ℕ
 meter_line row =
     row.opening.meter ++ codes " " ++ decimal row.opening.at ++ last_text row.last ++ codes " "

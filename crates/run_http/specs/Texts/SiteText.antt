@@ -6,7 +6,7 @@ use Rattle.office_core.specs.declared.site.SiteRow.{SiteRow}
 use Rattle.http_answer.specs.Rows.{bool_text}
 use Rattle.run_http.specs.declared.texts.site.SiteLine.{SiteLine}
 
--- The last valid entry of a meter.
+-- The last valid entry of a meter, as JSON members.
 abbrev pub with_last : List ℕ → Installation → List ℕ
 with_last text row =
     text ++ codes "\",\"at\":" ++ decimal row.last.at ++ codes ",\"last\":" ++ decimal row.last.raw
@@ -24,37 +24,37 @@ with_total text row earlier =
     with_earlier (text ++ codes ",\"total\":\"" ++ decimal row.total) earlier
     ++ codes "\",\"ended\":" ++ bool_text row.ended
 
--- The meter of a register. Names consist of letters, digits, `_` and `-`, so JSON need not escape
--- them.
+-- The meter of a register as JSON, or `null`. Names consist of letters, digits, `_` and `-`, so
+-- JSON need not escape them.
 abbrev pub with_meter : List ℕ → Option Installation → (earlier : Option ℕ) → List ℕ
 with_meter text None earlier = text ++ codes "\",\"meter\":null"
 with_meter text (Some row) earlier =
     with_total (with_last (text ++ codes "\",\"meter\":\"" ++ row.opening.meter) row) row earlier
 
--- The device and the name of a register.
+-- The device and the name of an accounting register, as JSON members.
 abbrev pub with_register : (before : List ℕ) → List ℕ → SiteRow → List ℕ
 with_register before text row =
     text ++ before ++ row.register.device
     ++ codes "\",\"register\":\"" ++ row.register.name
 
--- A register and its meter.
+-- An accounting register with its meter, as JSON.
 abbrev pub with_line : (before : List ℕ) → List ℕ → SiteLine → List ℕ
 with_line before text line =
     with_meter (with_register before text line.row) line.row.meter line.earlier ++ codes "}"
 
--- More registers, each after a comma.
+-- Further registers as JSON, each with a comma before it.
 abbrev pub with_more_lines : List ℕ → List SiteLine → List ℕ
 with_more_lines text [] = text
 with_more_lines text (line ∷ lines) =
     with_more_lines (with_line (codes ",{\"device\":\"") text line) lines
 
--- Registers with commas between them.
+-- All registers as JSON, with commas between them.
 abbrev pub with_lines : List ℕ → List SiteLine → List ℕ
 with_lines text [] = text
 with_lines text (line ∷ lines) =
     with_more_lines (with_line (codes "{\"device\":\"") text line) lines
 
--- The time of the query, and the registers.
+-- The complete JSON: the time of the query, and the registers with their meters.
 abbrev pub with_site : List ℕ → (at : ℕ) → List SiteLine → List ℕ
 with_site text at lines =
     with_lines (text ++ codes "{\"at\":" ++ decimal at ++ codes ",\"registers\":[") lines

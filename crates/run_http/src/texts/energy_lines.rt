@@ -66,7 +66,7 @@ fn last_digits(number: u64) -> [u8; 3]
     ]
 }
 
-// Appends `before` and a thousandth of a number, with three decimals.
+// Appends `before`, and a number divided by 1,000 with three decimals.
 fn put_thousandth(text: &mut Vec<u8>, before: &[u8], number: u64) -> Result<(), AllocError>
     ensures { OnOk result (text.new.items
         ≡ text.old.items ++ before.now ++ magnitude_text number (negsuc 2)) }

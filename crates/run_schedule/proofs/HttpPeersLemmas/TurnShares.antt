@@ -1,10 +1,10 @@
--- The responses of turns.
+-- Lemmas on the share of responses in one turn.
 use Rattle.std.proofs.Common.{◌≡◌, ℕ, ◌+◌, ◌-◌, ◌<◌, zero, suc, Bool, true, false, List, [], ◌∷◌, length, refl, arith}
 use Rattle.std.specs.Prelude.{◌==◌, ◌||◌, sum_by}
 use Rattle.std.proofs.lemmas.List.Sums.{sum_by-cons}
 use Rattle.run_schedule.specs.HttpPeers.TurnShares.{AreFew, MayReply, left_after}
 
--- What is left of a whole after a part, and after one more.
+-- What is left of a share after some responses, and after one more.
 less : (left one all part total : ℕ) → left ≡ all - part → total ≡ one + part → left - one ≡ all - total
 less left one all part total same more = omega (arith, same, more)
 
@@ -26,7 +26,7 @@ left_milliseconds (one ∷ earlier) =
     less (left_after earlier).milliseconds one.1 20 (sum_by (λ (reply : ℕ × ℕ). reply.1) earlier) (sum_by (λ (reply : ℕ × ℕ). reply.1) (one ∷ earlier))
     (left_milliseconds earlier) (sum_by-cons (λ (reply : ℕ × ℕ). reply.1) one earlier)
 
--- If something is left, the part is less than the whole.
+-- If something of the share is left, the responses so far used less than all of it.
 below : (left all part : ℕ) → left ≡ all - part → 0 < left → part < all
 below left all part same some = omega (arith, same, some)
 

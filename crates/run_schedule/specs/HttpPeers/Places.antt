@@ -1,4 +1,4 @@
--- The slots of connections, and the slot of a new connection.
+-- The slots of client connections, and which slot a new connection gets.
 use Rattle.std.specs.Prelude.{◌≡◌, ℕ, ◌<◌, ◌≤◌, nat_le, nat_lt, if◌then◌else◌, Bool, true, false, List, length, position, slice_set, slice_get, Option, None, Some}
 use Rattle.run_schedule.specs.declared.http_peers.place.Place.{Place}
 use Rattle.run_schedule.specs.declared.http_peers.place.Place.TheVariants.{Free, Silent, Asked}
@@ -10,54 +10,55 @@ is_free Free = true
 is_free (Silent until) = false
 is_free (Asked until) = false
 
--- The connection has reached its end.
+-- The deadline of the slot's connection has passed. A free slot has none.
 abbrev pub is_over : (now : ℕ) → Place → Bool
 is_over now Free = false
 is_over now (Silent until) = nat_le until now
 is_over now (Asked until) = nat_le until now
 
--- The slot after its connection sent a request.
+-- The state of the slot after its idle connection sent a request.
 abbrev pub asked : Place → Place
 asked Free = Free
 asked (Silent until) = Asked until
 asked (Asked until) = Asked until
 
--- The end of an idle connection.
+-- The deadline of the slot's connection, if it is idle.
 abbrev pub silent_until : Place → Option ℕ
 silent_until Free = None
 silent_until (Silent until) = Some until
 silent_until (Asked until) = None
 
--- The connection of a slot is idle, and may last until this time.
+-- The connection of this slot is idle, and `until` is its deadline.
 abbrev pub IsSilentAt : List Place → (place until : ℕ) → Type 0
 IsSilentAt places place until = slice_get places place ≡ Some (Silent until)
 
--- The idle connection that ends first, out of the best so far and that of the next slot. Each has a
--- slot and an end.
+-- The idle connection with the earliest deadline, out of the best so far and that of slot `i`. Each
+-- is a slot with its deadline.
 abbrev pub older : Option (ℕ × ℕ) → ℕ → Place → Option (ℕ × ℕ)
 older best i Free = best
 older best i (Asked until) = best
 older None i (Silent until) = Some (i, until)
 older (Some best) i (Silent until) = if nat_lt until best.1 then Some (i, until) else Some best
 
--- The slot is that of the idle connection that ends first. Without a slot, no connection is idle.
+-- The slot of the idle connection with the earliest deadline. None if no connection is idle.
 abbrev pub IsOldest : List Place → Option ℕ → Type 0
 IsOldest places None = (place until : ℕ) → IsSilentAt places place until → ⊥
 IsOldest places (Some place) =
     (until : ℕ) × IsSilentAt places place until
     × ((other later : ℕ) → IsSilentAt places other later → until ≤ later)
 
--- The first free slot, otherwise that of the idle connection that ends first.
+-- The free slot if there is one, otherwise the slot of the idle connection with the earliest
+-- deadline.
 abbrev pub IsChosenAfter : (free : Option ℕ) → List Place → Option ℕ → Type 0
 IsChosenAfter (Some place) places chosen = chosen ≡ Some place
 IsChosenAfter None places chosen = IsOldest places chosen
 
--- The slot for a new connection, if there is one.
+-- The slot that a new connection gets, if any.
 abbrev pub IsChosen : List Place → Option ℕ → Type 0
 IsChosen places chosen = IsChosenAfter (position is_free places) places chosen
 
--- A new connection gets a slot, and may last until this time. An idle connection that had the slot
--- is to be dropped.
+-- A new connection gets a slot, with the deadline `until`. If an idle connection had the slot, the
+-- caller must drop it. Without a slot nothing changes.
 abbrev pub Admits : (until : ℕ) → (old new : List Place) → Option Admission → Type 0
 Admits until old new None = IsChosen old None × (new ≡ old)
 Admits until old new (Some one) =
@@ -65,20 +66,21 @@ Admits until old new (Some one) =
     × (slice_get old one.place ≡ Some Free → one.drops ≡ false)
     × ((later : ℕ) → IsSilentAt old one.place later → one.drops ≡ true)
 
--- The slots after the connection of a slot sent a request, if the slot exists.
+-- The slots after the connection in slot `place` sent a request. They are unchanged if there is no
+-- such slot.
 abbrev pub asked_in : ℕ → Option Place → List Place → List Place
 asked_in place None places = places
 asked_in place (Some one) places = slice_set places place (asked one)
 
--- The slots after the connection of a slot sent a request.
+-- The slots after the connection in slot `place` sent a request.
 abbrev pub asked_at : ℕ → List Place → List Place
 asked_at place places = asked_in place (slice_get places place) places
 
--- The connection of a slot has reached its end, if the slot exists.
+-- The deadline of the connection in a slot has passed. False without the slot.
 abbrev pub is_over_in : (now : ℕ) → Option Place → Bool
 is_over_in now None = false
 is_over_in now (Some one) = is_over now one
 
--- The connection of a slot has reached its end.
+-- The deadline of the connection in slot `place` has passed.
 abbrev pub is_over_at : ℕ → (now : ℕ) → List Place → Bool
 is_over_at place now places = is_over_in now (slice_get places place)

@@ -1,16 +1,17 @@
--- How many responses a turn makes, and which slot comes first.
+-- How many responses a run makes in one turn of its loop, and which client's slot comes first.
 use Rattle.std.specs.Prelude.{◌≡◌, ℕ, ◌+◌, ◌-◌, ◌%◌, ◌<◌, ◌==◌, ◌||◌, Bool, false, List, [], ◌∷◌, length, sum_by}
 use Rattle.run_schedule.specs.declared.http_peers.turn_share.TurnShare.{TurnShare}
 
--- The share of a turn: 64 requests, 256 KiB, 20 ms.
+-- The share of responses in one turn: 64 requests, 256 KiB and 20 ms.
 abbrev pub whole : TurnShare
 whole = record { requests = 64; bytes = 262144; milliseconds = 20 }
 
--- Nothing is left of the share.
+-- One part of the share is used up, so no further response begins in this turn.
 abbrev pub is_over : TurnShare → Bool
 is_over share = share.requests == 0 || share.bytes == 0 || share.milliseconds == 0
 
--- The share after a response with this many bytes, which took this many milliseconds.
+-- What is left of the share after a response with this many bytes, which took this many
+-- milliseconds to make.
 abbrev pub after : TurnShare → (bytes milliseconds : ℕ) → TurnShare
 after share bytes milliseconds = record {
   requests = share.requests - 1;
@@ -18,28 +19,29 @@ after share bytes milliseconds = record {
   milliseconds = share.milliseconds - milliseconds;
 }
 
--- What is left of a turn's share after some responses, the latest first. Each has a number of bytes
--- and of milliseconds.
+-- What is left of a turn's share after some responses, the latest first. Each is a pair of bytes
+-- and milliseconds.
 abbrev pub left_after : List (ℕ × ℕ) → TurnShare
 left_after [] = whole
 left_after (one ∷ earlier) = after (left_after earlier) one.0 one.1
 
--- Each response began while something was left.
+-- Each of these responses began while some of the turn's share was left.
 abbrev pub MayReply : List (ℕ × ℕ) → Type 0
 MayReply [] = Unit {0}
 MayReply (one ∷ earlier) = (is_over (left_after earlier) ≡ false) × MayReply earlier
 
--- At most 64 responses. All but the last have less than 256 KiB together, and took less than 20 ms.
+-- There are at most 64 responses. All except the last have less than 256 KiB together, and took
+-- less than 20 ms together.
 abbrev pub AreFew : List (ℕ × ℕ) → Type 0
 AreFew [] = Unit {0}
 AreFew (one ∷ earlier) =
     length earlier < 64 × sum_by (λ reply. reply.0) earlier < 262144
     × sum_by (λ reply. reply.1) earlier < 20
 
--- The slot a number of steps after another. Slot 0 follows the last.
+-- The slot that is `step` slots after `first`. Slot 0 follows the last slot.
 abbrev pub place_at : (first step : ℕ) → ℕ
 place_at first step = (first + step) % 64
 
--- The number of slots that come before a slot, in a turn that begins with `first`.
+-- The number of slots that are served before `place`, in a turn that begins with slot `first`.
 abbrev pub before : (place first : ℕ) → ℕ
 before place first = (place + (64 - first)) % 64

@@ -7,24 +7,25 @@ use Rattle.interval_core.specs.declared.zone.Zone.{Zone}
 use Rattle.energy_report.specs.declared.form.Period.{Period}
 use Rattle.energy_report.specs.Periods.{last_day}
 
--- The first time after `moment` at which a later day has begun.
+-- `next` is the first time after `moment` at which a day later than `last` has begun in the zone.
 pub record IsFirstPast (zone : Zone) (last : ℤ) (moment next : ℕ) : Type 0 where
   pub later : moment < next
   pub bound : next ≤ LAST_MOMENT
   pub past : last <ℤ day_at zone next
   pub first : (at : ℕ) → moment < at → at < next → day_at zone at ≤ℤ last
 
--- No later day begins after `moment`.
+-- No day later than `last` begins after `moment`, up to the last timestamp.
 abbrev pub IsNeverPast : Zone → (last : ℤ) → (moment : ℕ) → Type 0
 IsNeverPast zone last moment =
     (at : ℕ) → moment < at → at ≤ LAST_MOMENT → day_at zone at ≤ℤ last
 
--- The first time after `moment` at which a later day has begun, if there is one.
+-- The first time after `moment` at which a day later than `last` has begun; None if there is no
+-- such time.
 abbrev pub IsPastFrom : Zone → (last : ℤ) → (moment : ℕ) → Option ℕ → Type 0
 IsPastFrom zone last moment (Some next) = IsFirstPast zone last moment next
 IsPastFrom zone last moment None = IsNeverPast zone last moment
 
--- The first time after `moment` at which the period of `day` is over: a later day than the period's
--- last has begun.
+-- The first time after `moment` at which the period that contains `day` is over: a day after the
+-- period's last day has begun.
 abbrev pub IsPeriodEnd : Zone → Period → Date → (moment : ℕ) → (next : Option ℕ) → Type 0
 IsPeriodEnd zone period day moment next = IsPastFrom zone (last_day period day) moment next

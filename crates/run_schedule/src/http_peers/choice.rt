@@ -6,8 +6,8 @@ ghost use Rattle.run_schedule.specs.HttpPeers.Places.{IsChosen, IsOldest};
 
 use crate::http_peers::place::Place;
 
-// Returns the idle connection that ends first, out of the best so far and that of the next slot.
-// Each has a slot and an end.
+// Returns the idle connection with the earliest deadline, out of the best so far and that of slot
+// `i`. Each is a slot with its deadline.
 fn older(best: Option<(usize, u64)>, i: usize, place: Place) -> Option<(usize, u64)>
     ensures { result ≡ specs.older best i place }
 {
@@ -25,7 +25,7 @@ fn older(best: Option<(usize, u64)>, i: usize, place: Place) -> Option<(usize, u
     }
 }
 
-// Returns the slot and the end of the idle connection that ends first.
+// Returns the slot and the deadline of the idle connection with the earliest deadline.
 fn oldest_silent(places: &[Place]) -> Option<(usize, u64)>
     ensures { IsOldest places.now (option_map (λ best. best.0) result) }
 {
@@ -43,7 +43,7 @@ fn first_free(places: &[Place]) -> Option<usize>
 }
 
 /// Returns the slot for a new connection: the first free slot, otherwise that of the idle
-/// connection that ends first. Returns `None` if all connections wait for a response.
+/// connection with the earliest deadline. Returns `None` if all connections wait for a response.
 pub fn place_for(places: &[Place]) -> Option<usize>
     ensures { IsChosen places.now result }
 {

@@ -1,11 +1,11 @@
-//! How many clients a run accepts at the same time, by how many descriptors it may open.
+//! How many clients a run accepts at the same time, given how many file descriptors it may open.
 ghost use Rattle.std.specs.Prelude.{◌≡◌, ◌+◌, ◌<◌, ◌≤◌};
 ghost use Rattle.run_schedule.specs.HttpPeers.Clients as clients;
 
 use crate::http_peers::peers::MOST_PEERS;
 
-/// The descriptors that stay free. A new connection has a descriptor before it gets the slot of
-/// another, and a closed connection may keep its own for a moment.
+/// The spare descriptors. A new connection has a descriptor before it gets the slot of another one,
+/// and a closed connection may keep its own for a moment.
 const SPARE: usize = 4;
 
 /// The descriptors that a run has open before it connects to a device or accepts a client, and some
@@ -13,8 +13,8 @@ const SPARE: usize = 4;
 /// which the system reports what is ready.
 const OPEN: usize = 12;
 
-/// Returns how many descriptors a run wants beside those of its files and its port: one for each
-/// device, one for each slot, and those that stay free.
+/// Returns how many descriptors a run wants besides those of its files and its port: one for each
+/// device, one for each slot, and the spare ones.
 pub fn wanted_descriptors(devices: usize) -> usize
     ensures { result ≡ clients.wanted_descriptors devices }
 {

@@ -55,8 +55,8 @@ impl Peers {
         self.places[place] = self.places[place].asked();
     }
 
-    /// Records that the connection of a slot got its response. From now on it is idle: it may last
-    /// until `until`, and makes room for a new connection.
+    /// Records that the connection of a slot got its response. It is idle from now on: its deadline
+    /// is `until`, and a new connection may replace it.
     pub fn linger(&mut self, place: usize, until: u64)
         requires { place < 64 }
         ensures { self.new.places ≡ slice_set self.old.places place (Place.Silent until) }
@@ -72,8 +72,8 @@ impl Peers {
         self.places[place] = Place::Free;
     }
 
-    /// Closes a slot, so that no connection gets it. The slot counts as that of a connection that
-    /// waits for a response and has no end.
+    /// Closes a slot, so that no connection gets it. The slot is treated as if its connection
+    /// waited for a response without a deadline.
     pub fn shut(&mut self, place: usize)
         requires { place < 64 }
         ensures { self.new.places ≡ slice_set self.old.places place (Place.Asked (2 ^ 64 - 1)) }
@@ -81,7 +81,7 @@ impl Peers {
         self.places[place] = Place::Asked(u64::MAX);
     }
 
-    /// Returns whether the connection of a slot has reached its end.
+    /// Returns whether the deadline of a slot's connection has passed.
     pub fn is_over(&self, place: usize, now: u64) -> bool
         requires { place < 64 }
         ensures { result ≡ places.is_over_at place now self.now.places }

@@ -27,7 +27,7 @@ impl Place {
         }
     }
 
-    /// Returns whether the connection has reached its end.
+    /// Returns whether the deadline of the slot's connection has passed.
     pub fn is_over(self, now: u64) -> bool
         ensures { result ≡ places.is_over now self }
     {
@@ -38,7 +38,7 @@ impl Place {
         }
     }
 
-    /// Returns the slot after its connection sent a request.
+    /// Returns the state of the slot after its idle connection sent a request.
     pub fn asked(self) -> Place
         ensures { result ≡ places.asked self }
     {
@@ -49,7 +49,7 @@ impl Place {
         }
     }
 
-    /// Returns the end of an idle connection.
+    /// Returns the deadline of the slot's connection, if it is idle.
     pub fn silent_until(self) -> Option<u64>
         ensures { result ≡ places.silent_until self }
     {

@@ -1,4 +1,4 @@
-//! How many responses a turn makes, and which slot comes first.
+//! How many responses a run makes in one turn of its loop, and which client's slot comes first.
 ghost use Rattle.std.specs.Prelude.{◌≡◌, ◌<◌, ℕ, List};
 ghost use Rattle.run_schedule.specs.HttpPeers.TurnShares as shares;
 ghost use Rattle.run_schedule.specs.HttpPeers.TurnShares.{AreFew, MayReply};
@@ -14,7 +14,7 @@ const MOST_BYTES: usize = 262_144;
 /// Energy by month has few bytes, but it is computed from as many rows.
 const MOST_MILLISECONDS: u64 = 20;
 
-/// What is left of a turn's share of responses.
+/// What is left of the share of responses in one turn.
 #[derive(Clone, Copy, Debug, PartialEq, Eq)]
 pub struct TurnShare {
     requests: usize,
@@ -34,7 +34,7 @@ impl TurnShare {
         }
     }
 
-    /// Returns whether the other requests wait for the next turn.
+    /// Returns whether the share is used up, so that the other requests wait for the next turn.
     pub fn is_over(self) -> bool
         ensures { result ≡ shares.is_over self }
     {
@@ -42,7 +42,7 @@ impl TurnShare {
     }
 
     /// Returns what is left after a response with this many bytes, which took this many
-    /// milliseconds.
+    /// milliseconds to make.
     pub fn after(self, bytes: usize, milliseconds: u64) -> TurnShare
         ensures { result ≡ shares.after self bytes milliseconds }
     {
@@ -54,13 +54,14 @@ impl TurnShare {
     }
 }
 
-/// Theorem: if each response begins while something of the share is left, a turn has at most 64
-/// responses. All but the last have less than 256 KiB together, and took less than 20 ms.
+/// Theorem: if each response begins while some of the share is left, a turn has at most 64
+/// responses. All except the last have less than 256 KiB together, and took less than 20 ms
+/// together.
 pub fn replies_are_few()
     ensures { (replies : List (ℕ × ℕ)) → MayReply replies → AreFew replies }
 {}
 
-/// Returns the slot at a step of a turn that begins with slot `first`.
+/// Returns the slot that is `step` slots after `first`. Slot 0 follows the last slot.
 pub fn place_at(first: usize, step: usize) -> usize
     ensures place { result < 64 }
     ensures round { first < 64 → step < 64 → result ≡ shares.place_at first step }

@@ -26,7 +26,8 @@ fn earliest_after(last: Day) -> i64
     (day + 1) * DAY - MOST_OFFSET
 }
 
-// Returns a time after `moment`. Between the two, no day after `last` has begun in any zone.
+// Returns a time after `moment` from which to search. At no time between the two has a day after
+// `last` begun in any zone.
 fn search_from(last: Day, moment: u64) -> u64
     requires { moment ≤ LAST_MOMENT }
     ensures later { moment < result }
@@ -39,7 +40,7 @@ fn search_from(last: Day, moment: u64) -> u64
     }
 }
 
-// Returns whether a day after `last` has begun.
+// Returns whether a day after `last` has begun in the zone at the time `at`.
 fn is_past(zone: &Zone, last: Day, at: u64) -> bool
     requires { at ≤ LAST_MOMENT }
     ensures later { result ≡ true → epoch_day last <ℤ day_at zone.now at }
@@ -51,7 +52,7 @@ fn is_past(zone: &Zone, last: Day, at: u64) -> bool
     }
 }
 
-// Returns the first time after `moment` at which a day after `last` has begun.
+// Returns the first time after `moment` at which a day after `last` has begun in the zone.
 fn first_past(zone: &Zone, last: Day, moment: u64) -> Option<u64>
     requires { moment ≤ LAST_MOMENT }
     ensures { IsPastFrom zone.now (epoch_day last) moment result }

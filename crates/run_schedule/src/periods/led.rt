@@ -1,5 +1,4 @@
-//! Which of the files of periods is the active one, by their names. In the active file energy is
-//! recorded.
+//! Finds the active file of a run, in which energy is recorded, by the periods in file names.
 ghost use Rattle.std.specs.Prelude.{◌≡◌, ◌≤◌, ◌<◌, ◌*◌, ◌+◌, nat_lt};
 ghost use Rattle.run_schedule.specs.Periods.Led as numbers;
 ghost use Rattle.run_schedule.specs.Periods.Led.{IsToldBy};
@@ -15,7 +14,7 @@ fn pair(tens: u8, ones: u8) -> u32
     10 * u32::from(tens.saturating_sub(48)) + u32::from(ones.saturating_sub(48))
 }
 
-// Returns the year, month and day of a period's text, with 0 for those that it lacks.
+// Returns the year, month and day in the text of a period, each 0 if the text lacks it.
 fn numbers_in(text: &[u8]) -> (u32, u32, u32)
     ensures year { result.0 ≡ numbers.year_in text.now }
     ensures month { result.1 ≡ numbers.month_in text.now }
@@ -38,7 +37,7 @@ fn numbers_in(text: &[u8]) -> (u32, u32, u32)
     }
 }
 
-/// Returns a number by which texts of one length are in the order of their periods.
+/// Returns a number by which periods of one length are ordered.
 pub(crate) fn number_in(text: &[u8]) -> u32
     ensures { result ≡ numbers.number_in text.now }
 {
@@ -64,8 +63,7 @@ fn rank(length: Period, text: &[u8]) -> u32
     2 * 512 * year + own + 32 * month + day
 }
 
-// Returns the period of a file by its name, if the period has the run's own length or the other
-// one.
+// Returns the period in a file name. It must have the run's own period length, or the other one.
 fn told_by<'a>(file: &[u8], length: Period, name: &'a [u8]) -> Option<&'a [u8]>
     ensures { IsToldBy file.now length name.now result }
 {
@@ -81,8 +79,8 @@ fn is_before(length: Period, text: &[u8], other: &[u8]) -> bool
     rank(length, text) < rank(length, other)
 }
 
-/// The period of the active file, by the names so far, as `2026-11` or `2026`. `None` if no file of
-/// a period was seen.
+/// The period of the active file among the names so far, as `2026-11` or `2026`. `None` if no name
+/// so far has a period.
 #[derive(Drop)]
 pub struct LedPeriod {
     pub text: Option<Vec<u8>>,
@@ -92,14 +90,14 @@ impl LedPeriod {
     ghost use Rattle.std.specs.Prelude.{◌≡◌, [], OnOk, OnErr, None};
     ghost use Rattle.run_schedule.specs.Periods.Led.{SeesOneMore};
 
-    /// Makes a value that has seen no name.
+    /// Makes the value for no names.
     pub fn none() -> LedPeriod
         ensures { result.text ≡ None }
     {
         LedPeriod { text: None }
     }
 
-    // Returns whether the file of this period replaces the active one.
+    // Returns whether the file of this period outranks the active file so far.
     fn gives_way_to(&self, length: Period, text: &[u8]) -> bool
         ensures { result ≡ numbers.gives_way self.now.text length text.now }
     {

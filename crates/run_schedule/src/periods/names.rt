@@ -1,4 +1,4 @@
-//! The names of the files of periods.
+//! The names of the files that a run begins for each period.
 ghost use Rattle.std.specs.Prelude.{◌≡◌, ◌≢◌, ◌++◌, ℕ, List, codes, IfOk};
 ghost use Rattle.std.specs.Option.{MatchOption};
 ghost use Rattle.run_schedule.specs.Periods.Names as named;
@@ -10,7 +10,7 @@ use std::alloc::{AllocError, Global};
 /// The extension of a database file, which stays at the end of the name.
 const SUFFIX: &[u8] = b".db";
 
-// Splits the name of a file before its extension.
+// Splits the name of a file into its stem and its extension `.db`, which may be missing.
 fn parts_of(file: &[u8]) -> (&[u8], &[u8])
     ensures stem { result.0.now ≡ stem_of file.now }
     ensures suffix { result.1.now ≡ suffix_of file.now }
@@ -70,7 +70,7 @@ fn is_year(a: u8, b: u8, c: u8, d: u8) -> bool
     is_digit(a) && is_digit(b) && is_digit(c) && is_digit(d)
 }
 
-// Returns whether a text has the form of a period's text.
+// Returns whether a text has the form of a period, such as `2026-11` for a month.
 pub(crate) fn spells(period: Period, text: &[u8]) -> bool
     ensures { result ≡ named.spells period text.now }
 {
@@ -104,7 +104,7 @@ fn before<'a>(text: &'a [u8], end: &[u8]) -> Option<&'a [u8]>
     text.strip_suffix(end)
 }
 
-// Returns what lies between a stem with a hyphen and an extension.
+// Returns the part of a name between a stem with a hyphen and an extension.
 fn between<'a>(name: &'a [u8], stem: &[u8], suffix: &[u8]) -> Option<&'a [u8]>
     ensures { MatchOption result
         ((text : List ℕ) → stem.now ++ codes "-" ++ text ++ suffix.now ≢ name.now)
@@ -119,7 +119,7 @@ fn between<'a>(name: &'a [u8], stem: &[u8], suffix: &[u8]) -> Option<&'a [u8]>
     }
 }
 
-/// Returns the period of a file by its name, if it belongs to the run's own file.
+/// Returns the period in a file name, if it is a name of `file` with a period of this length.
 pub fn period_of_file<'a>(file: &[u8], period: Period, name: &'a [u8]) -> Option<&'a [u8]>
     ensures { IsPeriodIn file.now period name.now result }
 {

@@ -1,4 +1,4 @@
-//! What to do with the active file, and until when.
+//! Whether records continue in the active file or in a new one, and until when.
 ghost use Rattle.std.specs.Prelude.{◌≡◌, ◌≤◌, min, length};
 ghost use Rattle.run_schedule.specs.Periods.Plans as specs;
 ghost use Rattle.run_schedule.specs.Periods.Plans.{IsPeriodUntil, NothingGoesBack};
@@ -51,8 +51,8 @@ fn plan_of_past(last_entry: u64, now: u64) -> Plan
     }
 }
 
-/// Returns what to do with the active file, by the text of its period. A run's own file has no
-/// period.
+/// Returns what to do with the active file. `led` is the text of its period, which a run's first
+/// file lacks.
 ///
 /// `current` is the text of the current period. Times are in seconds since 1970-01-01 UTC.
 pub fn plan_of(led: Option<&[u8]>, current: &[u8], last_entry: u64, now: u64) -> Plan
@@ -72,7 +72,8 @@ pub fn plan_of(led: Option<&[u8]>, current: &[u8], last_entry: u64, now: u64) ->
     }
 }
 
-/// Theorem: no file is rolled over into that of an earlier period, or before its last entry.
+/// Theorem: no file is rolled over into that of an earlier period, or before the time of its last
+/// entry.
 pub fn nothing_goes_back()
     ensures { NothingGoesBack }
 {}

@@ -1,7 +1,7 @@
-//! The time of a clock over several runs in turn.
+//! The time of a clock over several runs, one after the other.
 
 /// The time of a clock that does not go back from one run to the next. So no run begins before a
-/// timestamp of the run before it, even if the clock was set back in between.
+/// timestamp of the previous run, even if the clock was set back in between.
 #[derive(Clone, Copy, Debug, PartialEq, Eq)]
 pub struct OnwardTime {
     /// The least time that is reported.
@@ -13,7 +13,7 @@ pub struct OnwardTime {
 impl OnwardTime {
     ghost use Rattle.std.specs.Prelude.{◌≡◌, max};
 
-    /// Makes a time that reports what the clock does.
+    /// Makes a time that follows the clock.
     pub fn new() -> OnwardTime
         ensures { result ≡ record { least = 0; latest = 0 } }
     {
@@ -23,7 +23,7 @@ impl OnwardTime {
         }
     }
 
-    /// Returns the time when the clock has `now`.
+    /// Returns the time when the clock reads `now`.
     pub fn read(&mut self, now: u64) -> u64
         ensures told { result ≡ max now self.old.least }
         ensures least { self.new.least ≡ self.old.least }
@@ -34,7 +34,7 @@ impl OnwardTime {
         moment
     }
 
-    /// Makes the latest time so far the least that is reported from now on.
+    /// Makes the latest time so far the least time that later calls report.
     pub fn go_on(&mut self)
         ensures { self.new ≡ record { least = self.old.latest; latest = self.old.latest } }
     {

@@ -1,12 +1,12 @@
-//! The pauses between connections that fail.
+//! The pauses between failed connections to a device.
 ghost use Rattle.std.specs.Prelude.{◌≡◌, ◌+◌, ◌-◌, ◌^◌, min};
 ghost use Rattle.run_schedule.specs.Timing.Pauses.{pause_after};
 
 /// The longest pause in seconds.
 pub const MOST_PAUSE: u64 = 60;
 
-/// Returns the pause after one more failed connection: a second, then twice the pause before, at
-/// most a minute. `before` is 0 after a successful connection.
+/// Returns the pause in seconds after one more failed connection: 1 at first, then twice the
+/// previous pause, at most 60. `before` is 0 after a successful connection.
 pub fn next_pause(before: u64) -> u64
     ensures { result ≡ pause_after before }
 {

@@ -1,4 +1,4 @@
-//! The time by which a run waits.
+//! The time by which a run measures its waits.
 ghost use Rattle.std.specs.Prelude.{◌≡◌, ◌≤◌, ◌-◌, ◌/◌, ◌%◌};
 ghost use Rattle.run_schedule.specs.Timing.RunTimes.{time_by};
 
@@ -8,14 +8,14 @@ ghost use Rattle.run_schedule.specs.Timing.RunTimes.{time_by};
 pub struct RunTime {
     /// The time at the beginning, since 1970-01-01 UTC.
     pub base: u64,
-    /// What the monotonic clock had at the beginning.
+    /// The reading of the monotonic clock at the beginning.
     pub began: u64,
     /// The time at the last reading.
     pub latest: u64,
 }
 
 impl RunTime {
-    /// Begins the time, when the monotonic clock has `even`.
+    /// Begins the time at `base`, when the monotonic clock reads `even`.
     pub fn new(base: u64, even: u64) -> RunTime
         ensures { result ≡ record { base = base; began = even; latest = base } }
     {
@@ -26,7 +26,7 @@ impl RunTime {
         }
     }
 
-    /// Advances the time to when the monotonic clock has `even`.
+    /// Advances the time to the moment at which the monotonic clock reads `even`.
     pub fn read(&mut self, even: u64)
         ensures time { self.new ≡ record self.old { latest = time_by self.old even } }
         ensures on { self.old.latest ≤ self.new.latest }

@@ -11,9 +11,10 @@ pub struct ClockReading {
     /// The timestamp of an event that arrives now: that of the clock, or the latest one if the
     /// clock is before it.
     pub moment: u64,
-    /// How many seconds the clock is before the latest timestamp, at the first reading where it is.
+    /// How many seconds the clock is behind the latest timestamp, at the first reading where it is
+    /// behind.
     pub set_back: Option<u64>,
-    /// The timestamp before the time went ahead, if it went ahead by more than a minute.
+    /// The previous timestamp, if the time advanced by more than a minute since then.
     pub ahead_from: Option<u64>,
 }
 
@@ -28,7 +29,7 @@ fn ahead_from(latest: u64, now: u64) -> Option<u64>
     }
 }
 
-/// What is known of a clock that may be set back.
+/// The state of a clock that may be set back.
 #[derive(Clone, Copy, Debug, PartialEq, Eq)]
 pub struct SteadyClock {
     /// The latest timestamp.
@@ -49,7 +50,7 @@ impl SteadyClock {
         }
     }
 
-    /// Returns the timestamp of an event that arrives when the clock has `now`.
+    /// Returns the timestamp of an event that arrives when the clock reads `now`.
     pub fn read(&mut self, now: u64) -> ClockReading
         ensures reads { result ≡ read_by self.old now }
         ensures after { self.new ≡ clock_after self.old now }

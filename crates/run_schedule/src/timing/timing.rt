@@ -1,4 +1,4 @@
-//! When a device needs attention.
+//! When a device needs attention: to be connected, or because a deadline has passed.
 use crate::timing::grid::next_due;
 use crate::timing::limits::{CONNECT_SECONDS, round_until, until};
 use crate::timing::pauses::{next_pause, retry_at};
@@ -30,7 +30,7 @@ impl Timing {
     ghost use Rattle.run_schedule.specs.Timing.Timings as timings;
     ghost use Rattle.run_schedule.specs.Timing.Timings.{IsDue, IsRetried};
 
-    /// Makes a device that rests until it is due.
+    /// Makes a device without a connection, which is next due at a multiple of `every`.
     pub fn new(every: u64, now: u64) -> Timing
         requires some { 0 < every }
         requires fits { now + every < 2 ^ 64 }
@@ -84,8 +84,8 @@ impl Timing {
         self.pause = 0;
     }
 
-    /// Records that the connection failed. The device is retried after a pause that grows, but no
-    /// later than when it is due.
+    /// Records that the connection failed. The device is retried after a growing pause, but no
+    /// later than when it is next due.
     pub fn fail(&mut self, every: u64, now: u64)
         requires some { 0 < every }
         requires fits { now + every < 2 ^ 64 }
@@ -98,7 +98,7 @@ impl Timing {
         self.at = retry_at(now, self.pause, next_due(every, now));
     }
 
-    /// Records that the connection has ended. The device rests until it is due.
+    /// Records that the connection has ended. The device is next due at a multiple of `every`.
     pub fn rest(&mut self, every: u64, now: u64)
         requires some { 0 < every }
         requires fits { now + every < 2 ^ 64 }

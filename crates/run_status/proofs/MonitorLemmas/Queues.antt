@@ -1,4 +1,4 @@
--- The bytes to send to the device of a slot.
+-- Lemmas on the bytes that wait to be sent to the device of a slot.
 use Rattle.std.proofs.Common.{◌≡◌, inl, inr, ℕ, ◌<◌, ◌≤◌, List, [], ◌++◌, length, set, get_or, map, Bool, true, false, cond, Some, None, sym, ap, ◌∙◌}
 use Rattle.std.proofs.lemmas.List.{append-nil, map-set}
 use Rattle.std.proofs.lemmas.Option.{slice_get-get_or, slice_get-map, slice_get_past}
@@ -8,7 +8,7 @@ use Rattle.std.specs.Option.{option_map}
 use Rattle.office_events.specs.declared.events.Event.{Event}
 use Rattle.run_status.specs.Monitor.Output.{IsPut, IsSentTo, kept, sent_in, sent_to, taken_at, taken_in}
 
--- Frames are queued completely, or not at all.
+-- All frames of an event are queued, or none of them.
 pub put_or_not : (e : Event) (frames old left new : List ℕ) (done : Bool) → left ≡ kept e old
     → new ≡ cond done (left ++ frames) left → IsPut e frames old new
 put_or_not e frames old left new true was is = inl (is ∙ ap (λ xs. xs ++ frames) was)
@@ -22,7 +22,7 @@ seen_at f xs place d inside = slice_get-map f xs place ∙ ap (option_map f) (sl
 pub seen_past : {X : Type 0} (f : X → List ℕ) (xs : List X) (place : ℕ) → length xs ≤ place → slice_get (map f xs) place ≡ None
 seen_past f xs place past = slice_get-map f xs place ∙ ap (option_map f) (slice_get_past xs place past)
 
--- Frames are queued for a device if its queue is replaced by a longer one.
+-- Replacing the queue of a slot by a longer one queues the frames for its device.
 pub sent_there : {X : Type 0} (f : X → List ℕ) (xs : List X) (place : ℕ) (x d : X) (e : Event) (frames : List ℕ) → place < length xs
     → f x ≡ kept e (f (get_or xs place d)) ++ frames → map f (set xs place x) ≡ sent_to place e frames (map f xs)
 sent_there f xs place x d e frames inside is =
@@ -34,7 +34,7 @@ pub sent_at : {X : Type 0} (f : X → List ℕ) (xs : List X) (place : ℕ) (x d
 sent_at f xs place x d e frames inside (inl is) = inl (sent_there f xs place x d e frames inside is)
 sent_at f xs place x d e frames inside (inr is) = inr (sent_there f xs place x d e [] inside is)
 
--- Beyond the last slot nothing changes.
+-- A slot number past the last slot changes no queue.
 pub sent_nowhere : {X : Type 0} (f : X → List ℕ) (xs : List X) (place : ℕ) (e : Event) (frames : List ℕ) → length xs ≤ place
     → IsSentTo place e frames (map f xs) (map f xs)
 sent_nowhere f xs place e frames past =

@@ -21,38 +21,41 @@ use Rattle.run_status.specs.declared.advice.lacks.DeviceLack.{DeviceLack}
 use Rattle.run_status.specs.declared.advice.lacks.Lack.{Lack}
 use Rattle.run_status.specs.declared.advice.lacks.Lack.TheVariants.{NoDevice, NoList, NoRegister, NotInList, NoMeter}
 
--- The name of a device, or `-` without one.
+-- The name of the device, or `-` if there is none.
 abbrev pub name_of : Option (List ℕ) → List ℕ
 name_of (Some name) = name
 name_of None = codes "-"
 
--- The device that a message is about.
+-- The beginning of a message, with the device that it concerns.
 abbrev pub with_subject : (device : Option (List ℕ)) → List ℕ → List ℕ
 with_subject device text = text ++ codes "sunreg: " ++ name_of device
 
--- A reading needs the two registers of the counter, and that of the scale.
+-- The first Modbus address that a reading needs, from the address of the counter and the source of
+-- the scale. The counter has two registers.
 abbrev pub first_by : (counter : ℕ) → ScaleSource → ℕ
 first_by counter (source.Fixed sf) = counter
 first_by counter (source.Register address) = min counter address
 
--- The last address that a reading needs, by the address of the counter.
+-- The last Modbus address that a reading needs, from the address of the counter and the source of
+-- the scale.
 abbrev pub last_by : (counter : ℕ) → ScaleSource → ℕ
 last_by counter (source.Fixed sf) = counter + 1
 last_by counter (source.Register address) = max (counter + 1) address
 
--- The first address that a reading of the register needs.
+-- The first Modbus address that a reading of the accounting register needs.
 abbrev pub first_needed : Register → ℕ
 first_needed register = first_by register.address register.scale
 
--- The last address that a reading of the register needs.
+-- The last Modbus address that a reading of the accounting register needs.
 abbrev pub last_needed : Register → ℕ
 last_needed register = last_by register.address register.scale
 
--- The device in whose list the register is missing.
+-- The part of a message that names the device whose point list lacks the register.
 abbrev pub with_list_of : (device : Option (List ℕ)) → List ℕ → List ℕ
 with_list_of device text = text ++ codes ": missing from the point list of " ++ name_of device
 
--- No read has the register, and this is what such a read needs.
+-- The message that no read of the point list covers the register, with the addresses that such a
+-- read needs.
 abbrev pub with_unread : (device : Option (List ℕ)) → Register → List ℕ → List ℕ
 with_unread device register text =
     with_list_of device (text ++ codes "sunreg: register " ++ register.name)
@@ -60,21 +63,21 @@ with_unread device register text =
     ++ decimal (first_needed register)
     ++ codes " to " ++ decimal (last_needed register) ++ codes " to it\n"
 
--- No meter is open at the register.
+-- The message that no meter is open at the register.
 abbrev pub with_unmetered : Register → List ℕ → List ℕ
 with_unmetered register text =
     text ++ codes "sunreg: register " ++ register.name
     ++ codes ": no open meter; install one with POST /registers/" ++ register.name
     ++ codes "/install\n"
 
--- The device has no list yet.
+-- The message that the device has no point list yet.
 abbrev pub with_unlisted : (device : Option (List ℕ)) → List ℕ → List ℕ
 with_unlisted device text =
     with_subject device text
     ++ codes ": no point list; create one with sunreg scan --list, then POST /devices/"
     ++ name_of device ++ codes "/list\n"
 
--- What a device lacks, and what to do.
+-- The message for what a device lacks, with what to do.
 abbrev pub with_lack_of : (device : Option (List ℕ)) → Lack → List ℕ → List ℕ
 with_lack_of device NoDevice text =
     with_subject device text
@@ -86,48 +89,48 @@ with_lack_of device NoRegister text =
 with_lack_of device (NotInList register) text = with_unread device register text
 with_lack_of device (NoMeter register) text = with_unmetered register text
 
--- What a device lacks, and what to do.
+-- The message for one lack of a device, with what to do.
 abbrev pub with_lack : DeviceLack → List ℕ → List ℕ
 with_lack lack text = with_lack_of lack.device lack.lack text
 
--- What a number means, and what to do.
+-- The meaning of a number, and what to do, after the text `before`.
 abbrev pub with_meaning : (before : List ℕ) → Meaning → List ℕ → List ℕ
 with_meaning before meaning text =
     text ++ before ++ meaning.means.now ++ codes "; " ++ meaning.remedy.now ++ codes "\n"
 
--- A device that isn't found at its connection is not in the store. A device whose round isn't found
--- has no list.
+-- What a device lacks if this event was refused with "not found". For a connection, the device is
+-- not in the store. For the start of a round, the device has no point list.
 abbrev pub lack_at : Event → Option Lack
 lack_at (event.Connected given) = Some NoDevice
 lack_at (event.Command (command.StartRound start)) = Some NoList
 lack_at _ = None
 
--- What the device lacks after this refusal, if that says more than the number.
+-- What the device lacks by this refusal of its event. None if the number of the refusal says more.
 abbrev pub lack_by : Event → Refusal → Option Lack
 lack_by e refusal.NotFound = lack_at e
 lack_by e _ = None
 
--- The line says what the number means.
+-- The meaning of this number was appended after `before`.
 abbrev pub MeansAfter : Kind → (number : ℕ) → (before old new : List ℕ) → Type 0
 MeansAfter k number before old new =
     (meaning : Bor Meaning) × IsMeaningOf k number meaning
     × (new ≡ with_meaning before meaning.now old)
 
--- What the device lacks, or what the number of the refusal means.
+-- What the device lacks was appended; without a lack, the meaning of the refusal's number.
 abbrev pub RefusalAfter : Option Lack → (device : Option (List ℕ)) → Refusal
     → (old new : List ℕ) → Type 0
 RefusalAfter (Some lack) device why old new = new ≡ with_lack_of device lack old
 RefusalAfter None device why old new =
     MeansAfter kind.Refused (refusal_number why) (codes ": ") (with_subject device old) new
 
--- The line says what the device lacks if its event was refused for that, otherwise what the number
--- means.
+-- On success, a message was appended: what the device lacks if its event was refused for that,
+-- otherwise the meaning of the refusal's number.
 abbrev pub PutsRefusal : {E : Type 0} → (device : Option (List ℕ)) → Event → Refusal
     → (old new : List ℕ) → Result (Unit {0}) E → Type 0
 PutsRefusal device e why old new result =
     OnOk result (RefusalAfter (lack_by e why) device why old new)
 
--- Why a reading of a meter was rejected, and what to do.
+-- On success, a message was appended: why a reading of the meter was rejected, and what to do.
 abbrev pub PutsHeld : {E : Type 0} → (meter : List ℕ) → Cause → (old new : List ℕ)
     → Result (Unit {0}) E → Type 0
 PutsHeld meter cause old new result =

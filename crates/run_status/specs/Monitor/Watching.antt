@@ -1,4 +1,4 @@
--- What a monitor keeps of an event.
+-- What a monitor keeps of each event: counts, device states and frames.
 use Rattle.std.specs.Prelude.{◌≡◌, ℕ, Bool, true, false, List, slice_get, slice_set, Option, Some, None, Result, Ok, Err, if◌then◌else◌}
 use Rattle.std.specs.List.{list_any}
 use Rattle.office_events.specs.declared.answers.Answer.{Answer}
@@ -14,22 +14,23 @@ use Rattle.office_events.specs.Showing.{Shown}
 use Rattle.run_status.specs.Monitor.Output.{IsSentFor, queues_of}
 use Rattle.run_status.specs.declared.monitor.run_monitor.RunMonitor.{RunMonitor}
 
--- A device that is not connected.
+-- The state of a device that has no connection and no reading.
 abbrev pub unconnected : (name : Option (List ℕ)) → DeviceState
 unconnected name = record { name = name; connected = false; latest = None }
 
--- A reading was accepted.
+-- The notification reports an accepted reading.
 abbrev pub is_reading : Note → Bool
 is_reading (note.Outcome poll outcome) = false
 is_reading (note.Reading meter raw rolls step) = true
 is_reading (note.Held meter raw cause) = false
 
--- A device is connected from the time when the office accepts its connection until it is gone.
+-- Whether the device is connected after the answer to its connection: yes if the office accepted
+-- it, otherwise as before.
 abbrev pub connected_by : (before : Bool) → Result Answer Refusal → Bool
 connected_by before (Ok given) = true
 connected_by before (Err why) = before
 
--- The device is connected after the event.
+-- Whether the device is connected after this event.
 abbrev pub is_connected : (before : Bool) → Event → Result Answer Refusal → Bool
 is_connected before (event.Connected given) answer = connected_by before answer
 is_connected before (event.Bytes given piece) answer = before
@@ -38,7 +39,7 @@ is_connected before (event.Gone given closing) answer = false
 is_connected before (event.Command c) answer = before
 is_connected before (event.Asked asked) answer = before
 
--- The state of a device after an event.
+-- The state of a device after this event.
 abbrev pub followed : (at : ℕ) → Event → Result Answer Refusal → List Note → DeviceState
     → DeviceState
 followed at e answer notes state = record {
@@ -47,31 +48,32 @@ followed at e answer notes state = record {
   latest = if list_any is_reading notes then Some at else state.latest;
 }
 
--- The states after an event of the device of a slot, if there is one.
+-- The device states after this event at the device in slot `place`. They are unchanged if no device
+-- has that slot.
 abbrev pub followed_in : ℕ → Option DeviceState → (at : ℕ) → Event → Result Answer Refusal
     → List Note → List DeviceState → List DeviceState
 followed_in place None at e answer notes states = states
 followed_in place (Some state) at e answer notes states =
     slice_set states place (followed at e answer notes state)
 
--- The states after an event of the device of a slot.
+-- The device states after this event at the device in the given slot.
 abbrev pub followed_at : ℕ → (at : ℕ) → Event → Result Answer Refusal → List Note → List DeviceState
     → List DeviceState
 followed_at place at e answer notes states =
     followed_in place (slice_get states place) at e answer notes states
 
--- The states after an event, which may belong to no slot.
+-- The device states after this event. An event without a slot changes none.
 abbrev pub followed_for : Option ℕ → (at : ℕ) → Event → Result Answer Refusal → List Note
     → List DeviceState → List DeviceState
 followed_for None at e answer notes states = states
 followed_for (Some place) at e answer notes states = followed_at place at e answer notes states
 
--- The counts after an event: a refusal and each notification are counted.
+-- The counts after an event: a refusal and each notification of the event are counted.
 abbrev pub counted : Result Answer Refusal → List Note → Counts → Counts
 counted (Ok given) notes counts = noted_all notes counts
 counted (Err why) notes counts = noted_all notes (refused counts)
 
--- What a monitor keeps of an event.
+-- What a monitor keeps of this event: the counts, the device states and the frames to send.
 pub record Keeps (old : RunMonitor) (shown : Shown) (new : RunMonitor) : Type 0 where
   pub counts : new.counts ≡ counted shown.answer shown.notes old.counts
   pub states : new.states.items

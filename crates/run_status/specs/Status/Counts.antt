@@ -9,7 +9,7 @@ use Rattle.office_events.specs.declared.answers.Note.TheVariants as note
 use Rattle.office_events.specs.Numbers.{one_more}
 use Rattle.run_status.specs.declared.status.counts.Counts.{Counts}
 
--- No event was counted yet.
+-- Counts that are all 0.
 abbrev pub nothing : Counts
 nothing = record {
   answered = 0;
@@ -22,7 +22,7 @@ nothing = record {
   refusals = 0;
 }
 
--- A poll that ended is counted by its outcome.
+-- The counts after a poll ended with this outcome.
 abbrev pub ended : Outcome → Counts → Counts
 ended Answered counts = record counts { answered = one_more counts.answered }
 ended (Exception code) counts = record counts { exceptions = one_more counts.exceptions }
@@ -30,7 +30,8 @@ ended Silent counts = record counts { silent = one_more counts.silent }
 ended (Malformed wrong) counts = record counts { malformed = one_more counts.malformed }
 ended (Lost cause) counts = record counts { lost = one_more counts.lost }
 
--- A rejected reading is counted. The index of its cause is the number of the cause less one.
+-- The counts after a reading was rejected for this cause. The index of a cause is its number less
+-- one.
 abbrev pub held_for : Cause → Counts → Counts
 held_for cause counts =
     record counts {
@@ -38,18 +39,18 @@ held_for cause counts =
           (one_more (slice_index counts.held (cause_number cause - 1)));
     }
 
--- A notification is counted.
+-- The counts after this notification.
 abbrev pub noted : Note → Counts → Counts
 noted (note.Outcome poll outcome) counts = ended outcome counts
 noted (note.Reading meter raw rolls step) counts =
     record counts { readings = one_more counts.readings }
 noted (note.Held meter raw cause) counts = held_for cause counts
 
--- Notifications are counted in order.
+-- The counts after these notifications, in order.
 abbrev pub noted_all : List Note → Counts → Counts
 noted_all [] counts = counts
 noted_all (one ∷ notes) counts = noted_all notes (noted one counts)
 
--- A refusal is counted.
+-- The counts after one more refusal.
 abbrev pub refused : Counts → Counts
 refused counts = record counts { refusals = one_more counts.refusals }

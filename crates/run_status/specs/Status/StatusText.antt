@@ -5,44 +5,45 @@ use Rattle.run_status.specs.declared.advice.lacks.DeviceLack.{DeviceLack}
 use Rattle.run_status.specs.declared.status.counts.Counts.{Counts}
 use Rattle.run_status.specs.declared.status.status.DeviceState.{DeviceState}
 
--- A name. It consists of letters, digits, `_` and `-`, so JSON need not escape it.
+-- The text `before` and a name. Names consist of letters, digits, `_` and `-`, so JSON need not
+-- escape them.
 abbrev pub with_name_of : List ℕ → (before : List ℕ) → Option (List ℕ) → List ℕ
 with_name_of text before None = text ++ before
 with_name_of text before (Some name) = text ++ before ++ name
 
--- The name of a device.
+-- The text `before` and the name of a device.
 abbrev pub with_name : List ℕ → (before : List ℕ) → DeviceState → List ℕ
 with_name text before device = with_name_of text before device.name
 
--- Whether the device is connected.
+-- The JSON member for whether the device is connected.
 abbrev pub with_connected : List ℕ → Bool → List ℕ
 with_connected text true = text ++ codes "\",\"connected\":true"
 with_connected text false = text ++ codes "\",\"connected\":false"
 
--- The time of the device's latest accepted reading.
+-- The JSON member for the time of the device's latest accepted reading.
 abbrev pub with_latest : List ℕ → Option ℕ → List ℕ
 with_latest text None = text ++ codes ",\"last_reading\":null"
 with_latest text (Some moment) = text ++ codes ",\"last_reading\":" ++ decimal moment
 
--- A device.
+-- A device as JSON.
 abbrev pub with_device : (before : List ℕ) → List ℕ → DeviceState → List ℕ
 with_device before text device =
     with_latest (with_connected (with_name text before device) device.connected) device.latest
     ++ codes "}"
 
--- More devices, each after a comma.
+-- Further devices as JSON, each with a comma before it.
 abbrev pub with_more_devices : List ℕ → List DeviceState → List ℕ
 with_more_devices text [] = text
 with_more_devices text (device ∷ devices) =
     with_more_devices (with_device (codes ",{\"name\":\"") text device) devices
 
--- Devices with commas between them.
+-- All devices as JSON, with commas between them.
 abbrev pub with_devices : List ℕ → List DeviceState → List ℕ
 with_devices text [] = text
 with_devices text (device ∷ devices) =
     with_more_devices (with_device (codes "{\"name\":\"") text device) devices
 
--- Polls that ended, by outcome, and accepted readings.
+-- The JSON members for ended polls by outcome, and for accepted readings.
 abbrev pub with_polls : List ℕ → Counts → List ℕ
 with_polls text counts =
     text ++ codes "],\"polls\":{\"answered\":" ++ decimal counts.answered ++ codes ",\"exception\":"
@@ -52,7 +53,7 @@ with_polls text counts =
     ++ codes ",\"lost\":" ++ decimal counts.lost ++ codes "},\"readings\":"
     ++ decimal counts.readings
 
--- Rejected readings, by cause.
+-- The JSON member for rejected readings by cause.
 abbrev pub with_held : List ℕ → List ℕ → List ℕ
 with_held text held =
     text ++ codes ",\"held\":{\"not_accumulated\":" ++ decimal (slice_index held 0)
@@ -64,14 +65,14 @@ with_held text held =
     ++ codes ",\"total_full\":" ++ decimal (slice_index held 6) ++ codes ",\"not_below_range\":"
     ++ decimal (slice_index held 7)
 
--- The devices and all counts.
+-- The JSON of the devices and all counts.
 abbrev pub with_counts : List ℕ → Counts → List DeviceState → List ℕ
 with_counts text counts devices =
     with_held (with_polls (with_devices (text ++ codes "{\"devices\":[") devices) counts)
     counts.held
     ++ codes "},\"refusals\":" ++ decimal counts.refusals
 
--- The complete status.
+-- The complete status as JSON.
 abbrev pub with_status : List ℕ → Counts → List DeviceState → List DeviceLack → List ℕ
 with_status text counts devices lacks =
     with_lacks (with_counts text counts devices) lacks ++ codes "}\n"

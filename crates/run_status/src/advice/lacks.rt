@@ -15,32 +15,32 @@ use std::alloc::AllocError;
 pub enum Lack {
     /// The store has no device of this name.
     NoDevice,
-    /// The device has no point list.
+    /// The device has no point list in the store.
     NoList,
-    /// The device has no register.
+    /// The device has no accounting register in the store.
     NoRegister,
-    /// No read of the list has both the counter of this register and its scale.
+    /// No read of the point list covers both the counter and the scale of this accounting register.
     NotInList(Register),
-    /// No meter is open at this register.
+    /// No meter is open at this accounting register.
     NoMeter(Register),
 }
 
-/// A device of the command line, and something that it lacks.
+/// A device that the command line names, and one thing that it lacks.
 #[derive(Clone, Copy, Debug, PartialEq, Eq)]
 pub struct DeviceLack {
     pub device: Option<Name>,
     pub lack: Lack,
 }
 
-// Returns whether one of these reads gives a reading of the register.
+// Returns whether one of these reads covers the counter and the scale of the register.
 fn is_read(reads: &[PlannedRead], register: &Register) -> bool
     ensures { result ≡ specs.is_read reads.now register.now }
 {
     reads.iter().any(|read| is_read_by(read.span, register))
 }
 
-// Returns whether a read of the list gives a reading of the register. It is true without a list,
-// since then `NoList` is reported.
+// Returns whether a read of the point list covers the register. Without a list it returns true,
+// because `NoList` is reported then.
 fn is_in_list(list: &Option<PlannedList>, register: &Register) -> bool
     ensures { result ≡ specs.is_in_list list.now register.now }
 {
@@ -81,7 +81,7 @@ fn has_device<B: Books>(books: &mut B, name: &Name) -> Result<bool, BooksFault>
     Ok(has_name(&books.devices()?, name))
 }
 
-// Adds a lack if `is_lacking`.
+// Adds this lack of the device if `is_lacking` is true.
 fn add(
     lacks: &mut Vec<DeviceLack>,
     device: &Name,
@@ -136,7 +136,7 @@ fn add_of_registers<B: Books>(
     Ok(())
 }
 
-// Adds what a device of the store lacks.
+// Adds everything that a device of the store lacks.
 fn add_of_device<B: Books>(
     lacks: &mut Vec<DeviceLack>,
     books: &mut B,
@@ -153,7 +153,7 @@ fn add_of_device<B: Books>(
     add_of_registers(lacks, books, device, &list, &registers)
 }
 
-// Adds what the device of this name lacks.
+// Adds everything that the device of this name lacks, or that the store has no such device.
 fn add_of_name<B: Books>(
     lacks: &mut Vec<DeviceLack>,
     books: &mut B,

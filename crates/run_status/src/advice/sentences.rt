@@ -19,7 +19,7 @@ fn put_subject(text: &mut Vec<u8>, device: &Option<Name>) -> Result<(), AllocErr
     }
 }
 
-// Returns the first address that a reading of the register needs.
+// Returns the first Modbus address that a reading of the register needs.
 fn first_needed(register: &Register) -> u64
     ensures { result ≡ sentences.first_needed register.now }
 {
@@ -30,7 +30,7 @@ fn first_needed(register: &Register) -> u64
     }
 }
 
-// Returns the last address that a reading of the register needs.
+// Returns the last Modbus address that a reading of the register needs.
 fn last_needed(register: &Register) -> u64
     ensures { result ≡ sentences.last_needed register.now }
 {
@@ -41,7 +41,7 @@ fn last_needed(register: &Register) -> u64
     }
 }
 
-// Appends the device in whose list the register is missing.
+// Appends the name of the device whose point list lacks the register.
 fn put_list_of(text: &mut Vec<u8>, device: &Option<Name>) -> Result<(), AllocError>
     ensures { OnOk result (text.new.items ≡ sentences.with_list_of device.now text.old.items) }
 {
@@ -51,7 +51,7 @@ fn put_list_of(text: &mut Vec<u8>, device: &Option<Name>) -> Result<(), AllocErr
     }
 }
 
-// Appends that no read has a register, and what such a read needs.
+// Appends that no read of the point list covers a register, and which addresses such a read needs.
 fn put_unread(
     text: &mut Vec<u8>,
     device: &Option<Name>,
@@ -129,7 +129,7 @@ pub fn put_lack(text: &mut Vec<u8>, lack: &DeviceLack) -> Result<(), AllocError>
     }
 }
 
-// Appends what a number means, and what to do.
+// Appends the meaning of a number, and what to do.
 fn put_meaning(text: &mut Vec<u8>, before: &[u8], meaning: &Meaning) -> Result<(), AllocError>
     ensures { OnOk result (text.new.items
         ≡ sentences.with_meaning before.now meaning.now text.old.items) }
@@ -139,7 +139,8 @@ fn put_meaning(text: &mut Vec<u8>, before: &[u8], meaning: &Meaning) -> Result<(
     put(text, b"\n")
 }
 
-// Returns what the device lacks after this refusal, if that says more than the number.
+// Returns what the device lacks by this refusal of its event. `None` if the number of the refusal
+// says more.
 fn lack_by(event: &Event, why: Refusal) -> Option<Lack>
     ensures { result ≡ sentences.lack_by event.now why }
 {

@@ -5,7 +5,7 @@ ghost use Rattle.run_status.specs.Advice.Told as specs;
 use office_events::Name;
 use std::alloc::{AllocError, Global};
 
-/// The most devices and meters whose last number is kept.
+/// The most devices and meters for which the last number is kept.
 pub const MOST_TOLD: usize = 512;
 
 /// What a number is about.
@@ -59,7 +59,7 @@ impl ToldNumber {
     ghost use Rattle.std.specs.Prelude.{◌≡◌};
     ghost use Rattle.run_status.specs.Advice.Told as specs;
 
-    // Returns whether both are about the same topic of the same device or meter.
+    // Returns whether both entries have the same topic, and the same device or meter.
     fn is_of_same(&self, other: &ToldNumber) -> bool
         ensures { result ≡ specs.are_of_same self.now other.now }
     {
@@ -67,8 +67,8 @@ impl ToldNumber {
     }
 }
 
-/// The number that was last reported about each device and meter. It prevents reporting the same
-/// number twice in a row.
+/// The last reported number of each device and meter. With it, no number is reported twice in a
+/// row.
 #[derive(Drop)]
 pub struct Told {
     pub numbers: Vec<ToldNumber>,
@@ -78,7 +78,7 @@ impl Told {
     ghost use Rattle.std.specs.Prelude.{◌≡◌, [], is_ok};
     ghost use Rattle.run_status.specs.Advice.Told as specs;
 
-    /// Makes an empty record.
+    /// Makes a record without any number.
     pub fn new(alloc: Global) -> Told
         ensures { result.numbers.items ≡ [] }
     {
@@ -87,14 +87,14 @@ impl Told {
         }
     }
 
-    // Returns the index of the same topic, device or meter.
+    // Returns the index of the entry with the same topic, and the same device or meter.
     fn place_of(&self, told: &ToldNumber) -> Option<usize>
         ensures { result ≡ specs.place_of told.now self.now.numbers.items }
     {
         self.numbers.iter().position(|one| one.is_of_same(told))
     }
 
-    // Adds a device or meter, if there is memory.
+    // Adds an entry for a device or meter, if there is memory.
     fn push(&mut self, topic: Topic, name: Option<Name>, number: u8) -> Result<(), AllocError>
         ensures { self.new.numbers.items
             ≡ specs.pushed (is_ok result) (specs.told_number topic name number)
@@ -108,14 +108,14 @@ impl Told {
         Ok(())
     }
 
-    // Adds a device or meter. Returns whether there was room.
+    // Adds an entry for a device or meter. Returns whether there was room.
     fn add(&mut self, told: ToldNumber) -> bool
         ensures { specs.Adds told self.old.numbers.items self.new.numbers.items result }
     {
         self.numbers.len() < MOST_TOLD && self.push(told.topic, told.name, told.number).is_ok()
     }
 
-    // Replaces the number at an index. Returns whether the number is a different one.
+    // Replaces the number of the entry at an index. Returns whether the number is a different one.
     fn change(&mut self, place: usize, told: ToldNumber) -> bool
         ensures { specs.Changes place told self.old.numbers.items self.new.numbers.items result }
     {
@@ -129,9 +129,9 @@ impl Told {
         true
     }
 
-    /// Returns whether to report a number about a device or meter, and records it as reported.
+    /// Records a number about a device or meter, and returns whether to report it.
     ///
-    /// The number is reported if the last one about the same topic was another, or there was none.
+    /// The number is reported if the last one on the same topic was different, or there was none.
     /// Nothing is reported about a device or meter for which there is no room.
     pub fn tell(&mut self, told: ToldNumber) -> bool
         ensures { specs.TellsNumber told self.old.numbers.items self.new.numbers.items result }

@@ -1,4 +1,4 @@
-//! The state of a device after an event of it.
+//! The state of a device after an event at it.
 ghost use Rattle.std.specs.Prelude.{◌≡◌};
 ghost use Rattle.std.specs.List.{list_any};
 ghost use Rattle.run_status.specs.Monitor.Watching as watching;
@@ -47,7 +47,7 @@ fn is_connected(before: bool, event: &Event, answer: Result<Answer, Refusal>) ->
     }
 }
 
-/// Returns the state of the device after an event.
+/// Returns the state of a device after an event at it.
 pub(crate) fn followed(
     state: DeviceState,
     at: u64,

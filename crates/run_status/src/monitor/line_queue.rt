@@ -5,7 +5,7 @@ ghost use Rattle.run_status.specs.Monitor.Queues as queues;
 use crate::status::{put, put_number};
 use std::alloc::{AllocError, Global};
 
-/// The most bytes in the queue, unless a single text is longer.
+/// The most bytes in the queue. A single text may be longer if the queue is empty.
 pub const MOST_WAITING: usize = 65_536;
 
 /// A queue of lines to write. If there is no room, it drops and counts lines until all waiting ones
@@ -16,7 +16,7 @@ pub struct LineQueue {
     pub bytes: Vec<u8>,
     /// How many of these bytes were written.
     pub written: usize,
-    /// How many dropped lines were not reported yet.
+    /// How many lines were dropped and not yet reported.
     pub dropped: u64,
 }
 
@@ -26,7 +26,7 @@ fn count_lines(text: &[u8]) -> u64
     text.iter().filter(|byte| **byte == b'\n').count() as u64
 }
 
-// Appends a line with the number of lines that were dropped until `at`.
+// Appends the line that reports how many lines were dropped up to the time `at`.
 fn put_dropped(text: &mut Vec<u8>, at: u64, dropped: u64) -> Result<(), AllocError>
     ensures { OnOk result (text.new.items ≡ queues.with_dropped at dropped text.old.items) }
 {
@@ -111,8 +111,8 @@ impl LineQueue {
         self.put_after(lines);
     }
 
-    /// Adds a line with the number of lines that were dropped until `at`, once all waiting lines
-    /// were written. If there is no memory for the line, it is added later.
+    /// Once all waiting lines were written, adds a line with the number of lines that were dropped
+    /// up to the time `at`. If there is no memory for that line, a later call adds it.
     pub fn tell_dropped(&mut self, at: u64)
         ensures { queues.TellsDropped at (queue_of self.old) (queue_of self.new) }
     {

@@ -13,7 +13,7 @@ pub struct RunMonitor {
     pub counts: Counts,
     /// The state of each device, by slot.
     pub states: Vec<DeviceState>,
-    /// The bytes to send to each device, by slot.
+    /// For each slot, the bytes to send to its device.
     pub outgoing: Vec<Vec<u8>>,
 }
 
@@ -43,8 +43,8 @@ impl RunMonitor {
         })
     }
 
-    /// Removes and returns the bytes to send to the device of a slot, in order. Frames for which
-    /// memory ran out are missing, and their polls time out.
+    /// Removes and returns the bytes to send to the device of a slot, in order. If memory ran out
+    /// for frames, they are missing, and their polls time out.
     #[tactic(auto, using(crate::proofs::MonitorLemmas::Queues::taken_there, crate::proofs::MonitorLemmas::Queues::taken_nowhere))]
     pub fn take_outgoing(&mut self, place: usize) -> Vec<u8>
         ensures taken { result.items ≡ taken_at place (queues_of self.old) }

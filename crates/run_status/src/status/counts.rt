@@ -14,7 +14,7 @@ pub struct Counts {
     pub lost: u64,
     /// Accepted readings.
     pub readings: u64,
-    /// Rejected readings by cause. The cause with number 1 comes first.
+    /// Rejected readings by cause. Index 0 is the cause with number 1.
     pub held: [u64; 8],
     /// Events that the office refused.
     pub refusals: u64,

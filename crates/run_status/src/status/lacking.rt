@@ -51,7 +51,7 @@ fn put_lack(text: &mut Vec<u8>, before: &[u8], lack: &DeviceLack) -> Result<(), 
     put_what(text, &lack.lack)
 }
 
-// Appends lacks, each after a comma.
+// Appends further lacks as JSON, each with a comma before it.
 fn put_more_lacks(text: &mut Vec<u8>, lacks: &[DeviceLack]) -> Result<(), AllocError>
     ensures { OnOk result (text.new.items ≡ json.with_more_lacks text.old.items lacks.now) }
 {
@@ -61,7 +61,7 @@ fn put_more_lacks(text: &mut Vec<u8>, lacks: &[DeviceLack]) -> Result<(), AllocE
     Ok(())
 }
 
-// Appends lacks, with a comma from the second on.
+// Appends all lacks as JSON, with commas between them.
 fn put_each(text: &mut Vec<u8>, lacks: &[DeviceLack]) -> Result<(), AllocError>
     ensures { OnOk result (text.new.items ≡ json.with_each text.old.items lacks.now) }
 {
@@ -74,7 +74,7 @@ fn put_each(text: &mut Vec<u8>, lacks: &[DeviceLack]) -> Result<(), AllocError>
     }
 }
 
-/// Appends what devices lack, as a member of an object.
+/// Appends the JSON member `lacks` of the status.
 pub(crate) fn put_lacks(text: &mut Vec<u8>, lacks: &[DeviceLack]) -> Result<(), AllocError>
     ensures { OnOk result (text.new.items ≡ json.with_lacks text.old.items lacks.now) }
 {

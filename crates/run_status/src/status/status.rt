@@ -50,7 +50,7 @@ fn put_device(text: &mut Vec<u8>, before: &[u8], device: &DeviceState) -> Result
     put(text, b"}")
 }
 
-// Appends devices, each after a comma.
+// Appends further devices as JSON, each with a comma before it.
 fn put_more_devices(text: &mut Vec<u8>, devices: &[DeviceState]) -> Result<(), AllocError>
     ensures { OnOk result (text.new.items ≡ json.with_more_devices text.old.items devices.now) }
 {

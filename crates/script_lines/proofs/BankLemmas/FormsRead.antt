@@ -48,7 +48,7 @@ three_spelled (word ∷ words) v h =
     let two = bound (two_said words) _ v k.2 in
     subst (λ (v : Kind × ℕ × ℕ). Spell (word ∷ words) (three_form v)) (same _ v two.2) (kind_is word k.0 k.1, two_form words two.0 two.1)
 
--- The words of a fault to inject.
+-- The words spell this injected fault.
 abbrev IsTrick : List (List ℕ) → Trick → Type 0
 IsTrick words t = Spell words (trick_form t) × IsPart t
 

@@ -1,4 +1,5 @@
--- The results of the private parsers of a line, word by word. `Forms` defines the lines themselves.
+-- The results of the private functions that parse a line of the simulator word by word. `Forms`
+-- defines the lines themselves.
 use Rattle.std.specs.Prelude.{ℕ, nat_le, if◌then◌else◌, List, [], ◌∷◌, Option, Some, None, codes}
 use Rattle.std.specs.Str.{bytes_eq}
 use Rattle.mb_device.specs.declared.kinds.Kind.{Kind}
@@ -10,7 +11,7 @@ use Rattle.script_lines.specs.declared.bank.bank.BankLine.TheVariants as line
 use Rattle.mb_device.specs.declared.trick.Trick.{Trick}
 use Rattle.mb_device.specs.declared.trick.Trick.TheVariants as trick
 
--- The kinds of addresses, by name.
+-- The kinds of Modbus addresses (coil, discrete input, holding and input register), by name.
 abbrev pub kinds : List (List ℕ × Kind)
 kinds =
     (codes "coil", kind.Coil)
@@ -19,23 +20,24 @@ kinds =
     ∷ (codes "input", kind.Input)
     ∷ []
 
--- The kind of a name.
+-- The kind of addresses with this name.
 abbrev pub kind_of : List ℕ → Option Kind
 kind_of word = meaning_in kinds word
 
--- Two numbers, and no more words.
+-- The two numbers that the words spell. None if the words are not exactly two numbers.
 abbrev pub two_said : List (List ℕ) → Option (ℕ × ℕ)
 two_said words =
     first_value Number words >>= λ a. first_value Number a.1 >>= λ b. nothing_more b.1 >>= λ none.
     Some (a.0, b.0)
 
--- A kind, two numbers, and no more words.
+-- The kind of addresses and the two numbers that the words spell. None if they are not exactly
+-- these three.
 abbrev pub three_said : List (List ℕ) → Option (Kind × ℕ × ℕ)
 three_said [] = None
 three_said (word ∷ words) =
     kind_of word >>= λ kind. two_said words >>= λ two. Some (kind, two.0, two.1)
 
--- The faults with a name of one word.
+-- The injected faults whose name is one word, by name.
 abbrev pub tricks : List (List ℕ × Trick)
 tricks =
     (codes "drop", trick.Drop)
@@ -46,40 +48,40 @@ tricks =
     ∷ (codes "garble", trick.Garble)
     ∷ []
 
--- The fault of a name of one word.
+-- The injected fault with this name.
 abbrev pub plain_of : List ℕ → Option Trick
 plain_of word = meaning_in tricks word
 
--- A cut response, by the number of bytes that it keeps.
+-- The injected fault that cuts a response, from the number of bytes that it keeps.
 abbrev pub cut_said : List (List ℕ) → Option Trick
 cut_said words =
     first_value Number words >>= λ count. nothing_more count.1 >>= λ none. if nat_le count.0 259
     then Some (trick.Cut count.0) else None
 
--- A fault.
+-- The injected fault that the words spell.
 abbrev pub trick_said : List (List ℕ) → Option Trick
 trick_said [] = None
 trick_said (word ∷ words) =
     if bytes_eq word (codes "cut") then cut_said words
     else (plain_of word >>= λ trick. nothing_more words >>= λ none. Some trick)
 
--- A frame and the fault to inject.
+-- The line that injects a fault into the response to a frame, by the number of the frame.
 abbrev pub frame_said : List (List ℕ) → Option BankLine
 frame_said words =
     first_value Number words >>= λ frame. trick_said frame.1 >>= λ trick.
     Some (line.Trick frame.0 trick)
 
--- An area of the register map.
+-- The line that adds an area to the register map.
 abbrev pub area_said : List (List ℕ) → Option BankLine
 area_said words =
     three_said words >>= λ v. Some (line.Area (record { kind = v.0; start = v.1; count = v.2 }))
 
--- The value at an address.
+-- The line that sets the value at an address.
 abbrev pub set_said : List (List ℕ) → Option BankLine
 set_said words =
     three_said words >>= λ v. Some (line.Set (record { kind = v.0; address = v.1; value = v.2 }))
 
--- A line of a simulated device.
+-- The line of a simulated device that the words spell.
 abbrev pub bank_said : List (List ℕ) → Option BankLine
 bank_said [] = None
 bank_said (word ∷ words) =

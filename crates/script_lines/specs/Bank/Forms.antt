@@ -1,5 +1,5 @@
--- The forms of the lines that set up a simulated device: the fields that the words of each line
--- spell, in order.
+-- The form of each line that sets up a simulated device: a list of fields, which the words of the
+-- line spell in order.
 use Rattle.std.specs.Prelude.{ℕ, ◌≤◌, List, [], ◌∷◌, codes}
 use Rattle.mb_device.specs.declared.kinds.Kind.{Kind}
 use Rattle.mb_device.specs.declared.kinds.Kind.TheVariants as kind
@@ -9,14 +9,14 @@ use Rattle.script_lines.specs.declared.bank.bank.BankLine.TheVariants as line
 use Rattle.mb_device.specs.declared.trick.Trick.{Trick}
 use Rattle.mb_device.specs.declared.trick.Trick.TheVariants as trick
 
--- The name of a kind of addresses.
+-- The name of a kind of Modbus addresses.
 abbrev pub kind_word : Kind → List ℕ
 kind_word kind.Coil = codes "coil"
 kind_word kind.Discrete = codes "discrete"
 kind_word kind.Holding = codes "holding"
 kind_word kind.Input = codes "input"
 
--- The fields of a fault.
+-- The fields of an injected fault.
 abbrev pub trick_form : Trick → List Field
 trick_form trick.Drop = Word (codes "drop") ∷ []
 trick_form trick.Twice = Word (codes "twice") ∷ []
@@ -26,7 +26,7 @@ trick_form trick.Unit = Word (codes "unit") ∷ []
 trick_form trick.Garble = Word (codes "garble") ∷ []
 trick_form (trick.Cut count) = Word (codes "cut") ∷ Of Number count ∷ []
 
--- The fields of a line.
+-- The fields of a line of a simulated device.
 abbrev pub bank_form : BankLine → List Field
 bank_form (line.Area area) =
     Word (codes "area") ∷ Word (kind_word area.kind) ∷ Of Number area.start ∷ Of Number area.count
@@ -36,17 +36,18 @@ bank_form (line.Set cell) =
     ∷ []
 bank_form (line.Trick frame trick) = Word (codes "trick") ∷ Of Number frame ∷ trick_form trick
 
--- The bytes that a cut response keeps are less than a frame, which has at most 260 bytes.
+-- A cut response keeps fewer bytes than the longest frame, which has 260. Other faults have no such
+-- condition.
 abbrev pub IsPart : Trick → Type 0
 IsPart (trick.Cut count) = count ≤ 259
 IsPart trick = Unit {0}
 
--- The fault of the line is possible.
+-- If the line injects a fault, its number of kept bytes is in range.
 abbrev pub CanBe : BankLine → Type 0
 CanBe (line.Trick frame trick) = IsPart trick
 CanBe line = Unit {0}
 
--- The words are those of the line.
+-- The words spell this line of a simulated device.
 pub record IsBankLine (words : List (List ℕ)) (line : BankLine) : Type 0 where
   pub form : Spell words (bank_form line)
   pub can : CanBe line

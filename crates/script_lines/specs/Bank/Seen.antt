@@ -3,7 +3,7 @@ use Rattle.std.specs.Prelude.{◌≡◌, ℕ, List, Option, Some, None}
 use Rattle.script_lines.specs.Bank.Forms.{IsBankLine}
 use Rattle.script_lines.specs.declared.bank.bank.BankLine.{BankLine}
 
--- The line that the words spell, which is the only one, or None if they spell no line.
+-- The result of parsing: the only line that the words spell, or None if they spell none.
 abbrev pub ReadsBank : List (List ℕ) → Option BankLine → Type 0
 ReadsBank words (Some line) =
     IsBankLine words line × ((other : BankLine) → IsBankLine words other → other ≡ line)

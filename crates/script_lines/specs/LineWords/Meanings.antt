@@ -9,7 +9,7 @@ meaning_in [] word = None
 meaning_in (entry ∷ table) word =
     if bytes_eq entry.0 word then Some entry.1 else meaning_in table word
 
--- An entry of a table of borrowed words.
+-- An entry of a table with its borrowed word copied.
 abbrev pub entry_of : {T : Type 0} → Bor (List ℕ) × T → List ℕ × T
 entry_of entry = (entry.0.now, entry.1)
 

@@ -9,19 +9,19 @@ use Rattle.office_events.specs.declared.commands.GivenScale.{GivenScale}
 use Rattle.office_events.specs.declared.commands.GivenScale.TheVariants.{Fixed, Register}
 use Rattle.hex.specs.Hex.{decode_of, is_hex_digit}
 
--- The number, if it is at most 2^63 - 1. No number of a script is greater.
+-- The number, if it is at most 2^63 - 1, the greatest number in scripts.
 abbrev pub not_past : ℕ → Option ℕ
 not_past number = if nat_le number 9223372036854775807 then Some number else None
 
--- A number of one to nineteen digits, at most 2^63 - 1.
+-- The number that one to nineteen digits spell, if it is at most 2^63 - 1.
 abbrev pub number_of : List ℕ → Option ℕ
 number_of word = option_and_then not_past (number_of_digits 19 word)
 
--- Pairs of hexadecimal digits of either case.
+-- The word consists of pairs of hexadecimal digits, in either case.
 abbrev pub is_paired : List ℕ → Bool
 is_paired word = length word % 2 == 0 && list_all is_hex_digit word
 
--- The bytes that pairs of hexadecimal digits spell: 1 to 65,536 of them.
+-- The bytes that pairs of hexadecimal digits spell, if there are 1 to 65,536 bytes.
 abbrev pub bytes_of : List ℕ → Option (List ℕ)
 bytes_of word =
     if nat_le 1 (length word) && nat_le (length word) 131072 then result_ok (decode_of word)
@@ -31,23 +31,24 @@ bytes_of word =
 abbrev pub SpellsBytes : {Z : Type 0} → (word : List ℕ) → (found : Option (Vec ℕ Z)) → Type 0
 SpellsBytes word found = option_map (λ bytes. bytes.items) found ≡ bytes_of word
 
--- A name is any word that is not empty. The inner value is None if the office accepts no such name.
+-- The name in a word that is not empty. The inner value is None if the office accepts no such name.
 abbrev pub name_of : List ℕ → Option (Option (List ℕ))
 name_of [] = None
 name_of (byte ∷ bytes) = Some (named (byte ∷ bytes))
 
--- The negative number.
+-- The number with a minus sign.
 abbrev pub negative : ℕ → ℤ
 negative n = neg_ℤ (pos n)
 
--- A number that may follow a `-`.
+-- The integer that a word spells, with or without a `-` before it.
 abbrev pub signed_of : List ℕ → Option ℤ
 signed_of [] = None
 signed_of (byte ∷ bytes) =
     if byte == 45 then option_map negative (number_of bytes)
     else option_map pos (number_of (byte ∷ bytes))
 
--- `@` and the address of a register, or a fixed scale.
+-- The scale that a word spells: `@` (64) and the address of the Modbus register that holds it, or a
+-- fixed scale.
 abbrev pub scale_of : List ℕ → Option GivenScale
 scale_of [] = None
 scale_of (byte ∷ bytes) =

@@ -7,7 +7,7 @@ use crate::bank::bank::{BankLine, GivenArea, GivenCell};
 use crate::line_words::{Words, meaning_in, next_number, nothing_more};
 use mb_device::{Kind, Trick};
 
-/// The most bytes of an incomplete frame.
+/// The most bytes that a cut response keeps.
 const MOST_CUT: u64 = 259;
 
 const KINDS: &[(&str, Kind)] = &[
@@ -17,7 +17,7 @@ const KINDS: &[(&str, Kind)] = &[
     ("input", Kind::Input),
 ];
 
-// The faults with a name of one word.
+// The injected faults whose name is one word.
 const TRICKS: &[(&str, Trick)] = &[
     ("drop", Trick::Drop),
     ("twice", Trick::Twice),
@@ -30,7 +30,7 @@ const TRICKS: &[(&str, Trick)] = &[
 impl BankLine {
     ghost use Rattle.script_lines.specs.Bank.Seen.{ReadsBank};
 
-    /// Parses a line.
+    /// Parses a line that sets up a simulated device.
     pub fn read(line: &[u8]) -> Option<BankLine>
         ensures { ReadsBank (words_of line.now) result }
     {
@@ -54,7 +54,7 @@ fn line_in(line: &[u8]) -> Option<BankLine>
     }
 }
 
-// `KIND START COUNT`.
+// Parses `KIND START COUNT`: an area.
 fn area(words: &mut Words<'_>) -> Option<BankLine>
     ensures { result ≡ said.area_said words.old }
 {
@@ -62,7 +62,7 @@ fn area(words: &mut Words<'_>) -> Option<BankLine>
     Some(BankLine::Area(GivenArea { kind, start, count }))
 }
 
-// `KIND ADDRESS VALUE`.
+// Parses `KIND ADDRESS VALUE`: the value at an address.
 fn cell(words: &mut Words<'_>) -> Option<BankLine>
     ensures { result ≡ said.set_said words.old }
 {
@@ -74,7 +74,7 @@ fn cell(words: &mut Words<'_>) -> Option<BankLine>
     }))
 }
 
-// `N KIND`, or `N cut K`.
+// Parses `N KIND` or `N cut K`: a fault in the response to frame N.
 fn frame(words: &mut Words<'_>) -> Option<BankLine>
     ensures { result ≡ said.frame_said words.old }
 {
@@ -118,7 +118,7 @@ fn trick_in(words: &mut Words<'_>) -> Option<Trick>
     Some(trick)
 }
 
-// `K`, 0 to 259.
+// Parses `K`, 0 to 259: the bytes that a cut response keeps.
 fn cut(words: &mut Words<'_>) -> Option<Trick>
     ensures { result ≡ said.cut_said words.old }
 {

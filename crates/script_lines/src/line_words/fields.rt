@@ -18,7 +18,7 @@ fn any_name(word: &[u8]) -> Option<Option<Name>>
     }
 }
 
-// Parses a number that may follow a `-`.
+// Parses an integer, with or without a `-` before it.
 fn signed_number(word: &[u8]) -> Option<i64>
     ensures { result ≡ signed_of word.now }
 {
@@ -34,7 +34,7 @@ fn signed_number(word: &[u8]) -> Option<i64>
     }
 }
 
-// Parses `@` and the address of a register, or a fixed scale.
+// Parses a scale: `@` and the address of the Modbus register that holds it, or a fixed scale.
 fn given_scale(word: &[u8]) -> Option<GivenScale>
     ensures { result ≡ scale_of word.now }
 {
@@ -58,7 +58,7 @@ pub fn next_number(words: &mut Words<'_>) -> Option<u64>
     number(words.next_word()?)
 }
 
-/// Parses the next word as a number that may follow a `-`.
+/// Parses the next word as an integer, with or without a `-` before it.
 pub fn next_signed(words: &mut Words<'_>) -> Option<i64>
     ensures { option_map (λ number. (number, words.new)) result ≡ first_value Signed words.old }
 {

@@ -1,4 +1,4 @@
--- The lines of a text in order.
+-- Lemmas on running the lines of a text in order.
 use Rattle.std.proofs.Common.{◌≡◌, inl, inr, ℕ, Option, List, [], ◌∷◌, ◌++◌, refl, sym, subst, append_assoc, append-nil}
 use Rattle.std.specs.Prelude.{Result, Ok, Err}
 use Rattle.std.specs.Io.KnownBytes.{Appends}
@@ -11,8 +11,8 @@ use Rattle.script_run.specs.Bank.Settings.{Setting, takes}
 use Rattle.script_run.specs.Bank.Texts.{SetUpBegins, SetsUp, taken_text}
 use Rattle.script_run.specs.Bank.Running.{LineRan, LineRuns, TextRuns}
 
--- All lines print what was printed so far, and then what the remaining lines print. The same is
--- true of an interrupted run.
+-- The output of all lines is the output so far, followed by that of the remaining lines. The same
+-- is true of an interrupted run.
 pub record SoFar (start : Setting) (all : List Line) (now : Setting) (lines : List Line) (printed : List ℕ) : Type 0 where
   pub prints : (rest : List ℕ) (ended : Result Setting ExitStatus) → SetsUp now lines rest ended → SetsUp start all (printed ++ rest) ended
   pub begins : (part : List ℕ) → SetUpBegins now lines part → SetUpBegins start all (printed ++ part)

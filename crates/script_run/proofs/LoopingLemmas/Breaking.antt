@@ -1,4 +1,4 @@
--- The output of an interrupted run.
+-- Lemmas on the output of an interrupted run.
 use Rattle.std.proofs.Common.{inl, inr, ℕ, Bool, List, [], ◌++◌, Option, refl, sym, ◌∙◌, ap, append_assoc}
 use Rattle.std.specs.Prelude.{Result, Ok, Err, IsErr, true, false}
 use Rattle.std.specs.Io.KnownBytes.{Appends}
@@ -19,7 +19,7 @@ pub begins_as : (P Q : List ℕ → Type 0) (o o' : Option (List ℕ)) → ((pri
 begins_as P Q o o' turn (inl nothing) = inl nothing
 begins_as P Q o o' turn (inr (printed, prints, got)) = inr (printed, turn printed prints, got)
 
--- A part of a text that follows another text.
+-- A text was written, and then a part of another.
 pub part_after : (o m o' : Option (List ℕ)) (first second : List ℕ) → Appends o m first → GotPart second m o' → GotPart (first ++ second) o o'
 part_after o m o' first second appended (part, unwritten, whole, written) = (
   first ++ part,
@@ -33,7 +33,7 @@ pub part_of_longer : (o o' : Option (List ℕ)) (text more : List ℕ) → GotPa
 part_of_longer o o' text more (part, unwritten, whole, written) =
     (part, unwritten ++ more, ap (λ (front : List ℕ). front ++ more) whole ∙ append_assoc part unwritten more, written)
 
--- Nothing of a text.
+-- If nothing was written, that is a part of any text.
 pub part_of_none : (o o' : Option (List ℕ)) (text : List ℕ) → Appends o o' [] → GotPart text o o'
 part_of_none o o' text nothing = ([], text, refl, nothing)
 

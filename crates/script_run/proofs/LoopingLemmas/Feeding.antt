@@ -1,4 +1,4 @@
--- Events that are fed.
+-- Lemmas on events that are given to the office.
 use Rattle.std.proofs.Common.{◌≡◌, ◌⊎◌, ◌≤◌, ◌+◌, ◌++◌, append-nil, inl, inr, ℕ, Bool, true, false, List, [], ◌∷◌, Option, refl, sym, ap, ◌∙◌, subst, arith, length}
 use Rattle.std.specs.Prelude.{Result, Ok, Err, codes, is_ok}
 use Rattle.std.specs.Io.KnownBytes.{Appends}
@@ -64,7 +64,7 @@ was_fed past at e reply office office' accepted text o o' replied accepts same a
   stands = replied.stands;
 }
 
--- A part of the output was written.
+-- Only a part of the answer's text was written.
 pub was_begun : (past : History) (at : ℕ) (e : Event) (reply : Result Answer Refusal) (office office' : Office ListBooks) (accepted : Bool)
     (text : List ℕ) (o o' : Option (List ℕ)) → Replied past at e reply office office' → accepted ≡ is_ok reply
     → text ≡ fed_text past at e reply → GotPart text o o'
@@ -89,7 +89,7 @@ was_printed past at e reply office office' text replied same = record {
   stands = replied.stands;
 }
 
--- What arrived so far, by `takes` reads, was accepted.
+-- Everything that arrived so far, in `takes` reads, was given to the office and accepted.
 pub record FedSoFar (takes : ℕ) (device : Option (List ℕ)) (at : ℕ) (past : History) (office office' : Office ListBooks)
     (o o' : Option (List ℕ)) : Type 0 where
   pub brought : List Came
@@ -144,7 +144,7 @@ fed_ok takes device at past office office' o m o' most so ok = record {
   stands = so.stands;
 }
 
--- Not all of `ok` was written.
+-- Only a part of `ok` was written.
 pub fed_part : (takes : ℕ) (device : Option (List ℕ)) (at : ℕ) (past : History) (office office' : Office ListBooks) (o m o' : Option (List ℕ))
     → takes ≤ most_takes → FedSoFar takes device at past office office' o m → GotPart (codes "ok\n") m o'
     → Begins (λ printed. (stays : Bool) × (next : Stage) × AnswersPrint device at (stage_of past office) printed next) o o'
@@ -171,7 +171,7 @@ fed_end (Ok stays) takes device at office office' o m o' most so got = λ past s
 fed_end (Err error) takes device at office office' o m o' most so got = λ past stands.
     fed_part takes device at past office office' o m o' most (so past stands) got
 
--- A part of the output for what arrived was written.
+-- Only a part of the output for what arrived was written.
 pub fed_broken : (takes : ℕ) (device : Option (List ℕ)) (at : ℕ) (past : History) (came : Came) (e : Event) (office mid : Office ListBooks)
     (o m o' : Option (List ℕ)) → takes + 1 ≤ most_takes → (so : FedSoFar takes device at past office mid o m) → e ≡ fed device came
     → Begins (λ printed. (ok : Bool) × (next : Stage) × FedPrints (stage_of so.after mid) at e ok printed next) m o'
@@ -236,7 +236,7 @@ fed_refused takes device at past came e accepted office mid office' o m o' most 
       stands = done.stands;
     }
 
--- The output of a start whose responses print nothing.
+-- The output of a line that starts reads, if its responses print nothing yet.
 abbrev pub StartBegins : (at : ℕ) → (device : Option (List ℕ)) → Event → History → Office ListBooks → Maps → Bool → (o o' : Option (List ℕ)) → Type 0
 StartBegins at device e past office maps connected o o' =
     Begins (λ printed. (done : Unit {0}) × (next : LoopStage)
@@ -254,7 +254,7 @@ answers_none device at now = record {
   text = refl;
 }
 
--- The output of a start was written, or a part of it.
+-- The output of a line that starts reads was written, or a part of it.
 pub start_begun : (at : ℕ) (device : Option (List ℕ)) (e : Event) (given : Answer) (past : History) (office mid : Office ListBooks) (maps : Maps)
     (connected : Bool) (o o' : Option (List ℕ)) → Replied past at e (Ok given) office mid → GotPart (reply_text past at e (Ok given)) o o'
     → StartBegins at device e past office maps connected o o'
@@ -270,7 +270,8 @@ start_begun at device e given past office mid maps connected o o' replied got =
     } in
     inr (text, (tt, next, prints), part_of_longer o o' (reply_text past at e (Ok given)) (codes "ok\n") got)
 
--- The output of a start was written, and then a part of that of its responses.
+-- The output of a line that starts reads was written, followed by a part of the output for its
+-- responses.
 start_broken : (at : ℕ) (device : Option (List ℕ)) (e : Event) (given : Answer) (past : History) (office mid : Office ListBooks) (maps maps' : Maps)
     (connected : Bool) (o m o' : Option (List ℕ)) → Replied past at e (Ok given) office mid → Appends o m (reply_text past at e (Ok given))
     → Exchanged maps maps'
@@ -292,7 +293,7 @@ start_broken at device e given past office mid maps maps' connected o m o' repli
     } in
     inr (text, (tt, end, prints), part_after o m o' (reply_text past at e (Ok given)) printed appended got)
 
--- The output of a start was written, and then that of its responses.
+-- The output of a line that starts reads was written, followed by the output for its responses.
 pub started : (at : ℕ) (device : Option (List ℕ)) (e : Event) (given : Answer) (office mid office' : Office ListBooks) (maps maps' : Maps)
     (connected : Bool) (o m o' : Option (List ℕ)) (r : Result (Unit {0}) Error)
     → ((past : History) → Stands ledger_of past office

@@ -1,4 +1,4 @@
--- The lines of a loop in order.
+-- Lemmas on running the lines of a loop in order.
 use Rattle.std.proofs.Common.{◌≡◌, ◌⊎◌, inl, inr, ℕ, Bool, false, Option, ap, ◌∙◌, List, [], ◌∷◌, ◌++◌, refl, sym, subst, append_assoc, append-nil, arith, ◌<◌, ◌≤◌, length}
 use Rattle.std.specs.Io.KnownBytes.{Appends}
 use Rattle.std.proofs.KnownBytes.{Appends-nil, Appends-trans}
@@ -29,13 +29,13 @@ use Rattle.script_run.specs.Replaying.Scripts.{no_office}
 use Rattle.script_run.specs.Replaying.TextRun.{Writes}
 use Rattle.sun_points.specs.Writing.{GotPart}
 
--- All lines print what was printed so far, and then what the remaining lines print. The same is
--- true of an interrupted run.
+-- The output of all lines is the output so far, followed by that of the remaining lines. The same
+-- is true of an interrupted run.
 pub record SoFar (begin : LoopStage) (all : List Line) (now : LoopStage) (lines : List Line) (printed : List ℕ) : Type 0 where
   pub prints : (rest : List ℕ) (status : ExitStatus) → LoopPrints now lines rest status → LoopPrints begin all (printed ++ rest) status
   pub begins : (part : List ℕ) → LoopBegins now lines part → LoopBegins begin all (printed ++ part)
 
--- Some lines were executed: their output, and the state of the loop after them.
+-- Some lines were executed. This is their output, and the state of the loop afterwards.
 pub record Ran (begin : LoopStage) (all lines : List Line) (output : Option (List ℕ)) (here : LoopState) : Type 0 where
   pub printed : List ℕ
   pub past : History
@@ -132,7 +132,7 @@ broken past all lines left first from here o' at ran (inr (printed, (next, print
   begun_line (stage_on past from) all lines left first from.output here part at ran (inr (printed, (unwritten, whole), inr (next, prints))),
 )
 
--- A text from its beginning.
+-- The run of a text, from its beginning.
 pub text_from : (status : ExitStatus) (zone : Zone) (past : History) (text : List ℕ) (office : Office ListBooks) (maps : Maps) (o o' : Option (List ℕ))
     → AreUnset maps → stage_of past office ≡ beginning zone → Stands ledger_of past office → LinesRun status text (loop_state office maps false o) o'
     → TextRuns zone text status o o'
@@ -156,11 +156,11 @@ not_opened Refused why zone text o o' is told = (refused_line why, told, inl (ap
 not_opened Failed why zone text o o' is (part, unwritten, whole, written) =
     (part, written, inl (unwritten, ap refused_line (sym is) ∙ whole))
 
--- Nothing was run.
+-- Nothing was written, and the run failed.
 pub nothing_run : (zone : Zone) (text : List ℕ) (o : Option (List ℕ)) → TextRuns zone text Failed o o
 nothing_run zone text o = ([], Appends-nil o, inl (no_office, refl))
 
--- An input that is a text, or too long.
+-- If the input is not too long, its output is that of its text.
 short_prints : (zone : Zone) (input printed : List ℕ) (status : ExitStatus) → length input ≤ most_bytes → TextPrints zone input printed status
     → InputPrints zone input printed status
 short_prints zone input printed status short prints =
@@ -182,7 +182,7 @@ text_ran zone text input status o o' same short runs =
 none_begun : (zone : Zone) (input : List ℕ) → InputBegins zone input []
 none_begun zone input = record { long = λ long. (too_long, refl); text = λ short. inl (no_office, refl) }
 
--- An input that was not read.
+-- The run of an input that could not be read.
 pub unread_ran : (zone : Zone) (input : List ℕ) (status : ExitStatus) (o o' : Option (List ℕ)) → EndsUnread input status o o'
     → InputRuns zone input status o o'
 unread_ran zone input Fine o o' (inl long) = absurd long.1

@@ -1,4 +1,4 @@
--- Output through a buffer.
+-- Lemmas on output that is written through a buffer.
 use Rattle.std.proofs.Common.{◌≡◌, ℕ, Option, Some, None, List, [], ◌++◌, refl, sym, ap, ◌∙◌, append_assoc, append-nil}
 use Rattle.std.specs.Io.KnownBytes.{Appends, Keeps, append_known}
 use Rattle.command_io.specs.declared.status.ExitStatus.{ExitStatus}
@@ -7,7 +7,7 @@ use Rattle.interval_core.specs.declared.zone.Zone.{Zone}
 use Rattle.script_run.specs.Replaying.TextRun.{HoldsPart, InputRuns, Replays}
 use Rattle.script_run.proofs.ReplayingLemmas.Scripts.{input_begun}
 
--- If nothing is buffered, the writer below has all bytes.
+-- If the buffer is empty, the writer below it has all bytes.
 pub given_out : (a b d : Option (List ℕ)) (buffered last text : List ℕ) → Appends a (append_known b buffered) text
     → Keeps (append_known b buffered) (append_known d last) → last ≡ [] → Appends a d text
 given_out None b d buffered last text wrote kept none = tt
@@ -16,7 +16,7 @@ given_out (Some x) (Some y) None buffered last text wrote kept none = absurd kep
 given_out (Some x) (Some y) (Some z) buffered last text wrote kept none =
     sym (append-nil z) ∙ sym (ap (λ (more : List ℕ). z ++ more) none) ∙ kept ∙ wrote
 
--- Buffered bytes may be lost.
+-- The writer below the buffer has a beginning of the text. Bytes in the buffer may be missing.
 pub buffered_part : (a b d : Option (List ℕ)) (buffered last text : List ℕ) → Appends a (append_known b buffered) text
     → Keeps (append_known b buffered) (append_known d last) → HoldsPart a d text
 buffered_part None b d buffered last text wrote kept = tt
@@ -30,7 +30,7 @@ from_empty (Some x) None buffered text none wrote = absurd wrote
 from_empty (Some x) (Some y) buffered text none wrote =
     wrote ∙ ap (λ (front : List ℕ). front ++ text) (ap (λ (more : List ℕ). x ++ more) none ∙ append-nil x)
 
--- A run over a buffer that was flushed at the end.
+-- The output of a run whose buffer was flushed at the end.
 pub run_whole : (zone : Zone) (input : List ℕ) (status : ExitStatus) (a b d : Option (List ℕ)) (first buffered last : List ℕ) → first ≡ []
     → InputRuns zone input status (append_known a first) (append_known b buffered) → Keeps (append_known b buffered) (append_known d last)
     → last ≡ [] → Replays zone input status a d
@@ -41,7 +41,7 @@ run_whole zone input Refused a b d first buffered last none runs kept given =
 run_whole zone input Failed a b d first buffered last none runs kept given =
     (runs.0, buffered_part a b d buffered last runs.0 (from_empty a _ first runs.0 none runs.1) kept, runs.2)
 
--- A run over a buffer that could not be flushed.
+-- The output of a run whose buffer could not be flushed.
 pub run_part : (zone : Zone) (input : List ℕ) (status : ExitStatus) (a b d : Option (List ℕ)) (first buffered last : List ℕ) → first ≡ []
     → InputRuns zone input status (append_known a first) (append_known b buffered) → Keeps (append_known b buffered) (append_known d last)
     → Replays zone input Failed a d

@@ -1,4 +1,4 @@
--- The answers of an office over a store in memory.
+-- Lemmas on the answers of an office over a store in memory.
 use Rattle.std.proofs.Common.{◌≡◌, ◌⊎◌, ◌+◌, inl, inr, ℕ, Bool, false, Option, List, refl, sym, ap, ◌∙◌}
 use Rattle.std.specs.Prelude.{min, Result, Ok, Err}
 use Rattle.std.specs.declared.io.Error.{Error}
@@ -34,7 +34,7 @@ how_often failures = failures.count
 abbrev raised : ℕ → ℕ
 raised n = min (n + 1) 18446744073709551615
 
--- A store in memory has no failures of a store.
+-- Over a store in memory, an office fails only because memory ran out or because it has stopped.
 pub fails_in_memory : {T : Type 0} (takes_memory : Type 0) (before after : Failures) (reply : Result T Refusal) → before.count ≡ 0 → after.count ≡ 0
     → FailsOutside takes_memory before after reply → Fails reply
 fails_in_memory takes_memory before after (Ok x) none still h = absurd h
@@ -63,7 +63,7 @@ pub right_or_fails : {T : Type 0} (takes_memory : Type 0) (before after : Failur
 right_or_fails takes_memory before after reply right none still (inl h) = inl h.0
 right_or_fails takes_memory before after reply right none still (inr h) = inr (fails_in_memory takes_memory before after reply none still h)
 
--- An event that was answered and printed.
+-- The office answered an event, and the answer was printed.
 pub replied : (past : History) (at : ℕ) (e : Event) (office office' : Office ListBooks) (reply : Result Answer Refusal)
     (result : Result (Unit {0}) Error) (o o' : Option (List ℕ)) → IsAnswer past at e (failures_of ledger_of office) (failures_of ledger_of office') reply → Ends ledger_of office office' e reply
     → (is_stopped office ≡ false → SettlesNothing past at e → IsQuiet office office' reply)
@@ -86,7 +86,7 @@ replied past at e office office' reply result o o' answer ends quiet stands got 
   stands = stands;
 }
 
--- A start or a list prints what its event prints.
+-- A line with a start or a list prints what its event prints.
 pub carried_as : (P Q : Stage → List ℕ → Stage → Type 0) (past : History) (office office' : Office ListBooks)
     (result : Result (Unit {0}) Error) (o o' : Option (List ℕ))
     → ((now : Stage) (printed : List ℕ) (next : Stage) → P now printed next → Q now printed next)
@@ -99,7 +99,7 @@ carried_as P Q past office office' result o o' turn done = record {
   stands = done.stands;
 }
 
--- A line that changes nothing.
+-- A line that changes nothing of the office.
 pub nothing_done : (P : Stage → List ℕ → Stage → Type 0) (past : History) (office : Office ListBooks) (printed : List ℕ)
     (result : Result (Unit {0}) Error) (o o' : Option (List ℕ)) → P (stage_of past office) printed (stage_of past office)
     → Stands ledger_of past office → GotText result printed o o' → IsCarriedOut P past office office result o o'

@@ -1,4 +1,4 @@
--- The lines of a script in order.
+-- Lemmas on running the lines of a script in order.
 use Rattle.std.proofs.Common.{◌≡◌, ◌⊎◌, inl, inr, ℕ, Bool, false, Option, None, Some, List, [], ◌∷◌, ◌++◌, refl, sym, subst, append_assoc, append-nil, ap, ◌∙◌, arith}
 use Rattle.std.proofs.lemmas.List.Elements.{All-cons, All-nil}
 use Rattle.std.specs.Io.KnownBytes.{Appends}
@@ -33,8 +33,8 @@ use Rattle.script_run.specs.Replaying.TextRun.{InputRuns, LineRan, LineRuns, May
 use Rattle.script_run.specs.Replaying.Scripts.{ReplayBegins, ReplayPrints, ScriptBegins, ScriptPrints, TextBegins, TextPrints}
 use Rattle.script_run.specs.Replaying.Stages.{Fails, Stage, beginning}
 
--- All lines print what was printed so far, and then what the remaining lines print. The same is
--- true of an interrupted run.
+-- The output of all lines is the output so far, followed by that of the remaining lines. The same
+-- is true of an interrupted run.
 pub record SoFar (zone : Zone) (all : List Line) (now : Stage) (lines : List Line) (printed : List ℕ) : Type 0 where
   pub prints : (rest : List ℕ) (status : ExitStatus) → ScriptPrints now lines rest status
       → ScriptPrints (beginning zone) all (printed ++ rest) status
@@ -72,7 +72,7 @@ pub broken_off : (zone : Zone) (all : List Line) (now : Stage) (lines left : Lis
 broken_off zone all now lines left first printed part at begins so_far =
     so_far.begins part (subst (λ (ls : List Line). ScriptBegins now ls part) (sym at) (inl begins))
 
--- Some lines were executed: their output, and the office after them.
+-- Some lines were executed. This is their output, and the office afterwards.
 pub record Ran (zone : Zone) (all lines : List Line) (office : Office ListBooks) (output output' : Option (List ℕ)) : Type 0 where
   pub printed : List ℕ
   pub past : History
@@ -91,7 +91,7 @@ from_start zone all lines now same at = record {
       (subst (λ (stage : Stage). ScriptBegins stage lines rest) at more);
 }
 
--- An empty store matches an office that accepted nothing.
+-- An empty store matches an office that has accepted no event.
 pub empty_books : (books : ListBooks) → AreListed books [] → BooksStand (ledger_of books) []
 empty_books books listed = record {
   is_past = record { accepted = tt; planned = tt };
@@ -99,7 +99,7 @@ empty_books books listed = record {
   leaves = record { left = [] ∷ []; may = inl listed; each = All-cons (MayBeLeft []) [] [] (inl refl) (All-nil (MayBeLeft [])) };
 }
 
--- Without a stop of the office, only memory can fail.
+-- If the office has not stopped, its only failure is that memory ran out.
 memory_alone : (why : Refusal) → IsNotStopped why → Fails {T = Unit {0}} (Err why) → why ≡ refusal.Memory
 memory_alone refusal.NotFound goes fails = absurd fails
 memory_alone refusal.Exists goes fails = absurd fails
@@ -119,7 +119,7 @@ memory_alone refusal.Stopped goes fails = absurd goes
 memory_alone refusal.NotVoidable goes fails = absurd fails
 memory_alone (refusal.NotPlausible cause) goes fails = absurd fails
 
--- The office is refused at its opening only if memory runs out.
+-- Opening the office over a store in memory fails only if memory runs out.
 pub refused_for_memory : (why : Refusal) (old new : Ledger) → old.failures.count ≡ 0 → new.failures.count ≡ 0 → IsNotStopped why
     → IsNotOpened [] 0 old new why → why ≡ refusal.Memory
 refused_for_memory why old new before after goes not_opened = memory_alone why goes (fails_for not_opened.reason)
@@ -209,7 +209,7 @@ nothing_written zone input o o' none = (
   record { long = λ long. (too_long, refl); text = λ short. inr (nothing_begins (beginning zone) (speaking_lines input)) },
 )
 
--- An input that is a text, or too long.
+-- If the input is not too long, its output is that of its text.
 short_prints : (zone : Zone) (input printed : List ℕ) (status : ExitStatus) → length input ≤ most_bytes → TextPrints zone input printed status
     → ReplayPrints zone input printed status
 short_prints zone input printed status short prints =
@@ -239,7 +239,7 @@ long_told zone input Refused o o' long told =
 long_told zone input Failed o o' long told =
     (told.0, told.3, record { long = λ again. (told.1, told.2); text = λ short. absurd (omega (arith, short, long)) })
 
--- An input that was not read.
+-- The run of an input that could not be read.
 pub unread_ran : (zone : Zone) (input : List ℕ) (status : ExitStatus) (o o' : Option (List ℕ)) → EndsUnread input status o o'
     → InputRuns zone input status o o'
 unread_ran zone input status o o' (inl long) = long_told zone input status o o' long.0 long.1

@@ -1,4 +1,4 @@
--- How a run of setup lines goes: what was written, and what is set up then.
+-- What running the lines of a setup text writes, and how the simulated device is set up afterwards.
 use Rattle.std.specs.Prelude.{◌≡◌, ◌⊎◌, ℕ, List, [], Option, Ok, Err, IfSome}
 use Rattle.std.specs.Io.KnownBytes.{Appends}
 use Rattle.std.specs.declared.result.Result.{Result}
@@ -13,8 +13,8 @@ use Rattle.script_run.specs.Bank.Settings.{Setting, after_line, IsUnset, takes}
 use Rattle.script_run.specs.Bank.Texts.{InputBegins, InputSetsUp, IsBad, LineBegins, SetUpBegins, SetsUp, taken_text}
 use Rattle.sun_points.specs.Writing.{GotPart}
 
--- The line was executed. Otherwise memory or the writer failed, and a part of the line's output was
--- written.
+-- The line was executed and its output written. Otherwise memory or the writer failed, and at most
+-- a part of the line's output was written.
 abbrev pub Carries : Setting → BankLine → Result (Unit {0}) ExitStatus → Setting
     → (output output' : Option (List ℕ)) → Type 0
 Carries now said (Ok done) next output output' =
@@ -24,13 +24,13 @@ Carries now said (Err Refused) next output output' = ⊥
 Carries now said (Err Failed) next output output' =
     GotPart (taken_text (takes now.maps said)) output output'
 
--- The written bytes are the output.
+-- The bytes that were written satisfy `Prints`.
 pub record Writes (Prints : List ℕ → Type 0) (output output' : Option (List ℕ)) : Type 0 where
   pub printed : List ℕ
   pub appended : Appends output output' printed
   pub prints : Prints printed
 
--- The line has a form and was executed.
+-- The line spells a line of the simulator, and was executed.
 pub record LineRan (now : Setting) (line : Line) (next : Setting)
     (output output' : Option (List ℕ)) : Type 0 where
   pub said : BankLine
@@ -38,7 +38,7 @@ pub record LineRan (now : Setting) (line : Line) (next : Setting)
   pub after : next ≡ after_line now said
   pub appended : Appends output output' (taken_text (takes now.maps said))
 
--- The line was executed, or it ended the run.
+-- The line was executed; or it is bad or was interrupted, and the run ends.
 abbrev pub LineRuns : Setting → Line → Result (Unit {0}) ExitStatus → Setting
     → (output output' : Option (List ℕ)) → Type 0
 LineRuns now line (Ok done) next output output' = LineRan now line next output output'
@@ -48,7 +48,7 @@ LineRuns now line (Err Refused) next output output' =
 LineRuns now line (Err Failed) next output output' =
     Writes (λ part. LineBegins now line part) output output'
 
--- The lines of a text were executed, or one of them ended the run.
+-- All lines of the text were executed, or one of them ended the run.
 abbrev pub TextRuns : Setting → (text : List ℕ) → Result (Unit {0}) ExitStatus → Setting
     → (output output' : Option (List ℕ)) → Type 0
 TextRuns now text (Ok done) next output output' =
@@ -59,20 +59,22 @@ TextRuns now text (Err Refused) next output output' =
 TextRuns now text (Err Failed) next output output' =
     Writes (λ part. SetUpBegins now (speaking_lines text) part) output output'
 
--- The run of an input. It begins with a simulated device without addresses and faults.
+-- The run of a complete input. At first the simulated device has no addresses and injects no
+-- faults.
 pub record InputRuns (input : List ℕ) (ended : Result Setting ExitStatus)
     (output output' : Option (List ℕ)) : Type 0 where
   pub begun : Setting
   pub unset : IsUnset begun
   pub writes : Writes (λ printed. InputSetsUp begun input printed ended) output output'
 
--- The run of an input was interrupted.
+-- The run of an input was interrupted by a failed write or for want of memory, and wrote only a
+-- beginning of its output.
 pub record InputBreaks (input : List ℕ) (output output' : Option (List ℕ)) : Type 0 where
   pub begun : Setting
   pub unset : IsUnset begun
   pub writes : Writes (λ part. InputBegins begun input part) output output'
 
--- The result of a run. If it failed, nothing was written, or a beginning of its output.
+-- The result of a run. A run that failed wrote nothing, or only a beginning of its output.
 abbrev pub SetUp : (input : Option (List ℕ)) → Result Setting ExitStatus
     → (output output' : Option (List ℕ)) → Type 0
 SetUp input (Ok setup) output output' =

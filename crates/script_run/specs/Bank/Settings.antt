@@ -1,4 +1,5 @@
--- What lines set up: a register map and the faults to inject.
+-- What the lines of a setup text configure: the register map of a simulated device, and the faults
+-- to inject.
 use Rattle.std.specs.Prelude.{◌≡◌, ◌<◌, ℕ, Bool, true, ◌&&◌, not, nat_le, if◌then◌else◌, List, [], ◌∷◌, ◌++◌, is_some, Option, Some, None}
 use Rattle.mb_device.specs.Areas.{begun_from, is_any_there, is_past_end}
 use Rattle.mb_device.specs.Maps.{HasAllAddresses, Maps, kept, table_of, value_at, with_table, written}
@@ -10,12 +11,13 @@ use Rattle.script_lines.specs.declared.bank.bank.BankLine.TheVariants as line
 use Rattle.script_lines.specs.declared.bank.bank.GivenArea.{GivenArea}
 use Rattle.script_lines.specs.declared.bank.bank.GivenCell.{GivenCell}
 
--- A simulated device: its register map, and the faults to inject by the numbers of frames.
+-- The configuration of a simulated device: its register map, and pairs of a frame's number and the
+-- fault to inject into its response.
 pub record Setting : Type 0 where
   pub maps : Maps
   pub tricks : List (ℕ × Trick)
 
--- The register map has no addresses.
+-- The register map has no value at any of its 65,536 addresses, for any kind of address.
 pub record AreUnset (maps : Maps) : Type 0 where
   pub values : (kind : Kind) (address : ℕ) → address < 65536 → value_at maps kind address ≡ None
   pub addresses : HasAllAddresses maps
@@ -25,58 +27,61 @@ pub record IsUnset (now : Setting) : Type 0 where
   pub maps : AreUnset now.maps
   pub tricks : now.tricks ≡ []
 
--- The area with these numbers, if there can be one.
+-- The area with these numbers, if they are in range.
 abbrev pub area_of : GivenArea → Option Area
 area_of given =
     if nat_le given.start 65535 && nat_le given.count 4294967295
     then Some (record { kind = given.kind; start = given.start; count = given.count }) else None
 
--- The register map accepts an area with possible numbers, if it has none of its addresses yet.
+-- The register map accepts this area: its numbers are in range, and the map has none of its
+-- addresses yet.
 abbrev pub takes_area : Maps → GivenArea → Bool
 takes_area maps area =
     nat_le area.start 65535 && nat_le area.count 4294967295
     && not (is_any_there (table_of maps area.kind) area.start area.count)
     && not (is_past_end (table_of maps area.kind) area.start area.count)
 
--- The register map accepts a value of 16 bits at an address that it has.
+-- The register map accepts this value: it has 16 bits, and the map has the address.
 abbrev pub takes_cell : Maps → GivenCell → Bool
 takes_cell maps cell =
     nat_le cell.address 65535 && nat_le cell.value 65535
     && is_some (value_at maps cell.kind cell.address)
 
--- The register map with the area, if it accepts the area.
+-- The register map after the area was offered to it. If it does not accept the area, it is
+-- unchanged.
 abbrev pub with_area : Maps → GivenArea → Maps
 with_area maps area =
     if takes_area maps area
     then with_table maps area.kind (begun_from (table_of maps area.kind) area.start area.count)
     else maps
 
--- The register map with the value, if it accepts the value.
+-- The register map after the value was offered to it. If it does not accept the value, it is
+-- unchanged.
 abbrev pub with_cell : Maps → GivenCell → Maps
 with_cell maps cell =
     if takes_cell maps cell
     then with_table maps cell.kind
     (written (table_of maps cell.kind) cell.address (kept cell.kind cell.value)) else maps
 
--- The device after the line of an area.
+-- The configuration after a line that adds an area.
 abbrev pub after_area : Setting → GivenArea → Setting
 after_area now area = record { maps = with_area now.maps area; tricks = now.tricks }
 
--- The device after the line of a value.
+-- The configuration after a line that sets a value.
 abbrev pub after_cell : Setting → GivenCell → Setting
 after_cell now cell = record { maps = with_cell now.maps cell; tricks = now.tricks }
 
--- The device with one more fault to inject.
+-- The configuration with one more fault to inject.
 abbrev pub with_trick : Setting → ℕ → Trick → Setting
 with_trick now frame trick = record { maps = now.maps; tricks = now.tricks ++ (frame, trick) ∷ [] }
 
--- The register map accepts the line. A fault to inject is always accepted.
+-- The register map accepts the line. It accepts every fault to inject.
 abbrev pub takes : Maps → BankLine → Bool
 takes maps (line.Area area) = takes_area maps area
 takes maps (line.Set cell) = takes_cell maps cell
 takes maps (line.Trick frame trick) = true
 
--- The device after a line.
+-- The configuration after a line.
 abbrev pub after_line : Setting → BankLine → Setting
 after_line now (line.Area area) = after_area now area
 after_line now (line.Set cell) = after_cell now cell

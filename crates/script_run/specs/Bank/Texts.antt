@@ -1,4 +1,4 @@
--- What the lines of a text set up, and what they print.
+-- What the lines of a setup text configure, and what they print.
 use Rattle.std.specs.Prelude.{◌≡◌, ◌⊎◌, ◌<◌, ◌≤◌, ℕ, Bool, true, false, List, [], ◌∷◌, ◌++◌, length, Ok, Err}
 use Rattle.std.specs.declared.result.Result.{Result}
 use Rattle.script_lines.specs.Bank.Forms.{IsBankLine}
@@ -13,16 +13,17 @@ use Rattle.script_lines.specs.LineWords.Words.{words_of}
 use Rattle.script_run.specs.Bank.Settings.{Setting, after_line, takes}
 use Rattle.script_run.specs.Replaying.Lines.{BeginsText}
 
--- A line that the register map accepts prints nothing.
+-- The output of a line: nothing if the register map accepts it, otherwise a refusal.
 abbrev pub taken_text : Bool → List ℕ
 taken_text true = []
 taken_text false = refused_line Limit
 
--- The line has none of the forms.
+-- The words of the line spell no line of the simulator.
 pub record IsBad (bad : Line) : Type 0 where
   pub none : (said : BankLine) → IsBankLine (words_of bad.text) said → ⊥
 
--- The lines are executed in order. A bad line prints its number, and ends the run.
+-- The lines are executed in order. A line that spells no line of the simulator prints its number,
+-- and ends the run.
 abbrev pub SetsUp : Setting → List Line → (printed : List ℕ) → (ended : Result Setting ExitStatus)
     → Type 0
 SetsUp now [] printed ended = (printed ≡ []) × (ended ≡ Ok now)
@@ -32,7 +33,7 @@ SetsUp now (first ∷ lines) printed ended =
     × ((rest : List ℕ) × (printed ≡ taken_text (takes now.maps said) ++ rest)
     × SetsUp (after_line now said) lines rest ended))
 
--- The output of a line so far: nothing, or a part of it.
+-- The output of a line that was interrupted: nothing, or a beginning of its output.
 abbrev pub LineBegins : Setting → Line → (part : List ℕ) → Type 0
 LineBegins now first part =
     (part ≡ [])
@@ -40,7 +41,8 @@ LineBegins now first part =
     ⊎ ((said : BankLine) × IsBankLine (words_of first.text) said
     × BeginsText part (taken_text (takes now.maps said))))
 
--- The output of an interrupted run: that of some first lines, and a beginning of the next line's.
+-- The output of an interrupted run: that of its first lines, followed by a beginning of the next
+-- line's output.
 abbrev pub SetUpBegins : Setting → List Line → (part : List ℕ) → Type 0
 SetUpBegins now [] part = part ≡ []
 SetUpBegins now (first ∷ lines) part =
@@ -49,13 +51,13 @@ SetUpBegins now (first ∷ lines) part =
     × ((rest : List ℕ) × (part ≡ taken_text (takes now.maps said) ++ rest)
     × SetUpBegins (after_line now said) lines rest))
 
--- An input sets up what its lines do, unless it is too long.
+-- The configuration and the output for an input. An input that is too long is not executed.
 pub record InputSetsUp (now : Setting) (input printed : List ℕ)
     (ended : Result Setting ExitStatus) : Type 0 where
   pub long : most_bytes < length input → (printed ≡ too_long) × (ended ≡ Err Refused)
   pub lines : length input ≤ most_bytes → SetsUp now (speaking_lines input) printed ended
 
--- The output of an interrupted run of an input.
+-- The output of an interrupted run over an input.
 pub record InputBegins (now : Setting) (input part : List ℕ) : Type 0 where
   pub long : most_bytes < length input → BeginsText part too_long
   pub lines : length input ≤ most_bytes → SetUpBegins now (speaking_lines input) part

@@ -1,4 +1,5 @@
--- What a line of a loop prints, and the stage of the loop after it.
+-- What each line of a loop prints, and the stage of the loop after it. A loop is a script whose
+-- devices are simulated.
 use Rattle.std.specs.Prelude.{◌≡◌, ◌⊎◌, ◌++◌, ℕ, Bool, true, false, List, Option, Some, None, Result, Ok, Err, codes}
 use Rattle.script_lines.specs.Bank.Forms.{IsBankLine}
 use Rattle.script_lines.specs.declared.bank.bank.BankLine.{BankLine}
@@ -26,30 +27,31 @@ use Rattle.script_run.specs.Looping.Answers.{AnswersPrint}
 use Rattle.mb_device.specs.StandIn.Exchanges.{Exchanged}
 use Rattle.script_run.specs.Looping.Standings.{LoopStage}
 
--- An area or a fault to inject is allowed only before the first line that connects.
+-- The line of the simulator is allowed here. An area or a fault to inject must come before the
+-- first line that connects a device.
 abbrev pub MayStand : (connected : Bool) → BankLine → Type 0
 MayStand connected (bank.Area area) = connected ≡ false
 MayStand connected (bank.Set cell) = Unit {0}
 MayStand connected (bank.Trick frame trick) = connected ≡ false
 
--- The line of the simulator is not allowed here.
+-- The line of the simulator is not allowed here: a line has already connected a device.
 abbrev pub MayNotStand : (connected : Bool) → BankLine → Type 0
 MayNotStand connected (bank.Area area) = connected ≡ true
 MayNotStand connected (bank.Set cell) = ⊥
 MayNotStand connected (bank.Trick frame trick) = connected ≡ true
 
--- What a line of the simulator prints.
+-- The output of a line of the simulator: `ok` if the register map accepts it, otherwise a refusal.
 abbrev pub taken_text : Bool → List ℕ
 taken_text true = codes "ok\n"
 taken_text false = refused_line refusal.Limit
 
--- The register map after a line of the simulator.
+-- The register map after a line of the simulator. If the map refuses the line, it is unchanged.
 abbrev pub maps_with : Maps → BankLine → Maps
 maps_with maps (bank.Area area) = with_area maps area
 maps_with maps (bank.Set cell) = with_cell maps cell
 maps_with maps (bank.Trick frame trick) = maps
 
--- A line of the simulator prints whether the register map accepts it.
+-- A line of the simulator prints whether the register map accepted it.
 pub record BankPrints (said : BankLine) (now : LoopStage) (printed : List ℕ) (next : LoopStage)
     : Type 0 where
   pub stands : MayStand now.connected said
@@ -58,13 +60,13 @@ pub record BankPrints (said : BankLine) (now : LoopStage) (printed : List ℕ) (
   pub maps : next.maps ≡ maps_with now.maps said
   pub connected : next.connected ≡ now.connected
 
--- The simulator stays as it is.
+-- The line leaves the simulator unchanged.
 pub record StandsBy (now next : LoopStage) : Type 0 where
   pub maps : next.maps ≡ now.maps
   pub connected : next.connected ≡ now.connected
 
--- If the office accepts a start, the output is what was started. The frames are sent to the
--- simulator, and its responses are fed.
+-- The output of a start that the office answered. If it was accepted, the started reads are
+-- printed, their frames are sent to the simulator, and its responses are given to the office.
 abbrev pub Started : Result Answer Refusal → (at : ℕ) → (device : Option (List ℕ)) → Event
     → (now : LoopStage)
     → (printed : List ℕ) → (next : LoopStage) → Type 0
@@ -76,7 +78,7 @@ Started (Err why) at device e now printed next =
     (printed ≡ refused_line why) × (next.script ≡ after_reply now.script at e (Err why))
     × (next.maps ≡ now.maps)
 
--- A start prints the office's answer, and what its responses print.
+-- A line that starts reads prints the office's answer, and then the output for the responses.
 pub record StartsPrint (at : ℕ) (device : Option (List ℕ)) (e : Event) (now : LoopStage)
     (printed : List ℕ) (next : LoopStage) : Type 0 where
   pub reply : Result Answer Refusal
@@ -84,13 +86,13 @@ pub record StartsPrint (at : ℕ) (device : Option (List ℕ)) (e : Event) (now 
   pub started : Started reply at device e now printed next
   pub connected : next.connected ≡ now.connected
 
--- Any other event prints the office's answer.
+-- A line with any other event prints the office's answer.
 pub record PlainPrints (at : ℕ) (e : Event) (now : LoopStage) (printed : List ℕ) (next : LoopStage)
     : Type 0 where
   pub prints : EventPrints now.script at e printed next.script
   pub by : StandsBy now next
 
--- A connection prints the office's answer. From then on, a line has asked for a connection.
+-- A line that connects a device prints the office's answer. From then on, `connected` is true.
 pub record ConnectPrints (at : ℕ) (e : Event) (now : LoopStage) (printed : List ℕ)
     (next : LoopStage)
     : Type 0 where
@@ -98,18 +100,19 @@ pub record ConnectPrints (at : ℕ) (e : Event) (now : LoopStage) (printed : Lis
   pub maps : next.maps ≡ now.maps
   pub connected : next.connected ≡ true
 
--- The device whose round a command starts.
+-- The name of the device whose round the command starts. None if the command starts no round.
 abbrev pub round_of : Command → Option (Option (List ℕ))
 round_of (command.StartRound round) = Some round.device
 round_of other = None
 
--- A command prints the office's answer. If it starts a round, the responses print more.
+-- A command prints the office's answer. If it starts a round, the output for the responses follows.
 abbrev pub CommandPrints : (round : Option (Option (List ℕ))) → (at : ℕ) → Event → (now : LoopStage)
     → (printed : List ℕ) → (next : LoopStage) → Type 0
 CommandPrints (Some device) at e now printed next = StartsPrint at device e now printed next
 CommandPrints None at e now printed next = PlainPrints at e now printed next
 
--- A line may not have the bytes of a device: they are the simulator's.
+-- A line with an event prints the office's answer. It may not have bytes of a device, because those
+-- come from the simulator.
 abbrev pub HappensPrints : (at : ℕ) → Event → (now : LoopStage) → (printed : List ℕ)
     → (next : LoopStage) → Type 0
 HappensPrints at (event.Connected device) now printed next =
@@ -123,12 +126,13 @@ HappensPrints at (event.Command asked) now printed next =
 HappensPrints at (event.Asked asked) now printed next =
     PlainPrints at (event.Asked asked) now printed next
 
--- The event is the bytes of a device.
+-- The event has bytes that a device sent.
 abbrev pub IsBytes : Event → Type 0
 IsBytes (event.Bytes device piece) = Unit {0}
 IsBytes other = ⊥
 
--- A start prints what was started if one read can have its registers, otherwise a refusal.
+-- A line that starts a read prints the started read if one read can cover its registers, otherwise
+-- a refusal.
 abbrev pub ReadPrints : (at : ℕ) → GivenStart → (now : LoopStage) → (printed : List ℕ)
     → (next : LoopStage) → Type 0
 ReadPrints at start now printed next =
@@ -137,29 +141,29 @@ ReadPrints at start now printed next =
     ⊎ ((IsSpan start.function start.address start.count → ⊥)
     × IsRefused now.script printed next.script × StandsBy now next)
 
--- The line prints the same as in a script without a simulator.
+-- The line prints what it prints in a script without a simulator.
 pub record AlikePrints (said : ScriptLine) (now : LoopStage) (printed : List ℕ) (next : LoopStage)
     : Type 0 where
   pub prints : LinePrints now.script said printed next.script
   pub by : StandsBy now next
 
--- What a script line prints.
+-- What a line of a script prints in a loop.
 abbrev pub SaidPrints : ScriptLine → (now : LoopStage) → (printed : List ℕ) → (next : LoopStage)
     → Type 0
 SaidPrints (line.Event at e) now printed next = HappensPrints at e now printed next
 SaidPrints (line.Start at start) now printed next = ReadPrints at start now printed next
 SaidPrints said now printed next = AlikePrints said now printed next
 
--- The line is that of a device's bytes.
+-- The line has bytes that a device sent.
 abbrev pub SaysBytes : ScriptLine → Type 0
 SaysBytes (line.Event at e) = IsBytes e
 SaysBytes other = ⊥
 
--- The words are no line of the simulator.
+-- The words spell no line of the simulator.
 abbrev pub IsNoBankLine : List (List ℕ) → Type 0
 IsNoBankLine words = (said : BankLine) → IsBankLine words said → ⊥
 
--- The words are a line of the simulator or of a script, which was executed.
+-- The words spell a line of the simulator or of a script. The line was executed.
 abbrev pub WordsPrint : List (List ℕ) → (now : LoopStage) → (printed : List ℕ) → (next : LoopStage)
     → Type 0
 WordsPrint words now printed next =
@@ -167,7 +171,7 @@ WordsPrint words now printed next =
     ⊎ (IsNoBankLine words × (said : ScriptLine) × IsLine words said
     × SaidPrints said now printed next)
 
--- The words are no line, or a line that is not allowed here.
+-- The words spell no line, or a line that is not allowed here.
 abbrev pub AreWrong : (connected : Bool) → List (List ℕ) → Type 0
 AreWrong connected words =
     ((said : BankLine) × IsBankLine words said × MayNotStand connected said)

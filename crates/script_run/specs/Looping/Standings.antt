@@ -1,4 +1,4 @@
--- The stage of a loop, and what it has written.
+-- The stage of a loop, and the bytes that it has written.
 use Rattle.std.specs.Prelude.{◌≡◌, ◌⊎◌, ℕ, Bool, List, [], Option, Result, Ok, Err}
 use Rattle.std.specs.Io.KnownBytes.{Appends}
 use Rattle.mb_device.specs.Maps.{Maps}
@@ -11,32 +11,32 @@ use Rattle.script_run.specs.Replaying.TextRun.{stage_of}
 use Rattle.script_run.specs.Replaying.Stages.{Stage}
 use Rattle.sun_points.specs.Writing.{GotPart}
 
--- The stage of the script, the simulator's register map, and whether a line has asked for a
--- connection.
+-- The stage of a loop: that of the script, the simulator's register map, and whether a line has
+-- connected a device.
 pub record LoopStage : Type 0 where
   pub script : Stage
   pub maps : Maps
   pub connected : Bool
 
--- The state of a run, and the written bytes.
+-- The state of a running loop, with the bytes that were written.
 pub record LoopState : Type 0 where
   pub office : Office ListBooks
   pub maps : Maps
   pub connected : Bool
   pub output : Option (List ℕ)
 
--- The state of a run, from its parts.
+-- The state of a running loop, from its parts.
 abbrev pub loop_state : Office ListBooks → Maps → (connected : Bool)
     → (output : Option (List ℕ)) → LoopState
 loop_state office maps connected output =
     record { office = office; maps = maps; connected = connected; output = output }
 
--- The stage of a loop after what the office accepted.
+-- The stage of a loop whose office has this history.
 abbrev pub stage_on : History → LoopState → LoopStage
 stage_on past here =
     record { script = stage_of past here.office; maps = here.maps; connected = here.connected }
 
--- This was printed, and the office matches what it accepted.
+-- These bytes were printed as `Prints` says, and the office matches its history.
 pub record CarriedOut (Prints : LoopStage → List ℕ → LoopStage → Type 0) (past : History)
     (from to : LoopState)
     : Type 0 where
@@ -46,14 +46,14 @@ pub record CarriedOut (Prints : LoopStage → List ℕ → LoopStage → Type 0)
   pub appended : Appends from.output to.output printed
   pub stands : Stands ledger_of after to.office
 
--- The output of an interrupted run: nothing, or a beginning of it.
+-- The output of an interrupted run: nothing, or a beginning of what `Prints` allows.
 abbrev pub Begins : (Prints : List ℕ → Type 0) → (output output' : Option (List ℕ)) → Type 0
 Begins Prints output output' =
     Appends output output' []
     ⊎ ((printed : List ℕ) × Prints printed × GotPart printed output output')
 
--- The call executed the line, for every history that the office matches. Otherwise the writer,
--- memory or a connection failed, and the line was interrupted. The stage is not defined then.
+-- For every history that the office matches, the call executed the line. Otherwise the writer,
+-- memory or a connection failed, the line was interrupted, and the stage is undefined.
 abbrev pub CarriesOut : {X E : Type 0} → Result X E → (X → LoopStage → List ℕ → LoopStage → Type 0)
     → (from to : LoopState) → Type 0
 CarriesOut (Ok x) Prints from to =
@@ -63,7 +63,7 @@ CarriesOut {X = X} (Err error) Prints from to =
     → Begins (λ printed. (x : X) × (next : LoopStage) × Prints x (stage_on past from) printed next)
     from.output to.output
 
--- The same for calls that change only the script's stage.
+-- `CarriedOut` for a call that changes only the script's part of the stage.
 pub record Carried (Prints : Stage → List ℕ → Stage → Type 0) (past : History)
     (office office' : Office ListBooks) (output output' : Option (List ℕ)) : Type 0 where
   pub printed : List ℕ
@@ -72,7 +72,7 @@ pub record Carried (Prints : Stage → List ℕ → Stage → Type 0) (past : Hi
   pub appended : Appends output output' printed
   pub stands : Stands ledger_of after office'
 
--- The same for calls that change only the script's stage, by their result.
+-- `CarriesOut` for a call that changes only the script's part of the stage.
 abbrev pub Carries : {X E : Type 0} → Result X E → (X → Stage → List ℕ → Stage → Type 0)
     → (office office' : Office ListBooks) → (output output' : Option (List ℕ)) → Type 0
 Carries (Ok x) Prints office office' output output' =

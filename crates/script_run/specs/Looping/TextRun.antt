@@ -1,4 +1,4 @@
--- How a run of a loop goes: what was written, and its stage.
+-- What running a loop writes, and the stage afterwards.
 use Rattle.std.specs.Prelude.{◌≡◌, ℕ, Bool, true, false, List, [], Option, Result, Ok, Err}
 use Rattle.std.specs.Io.KnownBytes.{Appends}
 use Rattle.std.specs.declared.io.Error.{Error}
@@ -16,7 +16,7 @@ use Rattle.script_run.specs.Looping.Standings.{Begins, CarriedOut, CarriesOut, L
 use Rattle.script_run.specs.Replaying.TextRun.{Writes}
 use Rattle.sun_points.specs.Writing.{GotPart}
 
--- The line was executed, is wrong, or was interrupted.
+-- The outcome of a line: it was executed, it is wrong, or it was interrupted.
 abbrev pub LineRuns : Result Bool Error → (Prints : LoopStage → List ℕ → LoopStage → Type 0)
     → (Wrong : Type 0)
     → (from to : LoopState) → Type 0
@@ -28,24 +28,27 @@ LineRuns (Err error) Prints Wrong from to =
     → Begins (λ printed. (next : LoopStage) × Prints (stage_on past from) printed next)
     from.output to.output
 
--- The line was executed as its words say. Otherwise the words are no line that is allowed here.
+-- The outcome of a line with these words: executed, or wrong because they spell no line that is
+-- allowed here.
 abbrev pub WordsRun : Result Bool Error → (words : List (List ℕ)) → (from to : LoopState) → Type 0
 WordsRun result words from to =
     LineRuns result (WordsPrint words) (AreWrong from.connected words) from to
 
--- A start of reads was executed. It was refused, or the simulator's responses were fed.
+-- The outcome of a line that starts reads. The start was refused, or the simulator's responses were
+-- given to the office.
 abbrev pub StartRuns : {X E : Type 0} → Result X E → (at : ℕ) → (device : Option (List ℕ)) → Event
     → (from to : LoopState) → Type 0
 StartRuns result at device e from to =
     CarriesOut result (λ done now printed next. StartsPrint at device e now printed next) from to
 
--- A text that ends a run was written, or a part of it if the writer failed.
+-- A last text was written, and ends the run with this status. If the writer failed, a part of the
+-- text was written.
 abbrev pub TellsText : (text : List ℕ) → ExitStatus → (output output' : Option (List ℕ)) → Type 0
 TellsText text Fine output output' = ⊥
 TellsText text Refused output output' = Appends output output' text
 TellsText text Failed output output' = GotPart text output output'
 
--- Lines were run from a state.
+-- The outcome of running the lines of a text from this state.
 abbrev pub LinesRun : ExitStatus → (text : List ℕ) → (from : LoopState)
     → (output' : Option (List ℕ)) → Type 0
 LinesRun status text from output' =
@@ -53,13 +56,13 @@ LinesRun status text from output' =
     → Writes (LoopPrints (stage_on past from) (speaking_lines text))
     (LoopBegins (stage_on past from) (speaking_lines text)) status from.output output'
 
--- The run of a text.
+-- The outcome of running a text.
 abbrev pub TextRuns : Zone → (text : List ℕ) → ExitStatus
     → (output output' : Option (List ℕ)) → Type 0
 TextRuns zone text status output output' =
     Writes (TextPrints zone text) (TextBegins zone text) status output output'
 
--- The run of an input.
+-- The outcome of running an input.
 abbrev pub InputRuns : Zone → (input : List ℕ) → ExitStatus → (output output' : Option (List ℕ))
     → Type 0
 InputRuns zone input status output output' =

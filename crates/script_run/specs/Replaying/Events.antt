@@ -1,4 +1,4 @@
--- What an event of a script prints.
+-- What each event of a script prints.
 use Rattle.std.specs.Prelude.{◌≡◌, ◌≢◌, ◌⊎◌, ℕ, false, List, [], ◌++◌, flat_map, Result, Ok, Err}
 use Rattle.mb_wire.specs.Spans.{IsSpan, code_of}
 use Rattle.mb_wire.specs.declared.span.ReadSpan.{ReadSpan}
@@ -21,20 +21,21 @@ use Rattle.script_lines.specs.declared.script.GivenStart.{GivenStart}
 use Rattle.script_run.specs.Replaying.Stages.{Stage, Fails, TellsStop, after_reply}
 use Rattle.script_text.specs.AnswerText.{accepted_text, fault_line, refused_line}
 
--- The office answers as its definition says, or it failed. An event that settles nothing never
--- fails in an office that has not stopped.
+-- The office's answer is the one that its definition gives, or the office failed. In an office that
+-- has not stopped, an event that settles no poll never fails.
 pub record IsReply (now : Stage) (at : ℕ) (e : Event) (reply : Result Answer Refusal) : Type 0 where
   pub answer : (reply ≡ decision_of now.past at e) ⊎ Fails reply
   pub stops : TellsStop now reply
   pub quiet : now.stopped ≡ false → SettlesNothing now.past at e → is_failure reply ≡ false
 
--- The notifications of an accepted event and its answer, or its refusal.
+-- The text for the answer to an event: its notifications and its answer if it was accepted,
+-- otherwise its refusal.
 abbrev pub reply_text : History → (at : ℕ) → Event → Result Answer Refusal → List ℕ
 reply_text past at e (Ok given) =
     accepted_text given (notes_after past at e (Ok given)) (outgoing_after past at e (Ok given))
 reply_text past at e (Err why) = refused_line why
 
--- An event prints the office's answer.
+-- A line with an event prints the office's answer.
 pub record EventPrints (now : Stage) (at : ℕ) (e : Event) (printed : List ℕ) (next : Stage)
     : Type 0 where
   pub reply : Result Answer Refusal
@@ -42,22 +43,23 @@ pub record EventPrints (now : Stage) (at : ℕ) (e : Event) (printed : List ℕ)
   pub text : printed ≡ reply_text now.past at e reply
   pub after : next ≡ after_reply now at e reply
 
--- The registers of a start.
+-- The line's numbers give this span of Modbus registers.
 pub record IsSpanOf (start : GivenStart) (span : ReadSpan) : Type 0 where
   pub function : code_of span.function ≡ start.function
   pub address : span.address ≡ start.address
   pub count : span.count ≡ start.count
 
--- The event of a start.
+-- The event that starts the line's read.
 abbrev pub start_event : GivenStart → ReadSpan → Event
 start_event start span = Command (StartPoll (record { device = start.device; span = span }))
 
--- The office isn't asked, and the line prints a refusal.
+-- The line prints a refusal, and the office is not asked.
 pub record IsRefused (now : Stage) (printed : List ℕ) (next : Stage) : Type 0 where
   pub text : printed ≡ refused_line refusal.Limit
   pub same : next ≡ now
 
--- A start prints the office's answer if one read can have its registers, otherwise a refusal.
+-- A line that starts a read prints the office's answer if one read can cover its registers,
+-- otherwise a refusal.
 abbrev pub StartPrints : Stage → (at : ℕ) → GivenStart → (printed : List ℕ) → (next : Stage)
     → Type 0
 StartPrints now at start printed next =
@@ -65,26 +67,26 @@ StartPrints now at start printed next =
     × EventPrints now at (start_event start span) printed next)
     ⊎ ((IsSpan start.function start.address start.count → ⊥) × IsRefused now printed next)
 
--- The faulty rows of a text.
+-- The faulty rows of a point list's text.
 abbrev pub faults_of : List ℕ → List FaultyRow
 faults_of text = list_faults (rows_read text)
 
--- The event of a list.
+-- The command that stores this point list for the line's device.
 abbrev pub list_event : GivenList → Planned → Event
 list_event list planned = Command (PutList (record { device = list.device; list = planned }))
 
--- The text spells a list, with the reads of its plan.
+-- The text is this point list, and the list's reads are its plan: the fewest reads that cover it.
 pub record IsListOf (text : List ℕ) (list : Planned) : Type 0 where
   pub points : SpellsList text list.points
   pub planned : IsPlanned list
 
--- A line for each faulty row, and the refusal of the list. The office isn't asked.
+-- The line prints each faulty row and the refusal of the list. The office is not asked.
 pub record FaultsPrint (now : Stage) (text printed : List ℕ) (next : Stage) : Type 0 where
   pub some : faults_of text ≢ []
   pub lines : printed ≡ flat_map fault_line (faults_of text) ++ refused_line refusal.Limit
   pub same : next ≡ now
 
--- A list prints the office's answer, or each of its faulty rows.
+-- A line with a point list prints the office's answer, or each of the list's faulty rows.
 abbrev pub ListPrints : Stage → (at : ℕ) → GivenList → (printed : List ℕ) → (next : Stage) → Type 0
 ListPrints now at list printed next =
     ((planned : Planned) × IsListOf list.text planned

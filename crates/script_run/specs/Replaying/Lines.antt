@@ -1,4 +1,4 @@
--- What a line of a script prints, and the script's stage after it.
+-- What each line of a script prints, and the script's stage afterwards.
 use Rattle.std.specs.Prelude.{◌≡◌, ◌⊎◌, ℕ, List, [], ◌++◌}
 use Rattle.command_io.specs.Lines.{Line}
 use Rattle.script_lines.specs.Forms.{IsLine}
@@ -20,23 +20,23 @@ LinePrints now (line.Intervals name) printed next = IntervalsPrint now name prin
 LinePrints now (line.Days name) printed next = DaysPrint now name printed next
 LinePrints now (line.Poll number) printed next = PollPrints number now printed next
 
--- The words are a line of a script, which was executed.
+-- The words spell a line of a script, and the line was executed.
 pub record WordsPrint (now : Stage) (words : List (List ℕ)) (printed : List ℕ) (next : Stage)
     : Type 0 where
   pub said : ScriptLine
   pub is : IsLine words said
   pub prints : LinePrints now said printed next
 
--- A line without a form prints its number.
+-- A line whose words spell no line of a script prints its number.
 pub record BadPrints (bad : Line) (printed : List ℕ) : Type 0 where
   pub none : (said : ScriptLine) → IsLine (words_of bad.text) said → ⊥
   pub text : printed ≡ bad_line bad.number
 
--- A beginning of a text.
+-- `part` is a beginning of the text.
 abbrev pub BeginsText : (part text : List ℕ) → Type 0
 BeginsText part text = (rest : List ℕ) × (text ≡ part ++ rest)
 
--- The output of a line so far: nothing, or a part of it.
+-- The output of a line that was interrupted: nothing, or a beginning of its output.
 abbrev pub LineBegins : Stage → Line → (part : List ℕ) → Type 0
 LineBegins now first part =
     (part ≡ []) ⊎ ((printed : List ℕ) × BeginsText part printed

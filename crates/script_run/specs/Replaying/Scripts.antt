@@ -1,4 +1,4 @@
--- What a script prints, and its exit status. This is what a run of a script promises.
+-- What a script prints, and its exit status. This is the postcondition of a run.
 use Rattle.std.specs.Prelude.{◌≡◌, ◌⊎◌, ◌<◌, ◌≤◌, ℕ, List, [], ◌∷◌, ◌++◌, length}
 use Rattle.command_io.specs.Input.{most_bytes, too_long}
 use Rattle.command_io.specs.Lines.{Line, speaking_lines}
@@ -11,7 +11,8 @@ use Rattle.script_run.specs.Replaying.Lines.{BadPrints, BeginsText, LineBegins, 
 use Rattle.script_run.specs.Replaying.Stages.{Stage, beginning}
 use Rattle.script_text.specs.AnswerText.{refused_line}
 
--- The lines of a script print in order, from its stage. A bad line ends the run.
+-- The lines of a script print in order, from this stage on. A line that spells no line of a script
+-- ends the run.
 abbrev pub ScriptPrints : Stage → List Line → (printed : List ℕ) → ExitStatus → Type 0
 ScriptPrints now [] printed status = (printed ≡ []) × (status ≡ Fine)
 ScriptPrints now (first ∷ lines) printed status =
@@ -19,7 +20,8 @@ ScriptPrints now (first ∷ lines) printed status =
     ⊎ ((here rest : List ℕ) × (next : Stage) × WordsPrint now (words_of first.text) here next
     × ScriptPrints next lines rest status × (printed ≡ here ++ rest))
 
--- The output of an interrupted run: that of some first lines, and a beginning of the next line's.
+-- The output of an interrupted run: that of its first lines, followed by a beginning of the next
+-- line's output.
 abbrev pub ScriptBegins : Stage → List Line → (part : List ℕ) → Type 0
 ScriptBegins now [] part = part ≡ []
 ScriptBegins now (first ∷ lines) part =
@@ -27,27 +29,27 @@ ScriptBegins now (first ∷ lines) part =
     ⊎ ((here rest : List ℕ) × (next : Stage) × WordsPrint now (words_of first.text) here next
     × ScriptBegins next lines rest × (part ≡ here ++ rest))
 
--- The output if memory ran out for the office.
+-- The output if memory ran out while the office was made.
 abbrev pub no_office : List ℕ
 no_office = refused_line refusal.Memory
 
--- A text prints what its lines print, or that there is no office.
+-- The output for a text: what its lines print, or a refusal if the office could not be made.
 abbrev pub TextPrints : Zone → (text printed : List ℕ) → ExitStatus → Type 0
 TextPrints zone text printed status =
     ((printed ≡ no_office) × (status ≡ Refused))
     ⊎ ScriptPrints (beginning zone) (speaking_lines text) printed status
 
--- The output of an interrupted run of a text.
+-- The output of an interrupted run over a text.
 abbrev pub TextBegins : Zone → (text part : List ℕ) → Type 0
 TextBegins zone text part =
     BeginsText part no_office ⊎ ScriptBegins (beginning zone) (speaking_lines text) part
 
--- An input prints what its text prints, unless it is too long.
+-- The output for an input: what its text prints, or that it is too long.
 pub record ReplayPrints (zone : Zone) (input printed : List ℕ) (status : ExitStatus) : Type 0 where
   pub long : most_bytes < length input → (status ≡ Refused) × (printed ≡ too_long)
   pub text : length input ≤ most_bytes → TextPrints zone input printed status
 
--- The output of an interrupted run of an input.
+-- The output of an interrupted run over an input.
 pub record ReplayBegins (zone : Zone) (input part : List ℕ) : Type 0 where
   pub long : most_bytes < length input → BeginsText part too_long
   pub text : length input ≤ most_bytes → TextBegins zone input part

@@ -1,4 +1,4 @@
-//! A simulated device that lines have set up.
+//! A simulated device that the lines of a setup text configure.
 ghost use Rattle.std.specs.Prelude.{◌≡◌, IfOk, OnErr};
 ghost use Rattle.script_run.specs.Bank.Settings as setting;
 
@@ -26,12 +26,12 @@ impl Model for Setup {
 #[derive(Drop)]
 pub struct SetupParts {
     pub bank: Bank,
-    /// The faults to inject, by the number of a frame. The first with the number of a frame is
-    /// injected into its response.
+    /// The faults to inject, each with the number of the frame whose response gets it. If two have
+    /// the same number, the first is injected.
     pub tricks: Vec<(u64, Trick)>,
 }
 
-// Returns the area with these numbers, if there can be one.
+// Returns the area with these numbers, if they are in range.
 fn area_of(given: GivenArea) -> Option<Area>
     ensures { result ≡ setting.area_of given }
 {
@@ -70,7 +70,7 @@ impl Setup {
         SetupParts { bank, tricks }
     }
 
-    // Adds an area, if the register map accepts it.
+    // Adds an area, if the register map accepts it. Returns whether it does.
     fn add_area(&mut self, given: GivenArea) -> bool
         ensures taken { result ≡ takes_area self.old.maps given }
         ensures after { self.new ≡ after_area self.old given }
@@ -94,8 +94,8 @@ impl Setup {
         Ok(())
     }
 
-    /// Executes a line. Returns whether the register map accepts it; a refused line changes
-    /// nothing. A fault to inject is always accepted.
+    /// Executes a line. Returns whether the register map accepts it. A line that it refuses changes
+    /// nothing, and it accepts every fault to inject.
     pub fn carry_out(&mut self, line: &BankLine) -> Result<bool, AllocError>
         ensures taken { IfOk result (λ taken. taken ≡ takes self.old.maps line.now) }
         ensures after { IfOk result (λ taken. self.new ≡ after_line self.old line.now) }
@@ -112,7 +112,7 @@ impl Setup {
     }
 }
 
-/// Makes a register map without addresses.
+/// Makes a register map without any address.
 pub fn empty_bank(alloc: Global) -> Result<Bank, AllocError>
     ensures { IfOk result setting.AreUnset }
 {

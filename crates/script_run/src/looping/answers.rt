@@ -1,4 +1,4 @@
-//! Feeds the responses of the simulator to the office.
+//! Gives the responses of the simulator to the office.
 ghost use Rattle.std.specs.Prelude.{codes};
 ghost use Rattle.script_run.specs.Looping.Answers.{AnswersPrint, FedPrints};
 ghost use Rattle.script_run.specs.Looping.Standings.{Carries};
@@ -15,7 +15,7 @@ use std::alloc::{AllocError, Global};
 use std::io::{self, Write};
 use sun_points::Sink;
 
-/// What arrived from the simulator.
+/// What arrived on a device's connection to the simulator.
 #[derive(Drop)]
 pub(crate) enum Came {
     Piece(Piece),
@@ -44,7 +44,7 @@ impl Came {
     }
 }
 
-// Reads the near end of a connection once. Returns `None` after a timeout.
+// Reads once from the device's end of a connection. Returns `None` after a timeout.
 fn next_came<L: Link>(alloc: Global, near: &mut L) -> Result<Option<Came>, AllocError> {
     let mut piece = [0; MAX_ADU];
     match near.take(&mut piece) {
@@ -58,7 +58,8 @@ fn next_came<L: Link>(alloc: Global, near: &mut L) -> Result<Option<Came>, Alloc
     }
 }
 
-// Feeds an event, and prints its notifications or its refusal. Returns whether it was accepted.
+// Gives an event to the office, and prints its notifications or its refusal. Returns whether the
+// office accepted it.
 fn feed<W: Write>(
     office: &mut Office<ListBooks>,
     at: u64,
@@ -81,8 +82,9 @@ fn feed<W: Write>(
     }
 }
 
-/// Feeds what arrives at the near end of a device's connection until a read times out. Prints the
-/// notifications and `ok`, or the first refusal. Returns whether the connection stays.
+/// Gives everything that arrives at the device's end of its connection to the office, until a read
+/// times out. Prints the notifications and `ok`, or the first refusal. Returns whether the
+/// connection stays open.
 pub(crate) fn feed_answers<L: Link, W: Write>(
     alloc: Global,
     office: &mut Office<ListBooks>,
@@ -111,7 +113,7 @@ pub(crate) fn feed_answers<L: Link, W: Write>(
     end_well(true, output)
 }
 
-// Prints `ok`, and returns whether the connection stays.
+// Prints `ok`. Returns whether the connection stays open.
 fn end_well<W: Write>(stays: bool, output: &mut W) -> io::Result<bool>
     ensures { GotText result (codes "ok\n") (W.contents output.old) (W.contents output.new) }
 {

@@ -23,17 +23,17 @@ use script_text::write_refusal;
 use std::alloc::Global;
 use std::io::{self, ErrorKind, Write};
 
-/// The state of a run.
+/// The state of a running loop.
 #[derive(Drop)]
 pub(crate) struct Run<'t, L: Link + Drop> {
     pub(crate) office: Office<ListBooks>,
     pub(crate) bank: Bank,
     pub(crate) wires: Wires<'t, L>,
-    /// Whether a line has asked for a connection.
+    /// Whether a line has connected a device.
     pub(crate) connected: bool,
 }
 
-/// Executes a line. Returns whether it is one of the lines that are allowed here.
+/// Executes a line. Returns whether it can be parsed and is allowed here.
 pub(crate) fn run_line<C: Connects, W: Write>(
     alloc: Global,
     run: &mut Run<'_, C::End>,
@@ -67,8 +67,8 @@ fn may_stand(connected: bool, said: &BankLine) -> bool
     }
 }
 
-// Gives a line to the register map, and returns whether the map accepts it. A fault is injected
-// from the start of a connection on.
+// Offers a line to the register map, and returns whether the map accepts it. A fault to inject
+// changes nothing here, because connections inject faults from their start on.
 fn take_line(bank: &mut Bank, said: &BankLine) -> bool
     ensures taken { result ≡ setting.takes bank.old said.now }
     ensures after { bank.new ≡ form.maps_with bank.old said.now }
@@ -148,7 +148,7 @@ fn run_script_line<C: Connects, W: Write>(
     }
 }
 
-// Executes a script line as a script without a simulator does.
+// Executes a script line in the way of a script without a simulator.
 fn carry_alike<L: Link + Drop, W: Write>(
     alloc: Global,
     run: &mut Run<'_, L>,
@@ -208,7 +208,7 @@ fn run_event<C: Connects, W: Write>(
     }
 }
 
-// Returns the device whose round a command starts.
+// Returns the name of the device whose round a command starts. `None` if it starts no round.
 fn round_of(command: &Command) -> Option<Option<Name>>
     ensures { result ≡ form.round_of command.now }
 {
@@ -256,7 +256,7 @@ fn run_command<L: Link + Drop, W: Write>(
     }
 }
 
-// Starts a read, if one read can have its registers.
+// Starts a read, if one read can cover its Modbus registers.
 fn run_start<L: Link + Drop, W: Write>(
     alloc: Global,
     run: &mut Run<'_, L>,

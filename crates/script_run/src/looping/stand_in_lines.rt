@@ -18,7 +18,7 @@ use std::alloc::Global;
 use std::io::{self, Write};
 
 /// Starts a read or a round. If the office accepts it, its frames are sent to the simulator, and
-/// the responses are fed.
+/// the responses are given to the office.
 pub(crate) fn start<L: Link + Drop, W: Write>(
     alloc: Global,
     office: &mut Office<ListBooks>,
@@ -50,7 +50,7 @@ fn count_of(answer: &Answer) -> u64 {
     }
 }
 
-// Feeds the responses on a device's connection, if it has one.
+// Gives the responses on a device's connection to the office, if the device has a connection.
 fn bring_answers<L: Link + Drop, W: Write>(
     alloc: Global,
     office: &mut Office<ListBooks>,
@@ -75,7 +75,7 @@ fn bring_answers<L: Link + Drop, W: Write>(
     }
 }
 
-/// Connects a device: feeds the event, and makes a connection to the simulator.
+/// Connects a device: gives the event to the office, and opens a connection to the simulator.
 pub(crate) fn connect<C: Connects, W: Write>(
     office: &mut Office<ListBooks>,
     wires: &mut Wires<'_, C::End>,
@@ -97,7 +97,8 @@ pub(crate) fn connect<C: Connects, W: Write>(
     }
 }
 
-/// Ends the connection of a device, also to the simulator.
+/// Ends the connection of a device: gives the event to the office, and closes the connection to the
+/// simulator.
 pub(crate) fn leave<L: Link + Drop, W: Write>(
     office: &mut Office<ListBooks>,
     wires: &mut Wires<'_, L>,

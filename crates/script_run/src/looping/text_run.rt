@@ -45,7 +45,7 @@ pub fn loop_text<R: Read, C: Connects, W: Write>(
     }
 }
 
-// Returns the faults to inject: those of a text's lines before the first that connects.
+// Returns the faults to inject: those that a text has before its first line that connects a device.
 fn tricks_in(alloc: Global, text: &[u8]) -> Result<Vec<(u64, Trick)>, AllocError> {
     let mut tricks = Vec::new(alloc);
     let mut lines = InputLines::of(text);
@@ -117,7 +117,7 @@ fn run_opened<C: Connects, W: Write>(
     }
 }
 
-// Prints why there is no office.
+// Prints the refusal that explains why no office could be made.
 fn tell_refused<W: Write>(why: Refusal, output: &mut W) -> ExitStatus
     ensures { TellsText (refused_line why) result (W.contents output.old) (W.contents output.new) }
 {

@@ -8,7 +8,8 @@ use office_events::Name;
 use std::alloc::{AllocError, Global};
 use std::io;
 
-/// The most reads of a connection for a start, and the most turns of the simulator.
+/// The most reads from a connection after one line that starts reads, and the most turns of the
+/// simulator.
 pub(crate) const MOST_TAKES: u32 = 100_000;
 
 /// The two ends of a connection. Each reads what is written to the other.
@@ -26,8 +27,8 @@ pub trait Connects {
     fn connect(&mut self) -> io::Result<Ends<Self::End>>;
 }
 
-/// The connection of a device to the simulator, which injects its faults on it. Without a far end,
-/// the simulator has closed it.
+/// The connection of a device to the simulator, which injects its faults here. Without a far end,
+/// the simulator has closed the connection.
 #[derive(Drop)]
 pub(crate) struct Wire<'t, L: Link + Drop> {
     device: Option<Name>,
@@ -55,8 +56,8 @@ fn answer_turn<L: Link>(server: &mut Server<'_>, far: &mut L, bank: &mut Bank) -
     }
 }
 
-// Answers what arrives at the far end, until `count` frames were answered or a read times out.
-// Returns whether the connection stays.
+// Lets the simulator answer the frames at the far end, until it answered `count` of them or a read
+// times out. Returns whether the connection stays open.
 fn answer<L: Link>(server: &mut Server<'_>, far: &mut L, count: u64, bank: &mut Bank) -> bool
     ensures { Exchanged bank.old bank.new }
 {
@@ -74,8 +75,8 @@ fn answer<L: Link>(server: &mut Server<'_>, far: &mut L, count: u64, bank: &mut 
 }
 
 impl<'t, L: Link + Drop> Wire<'t, L> {
-    // Sends frames to the simulator, which answers `count` of them. A connection that fails is
-    // closed.
+    // Sends frames to the simulator, which answers `count` of them. Closes the connection if that
+    // fails.
     fn send(&mut self, frames: &[u8], count: u64, bank: &mut Bank)
         ensures { Exchanged bank.old bank.new }
     {
@@ -125,14 +126,14 @@ impl<'t, L: Link + Drop> Wires<'t, L> {
         }
     }
 
-    /// Returns the index of a device's connection.
+    /// Returns the index of a device's connection, if it has one.
     pub(crate) fn place_of(&self, device: &Option<Name>) -> Option<usize>
         ensures { IfSome result (λ place. place < length self.now.all.items) }
     {
         self.all.iter().position(|wire| wire.device == *device)
     }
 
-    /// Returns the near end of a connection.
+    /// Returns the device's end of a connection.
     pub(crate) fn near(&mut self, place: usize) -> &mut L
         requires { place < length self.old.all.items }
     {

@@ -18,7 +18,7 @@ use script_text::{write_accepted, write_faults, write_refusal};
 use std::alloc::Global;
 use std::io::{self, ErrorKind, Write};
 
-/// Feeds an event to the office, and prints its answer.
+/// Gives an event to the office, and prints the office's answer.
 pub fn feed<W: Write>(
     office: &mut Office<ListBooks>,
     at: u64,
@@ -34,7 +34,7 @@ pub fn feed<W: Write>(
     }
 }
 
-/// Starts a read, if one read can have its registers.
+/// Starts a read, if one read can cover its Modbus registers.
 pub(crate) fn feed_start<W: Write>(
     office: &mut Office<ListBooks>,
     at: u64,

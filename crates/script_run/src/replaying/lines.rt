@@ -37,7 +37,7 @@ pub fn carry_out<W: Write>(
     }
 }
 
-/// Executes a line of a text, or returns the status that ends the run.
+/// Executes a line of a text. If it ends the run, returns the exit status.
 pub(crate) fn run_line<W: Write>(
     alloc: Global,
     office: &mut Office<ListBooks>,

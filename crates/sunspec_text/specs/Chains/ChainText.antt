@@ -1,4 +1,5 @@
--- The output for a device's chain of models, and the exit status.
+-- The output for the chain of SunSpec models in a device's words, and the exit status. A word is
+-- the content of one Modbus register.
 use Rattle.std.specs.Prelude.{◌≡◌, ◌≢◌, ◌<◌, ◌≤◌, ℕ, List, [], ◌++◌, length, flat_map, codes, Ok, Err}
 use Rattle.std.specs.Fmt.{decimal}
 use Rattle.std.specs.declared.result.Result.{Result}
@@ -18,7 +19,7 @@ use Rattle.script_text.specs.AnswerText.{bad_line}
 use Rattle.command_io.specs.declared.status.ExitStatus.{ExitStatus}
 use Rattle.command_io.specs.declared.status.ExitStatus.TheVariants.{Fine, Refused, Failed}
 
--- The line of a point.
+-- The line of a point: its name and its value.
 abbrev pub point_line : Named → List ℕ
 point_line point =
     codes "point " ++ point.name ++ codes " " ++ value_text point.value point.scale ++ codes "\n"
@@ -29,23 +30,23 @@ model_line model =
     codes "model " ++ decimal model.address ++ codes " " ++ decimal model.id ++ codes " "
     ++ decimal model.length ++ codes "\n"
 
--- The line of a model, and then the lines of its points.
+-- The line of a model, followed by the lines of its points.
 abbrev pub model_lines : Words → Model → List ℕ
 model_lines word model = model_line model ++ flat_map point_line (points_in word model)
 
--- The lines of a chain with this base, these models and this end.
+-- The lines of a chain: its base address, its models, and the address of its end.
 abbrev pub chain_lines : Words → ℕ → List Model → ℕ → List ℕ
 chain_lines word base models end =
     codes "base " ++ decimal base ++ codes "\n" ++ flat_map (model_lines word) models
     ++ codes "end "
     ++ decimal end ++ codes "\n"
 
--- The lines of a chain that was found.
+-- The lines of a parsed chain.
 abbrev pub lines_of : Chain → List ℕ
 lines_of chain =
     chain_lines (words_of chain) (base_of chain) (models_of chain) (end_of chain)
 
--- The address of a missing word, if the fault has one.
+-- The address of the word that a fault concerns, if the fault has one.
 abbrev pub place_text : ChainFault → List ℕ
 place_text NoMark = []
 place_text (Unreadable address) = codes " " ++ decimal address
@@ -53,12 +54,12 @@ place_text PastEnd = []
 place_text TooMany = []
 place_text Memory = []
 
--- The line of a fault.
+-- The line that reports a fault.
 abbrev pub fault_line : ChainFault → List ℕ
 fault_line fault =
     codes "fault " ++ decimal (chain_fault_number fault) ++ place_text fault ++ codes "\n"
 
--- The fault of the words. Out of memory is no fault of the words.
+-- The words have this fault. Running out of memory is no fault of the words.
 abbrev pub IsWrong : Words → ChainFault → Type 0
 IsWrong word Memory = ⊥
 IsWrong word NoMark = Fails word NoMark
@@ -66,13 +67,13 @@ IsWrong word (Unreadable address) = Fails word (Unreadable address)
 IsWrong word PastEnd = Fails word PastEnd
 IsWrong word TooMany = Fails word TooMany
 
--- A fault prints its line, except for out of memory.
+-- A fault prints its line. `Memory` prints nothing.
 abbrev pub FaultPrints : ChainFault → (printed : List ℕ) → ExitStatus → Type 0
 FaultPrints fault printed Fine = ⊥
 FaultPrints fault printed Refused = (fault ≢ Memory) × (printed ≡ fault_line fault)
 FaultPrints fault printed Failed = ⊥
 
--- A device's words print their chain, or else their fault.
+-- The output for a device's words: the lines of their chain, or the line of their fault.
 abbrev pub WordsPrint : Words → (printed : List ℕ) → ExitStatus → Type 0
 WordsPrint word printed Fine =
     (base : ℕ) × (models : List Model) × (end : ℕ) × IsChain word base models end
@@ -81,12 +82,12 @@ WordsPrint word printed Refused =
     (fault : ChainFault) × IsWrong word fault × (printed ≡ fault_line fault)
 WordsPrint word printed Failed = ⊥
 
--- Lines print what their words print, or else the number of the first wrong line.
+-- The output for parsed lines of words: that for the words, or the number of the first wrong line.
 abbrev pub LinesPrint : Result Words ℕ → (printed : List ℕ) → ExitStatus → Type 0
 LinesPrint (Err number) printed status = (status ≡ Refused) × (printed ≡ bad_line number)
 LinesPrint (Ok word) printed status = WordsPrint word printed status
 
--- An input that is not too long prints what its lines print.
+-- The output for an input: that for its lines, or that the input is too long.
 pub record ChainPrints (input printed : List ℕ) (status : ExitStatus) : Type 0 where
   pub long : most_bytes < length input → (status ≡ Refused) × (printed ≡ too_long)
   pub lines : length input ≤ most_bytes

@@ -1,4 +1,5 @@
--- The output for a point list's plan: its reads, and the places of its points in them.
+-- The output for the plan of a point list: its reads, and for each point the read and the offset in
+-- it.
 use Rattle.std.specs.Prelude.{◌≡◌, ℕ, ◌+◌, List, [], ◌∷◌, ◌++◌, flat_map, map, Option, codes, slice_index_or}
 use Rattle.std.specs.Io.KnownBytes.{Appends}
 use Rattle.std.specs.Fmt.{decimal}
@@ -12,12 +13,12 @@ use Rattle.read_plan.specs.PlannedReads.{IsFirstHolding, read_runs}
 use Rattle.read_plan.specs.Plans.{FollowsRule, IsLawful}
 use Rattle.read_plan.specs.declared.planned_reads.PlannedRead.{PlannedRead}
 
--- The number of a read and the code of its function.
+-- The beginning of a read's line: the number of the read, and the code of its function.
 abbrev pub read_head : (number function : ℕ) → List ℕ
 read_head number function =
     codes "read " ++ decimal number ++ codes " " ++ decimal function ++ codes " "
 
--- The area of a read, its first address and the number of its registers.
+-- The area of a read, its first Modbus address and the number of its registers.
 abbrev pub registers_text : PlannedRead → List ℕ
 registers_text read =
     decimal read.area ++ codes " " ++ decimal read.span.address ++ codes " "
@@ -32,19 +33,19 @@ span_line number function read = read_head number function ++ registers_text rea
 abbrev pub read_line : (number : ℕ) → PlannedRead → List ℕ
 read_line number read = span_line number (code_of read.span.function) read
 
--- The lines of reads; the first has the given number.
+-- The lines of reads, numbered from the given number on.
 abbrev pub read_lines : ℕ → List PlannedRead → List ℕ
 read_lines number [] = []
 read_lines number (read ∷ reads) = read_line number read ++ read_lines (number + 1) reads
 
--- A point, the index of its read in the plan, from 0, and the number of registers of the read
--- before the point's.
+-- A point of the list, the index of its read in the plan, and the offset of its first register in
+-- that read.
 pub record PlacedPoint : Type 0 where
   pub point : ListedPoint
   pub read : ℕ
   pub offset : ℕ
 
--- The read is the first of the point's area that has the point.
+-- The read at this index is the first read of the point's area that covers the point.
 pub record IsPlaced (list : List ListedPoint) (reads : List PlannedRead) (placed : PlacedPoint) :
     Type 0 where
   pub first : IsFirstHolding (read_runs reads) (item_of list placed.point) placed.read
@@ -57,12 +58,12 @@ point_line placed =
     codes "point " ++ placed.point.name ++ codes " " ++ decimal (placed.read + 1) ++ codes " "
     ++ decimal placed.offset ++ codes "\n"
 
--- The bytes written are such an output.
+-- The bytes that were written satisfy `Prints`.
 abbrev pub Writes : (Prints : List ℕ → Type 0) → (output output' : Option (List ℕ)) → Type 0
 Writes Prints output output' =
     (printed : List ℕ) × Appends output output' printed × Prints printed
 
--- The lines of points, each with its place in the plan.
+-- The lines of some points, each with its read and its offset.
 pub record PointsPrint (list points : List ListedPoint) (reads : List PlannedRead)
     (printed : List ℕ)
     : Type 0 where
@@ -71,21 +72,21 @@ pub record PointsPrint (list points : List ListedPoint) (reads : List PlannedRea
   pub each : All (IsPlaced list reads) placed
   pub lines : printed ≡ flat_map point_line placed
 
--- The lines of reads, and then those of the list's points.
+-- The lines of the reads, followed by those of the list's points.
 pub record LinesPrint (list : List ListedPoint) (reads : List PlannedRead) (printed : List ℕ) : Type
     0 where
   pub points : List ℕ
   pub placed : PointsPrint list list reads points
   pub lines : printed ≡ read_lines 1 reads ++ points
 
--- A list prints the lines of its plan, which is lawful.
+-- The output for a point list: the lines of its plan. The plan follows the rules for plans.
 pub record PlanPrints (list : List ListedPoint) (printed : List ℕ) : Type 0 where
   pub reads : List PlannedRead
   pub rule : FollowsRule (items_of list) (read_runs reads)
   pub lawful : IsLawful (runs_of list) (items_of list) (read_runs reads)
   pub lines : LinesPrint list reads printed
 
--- A list is never refused.
+-- A point list is never refused: the status is `Fine`.
 pub record PrintsPlan (list : List ListedPoint) (printed : List ℕ) (status : ExitStatus) :
     Type 0 where
   pub fine : status ≡ Fine

@@ -33,7 +33,7 @@ pub fn chain_text<R: Read, P: Printer>(alloc: Global, input: &mut R, output: &mu
     }
 }
 
-// Formats what the lines mean, and prints it.
+// Builds the output for the lines of words, and prints it.
 fn print_said<P: Printer>(alloc: Global, text: &[u8], output: &mut P) -> ExitStatus
     ensures { PrintsOn P.Printer (LinesPrint (words_told nothing_read (speaking_lines text.now)))
         result output.old output.new }
@@ -43,7 +43,7 @@ fn print_said<P: Printer>(alloc: Global, text: &[u8], output: &mut P) -> ExitSta
     print_end(&lines, meant, output)
 }
 
-// Writes what the lines mean.
+// Writes the output for the lines of words.
 fn print_lines<W: Write>(alloc: Global, text: &[u8], output: &mut W) -> ExitStatus
     ensures { PrintsAs (LinesPrint (words_told nothing_read (speaking_lines text.now))) result
         (W.contents output.old) (W.contents output.new) }
@@ -58,7 +58,7 @@ fn print_lines<W: Write>(alloc: Global, text: &[u8], output: &mut W) -> ExitStat
     }
 }
 
-/// Writes the chain in an image, or its fault.
+/// Writes the chain of models in an image, or the line of its fault.
 pub(crate) fn print_image<W: Write>(alloc: Global, image: &Image, output: &mut W) -> ExitStatus
     ensures { PrintsAs (WordsPrint (word_in image.now)) result
         (W.contents output.old) (W.contents output.new) }
@@ -72,7 +72,7 @@ pub(crate) fn print_image<W: Write>(alloc: Global, image: &Image, output: &mut W
     }
 }
 
-/// Writes why there is no chain.
+/// Writes the fault that explains why there is no chain.
 pub(crate) fn print_lack<W: Write>(fault: ChainFault, output: &mut W) -> ExitStatus
     ensures { PrintsAs (FaultPrints fault) result
         (W.contents output.old) (W.contents output.new) }
@@ -118,7 +118,7 @@ fn print_models<W: Write>(chain: &Chain<'_>, models: &[Model], output: &mut W) -
     Ok(())
 }
 
-// Writes a model, and then its points.
+// Writes the line of a model, and then those of its points.
 fn print_model<W: Write>(chain: &Chain<'_>, model: &Model, output: &mut W) -> io::Result<()>
     ensures { OnOk result (Appends (W.contents output.old) (W.contents output.new)
         (model_lines (words_of chain.now) model.now)) }

@@ -1,4 +1,4 @@
-//! Reads a device's words from lines: an address, and the words from there on in hex.
+//! Reads a device's words from lines of an address and the words from there on in hexadecimal.
 ghost use Rattle.std.specs.Prelude.{◌≡◌, IfOk, IfErr, OnOk, Some, option_map};
 ghost use Rattle.sun_chain.specs.Image.{word_in};
 ghost use Rattle.sunspec_text.specs.Chains.ImageLines.{SpellsWords, address_of, put_of, words_after};
@@ -11,7 +11,7 @@ use script_lines::{Words, hex_bytes, number};
 use std::alloc::{AllocError, Global};
 use sun_chain::{Image, ImageFault};
 
-/// Why lines are not a memory image.
+/// Why lines of words give no memory image.
 #[derive(Clone, Copy, Debug, PartialEq, Eq)]
 pub(crate) enum LoadFault {
     /// The line with this number is wrong.
@@ -19,7 +19,7 @@ pub(crate) enum LoadFault {
     Memory,
 }
 
-/// Words of a device from an address on.
+/// Words of a device, and the address of the first of them.
 #[derive(Drop)]
 pub(crate) struct Put {
     address: u16,
@@ -81,7 +81,7 @@ fn read_put(alloc: Global, line: &[u8]) -> Result<Option<Put>, AllocError>
     Ok(words.map(|words| Put { address, words }))
 }
 
-// Parses the address of a register.
+// Parses a Modbus address.
 fn address(word: &[u8]) -> Option<u16>
     ensures { result ≡ address_of word.now }
 {

@@ -25,7 +25,7 @@ pub fn plan_text<R: Read, P: Printer>(alloc: Global, input: &mut R, output: &mut
     }
 }
 
-// Formats the output for a text, and prints it.
+// Builds the output for a point list's text, and prints it.
 fn print_said<P: Printer>(alloc: Global, text: &[u8], output: &mut P) -> ExitStatus
     ensures { PrintsOn P.Printer (TextPrints text.now) result output.old output.new }
 {
@@ -34,7 +34,7 @@ fn print_said<P: Printer>(alloc: Global, text: &[u8], output: &mut P) -> ExitSta
     print_end(&lines, meant, output)
 }
 
-// Writes the plan of the list in a text, or its faulty rows.
+// Writes the plan of a point list's text, or a line for each faulty row.
 fn print_text<W: Write>(alloc: Global, text: &[u8], output: &mut W) -> ExitStatus
     ensures { PrintsAs (TextPrints text.now) result
         (W.contents output.old) (W.contents output.new) }

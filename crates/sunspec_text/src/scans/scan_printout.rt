@@ -19,7 +19,7 @@ use std::alloc::Global;
 use std::io::Write;
 use sun_chain::{Chain, Image, walk};
 
-/// The output of a scan.
+/// The form in which a scan is printed.
 #[derive(Clone, Copy, Debug, PartialEq, Eq)]
 pub enum ScanForm<'a> {
     /// The chain, as `chain_text` prints it.
@@ -60,7 +60,7 @@ pub fn scan_text<L: Link, V: ScanObserver, P: Printer>(
     }
 }
 
-// Formats the words in an image, and prints them.
+// Builds the output for an image in the requested form, and prints it.
 fn print_scanned<P: Printer>(
     alloc: Global,
     image: &Image,
@@ -75,7 +75,7 @@ fn print_scanned<P: Printer>(
     print_end(&lines, meant, output)
 }
 
-// Writes the words in an image in the requested form.
+// Writes the output for an image in the requested form.
 fn print_form<W: Write>(
     alloc: Global,
     image: &Image,
@@ -92,7 +92,7 @@ fn print_form<W: Write>(
     }
 }
 
-// Writes the point list of the chain in an image.
+// Writes the point list of an image's chain.
 fn print_listed<W: Write>(alloc: Global, image: &Image, output: &mut W) -> ExitStatus
     ensures { PrintsAs (ListPrints (word_in image.now)) result
         (W.contents output.old) (W.contents output.new) }
@@ -110,7 +110,7 @@ fn print_listed<W: Write>(alloc: Global, image: &Image, output: &mut W) -> ExitS
     }
 }
 
-// Writes the lines that set up the device with the chain in an image.
+// Writes the lines that set up the device with an image's chain.
 fn print_setup<W: Write>(alloc: Global, image: &Image, site: Site<'_>, output: &mut W) -> ExitStatus
     ensures { PrintsAs (SetupPrints (word_in image.now)) result
         (W.contents output.old) (W.contents output.new) }
@@ -125,7 +125,7 @@ fn print_setup<W: Write>(alloc: Global, image: &Image, site: Site<'_>, output: &
     }
 }
 
-// Writes the faulty rows of a list.
+// Writes a line for each faulty row of a point list.
 fn print_faults<W: Write>(faults: &FaultyRows, output: &mut W) -> ExitStatus
     ensures { PrintsAs (RowsPrint faults.now) result
         (W.contents output.old) (W.contents output.new) }

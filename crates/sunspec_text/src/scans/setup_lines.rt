@@ -6,7 +6,8 @@ use std::io::{self, Write};
 use sun_chain::{Chain, Model, NamedPoint, PointScale, scale_name};
 use sun_points::Point;
 
-/// How an office is to poll a device: its name, its unit, and its timeout in seconds.
+/// How an office will poll a device: under which name, with which unit identifier, and with which
+/// timeout in seconds.
 #[derive(Clone, Copy, Debug, PartialEq, Eq)]
 pub struct Site<'a> {
     pub device: &'a str,
@@ -14,16 +15,18 @@ pub struct Site<'a> {
     pub timeout: u32,
 }
 
-/// An energy counter in Wh: its point, and the part of its register's name after the device's name.
+/// An energy counter in Wh: the name of its point, and the code that follows the device's name in
+/// the register's name.
 #[derive(Clone, Copy)]
 struct Counter {
     point: &'static str,
     code: &'static str,
-    // A counter of one phase is set up as a comment.
+    // The text before the register's line: a comment mark for a counter of one phase.
     front: &'static str,
 }
 
-// Rows of a point, the code in the register's name, and the text before the register's line.
+// Rows of the table: a point's name, the code in the register's name, and the text before the
+// register's line.
 macro_rules! counters {
     ($(($point:expr, $code:expr, $front:expr),)*) => {
         [$(Counter { point: $point, code: $code, front: $front }),*]
@@ -66,7 +69,7 @@ pub(crate) fn setup_text(
     Ok(text)
 }
 
-// Writes the lines of the device and of its list.
+// Writes the lines for the device and for its point list.
 fn add_device(text: &mut Vec<u8>, list: &[u8], site: Site<'_>) -> io::Result<()> {
     let Site {
         device,
@@ -84,8 +87,7 @@ fn add_device(text: &mut Vec<u8>, list: &[u8], site: Site<'_>) -> io::Result<()>
     text.write_all(b"\n")
 }
 
-// Writes the lines of the counters of a model, from this line number on. Returns the number after
-// them.
+// Writes the lines for the counters of a model, numbered from `number` on. Returns the next number.
 fn add_model(
     text: &mut Vec<u8>,
     chain: &Chain<'_>,
@@ -122,12 +124,12 @@ fn add_model(
     Ok(next)
 }
 
-// Returns the counter of a point, if the point is one.
+// Returns the counter whose point this is, if there is one.
 fn counter_of(point: &NamedPoint<'_>) -> Option<Counter> {
     COUNTERS.iter().copied().find(|counter| counter.point.as_bytes() == point.name().as_bytes())
 }
 
-// Returns the address of the point that scales a point, if the device has it.
+// Returns the address of the scale factor of a point, if the device has it.
 fn scale_address(points: &[NamedPoint<'_>], model: &Model, point: &NamedPoint<'_>) -> Option<u16> {
     let name = scale_name(model.id, point.name())?;
     let found = points

@@ -1,4 +1,4 @@
--- What the program reads of each command's body.
+-- What the program reads from the JSON body of each command.
 use Rattle.std.specs.Prelude.{◌≡◌, pos, Some, codes, option_map}
 use Rattle.serde_json.specs.Data.{Data}
 use Rattle.http_answer.specs.Commands.Json.Members.{text, whole}
@@ -14,19 +14,19 @@ use Rattle.http_answer.specs.declared.commands.json.readings.ManualBody.{ManualB
 use Rattle.http_answer.specs.declared.commands.json.readings.CloseBody.{CloseBody}
 use Rattle.http_answer.specs.declared.commands.json.readings.VoidBody.{VoidBody}
 
--- The device that the body describes.
+-- The parsed device has the values of the JSON object.
 pub record IsDevice (d : Data) (body : DeviceBody) : Type 0 where
   pub name : text (codes "name") d ≡ Some body.name.now
   pub unit : whole (codes "unit") d ≡ Some (pos body.unit)
   pub timeout : whole (codes "timeout") d ≡ Some (pos body.timeout)
   pub window : whole (codes "window") d ≡ Some (pos body.window)
 
--- The scale that the body describes.
+-- The parsed scale has the value of `fixed` or `scale_at` in the JSON object.
 abbrev pub IsScale : Data → Scale → Type 0
 IsScale d (Fixed scale) = whole (codes "fixed") d ≡ Some scale
 IsScale d (At address) = whole (codes "scale_at") d ≡ Some (pos address)
 
--- The register that the body describes.
+-- The parsed accounting register has the values of the JSON object.
 pub record IsRegister (d : Data) (body : RegisterBody) : Type 0 where
   pub name : text (codes "name") d ≡ Some body.name.now
   pub device : text (codes "device") d ≡ Some body.device.now
@@ -34,7 +34,7 @@ pub record IsRegister (d : Data) (body : RegisterBody) : Type 0 where
   pub address : whole (codes "address") d ≡ Some (pos body.address)
   pub scale : IsScale d body.scale
 
--- The installation that the body describes.
+-- The parsed installation has the values of the JSON object.
 pub record IsInstall (d : Data) (body : InstallBody) : Type 0 where
   pub meter : text (codes "meter") d ≡ Some body.meter.now
   pub raw : whole (codes "raw") d ≡ Some (pos body.raw)
@@ -42,34 +42,34 @@ pub record IsInstall (d : Data) (body : InstallBody) : Type 0 where
   pub ceiling : whole (codes "ceiling") d ≡ Some (pos body.ceiling)
   pub range : whole (codes "range") d ≡ option_map (λ n. pos n) body.range
 
--- The exchange that the body describes.
+-- The parsed exchange has the values of the JSON object.
 pub record IsExchange (d : Data) (body : ExchangeBody) : Type 0 where
   pub last : whole (codes "last") d ≡ Some (pos body.last)
   pub rolls : whole (codes "rolls") d ≡ Some (pos body.rolls)
   pub install : IsInstall d body.install
 
--- The reset that the body describes.
+-- The parsed reset has the values of the JSON object.
 pub record IsReset (d : Data) (body : ResetBody) : Type 0 where
   pub before : whole (codes "before") d ≡ Some (pos body.before)
   pub after : whole (codes "after") d ≡ Some (pos body.after)
 
--- The rescaling that the body describes.
+-- The parsed rescaling has the values of the JSON object.
 pub record IsRescale (d : Data) (body : RescaleBody) : Type 0 where
   pub before : whole (codes "before") d ≡ Some (pos body.before)
   pub after : whole (codes "after") d ≡ Some (pos body.after)
   pub sf : whole (codes "sf") d ≡ Some body.sf
 
--- The reading by hand that the body describes.
+-- The parsed reading by hand has the values of the JSON object.
 pub record IsManual (d : Data) (body : ManualBody) : Type 0 where
   pub raw : whole (codes "raw") d ≡ Some (pos body.raw)
   pub rolls : whole (codes "rolls") d ≡ Some (pos body.rolls)
   pub moment : whole (codes "at") d ≡ option_map (λ n. pos n) body.at
 
--- The closing that the body describes.
+-- The parsed closing has the values of the JSON object.
 pub record IsClose (d : Data) (body : CloseBody) : Type 0 where
   pub raw : whole (codes "raw") d ≡ Some (pos body.raw)
   pub rolls : whole (codes "rolls") d ≡ Some (pos body.rolls)
 
--- The void that the body describes.
+-- The parsed void has the value of the JSON object.
 pub record IsVoid (d : Data) (body : VoidBody) : Type 0 where
   pub place : whole (codes "place") d ≡ Some (pos body.place)

@@ -6,11 +6,11 @@ use Rattle.serde_json.specs.Find.{get, as_number, as_i64, as_str}
 use Rattle.http_answer.specs.declared.commands.json.body.BodyFault.{BodyFault}
 use Rattle.http_answer.specs.declared.commands.json.body.BodyFault.TheVariants.{Malformed, Negative}
 
--- The text of a member.
+-- The text in a member, if the member is a string.
 abbrev pub text : List ℕ → Data → Option (List ℕ)
 text name d = option_and_then as_str (get name d)
 
--- The number of a member, if it is an integer from -2^63 to 2^63 - 1.
+-- The integer in a member, if it is from -2^63 to 2^63 - 1.
 abbrev pub whole : List ℕ → Data → Option ℤ
 whole name d = option_and_then as_i64 (option_and_then as_number (get name d))
 
@@ -27,20 +27,20 @@ pub record Member : Type 0 where
   pub name : List ℕ
   pub want : Want
 
--- The member has its type. The sign of a number does not matter here.
+-- The member has its required type. A negative number passes here.
 abbrev pub is_of_kind : Want → List ℕ → Data → Bool
 is_of_kind Text name d = is_some (text name d)
 is_of_kind Whole name d = is_some (whole name d)
 is_of_kind Natural name d = is_some (whole name d)
 is_of_kind Optional name d = is_none (get name d) || is_some (whole name d)
 
--- The number is negative.
+-- The number exists and is negative.
 abbrev pub is_below_zero : Option ℤ → Bool
 is_below_zero None = false
 is_below_zero (Some (pos n)) = false
 is_below_zero (Some (negsuc n)) = true
 
--- A number is negative that must not be negative.
+-- The member must not be negative, and it is.
 abbrev pub is_too_low : Want → List ℕ → Data → Bool
 is_too_low Text name d = false
 is_too_low Whole name d = false
@@ -51,17 +51,17 @@ is_too_low Optional name d = is_below_zero (whole name d)
 abbrev pub have_kinds : List Member → Data → Bool
 have_kinds members d = list_all (λ m. is_of_kind m.want m.name d) members
 
--- A member of a body is negative that must not be negative.
+-- A member of the body is negative, and must not be.
 abbrev pub have_negative : List Member → Data → Bool
 have_negative members d = list_any (λ m. is_too_low m.want m.name d) members
 
--- The fault of a body. A member that is missing or has the wrong type is reported before a negative
--- number.
+-- The fault of a body. A member that is missing or has the wrong type takes precedence over a
+-- negative number.
 abbrev pub fault_in : Bool → Bool → Option BodyFault
 fault_in kinds negative =
     if kinds then (if negative then Some Negative else None) else Some Malformed
 
--- The body has no fault, and the result was read from it; or the result is its fault.
+-- Either the body has no fault, and the result holds its values; or the result is the body's fault.
 abbrev pub Reads : {X : Type 0} → Option BodyFault → (X → Type 0) → Result X BodyFault → Type 0
 Reads fault IsIn (Ok x) = (fault ≡ None) × IsIn x
 Reads fault IsIn (Err e) = fault ≡ Some e

@@ -5,11 +5,11 @@ use Rattle.serde_json.specs.Find.{get}
 use Rattle.http_answer.specs.declared.commands.json.body.BodyFault.{BodyFault}
 use Rattle.http_answer.specs.Commands.Json.Members.{Member, Text, Whole, Natural, Optional, fault_in, have_kinds, have_negative, is_below_zero, whole}
 
--- The fault of a body that requires these members.
+-- The fault of a JSON object that must have these members, if it has one.
 abbrev pub fault_of : List Member → Data → Option BodyFault
 fault_of members d = fault_in (have_kinds members d) (have_negative members d)
 
--- The members of a device.
+-- The required members of the body that adds a device.
 abbrev pub device_members : List Member
 device_members =
     record { name = codes "name"; want = Text }
@@ -18,7 +18,8 @@ device_members =
     ∷ record { name = codes "window"; want = Natural }
     ∷ []
 
--- The members of a register. It also has a scale: exactly one of `fixed` and `scale_at`.
+-- The required members of the body that adds an accounting register. It also has a scale: exactly
+-- one of `fixed` and `scale_at`.
 abbrev pub register_members : List Member
 register_members =
     record { name = codes "name"; want = Text }
@@ -27,23 +28,23 @@ register_members =
     ∷ record { name = codes "address"; want = Natural }
     ∷ []
 
--- Exactly one of the two members exists, and it is a number.
+-- Exactly one of the members `fixed` and `scale_at` exists, and it is an integer.
 abbrev pub has_scale : Data → Bool
 has_scale d =
     (is_some (whole (codes "fixed") d) && is_none (get (codes "scale_at") d))
     || (is_none (get (codes "fixed") d) && is_some (whole (codes "scale_at") d))
 
--- The fault of a register's scale.
+-- The fault of the scale in a body that adds an accounting register.
 abbrev pub scale_fault : Data → Option BodyFault
 scale_fault d = fault_in (has_scale d) (is_below_zero (whole (codes "scale_at") d))
 
--- The fault of a register's body.
+-- The fault of a body that adds an accounting register.
 abbrev pub register_fault : Data → Option BodyFault
 register_fault d =
     fault_in (have_kinds register_members d && has_scale d)
     (have_negative register_members d || is_below_zero (whole (codes "scale_at") d))
 
--- The members of an installation.
+-- The members of the body that installs a meter. Only `range` is optional.
 abbrev pub install_members : List Member
 install_members =
     record { name = codes "meter"; want = Text }
@@ -53,21 +54,22 @@ install_members =
     ∷ record { name = codes "range"; want = Optional }
     ∷ []
 
--- The members of an exchange.
+-- The members of the body that exchanges a meter: the last reading of the old meter, and the new
+-- meter.
 abbrev pub exchange_members : List Member
 exchange_members =
     record { name = codes "last"; want = Natural }
     ∷ record { name = codes "rolls"; want = Natural }
     ∷ install_members
 
--- The members of a reset.
+-- The required members of the body that resets a counter.
 abbrev pub reset_members : List Member
 reset_members =
     record { name = codes "before"; want = Natural }
     ∷ record { name = codes "after"; want = Natural }
     ∷ []
 
--- The members of a rescaling.
+-- The required members of the body that rescales a counter.
 abbrev pub rescale_members : List Member
 rescale_members =
     record { name = codes "before"; want = Natural }
@@ -75,7 +77,7 @@ rescale_members =
     ∷ record { name = codes "sf"; want = Whole }
     ∷ []
 
--- The members of a reading by hand.
+-- The members of the body with a reading by hand. Only `at` is optional.
 abbrev pub manual_members : List Member
 manual_members =
     record { name = codes "raw"; want = Natural }
@@ -83,13 +85,13 @@ manual_members =
     ∷ record { name = codes "at"; want = Optional }
     ∷ []
 
--- The members of a closing.
+-- The required members of the body that closes a meter.
 abbrev pub close_members : List Member
 close_members =
     record { name = codes "raw"; want = Natural }
     ∷ record { name = codes "rolls"; want = Natural }
     ∷ []
 
--- The members of a void.
+-- The required member of the body that voids an entry.
 abbrev pub void_members : List Member
 void_members = record { name = codes "place"; want = Natural } ∷ []

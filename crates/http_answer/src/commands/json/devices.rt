@@ -7,7 +7,7 @@ ghost use Rattle.http_answer.specs.Commands.Json.Commands.{IsDevice, IsRegister,
 use crate::commands::json::body::{Body, BodyFault};
 use crate::commands::json::members::{has_member, natural, text, whole};
 
-/// A new device.
+/// The members of the body that adds a device.
 #[derive(Clone, Copy, Debug, PartialEq, Eq)]
 pub struct DeviceBody<'b> {
     pub name: &'b str,
@@ -25,7 +25,7 @@ pub enum Scale {
     At(u64),
 }
 
-/// A new register.
+/// The members of the body that adds an accounting register.
 #[derive(Clone, Copy, Debug, PartialEq, Eq)]
 pub struct RegisterBody<'b> {
     pub name: &'b str,

@@ -26,7 +26,7 @@ pub(crate) fn text<'b>(body: &'b Value, name: &str) -> Result<&'b str, BodyFault
     }
 }
 
-// Returns the integer of a member.
+// Returns the integer in a member, or why there is none.
 pub(crate) fn whole(body: &Value, name: &str) -> Result<i64, BodyFault>
     ensures found { IfOk result (λ n. whole name.now (view body.now) ≡ Some n) }
     ensures none { IfErr result (λ e. whole name.now (view body.now) ≡ None) }
@@ -38,7 +38,7 @@ pub(crate) fn whole(body: &Value, name: &str) -> Result<i64, BodyFault>
     }
 }
 
-// Returns the integer of an optional member.
+// Returns the integer in an optional member; `None` without the member.
 pub(crate) fn optional(body: &Value, name: &str) -> Result<Option<i64>, BodyFault>
     ensures found { IfOk result (λ o. whole name.now (view body.now) ≡ o) }
     ensures kind { IfOk result (λ o. is_of_kind Optional name.now (view body.now) ≡ true) }
@@ -52,7 +52,7 @@ pub(crate) fn optional(body: &Value, name: &str) -> Result<Option<i64>, BodyFaul
     }
 }
 
-// Converts a number that must not be negative.
+// Converts an integer, and rejects a negative one.
 pub(crate) fn natural(number: i64) -> Result<u64, BodyFault>
     ensures found { IfOk result (λ n. number ≡ pos n) }
     ensures negative { IfErr result (λ e. is_below_zero (Some number) ≡ true) }
@@ -65,7 +65,7 @@ pub(crate) fn natural(number: i64) -> Result<u64, BodyFault>
     }
 }
 
-// Converts an optional number that must not be negative.
+// Converts an optional integer, and rejects a negative one.
 pub(crate) fn natural_or_none(number: Option<i64>) -> Result<Option<u64>, BodyFault>
     ensures found { IfOk result (λ o. number ≡ option_map (λ n. pos n) o) }
     ensures negative { IfErr result (λ e. is_below_zero number ≡ true) }

@@ -18,7 +18,8 @@ pub struct InstallBody<'b> {
     pub range: Option<u64>,
 }
 
-/// The last reading of the old meter, its rollovers since the reading before, and the new meter.
+/// The last reading of the old meter, the rollovers of its counter since the previous reading, and
+/// the new meter.
 #[derive(Clone, Copy, Debug, PartialEq, Eq)]
 pub struct ExchangeBody<'b> {
     pub last: u64,

@@ -7,7 +7,7 @@ ghost use Rattle.http_answer.specs.Commands.Json.Commands.{IsClose, IsManual, Is
 use crate::commands::json::body::{Body, BodyFault};
 use crate::commands::json::members::{natural, natural_or_none, optional, whole};
 
-/// A reading by hand, with its timestamp if that is not the command's.
+/// A reading by hand, with its own timestamp or, without one, that of the command.
 #[derive(Clone, Copy, Debug, PartialEq, Eq)]
 pub struct ManualBody {
     pub raw: u64,
@@ -15,7 +15,7 @@ pub struct ManualBody {
     pub at: Option<u64>,
 }
 
-/// The last reading of a meter, and its rollovers since the reading before.
+/// The last reading of a meter, and the rollovers of its counter since the previous reading.
 #[derive(Clone, Copy, Debug, PartialEq, Eq)]
 pub struct CloseBody {
     pub raw: u64,
