@@ -28,8 +28,8 @@ pub record Finds {S A : Type 0} (g : Ghosts S) (old new : Held S) (result : Resu
 abbrev pub OfLawful : {A : Type 0} → (List Fact → A → Type 0) → List Fact → A → Type 0
 OfLawful Says facts a = AreLawful facts × Says facts a
 
--- Rows that show values are read back as these values, in order. `Damaged` is reported only if a
--- value is out of its range. The only other fault is out of memory.
+-- Rows that show values are read back with the same values, in order. `Damaged` is reported only if
+-- a value is out of its range. The only other fault is out of memory.
 pub record ReadsAll {A T X : Type 0} (rows : List Row) (shown : X → Row) (IsSeen : X → A → Type 0)
     (IsSound : X → Type 0) (items : T → List A) (result : Result T RowFault) : Type 0 where
   pub read : (xs : List X) → rows ≡ map shown xs → IfOk result (λ v. AreEach IsSeen xs (items v))
