@@ -21,7 +21,7 @@ use Rattle.stored_office.specs.declared.tasks.tasks.Task.TheVariants as task
 use Rattle.stored_office.specs.declared.tasks.tasks.Done.{Done}
 use Rattle.stored_office.specs.declared.tasks.tasks.Done.TheVariants.{Reported, Served, Entered, Checked, Polled, Ran}
 
--- The end `Done` is one that this task can have.
+-- The end `Done` is possible for this kind of task.
 abbrev pub IsOf : Task → Done → Type 0
 IsOf (task.Report register) (Reported end) = Unit {0}
 IsOf (task.ReportRange register form) (Reported end) = Unit {0}
