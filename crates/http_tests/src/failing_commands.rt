@@ -23,8 +23,8 @@ impl NamedFiles for NoFiles {
     }
 }
 
-// If the store fails while the office is opened, or while a doubtful entry is checked, the line is
-// refused. It is not reported as doubtful.
+// If the store fails while the office is opened, or while an entry above the meter's ceiling is
+// checked, the line is refused. The command does not ask for confirmation of the entry.
 #[test]
 fn a_line_over_a_failing_store_is_refused(rt: HostRuntime) {
     for failing in 1..12 {
