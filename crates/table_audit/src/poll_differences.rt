@@ -187,7 +187,7 @@ fn began_anywhere(polls: &[Row], outcome: &OutcomeRow) -> bool
     false
 }
 
-/// Returns the same result as `began_anywhere`, but tries the likely position first.
+/// Returns the result of `began_anywhere`. Tries the likely position of the poll first.
 fn has_begun(first: u64, polls: &[Row], outcome: &OutcomeRow) -> bool
     ensures { result ≡ list_any (differing.began outcome.now) polls.now }
 {

@@ -33,8 +33,8 @@ own_rolls Closing rolls = codes " " ++ decimal rolls
 own_rolls Reset rolls = codes " " ++ decimal rolls
 own_rolls Rescale rolls = codes " " ++ decimal rolls
 
--- The line of an entry: PLACE KIND MOMENT RAW AFTER SF, and ROLLS for all kinds but readings. The
--- line does not say whether the entry is voided.
+-- The line of an entry: PLACE KIND MOMENT RAW AFTER SF, and ROLLS for all kinds except readings.
+-- The line does not say whether the entry is voided.
 abbrev pub entry_line : TableRow → List ℕ
 entry_line entry =
     decimal entry.place ++ kind_word entry.kind ++ decimal entry.moment ++ codes " "

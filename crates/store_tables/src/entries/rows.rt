@@ -62,7 +62,7 @@ pub struct EntryRow {
     pub raw: u32,
     /// How often the counter rolled over since the previous entry.
     pub rolls: u8,
-    /// The value that the counter was set to. 0 for all kinds but a reset and a rescale.
+    /// The value that the counter was set to. 0 for all kinds except a reset and a rescale.
     pub after: u32,
     /// The scale factor after the entry.
     pub sf: i16,
