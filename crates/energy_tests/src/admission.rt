@@ -1,4 +1,4 @@
-//! Which entries are recorded, and how.
+//! Which entries of a meter are recorded, and with which energy.
 use crate::terms::{PREVIOUS, TOTAL_LIMIT, booked, last};
 use crate::verdicts::ranged;
 use energy_core::{Acc32, Counter, Entry, Last, Step, TermFault, Terms, enter};
@@ -71,7 +71,8 @@ static CASES: [Case; 21] = [
         entry: step!(5_000_000, 5300, 0),
         answer: booked!(last!(5_000_000, 5300, 0), 2_701_800, 0),
     },
-    // 3,000 quarter hours, from the last second of one and from the first, and one more
+    // A step over at most 3,000 quarter hours: from the last second of one, from the first second
+    // of one, and with one second more.
     Case {
         total: 0,
         last: last!(899, 5200, 0),
@@ -96,14 +97,14 @@ static CASES: [Case; 21] = [
         entry: step!(2_700_901, 5300, 0),
         answer: Err(TermFault::SpanTooLong),
     },
-    // the most rollovers
+    // The greatest number of rollovers.
     Case {
         total: 0,
         last: last!(1900, 5200, -3),
         entry: step!(2000, 0, 255),
         answer: booked!(last!(2000, 0, -3), 1900, 1_095_216_655_280),
     },
-    // the limit of the total
+    // The limit of the total energy: just reached, and passed.
     Case {
         total: NEARLY_FULL,
         last: PREVIOUS,
@@ -116,8 +117,8 @@ static CASES: [Case; 21] = [
         entry: step!(2000, 5202, 0),
         answer: Err(TermFault::TotalFull),
     },
-    // the step ends at what the counter showed before, and the counter continues from what it was
-    // set to
+    // A change of the counter. The step ends at the value before the change, and the counter
+    // continues from the new value.
     Case {
         total: 200_000,
         last: PREVIOUS,
@@ -130,7 +131,7 @@ static CASES: [Case; 21] = [
         entry: change!(2000, 5250, 0, 0),
         answer: booked!(last!(2000, 0, 0), 1900, 50_000),
     },
-    // scale factors
+    // Scale factors that an entry may and may not have.
     Case {
         total: 0,
         last: PREVIOUS,
@@ -155,7 +156,7 @@ static CASES: [Case; 21] = [
         entry: change!(2000, 5200, 1, 4),
         answer: Err(TermFault::BadScale),
     },
-    // the first fault that applies
+    // If several faults apply, the first one is reported.
     Case {
         total: NEARLY_FULL,
         last: PREVIOUS,
@@ -273,13 +274,13 @@ fn enters<C: Counter>(rt: &impl Abort, counter: &C, cases: &[Case]) {
     }
 }
 
-/// An entry is recorded, or refused for the first fault that applies.
+/// An entry is recorded, or is refused for the first fault that applies.
 #[test]
 fn entries_are_booked_or_refused(rt: HostRuntime) {
     enters(&rt, &Acc32, &CASES);
 }
 
-/// An entry with a number that the counter cannot show is refused.
+/// An entry with a number that its counter cannot show is refused.
 #[test]
 fn entries_tell_what_the_counter_can_show(rt: HostRuntime) {
     enters(&rt, &ranged(&rt, 1_000_000), &BELOW_A_MILLION);

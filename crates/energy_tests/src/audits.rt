@@ -1,4 +1,4 @@
-//! The check of a meter's rows.
+//! The audit's check of a meter's rows.
 ghost use Rattle.std.specs.Prelude.{◌<◌, ◌^◌};
 
 use crate::samples::HOUSE;
@@ -10,7 +10,7 @@ use meter_audit::{
 };
 use std::test::Fail;
 
-/// 5200 at 1900.
+/// A reading of 5200 at time 1900, after an opening of 5000 at 1000.
 const FIRST: TableRow = TableRow {
     place: 2,
     kind: RowKind::Reading,
@@ -22,7 +22,7 @@ const FIRST: TableRow = TableRow {
     is_voided: false,
 };
 
-/// 5300 at 2800.
+/// A reading of 5300 at time 2800.
 const SECOND: TableRow = TableRow {
     place: 3,
     kind: RowKind::Reading,
@@ -45,7 +45,7 @@ const SHARES: [Share; 2] = [
     },
 ];
 
-/// Returns why a row after the opening is refused.
+/// Returns why a row after the opening is refused, or None.
 fn refused(row: TableRow) -> Option<RowFault>
     requires { row.place < 2 ^ 63 }
 {
@@ -96,7 +96,7 @@ fn a_voided_row_gives_none(rt: HostRuntime) {
     assert!(rt; progress.wanted.is_empty());
 }
 
-/// A voided row directly after a valid one is checked like a valid one.
+/// A voided row is checked like any other row if the row before it is not voided.
 #[test]
 fn a_voided_row_is_looked_at_after_one_that_stands(rt: HostRuntime) {
     let fast = TableRow {
@@ -113,7 +113,7 @@ fn a_voided_row_is_looked_at_after_one_that_stands(rt: HostRuntime) {
     assert!(rt; check_rows(&HOUSE, &[before, following]).is_ok());
 }
 
-/// After a refused row the check continues from its sequence number.
+/// After a refused row, the check continues from the index of that row.
 #[test]
 fn a_refused_row_is_passed_over(rt: HostRuntime) {
     let mut progress = start(rt.alloc(), &HOUSE);
@@ -122,7 +122,8 @@ fn a_refused_row_is_passed_over(rt: HostRuntime) {
     assert!(rt; progress.check.place == 3 && progress.check.total == 0);
 }
 
-/// Unused columns must be 0, and only a rescale may change the scale factor.
+/// A row is refused if an unused column is not 0, or if another entry than a rescale changes the
+/// scale factor.
 #[test]
 fn columns_are_looked_at(rt: HostRuntime) {
     assert!(rt; refused(FIRST).is_none());
@@ -144,7 +145,8 @@ fn columns_are_looked_at(rt: HostRuntime) {
     assert!(rt; refused(voided) == Some(RowFault::CannotBeVoided));
 }
 
-/// A reading above the ceiling is refused. An entry by hand may be above it, and may not go back.
+/// A reading above the meter's ceiling is refused. An entry by hand may pass the ceiling, but the
+/// counter may not go back.
 #[test]
 fn numbers_are_looked_at(rt: HostRuntime) {
     let fast = TableRow {
@@ -164,7 +166,8 @@ fn numbers_are_looked_at(rt: HostRuntime) {
     assert!(rt; refused(back) == Some(RowFault::Refused(TermFault::NegativeStep)));
 }
 
-/// Rows pass in order of time. The first that is not later is reported by its index.
+/// Rows must be in order of time. The first row that is not later than the row before it is
+/// reported by its index.
 #[test]
 fn rows_in_their_order(rt: HostRuntime) {
     assert!(rt; check_rows(&HOUSE, &[FIRST, SECOND]).is_ok());
@@ -179,7 +182,7 @@ fn rows_in_their_order(rt: HostRuntime) {
     assert!(rt; check_rows(&HOUSE, &[FIRST, late]) == Err(wanted));
 }
 
-/// No row may follow a closing.
+/// No row may follow a closing of the meter.
 #[test]
 fn nothing_comes_after_a_closing(rt: HostRuntime) {
     let closing = TableRow {
@@ -193,7 +196,7 @@ fn nothing_comes_after_a_closing(rt: HostRuntime) {
     assert!(rt; check_rows(&HOUSE, &[closing, SECOND]) == Err(wanted));
 }
 
-/// The first interval row with another energy is reported.
+/// The check reports the first interval row that has another energy than the entries give.
 #[test]
 fn intervals_differ(rt: HostRuntime) {
     assert!(rt; first_difference(&SHARES, &SHARES).is_none());
@@ -214,7 +217,7 @@ fn intervals_differ(rt: HostRuntime) {
     assert!(rt; first_difference(&SHARES, &[SHARES[0], other]) == Some(wanted));
 }
 
-/// An interval row that only one side has is reported.
+/// The check reports an interval row that only one of the two lists has.
 #[test]
 fn an_interval_alone(rt: HostRuntime) {
     let wanted = IntervalDifference {

@@ -1,4 +1,4 @@
-//! Corrections, which are entries. The last reading showed 5200 at 1900, and the energy so far is
+//! Entries that a person makes. The last reading showed 5200 at time 1900, and the energy so far is
 //! 200 Wh.
 use crate::terms::{PREVIOUS, booked, last};
 use energy_core::{Acc32, Last, Step, TermFault, Terms, close, manual, rescale, reset};

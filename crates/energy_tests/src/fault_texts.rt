@@ -1,4 +1,4 @@
-//! The sentences of causes and faults.
+//! The texts of causes and faults about energy.
 use crate::texts::tells;
 use energy_core::{Cause, TermFault};
 use interval_core::{DayFault, ZoneFault};
@@ -78,7 +78,7 @@ const ZONES: [(ZoneFault, &str); 2] = [
     (ZoneFault::Memory, "memory ran out"),
 ];
 
-/// Each cause and each fault has its sentence.
+/// Each cause of a rejection and each fault has its text.
 #[test]
 fn energy(rt: HostRuntime) {
     tells(&rt, rt.alloc(), &HELD);

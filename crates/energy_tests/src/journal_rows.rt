@@ -1,18 +1,18 @@
-//! The rows of a meter in a list.
+//! The rows of a meter's journal in a list.
 use crate::samples::{HOUSE, of_kind, reading, struck};
 use energy_core::{Entry, Last};
 use meter_journal::{
     EntryKind, EntryRow, are_numbered, find_row, is_voidable, last_of_rows, row_after, strike,
 };
 
-/// A counter of 32 bits that is about to roll over.
+/// The state of a 32-bit counter that is about to roll over.
 const TURNING: Last = Last {
     at: 1000,
     raw: 4_294_967_200,
     sf: 0,
 };
 
-/// Sequence numbers count on from the opening.
+/// The indices of rows continue from the opening's index.
 #[test]
 fn places_count_on(rt: HostRuntime) {
     let entry = Entry::Step {
@@ -26,7 +26,7 @@ fn places_count_on(rt: HostRuntime) {
     assert!(rt; after_a_void == reading(3, 1900, 5200, 0));
 }
 
-/// Rows must have consecutive sequence numbers.
+/// Rows must have consecutive indices.
 #[test]
 fn rows_have_their_places(rt: HostRuntime) {
     let rows = [reading(2, 1900, 5200, 0), struck(reading(3, 2800, 5300, 0))];
@@ -35,7 +35,7 @@ fn rows_have_their_places(rt: HostRuntime) {
     assert!(rt; !are_numbered(&[rows[0], rows[0]]));
 }
 
-/// Only a closing closes a meter.
+/// Of all entries, only a closing closes a meter.
 #[test]
 fn a_closing_alone_closes(rt: HostRuntime) {
     assert!(rt; EntryKind::Closing.is_closing());
@@ -43,7 +43,7 @@ fn a_closing_alone_closes(rt: HostRuntime) {
     assert!(rt; !EntryKind::Reset.is_closing() && !EntryKind::Rescale.is_closing());
 }
 
-/// A void keeps the rollover of the reading after it.
+/// If the reading after a voided one has a rollover, it keeps the rollover.
 #[test]
 fn a_void_over_a_rollover(rt: HostRuntime) {
     let mut rows = [reading(2, 1900, 4_294_967_290, 0), reading(3, 2800, 104, 1)];
@@ -52,7 +52,7 @@ fn a_void_over_a_rollover(rt: HostRuntime) {
     assert!(rt; rows[1] == reading(3, 2800, 104, 1));
 }
 
-/// A void moves a rollover to the reading after it.
+/// If a voided reading has a rollover, the reading after it gets the rollover.
 #[test]
 fn a_void_moves_a_rollover(rt: HostRuntime) {
     let mut rows = [reading(2, 1900, 4, 1), reading(3, 2800, 104, 0)];
@@ -61,7 +61,7 @@ fn a_void_moves_a_rollover(rt: HostRuntime) {
     assert!(rt; rows[1] == reading(3, 2800, 104, 1));
 }
 
-/// Only a reading before another reading or none may be voided.
+/// Only a reading may be voided, and only if a reading or nothing follows it.
 #[test]
 fn only_readings_are_voided(rt: HostRuntime) {
     let row = reading(2, 1900, 5200, 0);
@@ -74,7 +74,7 @@ fn only_readings_are_voided(rt: HostRuntime) {
     assert!(rt; !is_voidable(&row, &Some(of_kind(EntryKind::Closing, next))));
 }
 
-/// A row is found by its sequence number, with the next valid row.
+/// A row is found by its index, together with the next row that is not voided.
 #[test]
 fn rows_by_place(rt: HostRuntime) {
     let rows = [
@@ -90,7 +90,7 @@ fn rows_by_place(rt: HostRuntime) {
     assert!(rt; find_row(&rows, 5).is_none());
 }
 
-/// The counter's state follows the valid rows.
+/// The state of the counter follows from the rows that are not voided.
 #[test]
 fn the_counter_after_rows(rt: HostRuntime) {
     let first = reading(2, 1900, 5200, 0);

@@ -1,4 +1,5 @@
-//! Tests of verdicts on readings, of their intervals and days, and of the journal of one meter.
+//! Tests of energy: which readings are accepted, interval rows and civil days, and the journal of
+//! one meter.
 #![tactic(auto)]
 
 #[cfg(test)]

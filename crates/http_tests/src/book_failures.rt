@@ -1,4 +1,4 @@
-//! Requests to an office whose store fails at each of its calls in turn.
+//! Requests to an office of whose store one call fails, each in turn.
 use crate::cases::{Case, Served, assert_reply, serve};
 use crate::office::polled_store;
 use crate::tables::{COMMANDS, QUESTIONS};
@@ -8,11 +8,11 @@ use office_core::Office;
 use std::alloc::{AllocError, Global};
 use std::process::Abort;
 
-// The reply if the store fails.
+// The response if the store fails.
 static FAILED: &[u8] =
     b"HTTP/1.1 503 Service Unavailable\r\nContent-Type: application/json\r\nContent-Length: 14\r\nConnection: close\r\n\r\n{\"refused\":13}";
 
-// Opens an office. If the store fails, the office hands it back, and is opened again.
+// Opens an office. If the store fails, the office is opened again over the returned store.
 fn opened<B: Books>(rt: &impl Abort, alloc: Global, books: B) -> Office<B> {
     let books = match Office::open(alloc, books, 1900) {
         Ok(office) => return office,
@@ -24,7 +24,7 @@ fn opened<B: Books>(rt: &impl Abort, alloc: Global, books: B) -> Office<B> {
     }
 }
 
-// Serves a request. If the store fails, the request is sent again.
+// Serves a request. If the store fails, the request is served again.
 fn serve_again<B: Books>(
     alloc: Global,
     office: &mut Office<B>,
@@ -37,7 +37,7 @@ fn serve_again<B: Books>(
     Ok(served)
 }
 
-// Serves each request, asserts its reply, and returns the store.
+// Serves each request, asserts its response, and returns the store.
 fn serve_all<B: Books>(rt: &impl Abort, alloc: Global, books: B, cases: &[Case<'_>]) -> B {
     let mut office = opened(rt, alloc, books);
     for case in cases {
@@ -47,7 +47,7 @@ fn serve_all<B: Books>(rt: &impl Abort, alloc: Global, books: B, cases: &[Case<'
     office.into_books()
 }
 
-// Each call of the store fails in turn, until the requests make no more calls.
+// Makes each call of the store fail in turn, until the requests make no more calls.
 fn fail_each(rt: &impl Abort, alloc: Global, cases: &[Case<'_>]) {
     for failing in 1..1000 {
         let books = FailingBooks::new(polled_store(rt, alloc), failing);
@@ -59,7 +59,7 @@ fn fail_each(rt: &impl Abort, alloc: Global, cases: &[Case<'_>]) {
     panic!(rt; "a call fails each time")
 }
 
-// A request gets 503 if a call of the store fails, and its own reply when it is sent again.
+// A request gets 503 if a call of the store fails, and its usual response when it is sent again.
 #[test]
 fn each_call_of_the_store_may_fail(rt: HostRuntime) {
     fail_each(&rt, rt.alloc(), &QUESTIONS);

@@ -1,4 +1,4 @@
-//! Requests that are served, and the bytes of their replies.
+//! HTTP requests that tests serve, and the bytes of their responses.
 use mb_wire::MemoryLink;
 use office_books::Books;
 use office_core::Office;
@@ -6,7 +6,8 @@ use office_http::{HandleFault, handle};
 use std::alloc::{AllocError, Global};
 use std::process::Abort;
 
-/// A request at a time, and its reply: the status with its reason, and the body.
+/// A request, the time at which it is served, and its response: the status with its reason, and the
+/// body.
 #[derive(Clone, Copy)]
 pub(crate) struct Case<'c> {
     pub(crate) at: u64,
@@ -15,14 +16,14 @@ pub(crate) struct Case<'c> {
     pub(crate) body: &'static str,
 }
 
-/// The result of a request, and the bytes that were written.
+/// The result of serving a request, and the bytes that were written.
 #[derive(Drop)]
 pub(crate) struct Served {
     pub(crate) handled: Result<(), HandleFault>,
     pub(crate) given: Vec<u8>,
 }
 
-/// The bytes of a reply whose head has the length of its body: JSON, or text.
+/// Returns the bytes of a response whose head has the length of its body, which is JSON or text.
 pub(crate) fn sized_reply(alloc: Global, status: &str, body: &str) -> Result<String, AllocError> {
     let size = body.len();
     let kind = if body.starts_with('{') {
@@ -35,7 +36,7 @@ pub(crate) fn sized_reply(alloc: Global, status: &str, body: &str) -> Result<Str
     )
 }
 
-/// The bytes of a reply of an office. The head of a text has no length.
+/// Returns the bytes of an office's response. For a text, the head has no length.
 pub(crate) fn reply(alloc: Global, status: &str, body: &str) -> Result<String, AllocError> {
     if body.starts_with('{') {
         return sized_reply(alloc, status, body);
@@ -45,7 +46,8 @@ pub(crate) fn reply(alloc: Global, status: &str, body: &str) -> Result<String, A
     )
 }
 
-/// Serves a request over a link that reads and writes so many bytes a call, and fails at one call.
+/// Serves a request over a link that reads and writes this number of bytes in a call, and fails at
+/// one call.
 pub(crate) fn serve_over<B: Books>(
     alloc: Global,
     office: &mut Office<B>,
@@ -63,7 +65,7 @@ pub(crate) fn serve_over<B: Books>(
     })
 }
 
-/// Serves a request over a link that doesn't fail.
+/// Serves a request over a link that does not fail.
 pub(crate) fn serve<B: Books>(
     alloc: Global,
     office: &mut Office<B>,
@@ -73,15 +75,15 @@ pub(crate) fn serve<B: Books>(
     serve_over(alloc, office, at, request, 400, None)
 }
 
-/// Asserts that a request got the reply of its case.
+/// Asserts that a request got the response of its case.
 pub(crate) fn assert_reply(rt: &impl Abort, alloc: Global, case: &Case<'_>, served: &Served) {
     assert!(rt; served.handled == Ok(()));
     let want = reply(alloc, case.status, case.body).expect(rt, "no memory");
     assert!(rt; served.given.as_slice() == want.as_bytes());
 }
 
-/// Serves the request of a case over a link that reads and writes so many bytes a call, and asserts
-/// its reply.
+/// Serves the request of a case over a link that reads and writes this number of bytes in a call.
+/// Asserts its response.
 pub(crate) fn assert_served<B: Books>(
     rt: &impl Abort,
     alloc: Global,

@@ -1,20 +1,21 @@
-//! The commands that bodies with lists parse to.
+//! Point lists in the bodies of requests, and the commands to which they parse.
 use http_answer::{CommandFault, command_in};
 use http_request::Route;
 use office_events::{Command, Name};
 
-// A list, how many points it has, and how many reads its plan has.
+// The CSV text of a point list, how many points it has, and how many reads its plan has.
 static LISTS: [(&[u8], usize, usize); 2] = [
     (
         b"name,function,area,address,type,scale\nwh,3,0,40094,acc32,whsf\nwhsf,3,0,40096,sunssf,\n",
         2,
         1,
     ),
-    // a list may have no points
+    // A point list may have no points.
     (b"name,function,area,address,type,scale\n", 0, 0),
 ];
 
-// A list parses to a command with the plan of its reads. The body of a query is no command.
+// A point list parses to a command with the plan of its reads. The body of a query parses to no
+// command.
 #[test]
 fn lists_parse_with_their_plans(rt: HostRuntime) {
     let device = Name::new(b"main");

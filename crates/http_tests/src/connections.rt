@@ -1,4 +1,4 @@
-//! Clients in the same process, on a blocking listener.
+//! HTTP clients in the same process, which connect to a blocking listener.
 use crate::office::metered;
 use memory_books::ListBooks;
 use office_core::Office;
@@ -12,22 +12,22 @@ use std::net::{Shutdown, TcpListener, TcpStream};
 use std::test::Fail;
 use std::time::Duration;
 
-/// The bytes that a client writes, whether it ends its stream then, and its reply.
+/// The bytes that a client writes, whether it then ends its stream, and its response.
 struct Client {
     bytes: &'static [u8],
     ends: bool,
     reply: &'static [u8],
 }
 
-/// Exchanges the meter `m1` for `m2`.
+/// A request that exchanges the meter `m1` for `m2`.
 pub(crate) const REQUEST: &[u8] =
     b"POST /registers/main/exchange HTTP/1.1\r\nContent-Length: 68\r\nOffice-Caller: desk\r\nOffice-Request: 7\r\n\r\n{\"ceiling\":100000,\"last\":5300,\"meter\":\"m2\",\"raw\":0,\"rolls\":0,\"sf\":0}";
 
 const REPLY: &[u8] =
     b"HTTP/1.1 200 OK\r\nContent-Type: application/json\r\nContent-Length: 19\r\nConnection: close\r\n\r\n{\"done\":\"exchange\"}";
 
-// The second client retries the request of the first. The third sends another last value under the
-// same idempotency key.
+// The second client retries the request of the first client. The third client sends another last
+// value under the same idempotency key.
 static ASKING: [Client; 3] = [
     Client {
         bytes: REQUEST,
@@ -46,7 +46,8 @@ static ASKING: [Client; 3] = [
     },
 ];
 
-// The first client ends inside its request, the second times out, and the third is served.
+// The first client ends its stream inside its request, the second times out, and the third is
+// served.
 static FAILING: [Client; 3] = [
     Client {
         bytes: b"POST /registers/main",
@@ -68,8 +69,8 @@ static FAILING: [Client; 3] = [
 const TURNED_AWAY: &[u8] =
     b"HTTP/1.1 421 Misdirected Request\r\nContent-Type: application/json\r\nContent-Length: 13\r\nConnection: close\r\n\r\n{\"fault\":421}";
 
-// A page of an unauthorized host asks, then one of the given host, and the third client retries
-// that request.
+// The first request comes from a page of an unauthorized host, and the second from a page of the
+// given host. The third client retries the second request.
 static NAMED: [Client; 3] = [
     Client {
         bytes: b"POST /registers/main/exchange HTTP/1.1\r\nHost: evil.example:80\r\nContent-Length: 68\r\nOffice-Caller: desk\r\nOffice-Request: 7\r\n\r\n{\"ceiling\":100000,\"last\":5301,\"meter\":\"m2\",\"raw\":0,\"rolls\":0,\"sf\":0}",
@@ -88,7 +89,7 @@ static NAMED: [Client; 3] = [
     },
 ];
 
-/// Connects a client to a listener, and writes bytes.
+/// Connects a client to a listener, and writes these bytes.
 pub(crate) fn client_of(
     rt: &HostRuntime,
     listener: &TcpListener,
@@ -99,7 +100,7 @@ pub(crate) fn client_of(
     Ok(client)
 }
 
-// Connects clients.
+// Connects several clients to a listener.
 fn streams_of(
     rt: &HostRuntime,
     listener: &TcpListener,
@@ -116,7 +117,7 @@ fn streams_of(
     Ok(streams)
 }
 
-// Whether each client gets its reply, and its stream ends.
+// Returns whether each client gets its response, and its stream then ends.
 fn are_replied(alloc: Global, streams: &mut [TcpStream], clients: &[Client]) -> Result<bool, Fail> {
     for (stream, client) in streams.iter_mut().zip(clients) {
         let mut got = Vec::new(alloc);
@@ -128,7 +129,7 @@ fn are_replied(alloc: Global, streams: &mut [TcpStream], clients: &[Client]) -> 
     Ok(true)
 }
 
-/// The energy of `m1`, if it was closed.
+/// Returns the energy of `m1`, if the meter was closed.
 pub(crate) fn energy_of_ended(office: &mut Office<ListBooks>) -> Option<u64> {
     match office.meter(&Name::new(b"m1")) {
         Ok(row) if row.ended => Some(row.total),
@@ -136,7 +137,7 @@ pub(crate) fn energy_of_ended(office: &mut Office<ListBooks>) -> Option<u64> {
     }
 }
 
-/// A clock that advances by so many seconds each time that it is read.
+/// A clock that advances by a fixed number of seconds each time that it is read.
 #[derive(Drop)]
 pub(crate) struct Stepping {
     seconds: Cell<u64>,
@@ -164,8 +165,8 @@ impl std::rt::Clock for Stepping {
     }
 }
 
-// Whether an office serves so many clients. The clock of their time limits advances by `step`
-// seconds each time that it is read. Without a step, `serve_on` serves them.
+// Returns whether an office serves this number of clients. The clock of their time limits advances
+// by `step` seconds each time that it is read. Without a step, `serve_on` serves them.
 fn serves(
     alloc: Global,
     listener: &TcpListener,
@@ -184,7 +185,7 @@ fn serves(
     }
 }
 
-// Whether clients get their replies, and the meter is exchanged once.
+// Returns whether the clients get their responses, and the meter is exchanged once.
 fn are_served(
     rt: &HostRuntime,
     office: &mut Office<ListBooks>,
@@ -201,7 +202,7 @@ fn are_served(
     are_replied(rt.alloc(), &mut streams, clients)
 }
 
-// Clients are served one after the other, and a fault of one is not that of another.
+// Clients are served one after another. A fault of one client does not affect the others.
 #[test]
 fn clients_are_served(rt: HostRuntime) -> Result<(), Fail> {
     let served: [(&str, &[Client], Option<u64>); 4] = [

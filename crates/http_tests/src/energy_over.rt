@@ -1,4 +1,5 @@
-//! Energy of a register by day and month, which earlier files report, too.
+//! The energy of an accounting register by day and month, merged with the energy that earlier files
+//! of the office have.
 use crate::cases::sized_reply;
 use crate::office::{polled, unmetered, utc};
 use carried_books::{EarlierDays, EarlierRegister, JoinedDays};
@@ -11,7 +12,7 @@ use run_http::{RunRoute, run_route};
 use std::alloc::Global;
 use std::process::Abort;
 
-// Adds quarter hours up by day.
+// Adds the energy of quarter hours up by day.
 fn days_of(rt: &impl Abort, alloc: Global, rows: &[Share]) -> EarlierDays {
     let mut days = JoinedDays::new(alloc, utc(rt));
     for row in rows {
@@ -20,7 +21,7 @@ fn days_of(rt: &impl Abort, alloc: Global, rows: &[Share]) -> EarlierDays {
     EarlierDays::of(days)
 }
 
-/// A register of earlier files, with its meters and without energy.
+/// Returns an accounting register of earlier files, with its meters and without energy.
 pub(crate) fn earlier_register(
     rt: &impl Abort,
     alloc: Global,
@@ -34,7 +35,7 @@ pub(crate) fn earlier_register(
     }
 }
 
-// Appends the reply of an office to a request, with the days of earlier files.
+// Appends the response of an office to a request, merged with the days of earlier files.
 fn put_energy<B: Books>(
     rt: &impl Abort,
     alloc: Global,
@@ -50,10 +51,10 @@ fn put_energy<B: Books>(
     reply_energy_over(alloc, text, office, utc(rt), earlier, &name, &form).expect(rt, "no memory");
 }
 
-// A request, and the status and the body of its reply.
+// A request, and the status and the body of its response.
 type Asked = (&'static [u8], &'static str, &'static str);
 
-// Asserts the replies of an office, with these quarter hours of earlier files.
+// Asserts the responses of an office, merged with these quarter hours of earlier files.
 fn assert_energy<B: Books>(
     rt: &impl Abort,
     alloc: Global,
@@ -72,8 +73,8 @@ fn assert_energy<B: Books>(
 
 static EARLIER: [Share; 2] = [Share { start: 0, mwh: 5 }, Share { start: 900, mwh: 7 }];
 
-// The office has energy in the quarter hours from 900 and 1800. That from 900 is in both, and
-// counts once.
+// Requests and their responses. The office has energy in the quarter hours from 900 and 1800. The
+// one from 900 is also in the earlier file, and counts once.
 static OF_BOTH: [Asked; 5] = [
     (
         b"GET /registers/main/days/1970-01-01/1970-01-02 HTTP/1.1\r\n\r\n",
@@ -108,7 +109,7 @@ static OF_EARLIER: [Asked; 1] = [(
     "1970-01    2                       12\nend 1\n",
 )];
 
-// The first quarter hour of the office, from 900, begins earlier.
+// A quarter hour of the earlier file. The first one of the office, from 900, begins before it.
 static LATE: [Share; 1] = [Share { start: 901, mwh: 1 }];
 
 static OF_LATE: [Asked; 1] = [(
@@ -117,7 +118,8 @@ static OF_LATE: [Asked; 1] = [(
     "{\"refused\":13}",
 )];
 
-// The days of a register are those of all files. Damaged rows, which go back in time, get 503.
+// The days of an accounting register are those of all files. Damaged rows, whose times go back, get
+// 503.
 #[test]
 fn days_are_those_of_all_files(rt: HostRuntime) {
     let files: [(bool, &[Share], &[Asked]); 3] = [
@@ -135,7 +137,7 @@ fn days_are_those_of_all_files(rt: HostRuntime) {
     }
 }
 
-// The first register of a name is found among others.
+// The first accounting register with a name is found among others.
 #[test]
 fn a_register_is_found_among_others(rt: HostRuntime) {
     let names: [&[u8]; 3] = [b"spare", b"main", b"main"];

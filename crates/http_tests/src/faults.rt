@@ -1,4 +1,4 @@
-//! The sentences of faults of requests.
+//! The texts of faults of requests.
 use http_answer::{BodyFault, CommandFault};
 use http_request::TakeFault;
 use point_list::{FaultyRow, FaultyRows, RowFault};
@@ -6,7 +6,7 @@ use std::alloc::Global;
 use std::fmt::Display;
 use std::process::Abort;
 
-// Asserts the sentence of each fault, which has no full stop.
+// Asserts that each fault has the text beside it, without a full stop.
 fn assert_texts<F: Display>(rt: &impl Abort, alloc: Global, texts: &[(F, &str)]) {
     for (fault, text) in texts {
         let printed = format!(in alloc; "{fault}").expect(rt, "no memory");
@@ -33,7 +33,7 @@ const TAKES: [(TakeFault, &str); 3] = [
     ),
 ];
 
-// A list with one faulty row.
+// Returns the fault of a command whose point list has one faulty row.
 fn faulty(rt: &impl Abort, alloc: Global) -> CommandFault {
     let row = FaultyRow {
         row: 2,
@@ -42,7 +42,7 @@ fn faulty(rt: &impl Abort, alloc: Global) -> CommandFault {
     CommandFault::Faulty(FaultyRows::new(vec![in alloc; row].expect(rt, "no memory")))
 }
 
-// Each fault of a body, of a read and of a command has its sentence.
+// Each fault of a body, of a read and of a command has its text.
 #[test]
 fn faults_have_sentences(rt: HostRuntime) {
     assert_texts(&rt, rt.alloc(), &BODIES);

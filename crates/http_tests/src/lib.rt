@@ -1,5 +1,6 @@
-//! Tests of HTTP, of an office after it, and of the program's commands where no text shows the
-//! result: links and stores that fail, sockets, damaged rows, and numbers that no office reaches.
+//! Tests of HTTP, of an office that is served by HTTP, and of the program's commands, where no text
+//! shows the result. These are links and stores that fail, sockets, damaged rows, and numbers that
+//! no office reaches.
 #![tactic(auto)]
 
 #[cfg(test)]

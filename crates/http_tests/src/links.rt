@@ -1,4 +1,4 @@
-//! Requests that are cut off, and links that fail.
+//! Requests that are cut off, and responses over links that fail.
 use http_answer::{ReplyWriter, put_json};
 use http_request::{Inbox, Route, Status, TakeFault, is_whole, read_request, router};
 use matchit::Router;
@@ -10,11 +10,11 @@ use std::process::Abort;
 static REQUEST: &[u8] =
     b"POST /devices HTTP/1.1\r\nContent-Length: 4\r\nOffice-Caller: anna\r\nOffice-Request: 7\r\n\r\n{ } and more";
 
-// How many bytes the request has, with its body.
+// The length of the request in bytes, with its body.
 const WHOLE: usize = 89;
 
-// Reads so many bytes of the request in chunks of ten, or a read fails. Asserts whether the request
-// is complete, the fault, and what was read.
+// Reads a number of bytes of the request in chunks of ten, or a read fails. Asserts whether the
+// request is complete, its fault, and which bytes were read.
 fn assert_unread(
     rt: &impl Abort,
     alloc: Global,
@@ -41,7 +41,8 @@ fn assert_unread(
     }
 }
 
-// A request that ends at any byte, or whose connection fails at any read, is not read.
+// A request is not accepted if it ends at any byte before its end, or if any read of its connection
+// fails.
 #[test]
 fn a_request_may_end_or_fail_anywhere(rt: HostRuntime) {
     let router = router(rt.alloc()).expect(&rt, "no router");
@@ -57,7 +58,8 @@ fn a_request_may_end_or_fail_anywhere(rt: HostRuntime) {
 static JSON: &[u8] =
     b"HTTP/1.1 404 Not Found\r\nContent-Type: application/json\r\nContent-Length: 13\r\nConnection: close\r\n\r\n{\"refused\":1}";
 
-// A reply fails at each write in turn, and what was written before is a beginning of the reply.
+// Each write of a response fails in turn. The bytes that were written before the failure are a
+// prefix of the response.
 #[test]
 fn each_write_of_a_reply_may_fail(rt: HostRuntime) {
     for call in 1..12u64 {
@@ -73,7 +75,7 @@ fn each_write_of_a_reply_may_fail(rt: HostRuntime) {
 
 static BLOCK: [u8; 300] = [b'x'; 300];
 
-// A reply writes nothing after a write that fails.
+// After a write that fails, nothing more of the response is written.
 #[test]
 fn nothing_is_written_after_a_failed_write(rt: HostRuntime) {
     let mut output = [0; 2000];
@@ -87,7 +89,7 @@ fn nothing_is_written_after_a_failed_write(rt: HostRuntime) {
     assert!(rt; link.failures() == 1);
 }
 
-// A client of an unauthorized host gets no reply over a link that fails.
+// A client of an unauthorized host gets no response if the link fails.
 #[test]
 fn a_link_that_fails_rejects_nobody(rt: HostRuntime) {
     let mut output = [0; 400];

@@ -1,4 +1,4 @@
-//! Clients of a run, over sockets that don't block.
+//! HTTP clients of a run, over nonblocking sockets.
 use crate::connections::{REQUEST, Stepping, client_of, energy_of_ended};
 use crate::office::{metered, utc};
 use http_peers::{
@@ -17,7 +17,7 @@ use std::net::{TcpListener, TcpStream};
 use std::test::Fail;
 use std::time::Duration;
 
-// A clock, and whether the files of the office still exist.
+// The clock of a test, and whether the files of the office still exist.
 #[derive(Drop)]
 struct System {
     clock: Stepping,
@@ -40,7 +40,7 @@ impl RunSystem for System {
     }
 }
 
-// A port, and the rest of a run.
+// A listening port, and the other parts of a run.
 #[derive(Drop)]
 struct Listening {
     system: System,
@@ -50,7 +50,7 @@ struct Listening {
     monitor: RunMonitor,
 }
 
-// Registers a nonblocking listener as that of a port.
+// Registers a nonblocking listener with `poll`, and returns it as the listener of a port.
 fn registered(listener: TcpListener, poll: &Poll) -> io::Result<mio::net::TcpListener> {
     listener.set_nonblocking(true)?;
     let mut listener = mio::net::TcpListener::from_std(listener);
@@ -84,7 +84,8 @@ impl Listening {
         Ok(Listening::of(rt.alloc(), poll, listener, room)?)
     }
 
-    // Accepts the waiting clients, attends each client, and drops those that have their replies.
+    // Accepts the clients that wait, attends to each client, and drops those that have their
+    // responses.
     fn turn(&mut self, earlier: &EarlierFiles<'_>, office: &mut Office<ListBooks>, time: u64) {
         let now = Now { time, moment: 2800 };
         self.port.begin_turn();
@@ -103,7 +104,7 @@ impl Listening {
         self.port.sweep(time);
     }
 
-    // Waits a tenth of a second at most, and marks the clients that are ready.
+    // Waits at most a tenth of a second, and marks the clients that are ready.
     fn look(&mut self) -> io::Result<()> {
         self.poll
             .poll(&mut self.events, Some(Duration::from_millis(100)))?;
@@ -134,8 +135,8 @@ fn read_all(alloc: Global, mut stream: TcpStream) -> Result<Vec<u8>, Fail> {
     Ok(got)
 }
 
-// A request of a client. `most` is the limit of kept bytes, and `kept` their number. `energy` is
-// that of the meter if the request closed it.
+// A request of a client. `most` is the limit of kept bytes, and `kept` is their number. `energy` is
+// that of the meter, if the request closed the meter.
 struct Client {
     are_there: bool,
     most: Option<u64>,
@@ -146,8 +147,8 @@ struct Client {
     energy: Option<u64>,
 }
 
-// Whether the client of a listener is served, and doesn't wait if the files exist. The port reports
-// the limit, once, and lost files.
+// Returns whether the client of a listener is served, and does not wait if the files exist. The
+// port reports the limit once, and reports lost files.
 fn serves(
     rt: &HostRuntime,
     listener: TcpListener,
@@ -166,7 +167,7 @@ fn serves(
     Ok(is_reported && !(client.are_there && is_busy))
 }
 
-// The reply to a client.
+// Returns the response to a client.
 fn replied(
     rt: &HostRuntime,
     client: &Client,
@@ -195,9 +196,9 @@ const EXCHANGED: &[u8] =
 const UNAVAILABLE: &[u8] =
     b"HTTP/1.1 503 Service Unavailable\r\nX-Content-Type-Options: nosniff\r\nCross-Origin-Resource-Policy: same-origin\r\nCache-Control: no-store\r\nContent-Type: application/json\r\nContent-Length: 13\r\nConnection: close\r\n\r\n{\"fault\":503}";
 
-// REQUEST has 170 bytes.
+// Requests of clients. `REQUEST` has 170 bytes.
 static CLIENTS: [Client; 4] = [
-    // a command fits
+    // There is room for the command.
     Client {
         are_there: true,
         most: Some(170),
@@ -207,7 +208,7 @@ static CLIENTS: [Client; 4] = [
         reply: EXCHANGED,
         energy: Some(300_000),
     },
-    // a command doesn't fit, also after empty lines
+    // There is no room for the command, even if empty lines come before it.
     Client {
         are_there: true,
         most: Some(300),
@@ -217,7 +218,7 @@ static CLIENTS: [Client; 4] = [
         reply: UNAVAILABLE,
         energy: None,
     },
-    // the office acted, but its files are gone, so the command is not acknowledged
+    // The office acted, but its files are gone, so the command is not acknowledged.
     Client {
         are_there: false,
         most: None,
@@ -227,7 +228,7 @@ static CLIENTS: [Client; 4] = [
         reply: UNAVAILABLE,
         energy: Some(300_000),
     },
-    // a query doesn't look at the files
+    // For a query, the run does not check that the files exist.
     Client {
         are_there: false,
         most: None,
@@ -239,7 +240,7 @@ static CLIENTS: [Client; 4] = [
     },
 ];
 
-// A run acknowledges a command if there is room for it and its files exist.
+// A run acknowledges a command only if there is room for it and the files of the office exist.
 #[test]
 fn clients_have_their_replies(rt: HostRuntime) -> Result<(), Fail> {
     let earlier = EarlierFiles {
@@ -264,7 +265,7 @@ static GET: &[u8] = b"GET /meters/m1 HTTP/1.1\r\n\r\n";
 // A command of 28 bytes, with the empty line before it.
 static POST: &[u8] = b"\r\nPOST /devices HTTP/1.1\r\n\r\n";
 
-// A command that acted takes room. A query, a refused command and an incomplete one take none.
+// A command that acted uses room. A query, a refused command and an incomplete command use none.
 // Without a limit there is always room.
 #[test]
 fn commands_that_acted_take_room(rt: HostRuntime) {
@@ -290,13 +291,13 @@ fn commands_that_acted_take_room(rt: HostRuntime) {
     assert!(rt; KeptRoom::new(Some(10), 11).lacks(POST));
 }
 
-// Whether a connection takes all of an outbox. The connection ends then.
+// Returns whether all bytes of an outbox are written to a connection, which then ends.
 fn is_taken(stream: TcpStream, outbox: &mut Outbox) -> bool {
     let stream = mio::net::TcpStream::from_std(stream);
     outbox.write_all(&stream) == Went::On && outbox.is_written()
 }
 
-// The bytes that come through a connection to which an outbox is written.
+// Returns the bytes that arrive through a connection to which an outbox is written.
 fn written(rt: &HostRuntime, outbox: &mut Outbox) -> Result<Vec<u8>, Fail> {
     let listener = TcpListener::bind(rt, "127.0.0.1:0")?;
     if !is_taken(client_of(rt, &listener, b"")?, outbox) {
@@ -305,7 +306,7 @@ fn written(rt: &HostRuntime, outbox: &mut Outbox) -> Result<Vec<u8>, Fail> {
     read_all(rt.alloc(), listener.accept()?.0)
 }
 
-// Bytes that were put are written once, and then make room for others.
+// The bytes in an outbox are written once, and then make room for others.
 #[test]
 fn bytes_that_are_put_are_written_once(rt: HostRuntime) -> Result<(), Fail> {
     let mut empty = Outbox::empty(rt.alloc());
@@ -324,8 +325,8 @@ fn bytes_that_are_put_are_written_once(rt: HostRuntime) -> Result<(), Fail> {
     Ok(())
 }
 
-// Each error of a socket means that it waits, is tried again or is over. The milliseconds of the
-// monotonic clock are exact.
+// Each error of a socket means one of three things: wait, try again, or the connection is over. The
+// milliseconds of the monotonic clock are exact.
 #[test]
 fn errors_of_sockets_have_a_meaning(rt: HostRuntime) {
     assert!(rt; went_by(ErrorKind::WouldBlock) == Went::Waits);

@@ -1,4 +1,4 @@
-//! Replies with quarter hours of a meter that are written in chunks, and requests for them.
+//! Responses with the quarter hours of a meter that are written in chunks, and requests for them.
 use crate::cases::{serve, sized_reply};
 use crate::office::polled;
 use http_request::router;
@@ -12,7 +12,7 @@ use run_http::{
 use std::alloc::Global;
 use std::process::Abort;
 
-// The meter, which was read at 1000 and at 1900.
+// Returns the installation of a meter that was read at times 1000 and 1900.
 fn meter<B: Books>(rt: &impl Abort, office: &mut Office<B>) -> Installation {
     match office.meter(&Name::new(b"m1")) {
         Ok(it) => it,
@@ -20,8 +20,8 @@ fn meter<B: Books>(rt: &impl Abort, office: &mut Office<B>) -> Installation {
     }
 }
 
-// Writes the head of a reply with rows that start in a span, or with all rows, and returns what is
-// left of it.
+// Writes the head of a response with the rows that start in a time span, or with all rows. Returns
+// what is left of the response.
 fn begun<B: Books>(
     rt: &impl Abort,
     alloc: Global,
@@ -40,7 +40,8 @@ fn begun<B: Books>(
     }
 }
 
-// Writes the rest of a reply in chunks of so many seconds, and returns how many chunks there were.
+// Writes the rest of a response in chunks, each with the rows of a number of seconds. Returns how
+// many chunks there were.
 fn write_rest<B: Books>(
     rt: &impl Abort,
     alloc: Global,
@@ -61,7 +62,7 @@ fn write_rest<B: Books>(
     count
 }
 
-// A reply that is written in chunks of so many seconds.
+// Returns a response that is written in chunks, each with the rows of a number of seconds.
 fn in_chunks<B: Books>(
     rt: &impl Abort,
     alloc: Global,
@@ -84,7 +85,8 @@ static SPANS: [(u64, u64); 6] = [
     (1801, 900),
 ];
 
-// Chunks of a quarter hour, of less and of more make up the reply that is written at once.
+// Chunks of one quarter hour, of less and of more have the same bytes together as the response that
+// is written at once.
 fn assert_spans<B: Books>(rt: &impl Abort, alloc: Global, office: &mut Office<B>) {
     for (from, till) in SPANS {
         let mut whole = Vec::new(alloc);
@@ -102,12 +104,12 @@ fn assert_spans<B: Books>(rt: &impl Abort, alloc: Global, office: &mut Office<B>
 
 static ALL_ROWS: &[u8] = b"GET /meters/m1/intervals HTTP/1.1\r\nHost: localhost\r\n\r\n";
 
-// The counter advances after the reply was begun, so the last row would have more, and another
-// would follow.
+// The counter advances after the response was begun. So a later response has more energy in the
+// last row, and one more row.
 static LATER: &[u8] =
     b"POST /registers/main/manual HTTP/1.1\r\nContent-Length: 22\r\nOffice-Caller: desk\r\nOffice-Request: 4\r\n\r\n{\"raw\":5500,\"rolls\":0}";
 
-// A reply has the rows of the time at which it was begun, in one chunk.
+// A response has the rows of the time at which it was begun, here in one chunk.
 fn assert_earlier_rows<B: Books>(rt: &impl Abort, alloc: Global, office: &mut Office<B>) {
     let mut text = Vec::new(alloc);
     let mut left = begun(rt, alloc, &mut text, office, Some((0, 9000)));
@@ -121,8 +123,8 @@ fn assert_earlier_rows<B: Books>(rt: &impl Abort, alloc: Global, office: &mut Of
     assert!(rt; text.as_slice() == wanted.as_bytes());
 }
 
-// Chunks make up the reply for each span and for all rows. The rows reach from the quarter hour of
-// the opening, 900, to that of the last entry, 1800.
+// Asserts the chunks of a response for each time span, and for all rows. The rows reach from the
+// quarter hour of the opening, 900, to that of the last entry, 1800.
 fn assert_chunks<B: Books>(rt: &impl Abort, alloc: Global, office: &mut Office<B>) {
     assert_spans(rt, alloc, office);
     let text = in_chunks(rt, alloc, office, None, 900);
@@ -138,7 +140,8 @@ fn assert_chunks<B: Books>(rt: &impl Abort, alloc: Global, office: &mut Office<B
     assert_earlier_rows(rt, alloc, office);
 }
 
-// A reply in chunks is the reply that is written at once, also if the meter is read meanwhile.
+// The chunks of a response have the same bytes together as the response that is written at once.
+// This is also true if the meter is read between chunks.
 #[test]
 fn chunks_make_up_the_reply(rt: HostRuntime) {
     let mut office = polled(&rt, rt.alloc());
@@ -163,7 +166,8 @@ static VOIDS: [(&[u8], bool); 6] = [
     (b"", false),
 ];
 
-// A request for all rows, and a request that may void an entry, are recognized by their heads.
+// A request for all rows, and a request that may void an entry, are recognized by their request
+// lines.
 #[test]
 fn requests_are_recognized(rt: HostRuntime) {
     let router = router(rt.alloc()).expect(&rt, "no router");

@@ -9,7 +9,7 @@ use run_http::{SiteLine, put_entries, put_register_meters, put_site};
 use std::alloc::Global;
 use std::process::Abort;
 
-// The counter at the opening: the greatest number and the least scale.
+// The state of the counter at the opening: the greatest value and the least scale factor.
 const OPENING: Last = Last {
     at: 7,
     raw: u32::MAX,
@@ -91,7 +91,7 @@ static SITE: &str =
 static METERS: &str =
     "m1 1000 18446744073709551615 4294967295 -10 18446744073709551615 ended\nm1 18446744073709551615 0 0 10 0 open\nend 2\n";
 
-// The row of the register of an office that has polled its device.
+// Returns the row of the accounting register in an office that has polled its device.
 fn polled_row(rt: &impl Abort, alloc: Global) -> SiteRow {
     let mut office = polled(rt, alloc);
     let Ok(rows) = office.site() else {
@@ -100,7 +100,7 @@ fn polled_row(rt: &impl Abort, alloc: Global) -> SiteRow {
     rows.first().copied().expect(rt, "no row")
 }
 
-// The meter of a row, closed at the greatest numbers.
+// Returns the meter of a row, closed with the greatest numbers.
 fn closed_in(rt: &impl Abort, row: &SiteRow, last: Last) -> Installation {
     let mut closed = row.meter.expect(rt, "no meter");
     closed.last = last;
@@ -109,8 +109,8 @@ fn closed_in(rt: &impl Abort, row: &SiteRow, last: Last) -> Installation {
     closed
 }
 
-// In a site, each number may be the greatest, a scale may be negative, and a register may have no
-// meter.
+// A site's line is right for the greatest numbers, for a negative scale factor, and for an
+// accounting register without a meter.
 #[test]
 fn a_site_has_its_line(rt: HostRuntime) {
     let mut row = polled_row(&rt, rt.alloc());
@@ -137,7 +137,7 @@ fn a_site_has_its_line(rt: HostRuntime) {
     assert!(rt; text.as_slice() == SITE.as_bytes());
 }
 
-// Among the meters of a register, each number may be the greatest or 0.
+// The lines of an accounting register's meters are right for the greatest numbers and for 0.
 #[test]
 fn each_number_of_a_meter_may_be_the_greatest(rt: HostRuntime) {
     let row = polled_row(&rt, rt.alloc());

@@ -1,4 +1,5 @@
-//! The replies of a run whose store fails, and entries from an index that no target spells.
+//! The responses of a run whose store fails, and the entries from an index that no HTTP target can
+//! have.
 use crate::cases::sized_reply;
 use crate::office::{polled, polled_store};
 use failing_books::FailingBooks;
@@ -11,7 +12,7 @@ use run_status::Counts;
 use std::alloc::{AllocError, Global};
 use std::process::Abort;
 
-// Appends the reply to one of the requests at time 2800.
+// Appends the response to one of the requests at time 2800.
 fn put_reply<B: Books>(
     alloc: Global,
     text: &mut Vec<u8>,
@@ -26,7 +27,7 @@ fn put_reply<B: Books>(
     }
 }
 
-// The reply over a store, if the office is opened.
+// Returns the response of an office over a store, if the office is opened.
 fn replied_over<B: Books>(
     rt: &impl Abort,
     alloc: Global,
@@ -41,23 +42,24 @@ fn replied_over<B: Books>(
     Some(text)
 }
 
-// The reply over a store that refuses the call of a number; no call if that is 0.
+// Returns the response over a store that refuses the call with number `failing`. With 0 it refuses
+// no call.
 fn replied(rt: &impl Abort, alloc: Global, failing: u64, request: &[u8]) -> Option<Vec<u8>> {
     let books = FailingBooks::new(polled_store(rt, alloc), failing);
     replied_over(rt, alloc, books, request)
 }
 
-// A request, and how many calls of the store get 503 if they fail.
+// A request, and how many calls of the store lead to 503 if they fail.
 static FAILING: [(&[u8], u8); 3] = [
-    // the devices, the registers of one, and its meter
+    // One call each for the devices, for the accounting registers of the device, and for the meter.
     (b"GET /site HTTP/1.1\r\n\r\n", 3),
     (b"GET /metrics HTTP/1.1\r\n\r\n", 3),
-    // the register, and its meters
+    // One call for the accounting register, and one for its meters.
     (b"GET /registers/main/meters HTTP/1.1\r\n\r\n", 2),
 ];
 
-// Counts the calls of the store that get 503 if they fail. If another call fails, the reply is
-// complete, or the office isn't opened.
+// Counts the calls of the store that lead to 503 if they fail. If any other call fails, the
+// response is complete, or the office is not opened.
 fn calls_that_fail(rt: &impl Abort, alloc: Global, request: &[u8]) -> u8 {
     let failure = sized_reply(alloc, "503 Service Unavailable", "{\"refused\":13}").expect(
         rt,
@@ -75,7 +77,7 @@ fn calls_that_fail(rt: &impl Abort, alloc: Global, request: &[u8]) -> u8 {
     count
 }
 
-// A run answers with 503 if its store fails, and never with a part of a reply.
+// If its store fails, a run responds with 503, and never with a part of a response.
 #[test]
 fn a_failing_store_is_unavailable(rt: HostRuntime) {
     for (request, wanted) in &FAILING {
@@ -83,7 +85,7 @@ fn a_failing_store_is_unavailable(rt: HostRuntime) {
     }
 }
 
-// There are no entries from the greatest index on, which no target spells.
+// There are no entries from the greatest index on. No HTTP target can have this index.
 #[test]
 fn entries_from_the_greatest_index_on_are_none(rt: HostRuntime) {
     let mut office = polled(&rt, rt.alloc());

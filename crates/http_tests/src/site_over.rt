@@ -1,4 +1,4 @@
-//! The meters of a site, which earlier files report, too.
+//! The meters of a site, merged with the meters that earlier files of the office have.
 use crate::cases::sized_reply;
 use crate::energy_over::earlier_register;
 use crate::office::{polled, unmetered};
@@ -13,8 +13,8 @@ use std::process::Abort;
 // A meter of earlier files: its name, its energy in mWh, and whether it was closed.
 type Earlier = (&'static [u8], u64, bool);
 
-// What a case shows, a register of earlier files, its meters there, and the members of the meter in
-// the reply.
+// What a case shows, an accounting register of earlier files, its meters there, and the JSON
+// members of the meter in the response.
 type Case = (
     &'static str,
     &'static [u8],
@@ -22,7 +22,7 @@ type Case = (
     &'static str,
 );
 
-// The meter m1 of the office shows 5200, after 200 Wh.
+// Cases for the meter m1 of the office, which shows 5200 after 200 Wh.
 static OF_A_METER: [Case; 7] = [
     (
         "an open meter has the energy of all files",
@@ -78,7 +78,7 @@ static OF_NO_METER: [Case; 2] = [
     ("no file may have a meter", b"main", &[], "null"),
 ];
 
-// A meter as earlier files have it.
+// Returns the installation of a meter as earlier files have it.
 fn earlier_meter(rt: &impl Abort, it: &Earlier) -> Installation {
     let (meter, total, ended) = *it;
     let opening = Opening {
@@ -103,7 +103,8 @@ fn earlier_meter(rt: &impl Abort, it: &Earlier) -> Installation {
     }
 }
 
-// The reply of an office at time 2800, with these meters of earlier files at a register.
+// Returns the response of an office at time 2800, merged with these meters of earlier files at an
+// accounting register.
 fn replied<B: Books>(
     rt: &impl Abort,
     alloc: Global,
@@ -121,7 +122,7 @@ fn replied<B: Books>(
     text
 }
 
-// Asserts the reply of an office in each case.
+// Asserts the response of an office in each case.
 fn assert_sites<B: Books>(rt: &impl Abort, alloc: Global, office: &mut Office<B>, cases: &[Case]) {
     for (name, register, meters, meter) in cases {
         let body = format!(in alloc;
@@ -133,7 +134,7 @@ fn assert_sites<B: Books>(rt: &impl Abort, alloc: Global, office: &mut Office<B>
     }
 }
 
-// The meter at a register is the last one of all files, with the energy of all files.
+// The meter at an accounting register is the last one of all files, with its energy in all files.
 #[test]
 fn a_site_has_the_meters_of_all_files(rt: HostRuntime) {
     let mut office = polled(&rt, rt.alloc());

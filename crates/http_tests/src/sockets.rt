@@ -6,13 +6,13 @@ use std::io::{self, Read};
 use std::net::{TcpListener, TcpStream};
 use std::test::Fail;
 
-// Accepts a client.
+// Returns a link to the next client of a listener.
 fn link_of(listener: &TcpListener) -> io::Result<SocketLink<TcpStream>> {
     SocketLink::new(listener.accept()?.0)
 }
 
-// Whether a link reads what its client sent, times out, and writes what the client reads. The
-// client closes the connection then.
+// Returns whether a link reads what its client sent, times out, and writes what the client reads.
+// The client then closes the connection.
 fn is_read_and_written(link: &mut SocketLink<TcpStream>, mut client: TcpStream) -> bool {
     let mut piece = [0; 16];
     let mut answer = [0; 3];
@@ -24,8 +24,8 @@ fn is_read_and_written(link: &mut SocketLink<TcpStream>, mut client: TcpStream) 
         && &answer == b"you"
 }
 
-// A link over a socket reads, times out, writes, and ends when the client closes the connection. No
-// read fails.
+// A link over a socket reads, times out and writes. It ends when the client closes the connection,
+// and no read fails.
 #[test]
 fn a_socket_reads_writes_times_out_and_ends(rt: HostRuntime) -> Result<(), Fail> {
     let listener = TcpListener::bind(&rt, "127.0.0.1:0")?;
@@ -38,13 +38,13 @@ fn a_socket_reads_writes_times_out_and_ends(rt: HostRuntime) -> Result<(), Fail>
     Ok(())
 }
 
-// Whether a link reads and writes.
+// Returns whether one read and one write of a link succeed.
 fn works_once<L: Link>(link: &mut L) -> bool {
     let mut piece = [0; 16];
     link.take(&mut piece) == Ok(Took::Bytes(3)) && link.give(b"you") == Ok(3)
 }
 
-// Whether the link then fails twice.
+// Returns whether a further read and a further write of a link fail.
 fn fails_twice<L: Link>(link: &mut L) -> bool {
     let mut piece = [0; 16];
     link.take(&mut piece) == Err(LinkFailed)
@@ -52,7 +52,8 @@ fn fails_twice<L: Link>(link: &mut L) -> bool {
         && [link.takes(), link.failures()] == [2, 2]
 }
 
-// A link with a deadline fails when its time is over, and passes nothing on.
+// A link with a deadline fails when the deadline has passed. Its calls then do not reach the link
+// below.
 #[test]
 fn a_link_fails_after_its_deadline(rt: HostRuntime) {
     let mut given = [0; 8];
@@ -64,7 +65,8 @@ fn a_link_fails_after_its_deadline(rt: HostRuntime) {
     assert!(rt; inner.given() == b"you".as_slice());
 }
 
-// A fixed clock keeps its last time. The clock of the system is past the first second of 2020.
+// A fixed clock keeps the last of its times. The system's clock shows a time after the first second
+// of 2020.
 #[test]
 fn clocks_have_times(rt: HostRuntime) {
     let mut clock = FixedClock::new(&[5, 3]);

@@ -12,7 +12,7 @@ use std::process::Abort;
 
 static INTERVALS: &[u8] = b"GET /meters/m1/intervals HTTP/1.1\r\n\r\n";
 
-// Returns the bytes of a reply that the store cuts off.
+// Returns the bytes of a response that is cut off because the store fails.
 fn cut<B: Books>(rt: &impl Abort, alloc: Global, books: B) -> Option<Vec<u8>> {
     let Ok(mut office) = Office::open(alloc, books, 1900) else {
         return None;
@@ -27,8 +27,8 @@ fn cut<B: Books>(rt: &impl Abort, alloc: Global, books: B) -> Option<Vec<u8>> {
 static ROWS: &[u8] =
     b"HTTP/1.1 200 OK\r\nContent-Type: text/plain\r\nConnection: close\r\n\r\n900 177777\n1800 22223\n";
 
-// A text has no last line if the store fails after its last row. The store can fail there in one
-// call.
+// If the store fails after the last row of a text, the text has no last line. Exactly one call of
+// the store can fail there.
 #[test]
 fn a_text_that_is_cut_off_has_no_end(rt: HostRuntime) {
     let mut cuts = 0u8;
@@ -42,7 +42,7 @@ fn a_text_that_is_cut_off_has_no_end(rt: HostRuntime) {
     assert!(rt; cuts == 1);
 }
 
-// Returns an office that has stopped, since the store failed while a poll was settled.
+// Returns an office that has stopped, because its store failed while a poll was settled.
 fn stopped<B: Books>(rt: &impl Abort, alloc: Global, books: B) -> Option<Office<B>> {
     let Ok(mut office) = Office::open(alloc, books, 1900) else {
         return None;
@@ -57,7 +57,7 @@ fn stopped<B: Books>(rt: &impl Abort, alloc: Global, books: B) -> Option<Office<
     None
 }
 
-// Whether the office over a store stops. Then each request gets 503.
+// Returns whether the office over a store stops, and each request then gets 503.
 fn is_unavailable<B: Books>(rt: &impl Abort, alloc: Global, books: B) -> bool {
     let Some(mut office) = stopped(rt, alloc, books) else {
         return false;
@@ -74,7 +74,7 @@ fn is_unavailable<B: Books>(rt: &impl Abort, alloc: Global, books: B) -> bool {
     true
 }
 
-// An office that has stopped answers each request with 503.
+// An office that has stopped responds to each request with 503.
 #[test]
 fn a_stopped_office_is_unavailable(rt: HostRuntime) {
     for failing in 1..20 {

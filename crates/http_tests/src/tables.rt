@@ -1,5 +1,5 @@
-//! Requests one after the other, each with its reply. `office/questions` and `office/commands` of
-//! `http_cases` have the same requests.
+//! Requests that are served one after another, each with its response. The golden tests
+//! `office/questions` and `office/commands` of `http_cases` have the same requests.
 use crate::cases::Case;
 
 /// Queries, requests whose heads fail a test, and an exchange that is retried.
@@ -138,7 +138,7 @@ pub(crate) static QUESTIONS: [Case<'static>; 22] = [
     },
 ];
 
-/// A command of each kind. The office judges a refused command again when it is retried.
+/// A command of each kind. When a refused command is retried, the office judges it again.
 pub(crate) static COMMANDS: [Case<'static>; 19] = [
     Case {
         at: 2000,

@@ -1,8 +1,8 @@
-//! The time of a run.
+//! The time that a run uses.
 use run_schedule::RunTime;
 
-// The milliseconds of the monotonic clock, the seconds of the run, and the milliseconds to its next
-// second. The run began at 1,000.999 s, when that clock showed 50 s.
+// The milliseconds of the monotonic clock, the seconds of the run's time, and the milliseconds to
+// the next second. The run began at 1,000.999 s, when the monotonic clock showed 50 s.
 static READ: [(u64, u64, u64); 6] = [
     (50_000, 1000, 1),
     (50_001, 1001, 1000),

@@ -1,4 +1,4 @@
-//! Point lists, written to writers that fail, accept nothing, or are interrupted.
+//! Point lists that are written to writers which fail, accept nothing, or are interrupted.
 
 use crate::given::list_of;
 use crate::narrow::Narrow;
@@ -7,15 +7,16 @@ use std::alloc::Global;
 
 static TEXT: &[u8] = b"name,function,area,address,type,scale\na,3,0,5,int16,0\n";
 
-// Returns whether the writer received exactly the first `room` bytes, and the fault is `Write`.
+// Returns whether the writer received exactly the first `room` bytes of the list's text, and the
+// fault is `Write`.
 fn is_told(alloc: Global, list: &PointList, room: usize, fails: bool) -> bool {
     let mut output = Narrow::new(alloc, room, fails);
     write_list(alloc, list, &mut output) == Err(WriteListFault::Write)
         && Some(output.taken.as_slice()) == TEXT.get(..room)
 }
 
-// A writer that fails, or accepts nothing, after any number of bytes has received exactly those
-// bytes.
+// A writer that fails, or accepts nothing, after any number of bytes has received exactly the first
+// bytes of the list's text.
 #[test]
 fn fails_at_each_byte(rt: HostRuntime) {
     let list = list_of(&rt, rt.alloc(), TEXT);
@@ -28,7 +29,7 @@ fn fails_at_each_byte(rt: HostRuntime) {
     }
 }
 
-// A list is written completely though each write is interrupted once.
+// A list is written completely even if each write is interrupted once.
 #[test]
 fn a_list_is_written_after_an_interruption(rt: HostRuntime) {
     let list = list_of(&rt, rt.alloc(), TEXT);

@@ -1,13 +1,13 @@
-//! Points and texts, written to writers that accept a few bytes at a time, are interrupted, and
-//! then fail or accept nothing.
+//! Points and texts that are written to writers which accept a few bytes at a time, are
+//! interrupted, and then fail or accept nothing.
 use crate::narrow::Narrow;
 use std::alloc::Global;
 use std::io::{self, ErrorKind};
 use std::process::Abort;
 use sun_points::{Point, Scale, Text, write_scaled};
 
-// Returns whether the writer received as much of the text as it had room for, and the error is
-// right if the text is cut.
+// Returns whether the writer received as much of the text as it had room for. If the text is cut
+// off, the error must be the right one.
 fn is_cut(output: &Narrow, outcome: io::Result<()>, room: usize, text: &str) -> bool {
     let all = text.as_bytes();
     let told = match outcome {
@@ -25,7 +25,7 @@ fn cut_value(rt: &impl Abort, alloc: Global, room: usize, fails: bool) -> bool {
     is_cut(&output, outcome, room, "-12.34")
 }
 
-// A scaled value is written up to the room of the writer, and the rest is reported as an error.
+// A scaled value is written as far as the writer has room, and the failure is reported.
 #[test]
 fn a_scaled_value_is_cut(rt: HostRuntime) {
     for room in 0..8usize {
@@ -35,7 +35,7 @@ fn a_scaled_value_is_cut(rt: HostRuntime) {
     }
 }
 
-// Points at scale -1.
+// Points, and their texts at the scale factor -1.
 static POINTS: [(Point<'static>, &str); 6] = [
     (Point::Absent, "absent"),
     (Point::Signed(-15), "-1.5"),
@@ -65,8 +65,7 @@ fn cut_point(
     is_cut(&output, outcome, room, text)
 }
 
-// A point of each kind is written up to the room of the writer, and the rest is reported as an
-// error.
+// A point of each kind is written as far as the writer has room, and the failure is reported.
 #[test]
 fn a_point_is_cut(rt: HostRuntime) {
     for (point, text) in &POINTS {

@@ -76,7 +76,7 @@ const WRITES: [(WriteListFault, &str); 2] = [
     (WriteListFault::Memory, "memory ran out"),
 ];
 
-// Each fault has its text.
+// Each fault has the text beside it.
 #[test]
 fn faults_say_their_texts(rt: HostRuntime) {
     assert_texts(&rt, rt.alloc(), &IMAGES);
@@ -97,7 +97,7 @@ const FAULTY: [FaultyRow; 2] = [
     },
 ];
 
-// The first `count` faulty rows.
+// Returns the first `count` faulty rows of a list.
 fn faulty(rt: &impl Abort, alloc: Global, count: usize) -> FaultyRows {
     let mut rows = Vec::new(alloc);
     for row in FAULTY.iter().take(count) {
@@ -106,7 +106,7 @@ fn faulty(rt: &impl Abort, alloc: Global, count: usize) -> FaultyRows {
     FaultyRows::new(rows)
 }
 
-// The text of a list's faults shows the first faulty row and the number of faulty rows.
+// The text about a list's faults has the first faulty row and the number of faulty rows.
 #[test]
 fn lists_tell_their_first_row(rt: HostRuntime) {
     let lists = [
@@ -127,7 +127,7 @@ fn lists_tell_their_first_row(rt: HostRuntime) {
     assert_texts(&rt, rt.alloc(), &lists)
 }
 
-// The faults have the numbers that no golden test shows.
+// The faults that no golden test shows have their numbers.
 #[test]
 fn faults_have_numbers(rt: HostRuntime) {
     assert!(rt; ImageFault::PastEnd.number() == 1);

@@ -13,7 +13,7 @@ pub fn put(rt: &impl Abort, image: &mut Image, address: u16, words: &[u16]) {
     image.put(address, words).ok().expect(rt, "not put");
 }
 
-/// Words from an address.
+/// The words of consecutive registers, beginning at an address.
 pub struct Line {
     pub address: u16,
     pub words: &'static [u16],
@@ -40,7 +40,7 @@ pub fn list_of(rt: &impl Abort, alloc: Global, text: &[u8]) -> PointList {
     read_list(alloc, text).ok().expect(rt, "no list")
 }
 
-/// Returns the written text of a list.
+/// Returns the CSV text of a point list.
 pub fn written(rt: &impl Abort, alloc: Global, list: &PointList) -> Vec<u8> {
     let mut output = Vec::new(alloc);
     write_list(alloc, list, &mut output)

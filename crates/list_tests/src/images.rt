@@ -1,4 +1,4 @@
-//! Words that are written into images.
+//! Words that are written into images of a device's registers.
 use crate::given::put;
 use sun_chain::{Image, ImageFault};
 
@@ -9,8 +9,8 @@ static WORDS: [(u16, Option<u16>); 4] = [
     (65535, Some(5)),
 ];
 
-// The last two addresses can be written, and the last word replaced. Words past the last address
-// change nothing.
+// Words can be written at the last two addresses, and the last word can be replaced. Words past the
+// last address change nothing.
 #[test]
 fn words_are_put_up_to_the_last_address(rt: HostRuntime) {
     let mut image = Image::new(rt.alloc());

@@ -1,4 +1,4 @@
-//! Point lists of chains of models.
+//! Point lists that are made from a device's chain of SunSpec models.
 
 use crate::full_models::full_image;
 use crate::given::{Line, assert_same, chain_of, image_of, put, written};
@@ -7,7 +7,7 @@ use std::alloc::Global;
 use std::process::Abort;
 use sun_chain::Image;
 
-// The lines of an image, and the list of its chain.
+// The lines of an image, and the text of the point list of its chain.
 struct Listed {
     lines: &'static [Line],
     text: &'static str,
@@ -36,7 +36,7 @@ const INVERTER_AND_METER: [Line; 5] = [
     },
 ];
 
-// An absent point, and a point whose scale point was not read.
+// An image with an absent point, and with a point whose scale point was not read.
 const METER: [Line; 5] = [
     Line {
         address: 40000,
@@ -83,14 +83,14 @@ fn list_in(rt: &impl Abort, alloc: Global, image: &Image) -> PointList {
     from_chain(alloc, &chain).ok().expect(rt, "no list")
 }
 
-// Asserts the text of the list of an image's chain.
+// Asserts the text of the point list of an image's chain.
 fn assert_listed(rt: &impl Abort, alloc: Global, image: &Image, text: &str) {
     let list = list_in(rt, alloc, image);
     assert_same(rt, written(rt, alloc, &list).as_slice(), text);
 }
 
-// A chain's list has the points that were read, absent ones too. A scale point that was not read
-// leaves the scale empty.
+// The list of a chain has the points that were read, also absent ones. If the scale point of a
+// point was not read, the scale in the list is empty.
 #[test]
 fn lists_of_chains(rt: HostRuntime) {
     for chain in &CHAINS {
@@ -227,7 +227,8 @@ m3.TotVArh_SF,3,0,40226,sunssf,
 m3.Evt,3,0,40227,bitfield32,
 ";
 
-// An image of `count` meters with all words. The words `more`, if any, begin one more meter.
+// Returns the image of `count` meters with all words. If there are words in `more`, they begin one
+// more meter.
 fn meters(rt: &impl Abort, alloc: Global, count: u16, more: &[u16]) -> Image {
     let mut image = Image::new(alloc);
     put(rt, &mut image, 0, &[0x5375, 0x6E53]);
@@ -257,9 +258,9 @@ fn put_meter(rt: &impl Abort, image: &mut Image, model: u16, words: &[u16]) {
     put(rt, image, address_of(model).saturating_add(2), words)
 }
 
-// The number of full meters in an image, and the words that were read of one more. Last the number
-// of points in the list, unless there are too many. Each meter has 72 points, and each of its first
-// nine registers is a point.
+// The number of full meters in an image, and how many words of one more were read. Then the number
+// of points in the list, or None if there are too many. Each meter has 72 points, and each of its
+// first nine registers is a point.
 static COUNTS: [(u16, &[u16], Option<usize>); 4] = [
     (7, &[], Some(504)),
     (7, &[0; 8], Some(512)),
@@ -291,7 +292,7 @@ fn chains_have_512_points_at_most(rt: HostRuntime) {
     }
 }
 
-// The names of the first and the last point in the list of an image's chain.
+// Returns the names of the first and the last point in the list of an image's chain.
 fn ends_of(rt: &impl Abort, alloc: Global, image: &Image) -> Vec<u8> {
     let list = list_in(rt, alloc, image);
     let mut names = Vec::new(alloc);

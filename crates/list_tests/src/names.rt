@@ -3,7 +3,7 @@ use point_list::PointName;
 use std::alloc::Global;
 use std::process::Abort;
 
-// Texts, and whether they are names.
+// Texts, and whether they are valid names of points.
 static TEXTS: [(&str, bool); 11] = [
     ("wh", true),
     ("m2.WH_SF", true),
@@ -18,7 +18,7 @@ static TEXTS: [(&str, bool); 11] = [
     ("a23456789.123456789_123456789.123", false),
 ];
 
-// Asserts whether a text is a name. Its bytes are returned in either case.
+// Asserts whether a text is a valid name of a point. Its bytes are returned in either case.
 fn assert_name(rt: &impl Abort, alloc: Global, text: &str, is_name: bool) {
     let bytes = text.as_bytes().to_vec(alloc).expect(rt, "no memory");
     let back = match PointName::new(bytes) {

@@ -1,4 +1,5 @@
-//! A writer that accepts a few bytes at a time, is interrupted, and then fails or accepts nothing.
+//! A writer for tests that accepts a few bytes at a time, is interrupted, and then fails or accepts
+//! nothing.
 ghost use Rattle.std.specs.Prelude.{◌≤◌, IfOk, length};
 
 use std::alloc::Global;

@@ -1,4 +1,4 @@
-//! Counters that are read over a link.
+//! Counters of a device that are read over a link.
 use crate::stand_in_link::StandInLink;
 use device_scan::{CounterScale, ScanFault, Shown, read_counter};
 use mb_device::{Area, Bank, Kind, Trick};
@@ -45,10 +45,11 @@ const HOLDING: ReadFunction = ReadFunction::HoldingRegisters;
 
 const INPUT: ReadFunction = ReadFunction::InputRegisters;
 
-// The count and the scale of a counter, if it can be read.
+// The value and the scale factor of a counter, if it can be read.
 type Count = Option<(u32, i16)>;
 
-// The read of a counter, its result, and the number of requests.
+// The function, address and scale of a counter. Then the result of reading it, and the number of
+// requests.
 static COUNTERS: [(ReadFunction, u16, CounterScale, Count, u64); 13] = [
     (HOLDING, 40000, CounterScale::Fixed(0), Some((65538, 0)), 1),
     (
@@ -74,14 +75,14 @@ static COUNTERS: [(ReadFunction, u16, CounterScale, Count, u64); 13] = [
         1,
     ),
     (INPUT, 40005, CounterScale::Register(40129), Some((0, 0)), 1),
-    // A scale that is not implemented, and scales out of range.
+    // A scale factor that is not implemented, and scale factors out of range.
     (INPUT, 40010, CounterScale::Register(40015), None, 1),
     (INPUT, 40010, CounterScale::Register(40016), None, 1),
     (INPUT, 40010, CounterScale::Register(40017), None, 1),
     (INPUT, 40010, CounterScale::Fixed(4), None, 1),
     // Registers that the device does not have.
     (HOLDING, 40129, CounterScale::Fixed(0), None, 2),
-    // 126 registers, and half a counter at the last address.
+    // A read of 126 registers, and a counter of which only half is below the last address.
     (INPUT, 40004, CounterScale::Register(40129), None, 0),
     (INPUT, 65535, CounterScale::Fixed(0), None, 0),
 ];
@@ -91,7 +92,8 @@ fn shown(count: Count) -> Option<Shown> {
     Some(Shown { raw, sf })
 }
 
-// A counter is read together with its scale in one request, and once more if no words arrive.
+// A counter is read together with its scale in one request. The request is sent once more if no
+// words arrive.
 #[test]
 fn a_counter_is_read_with_its_scale(rt: HostRuntime) {
     let mut link = StandInLink::new(meter(&rt, rt.alloc()), &[]);
@@ -106,7 +108,7 @@ fn a_counter_is_read_with_its_scale(rt: HostRuntime) {
     }
 }
 
-// Reads the counter with the scale after it, from a simulator with injected faults.
+// Reads the counter whose scale is after it, from a simulator with injected faults.
 fn tricked(
     rt: &impl Abort,
     alloc: Global,
@@ -125,8 +127,8 @@ static ONCE: [Trick; 5] = [
     Trick::Unit,
 ];
 
-// A response that fails once is requested again. Two timeouts give no count, and a broken
-// connection is a fault.
+// If a response fails once, the request is sent again. After two timeouts there is no value, and a
+// broken connection is a fault.
 #[test]
 fn a_counter_is_asked_for_twice(rt: HostRuntime) {
     for trick in &ONCE {
@@ -141,7 +143,7 @@ fn a_counter_is_asked_for_twice(rt: HostRuntime) {
     assert!(rt; garbled == Err(ScanFault::Garbled));
 }
 
-// An exception to the first request, and the words to the second.
+// An exception response to the first request, and the registers as the response to the second.
 static EXCEPTION_THEN_WORDS: [u8; 22] = [
     0, 1, 0, 0, 0, 3, 7, 0x84, 6, 0, 2, 0, 0, 0, 7, 7, 4, 4, 0, 1, 0, 2,
 ];
@@ -151,8 +153,8 @@ static REQUESTS: [u8; 24] = [
     0, 1, 0, 0, 0, 6, 7, 4, 0x9C, 0x4A, 0, 2, 0, 2, 0, 0, 0, 6, 7, 4, 0x9C, 0x4A, 0, 2,
 ];
 
-// Asserts the result of a read over a link that may fail at one call. Returns the bytes that were
-// written.
+// Asserts the result of reading a counter over a link of which one call may fail. Returns the bytes
+// that were written.
 fn assert_read(
     rt: &impl Abort,
     alloc: Global,
@@ -167,7 +169,8 @@ fn assert_read(
     link.given().to_vec(alloc).expect(rt, "no memory")
 }
 
-// Words may follow an exception. The first write, the second write and the first read fail in turn.
+// The second request may succeed after an exception. Then the first write, the second write and the
+// first read fail, each in turn.
 #[test]
 fn words_may_come_after_an_exception(rt: HostRuntime) {
     let wanted = Ok(shown(Some((65538, -1))));

@@ -1,4 +1,4 @@
-//! Texts in registers.
+//! Texts in Modbus registers.
 use std::alloc::Global;
 use std::process::Abort;
 use sun_points::Text;

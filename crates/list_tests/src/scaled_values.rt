@@ -1,4 +1,4 @@
-//! Scaled values. The texts come from decimal arithmetic in another language.
+//! Scaled values. The expected texts were computed with decimal arithmetic in another language.
 
 use crate::given::assert_same;
 use std::alloc::Global;
@@ -7,7 +7,7 @@ use sun_points::{Scale, write_scaled};
 
 static VALUES: [i64; 6] = [0, 5, -5, 2301, i64::MIN, i64::MAX];
 
-// The values at each scale, each after a space.
+// A scale factor, and the texts of the values at this scale factor, each after a space.
 static SCALED: [(i16, &str); 21] = [
     (
         -10,
@@ -98,7 +98,7 @@ fn write_at(rt: &impl Abort, value: i64, exponent: i16, output: &mut Vec<u8>) {
     write_scaled(value, scale, output).expect(rt, "not written");
 }
 
-// Asserts the texts of values at a scale.
+// Asserts the texts of values at a scale factor.
 fn assert_scaled(rt: &impl Abort, alloc: Global, values: &[i64], exponent: i16, want: &str) {
     let mut line = Vec::new(alloc);
     for value in values {
@@ -107,7 +107,7 @@ fn assert_scaled(rt: &impl Abort, alloc: Global, values: &[i64], exponent: i16, 
     assert_same(rt, line.as_slice(), want);
 }
 
-// Values are written exactly at each scale from -10 to 10.
+// Values are written exactly at each scale factor from -10 to 10.
 #[test]
 fn values_are_written_at_each_scale(rt: HostRuntime) {
     for (exponent, want) in &SCALED {

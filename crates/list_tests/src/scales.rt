@@ -1,7 +1,7 @@
-//! Scale factors.
+//! SunSpec scale factors.
 use sun_points::Scale;
 
-// The register of a scale point, and its exponent.
+// The register of a scale point, and its scale factor.
 static REGISTERS: [(u16, Option<i8>); 8] = [
     (0, Some(0)),
     (10, Some(10)),
@@ -17,7 +17,7 @@ fn exponent_of(word: u16) -> Option<i8> {
     Some(Scale::new(word)?.exponent())
 }
 
-// An exponent is from -10 to 10. A scale that is not implemented is 0.
+// A scale factor is from -10 to 10. A scale factor that is not implemented counts as 0.
 #[test]
 fn exponents_are_ten_at_most(rt: HostRuntime) {
     for (word, exponent) in &REGISTERS {

@@ -1,4 +1,4 @@
-//! Scans of a simulator, without faults and with each injected fault.
+//! Scans of a simulated device for SunSpec models, without faults and with each injected fault.
 use crate::full_models::full_image;
 use crate::stand_in_link::StandInLink;
 use device_scan::{ScanFault, ScanObserver, scan_over};
@@ -7,7 +7,7 @@ use std::alloc::Global;
 use std::process::Abort;
 use sun_chain::{ChainFault, Image, Model, walk};
 
-// Counts the models that it is shown.
+// A listener that counts the models which a scan reports.
 #[derive(Drop)]
 struct Shown(u64);
 
@@ -23,7 +23,7 @@ static WHOLE: [Area; 1] = [Area {
     count: 230,
 }];
 
-// A register map with the words of the full models. Its last register is the end's ID.
+// Returns a device with the words of the full models. Its last register is the ID of the end model.
 fn full_bank(rt: &impl Abort, alloc: Global) -> Bank {
     let image = full_image(rt, alloc);
     let mut bank = Bank::new(alloc, &WHOLE).ok().expect(rt, "no bank");
@@ -41,7 +41,7 @@ fn assert_full(rt: &impl Abort, alloc: Global, found: &Image) {
     }
 }
 
-// The result of a scan, its number of requests, and the number of models that it showed.
+// The result of a scan, its number of requests, and the number of models that it reported.
 #[derive(Drop)]
 struct Scanned {
     found: Result<Image, ScanFault>,
@@ -49,7 +49,7 @@ struct Scanned {
     models: u64,
 }
 
-// Scans a register map with injected faults.
+// Scans a simulated device with injected faults.
 fn scan_bank(alloc: Global, bank: Bank, tricks: &[(u64, Trick)]) -> Scanned {
     let mut link = StandInLink::new(bank, tricks);
     let mut shown = Shown(0);
@@ -70,15 +70,16 @@ fn scanned_full(
     scan_bank(alloc, full_bank(rt, alloc), tricks).found
 }
 
-// Scans a register map, and asserts the number of requests.
+// Scans a simulated device, and asserts the number of requests.
 fn assert_image(rt: &impl Abort, alloc: Global, bank: Bank, requests: u64) -> Image {
     let scanned = scan_bank(alloc, bank, &[]);
     assert!(rt; scanned.requests == requests, "{requests}");
     scanned.found.ok().expect(rt, "no scan")
 }
 
-// Full models are read in ten requests: one for the mark, and three for the models. The first three
-// heads need one each. The last head is requested twice, and then its ID alone.
+// Full models are read in ten requests. One is for the mark, three are for the models' registers,
+// and one is for each of the first three heads. The last head is requested twice, and then its ID
+// alone.
 #[test]
 fn full_models_are_read(rt: HostRuntime) {
     let scanned = scan_bank(rt.alloc(), full_bank(&rt, rt.alloc()), &[]);
@@ -87,7 +88,7 @@ fn full_models_are_read(rt: HostRuntime) {
     assert_full(&rt, rt.alloc(), &scanned.found.ok().expect(&rt, "no scan"));
 }
 
-// On any of these frames a response is lost or wrong, and arrives at the second try.
+// Injected faults that lose or change the response to one frame. The second attempt succeeds.
 static ONCE: [Trick; 5] = [
     Trick::Drop,
     Trick::Twice,
@@ -96,7 +97,7 @@ static ONCE: [Trick; 5] = [
     Trick::Unit,
 ];
 
-// A response that fails once is requested again, for each fault on each frame.
+// If a response fails once, the request is sent again. This is tested for each fault on each frame.
 #[test]
 fn a_reply_that_fails_once_is_asked_for_again(rt: HostRuntime) {
     for trick in &ONCE {
@@ -107,7 +108,7 @@ fn a_reply_that_fails_once_is_asked_for_again(rt: HostRuntime) {
     }
 }
 
-// A connection that breaks, and a garbled frame, end the scan.
+// A broken connection or a garbled frame ends the scan.
 #[test]
 fn a_connection_that_breaks_ends_the_scan(rt: HostRuntime) {
     let cut = scanned_full(&rt, rt.alloc(), &[(3, Trick::Cut(5))]);
@@ -116,7 +117,8 @@ fn a_connection_that_breaks_ends_the_scan(rt: HostRuntime) {
     assert!(rt; garbled.err() == Some(ScanFault::Garbled));
 }
 
-// A read that is dropped twice is missing from the image: here the registers of the inverter.
+// If a read fails twice, its registers are missing from the image. Here these are the registers of
+// the inverter.
 #[test]
 fn what_fails_twice_is_unread(rt: HostRuntime) {
     let tricks = [(5, Trick::Drop), (6, Trick::Drop)];
@@ -135,7 +137,7 @@ static UPPER: [Area; 1] = [Area {
     count: 15536,
 }];
 
-// A register map above 50000 with these words.
+// Returns a device with these words, all above address 50000.
 fn upper_bank(rt: &impl Abort, alloc: Global, words: &[(u16, u16)]) -> Bank {
     let mut bank = Bank::new(alloc, &UPPER).ok().expect(rt, "no bank");
     for (address, word) in words {
@@ -144,7 +146,7 @@ fn upper_bank(rt: &impl Abort, alloc: Global, words: &[(u16, u16)]) -> Bank {
     bank
 }
 
-// The mark, an unknown model, and the end at the last address.
+// The SunSpec mark, an unknown model, and the end model at the last address.
 static TO_THE_LAST: [(u16, u16); 5] = [
     (50000, 0x5375),
     (50001, 0x6E53),
@@ -164,7 +166,7 @@ fn a_chain_may_end_at_the_last_address(rt: HostRuntime) {
     assert!(rt; chain.end() == 65535);
 }
 
-// A model 1 of 126 registers, and the end.
+// A model 1 of 126 registers, and the end model.
 static LONG: [(u16, u16); 6] = [
     (50000, 0x5375),
     (50001, 0x6E53),
@@ -183,7 +185,7 @@ fn a_long_model_takes_several_reads(rt: HostRuntime) {
     assert!(rt; image.word(50129) == Some(7));
 }
 
-// Scans `count` models without registers, and the end after them.
+// Scans a device with `count` models without registers, and then the end model.
 fn many_models(rt: &impl Abort, alloc: Global, count: u16) -> Image {
     let mut bank = upper_bank(rt, alloc, &TO_THE_LAST);
     for place in 0..count {

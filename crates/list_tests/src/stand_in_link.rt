@@ -4,17 +4,17 @@ ghost use Rattle.std.specs.Prelude.{◌≤◌, ◌<◌, length};
 use mb_device::{Bank, Server, Trick};
 use mb_wire::{LastTake, Link, LinkFailed, MemoryLink, Took};
 
-/// The maximum number of response bytes that wait to be read.
+/// The greatest number of response bytes that wait to be read.
 const ROOM: usize = 1024;
 
-/// A link to a simulator that answers each write at once. It times out until the next write, and
-/// ends after a fault has closed the connection.
+/// A link to a simulated device that responds to each write at once. A read without a response
+/// times out. After a fault that closes the connection, the link ends.
 #[derive(Drop)]
 pub(crate) struct StandInLink<'t> {
     server: Server<'t>,
     bank: Bank,
     answers: [u8; ROOM],
-    // The range of the response bytes that were not read.
+    // The range of response bytes that were not read yet.
     start: usize,
     end: usize,
     is_over: bool,
@@ -42,14 +42,14 @@ impl<'t> StandInLink<'t> {
         }
     }
 
-    /// Returns the number of writes, one for each request.
+    /// Returns the number of writes. There is one for each request.
     pub(crate) fn gives(&self) -> u64 {
         self.gives
     }
 }
 
 // Returns the number of response bytes, which are at the front of `answers`, and whether the
-// connection is closed.
+// connection was closed.
 fn answer_to(
     server: &mut Server<'_>,
     bank: &mut Bank,
@@ -67,7 +67,7 @@ fn answer_to(
     (link.given().len().min(ROOM), is_over)
 }
 
-// Copies bytes to the front of a piece, and returns how many.
+// Copies bytes to the front of a buffer, and returns how many were copied.
 fn copy(bytes: &[u8], piece: &mut [u8]) -> usize
     ensures within { result ≤ length bytes.now }
     ensures fits { result ≤ length piece.new }

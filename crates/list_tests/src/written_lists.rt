@@ -1,8 +1,8 @@
-//! Point lists that are written.
+//! Point lists that are written as CSV texts.
 
 use crate::given::{list_of, written};
 
-// A text of a list, and the written text of the list.
+// The text of a list, and the text that is written for the list.
 struct Rewritten {
     text: &'static [u8],
     written: &'static [u8],
@@ -65,7 +65,7 @@ static TEXTS: [Rewritten; 8] = [
     },
 ];
 
-// A list is written in one form, for each form of its text.
+// A list is always written in the same form, whatever the form of the text from which it was read.
 #[test]
 fn lists_are_written(rt: HostRuntime) {
     for (i, case) in TEXTS.iter().enumerate() {

@@ -5,7 +5,7 @@ use mb_device::{Area, Bank, Kind};
 use std::alloc::Global;
 use std::process::Abort;
 
-// Holding register 11 is 7 and register 12 is 8.
+// Reads of a device whose areas have gaps. Its holding register 11 is 7, and register 12 is 8.
 static IN_GAPS: [Exchange; 6] = [
     Exchange {
         request: &[3, 0, 10, 0, 4],
@@ -33,7 +33,7 @@ static IN_GAPS: [Exchange; 6] = [
     },
 ];
 
-/// A device has no addresses between its areas.
+/// A device refuses addresses between its areas.
 #[test]
 fn gaps_are_no_addresses(rt: HostRuntime) {
     let mut bank = Bank::new(rt.alloc(), &GAPS).ok().expect(&rt, "no bank");
@@ -64,14 +64,14 @@ static AREAS: [Area; 4] = [
     },
 ];
 
-// The coils that are on, and then the discrete inputs that are on.
+// The addresses of the coils that are on, and then of the discrete inputs that are on.
 static COILS: [u16; 12] = [19, 21, 22, 25, 26, 27, 28, 30, 32, 33, 35, 37];
 
 static DISCRETES: [u16; 14] = [
     198, 199, 201, 203, 204, 205, 207, 208, 210, 211, 212, 214, 216, 217,
 ];
 
-// A device with the values of the standard's examples.
+// Returns a device with the values of the standard's examples.
 fn bank_of_examples(rt: &impl Abort, alloc: Global) -> Bank {
     let mut bank = Bank::new(alloc, &AREAS).ok().expect(rt, "no bank");
     for address in COILS {
@@ -86,7 +86,7 @@ fn bank_of_examples(rt: &impl Abort, alloc: Global) -> Bank {
     bank
 }
 
-// Reads of what the examples wrote.
+// Reads of the values that the examples of writes have written.
 static READ_BACK: [Exchange; 2] = [
     Exchange {
         request: &[3, 0, 1, 0, 2],
@@ -98,7 +98,7 @@ static READ_BACK: [Exchange; 2] = [
     },
 ];
 
-/// A device responds to the standard's examples as the standard says.
+/// A device responds to the standard's example requests with the standard's example responses.
 #[test]
 fn examples_of_the_standard_are_answered(rt: HostRuntime) {
     let mut bank = bank_of_examples(&rt, rt.alloc());

@@ -2,7 +2,8 @@
 use crate::devices::GAPS;
 use mb_device::{Area, Bank, BankFault, Kind};
 
-// A value that is set at an address, if the device has it, and the value that is then read.
+// A write of a value at an address: whether the device has the address, and the value that a read
+// returns afterwards.
 struct Write {
     kind: Kind,
     address: u16,
@@ -49,7 +50,7 @@ static WRITES: [Write; 6] = [
     },
 ];
 
-/// A device stores values at its own addresses, and at no others.
+/// A device stores values at the addresses of its areas. It refuses any other address.
 #[test]
 fn values_are_kept_where_there_are_addresses(rt: HostRuntime) {
     let mut bank = Bank::new(rt.alloc(), &GAPS).ok().expect(&rt, "no bank");
@@ -62,7 +63,7 @@ fn values_are_kept_where_there_are_addresses(rt: HostRuntime) {
     }
 }
 
-// An area that is refused beside ten coils from 0, the fault and its number.
+// An area that is refused beside ten coils from address 0, its fault, and the fault's number.
 struct Refused {
     area: Area,
     fault: BankFault,

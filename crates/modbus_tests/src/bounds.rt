@@ -1,4 +1,5 @@
-//! The least and the greatest windows and timeouts: 1 and 16 pending polls, 1 and 60 seconds.
+//! The least and the greatest window and timeout of a session: 1 and 16 pending polls, 1 and 60
+//! seconds.
 use crate::first_poll::first_poll;
 use crate::session_script::{Asked, Event, GOOD, Line, play, refuse, start};
 use poll_core::{Outcome, Session, StartFault};
@@ -26,7 +27,8 @@ fn windows_hold_1_to_16_polls(rt: HostRuntime) {
     fill(&rt, &mut Session::new(5, 16), 16)
 }
 
-/// A first poll that was started at 100: the events in its last second, and at its deadline.
+/// Timeouts in seconds. Each has the events in the last second of a poll that was started at 100,
+/// and at its deadline.
 static TIMEOUTS: [(u64, &[Line]); 4] = [
     (
         1,

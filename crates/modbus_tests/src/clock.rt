@@ -1,9 +1,9 @@
-//! A clock that goes back.
+//! Events whose time is earlier than that of the event before.
 use crate::first_poll::first_poll;
 use crate::session_script::{Event, GOOD, Line, play};
 use poll_core::{ClockBack, Closing, Outcome, StartFault};
 
-/// A start is refused, and the response still answers the poll.
+/// After a start was refused, the response still answers the poll.
 static AFTERWARDS: [Line; 2] = [
     Line {
         event: Event::Refused {
@@ -21,7 +21,7 @@ static AFTERWARDS: [Line; 2] = [
     },
 ];
 
-/// A piece with an earlier time is refused, and changes nothing.
+/// Received bytes with an earlier time are refused, and change nothing.
 #[test]
 fn a_piece_of_an_earlier_moment_is_refused(rt: HostRuntime) {
     let mut session = first_poll(&rt, 5, 2);

@@ -4,7 +4,7 @@ use mb_device::{Area, Bank, Kind};
 use std::alloc::Global;
 use std::process::Abort;
 
-/// Two holding areas side by side, one after a gap, and a coil.
+/// The areas of a device: two adjacent areas of holding registers, one after a gap, and a coil.
 pub(crate) static GAPS: [Area; 4] = [
     Area {
         kind: Kind::Holding,
@@ -34,7 +34,7 @@ static REGISTERS: [Area; 1] = [Area {
     count: 125,
 }];
 
-/// Creates a device whose holding register 0 is 9.
+/// Returns a device whose holding register 0 is 9.
 pub(crate) fn bank_with_nine(rt: &impl Abort, alloc: Global) -> Bank {
     let mut bank = Bank::new(alloc, &REGISTERS).ok().expect(rt, "no bank");
     bank.set(Kind::Holding, 0, 9);
@@ -51,7 +51,7 @@ pub(crate) fn answers(bank: &mut Bank, pdu: &[u8], answer: &[u8]) -> bool {
     out.get(..count) == Some(answer)
 }
 
-/// Asserts that the device responds to each request in this way.
+/// Asserts that the device responds to each request with the response beside it.
 pub(crate) fn answers_all(rt: &impl Abort, bank: &mut Bank, exchanges: &[Exchange]) {
     for (i, exchange) in exchanges.iter().enumerate() {
         assert!(rt;

@@ -1,4 +1,4 @@
-//! The sentences of faults of frames, servers and sessions.
+//! The texts of faults of frames, servers and sessions.
 use crate::texts::tells;
 use mb_device::{BankFault, ServeFault};
 use mb_wire::{ReplyFault, RequestFault};
@@ -120,7 +120,7 @@ const LOST: [(LostCause, &str); 4] = [
     (LostCause::Restart, "the program was started again"),
 ];
 
-/// Each fault of a frame has its sentence.
+/// Each fault of a frame has its text.
 #[test]
 fn frames(rt: HostRuntime) {
     tells(&rt, rt.alloc(), &REQUESTS);
@@ -128,14 +128,14 @@ fn frames(rt: HostRuntime) {
     tells(&rt, rt.alloc(), &MALFORMED)
 }
 
-/// Each fault of a device's areas or a server has its sentence.
+/// Each fault of a device's areas or of a server has its text.
 #[test]
 fn servers(rt: HostRuntime) {
     tells(&rt, rt.alloc(), &BANKS);
     tells(&rt, rt.alloc(), &SERVERS)
 }
 
-/// Each fault of a start and each cause of a lost poll has its sentence.
+/// Each fault of starting a poll and each cause of a lost poll has its text.
 #[test]
 fn sessions(rt: HostRuntime) {
     tells(&rt, rt.alloc(), &STARTS);

@@ -1,10 +1,10 @@
-//! Events of a session whose poll 1 was started at 100.
+//! Events of a session whose first poll was started at time 100.
 use crate::session_script::{Asked, Event, GOOD, Line, feed, play, start};
 use poll_core::{LostCause, Malformation, Outcome, Session};
 use std::alloc::Global;
 use std::process::Abort;
 
-/// The poll requests 3 registers from 40094.
+/// The first poll, which reads 3 registers from address 40094.
 static FIRST: Asked = Asked {
     moment: 100,
     poll: 1,
@@ -22,7 +22,7 @@ pub fn first_poll(rt: &impl Abort, timeout: u64, window: usize) -> Session {
     session
 }
 
-/// Within a timeout of 5 seconds.
+/// Responses within a timeout of 5 seconds.
 static REPLIES: [[Line; 2]; 4] = [
     [
         Line {
@@ -32,7 +32,7 @@ static REPLIES: [[Line; 2]; 4] = [
             },
             told: &[(1, Outcome::Answered)],
         },
-        // a second response is a stray
+        // A second response belongs to no poll.
         Line {
             event: Event::Piece {
                 moment: 104,
@@ -41,7 +41,7 @@ static REPLIES: [[Line; 2]; 4] = [
             told: &[],
         },
     ],
-    // at the deadline
+    // A response at the deadline.
     [
         Line {
             event: Event::Piece {
@@ -55,7 +55,7 @@ static REPLIES: [[Line; 2]; 4] = [
             told: &[],
         },
     ],
-    // twice in one piece
+    // The same response twice in one piece of the stream.
     [
         Line {
             event: Event::Piece {
@@ -75,7 +75,7 @@ static REPLIES: [[Line; 2]; 4] = [
             told: &[],
         },
     ],
-    // with transaction identifier 9, so the poll stays pending
+    // A response with another transaction identifier, 9. The poll stays pending.
     [
         Line {
             event: Event::Piece {
@@ -139,8 +139,8 @@ static OTHER_FRAMES: [[Line; 1]; 6] = [
     }],
 ];
 
-/// Plays the lines on sessions with a timeout of 5 seconds and with each window, after their first
-/// poll.
+/// Plays the events on sessions with a timeout of 5 seconds, one for each window, after their first
+/// poll was started.
 pub fn play_at_windows(rt: &impl Abort, alloc: Global, lines: &[Line]) {
     for window in [1, 2, 16] {
         let mut session = first_poll(rt, 5, window);
@@ -164,7 +164,7 @@ fn a_reply_in_time_answers(rt: HostRuntime) {
     }
 }
 
-/// Frames that are no response to the poll do not answer it.
+/// Frames that are no response to the poll don't answer it.
 #[test]
 fn other_frames_are_no_answers(rt: HostRuntime) {
     for lines in &OTHER_FRAMES {

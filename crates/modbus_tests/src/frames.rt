@@ -11,7 +11,7 @@ static ASKED: Request<'static> = Request::ReadHolding {
     quantity: 3,
 };
 
-// The result of feeding bytes to a reader: a new reader, or that of the row before.
+// The result of feeding bytes to a reader of frames: to a new reader, or to that of the row before.
 struct Feed {
     anew: bool,
     bytes: &'static [u8],
@@ -21,7 +21,7 @@ struct Feed {
 }
 
 static FEEDS: [Feed; 6] = [
-    // Two responses in one piece, and the second ends in another.
+    // Two responses, where the second ends in another piece of the stream.
     Feed {
         anew: true,
         bytes: &[0, 1, 0, 0, 0, 9, 17, 3, 6, 2, 43, 0, 0, 0, 100, 0, 1, 0, 0],
@@ -43,7 +43,7 @@ static FEEDS: [Feed; 6] = [
         what: Framing::Whole,
         buffered: true,
     },
-    // Another protocol.
+    // A frame with another protocol identifier than Modbus.
     Feed {
         anew: true,
         bytes: &[0, 1, 0, 1, 0, 6, 17, 3, 0, 107, 0, 3, 0],
@@ -51,7 +51,7 @@ static FEEDS: [Feed; 6] = [
         what: Framing::Foreign,
         buffered: false,
     },
-    // A length of 1 garbles the stream for good.
+    // After a length field of 1 the stream can't be read any more.
     Feed {
         anew: true,
         bytes: &[0, 1, 0, 0, 0, 1, 9],
@@ -68,7 +68,7 @@ static FEEDS: [Feed; 6] = [
     },
 ];
 
-/// A feed ends at the end of a frame.
+/// A feed stops at the end of a frame.
 #[test]
 fn a_feed_ends_with_a_frame(rt: HostRuntime) {
     let mut reader = FrameReader::new();
@@ -88,7 +88,7 @@ fn a_feed_ends_with_a_frame(rt: HostRuntime) {
     }
 }
 
-/// A request is written as a frame.
+/// A request is written as the bytes of its frame.
 #[test]
 fn a_request_is_written(rt: HostRuntime) {
     let mut pdu = [0; 253];
@@ -106,7 +106,7 @@ fn holds(reader: &FrameReader, tid: u16, unit: u8, pdu: &[u8]) -> bool {
     }
 }
 
-/// A frame may arrive byte by byte.
+/// A frame may arrive one byte at a time.
 #[test]
 fn single_bytes_make_a_frame(rt: HostRuntime) {
     let mut reader = FrameReader::new();
@@ -155,7 +155,7 @@ fn is_taken(bytes: &[u8; 15]) -> bool {
     }
 }
 
-/// A response with any other value in a byte of its header is no response.
+/// A frame with any wrong byte in its header is no response to the request.
 #[test]
 fn a_corrupt_header_is_no_reply(rt: HostRuntime) {
     assert!(rt; is_taken(&REPLY));

@@ -1,4 +1,5 @@
-//! A transaction identifier that a pending poll has, when it is due again after 65,535 more starts.
+//! A transaction identifier that is due again after 65,535 more starts, while a poll with it is
+//! still pending.
 use crate::session_script::{Asked, Event, Line, feed, play, start};
 use poll_core::{Outcome, Session, StartFault};
 use std::alloc::Global;

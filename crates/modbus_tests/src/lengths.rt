@@ -6,7 +6,7 @@ use mb_wire::{Fed, FrameReader, Framing, MemoryLink, write_frame};
 use std::alloc::Global;
 use std::process::Abort;
 
-// A length, the number of bytes that the reader takes of a frame, and what the frame is.
+// A length field, how many bytes of the frame the reader accepts, and the kind of frame.
 static LENGTHS: [(u16, usize, Framing); 7] = [
     (0, 6, Framing::Garbled),
     (1, 6, Framing::Garbled),
@@ -17,7 +17,7 @@ static LENGTHS: [(u16, usize, Framing); 7] = [
     (65535, 6, Framing::Garbled),
 ];
 
-// A frame of a function that no device has, and bytes after it.
+// Returns a frame with a function code that no device has, and bytes after it.
 fn frame_of(length: u16) -> [u8; 261] {
     let [high, low] = length.to_be_bytes();
     let mut frame = [0x2B; 261];
@@ -25,7 +25,7 @@ fn frame_of(length: u16) -> [u8; 261] {
     frame
 }
 
-/// A reader accepts the lengths 2 to 254.
+/// A reader accepts length fields from 2 to 254.
 #[test]
 fn frames_have_lawful_lengths(rt: HostRuntime) {
     for (length, taken, what) in LENGTHS {
@@ -34,7 +34,7 @@ fn frames_have_lawful_lengths(rt: HostRuntime) {
     }
 }
 
-// The result of a server for a single frame, and what the server writes.
+// A length field, the result of a server for a single frame with it, and what the server writes.
 static SERVED: [(u16, Result<u64, ServeFault>, &[u8]); 4] = [
     (1, Err(ServeFault::Garbled), &[]),
     (2, Ok(1), &[0, 9, 0, 0, 0, 3, 7, 0xAB, 1]),
@@ -58,7 +58,7 @@ fn is_served(
     served == answer && link.given() == given
 }
 
-/// A server responds to frames with the lengths 2 to 254.
+/// A server responds to frames with length fields from 2 to 254.
 #[test]
 fn frames_of_lawful_lengths_are_served(rt: HostRuntime) {
     for (length, answer, given) in SERVED {
@@ -70,7 +70,7 @@ fn frames_of_lawful_lengths_are_served(rt: HostRuntime) {
 // The length of a PDU, the length of its frame, and the length field of that frame.
 static WRITTEN: [(usize, usize, [u8; 2]); 2] = [(1, 8, [0, 2]), (253, 260, [0, 254])];
 
-/// A frame is written with its length.
+/// A frame is written with its length field.
 #[test]
 fn frames_are_written_with_their_lengths(rt: HostRuntime) {
     let pdu = [3; 253];

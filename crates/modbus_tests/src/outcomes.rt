@@ -1,4 +1,4 @@
-//! The numbers of outcomes and of refused starts.
+//! The numbers of the outcomes of polls, and of refused starts.
 use mb_wire::ReplyFault;
 use poll_core::{Closing, LostCause, Malformation, Outcome, StartFault};
 
@@ -57,7 +57,8 @@ fn refusals_have_numbers(rt: HostRuntime) {
     }
 }
 
-/// A malformation has the number of its fault, and a loss the number of its closing.
+/// A malformed outcome has the number of its frame's fault, and a lost poll the number of the
+/// cause.
 #[test]
 fn malformations_and_losses_follow_their_causes(rt: HostRuntime) {
     assert!(rt; Malformation::from(ReplyFault::WrongEcho).number() == 4);

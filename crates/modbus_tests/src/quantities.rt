@@ -5,9 +5,9 @@ use crate::requests::{self, is_written_as};
 use mb_wire::{Request, decode_reply, decode_request};
 
 // A PDU: its function code, the number after its address, its byte count, and its length in bytes.
-// Then the number of its fault, or 0 if it is a request.
+// The last number is that of its fault, or 0 if the PDU is a request.
 static REQUESTS: [(u8, u16, u8, usize, u8); 36] = [
-    // reads of coils and discrete inputs
+    // Reads of coils and discrete inputs.
     (1, 0, 0, 5, 3),
     (1, 1, 0, 5, 0),
     (1, 2000, 0, 5, 0),
@@ -18,7 +18,7 @@ static REQUESTS: [(u8, u16, u8, usize, u8); 36] = [
     (2, 2000, 0, 5, 0),
     (2, 2001, 0, 5, 3),
     (2, 65535, 0, 5, 3),
-    // reads of registers
+    // Reads of registers.
     (3, 0, 0, 5, 3),
     (3, 1, 0, 5, 0),
     (3, 125, 0, 5, 0),
@@ -29,20 +29,20 @@ static REQUESTS: [(u8, u16, u8, usize, u8); 36] = [
     (4, 125, 0, 5, 0),
     (4, 126, 0, 5, 3),
     (4, 65535, 0, 5, 3),
-    // one coil that is off, on or neither, and one register
+    // Writes of one coil that is off, on or neither, and of one register.
     (5, 0x0000, 0, 5, 0),
     (5, 0xFF00, 0, 5, 0),
     (5, 0xFF01, 0, 5, 5),
     (5, 0x00FF, 0, 5, 5),
     (6, 0, 0, 5, 0),
     (6, 65535, 0, 5, 0),
-    // writes of coils
+    // Writes of several coils.
     (15, 0, 0, 6, 3),
     (15, 8, 1, 7, 0),
     (15, 1968, 246, 252, 0),
     (15, 1968, 247, 253, 4),
     (15, 1969, 247, 253, 3),
-    // writes of registers
+    // Writes of several registers.
     (16, 0, 0, 6, 3),
     (16, 1, 2, 8, 0),
     (16, 123, 246, 252, 0),
@@ -74,7 +74,7 @@ fn told(pdu: &[u8]) -> Option<u8> {
     }
 }
 
-/// Requests have exactly the quantities that the standard allows.
+/// Requests may have exactly the quantities that the standard allows.
 #[test]
 fn requests_have_lawful_quantities(rt: HostRuntime) {
     for (function, number, count, length, fault) in REQUESTS {
@@ -85,7 +85,7 @@ fn requests_have_lawful_quantities(rt: HostRuntime) {
 }
 
 // The function code and the quantity of a read. Then a PDU's byte count, its length in bytes, and
-// the number of its fault, or 0 if it is a response to the read.
+// the number of its fault, or 0 if the PDU is a response to the read.
 static REPLIES: [(u8, u16, u8, usize, u8); 20] = [
     (1, 1, 1, 3, 0),
     (1, 8, 1, 3, 0),
@@ -126,7 +126,7 @@ fn told_of_reply(asked: &[u8], pdu: &[u8]) -> Option<u8> {
     Some(decode_reply(&request, pdu).err()?.number())
 }
 
-/// Responses have the data that was requested.
+/// Responses have exactly the data that was requested.
 #[test]
 fn replies_bring_what_was_asked_for(rt: HostRuntime) {
     for (function, quantity, count, length, fault) in REPLIES {
@@ -137,7 +137,7 @@ fn replies_bring_what_was_asked_for(rt: HostRuntime) {
     }
 }
 
-// The last coils and registers of the longest responses, and none after them. The highest bit of
+// The last two coils of the longest response, by index, and none after them. The highest bit of
 // each byte is on.
 static LAST_BITS: [(usize, Option<bool>); 3] = [
     (1998, Some(false)),
@@ -147,14 +147,14 @@ static LAST_BITS: [(usize, Option<bool>); 3] = [
 
 static LAST_WORDS: [(usize, Option<u16>); 2] = [(124, Some(0x8080)), (125, None)];
 
-// Returns a response of 252 bytes, each 0x80 but for the first two.
+// Returns a response of 252 bytes, each 0x80 except the first two.
 fn longest_reply(function: u8) -> [u8; 252] {
     let mut pdu = [0x80; 252];
     pdu[..2].copy_from_slice(&[function, 250]);
     pdu
 }
 
-/// The longest responses are read to their ends.
+/// The longest responses can be read up to their last value.
 #[test]
 fn the_longest_replies_are_read_to_their_ends(rt: HostRuntime) {
     let inputs = Request::ReadDiscrete {

@@ -17,8 +17,8 @@ static COIL: Request<'static> = Request::WriteCoil {
     on: true,
 };
 
-/// Returns whether a PDU decodes as a response to the request in another, and encodes to the same
-/// bytes.
+/// Returns whether a PDU decodes as a response to the request in another PDU, and encodes to the
+/// same bytes. None if it does not decode.
 pub(crate) fn comes_back(asked: &[u8], answered: &[u8]) -> Option<bool> {
     let mut out = [0; 253];
     let request = decode_request(asked).ok()?;
@@ -38,7 +38,8 @@ fn examples_of_the_standard_come_back(rt: HostRuntime) {
     }
 }
 
-// PDUs that are no response to the read of holding registers, and then to the write of a coil.
+// PDUs that are no response to the read of holding registers, and then PDUs that are no response to
+// the write of a coil. Each has its fault and the fault's number.
 static READ_FAULTS: [(&[u8], ReplyFault, u8); 6] = [
     (&[0x84, 2], ReplyFault::WrongFunction, 1),
     (&[4, 6, 0, 1, 0, 2, 0, 3], ReplyFault::WrongFunction, 1),
@@ -70,19 +71,19 @@ fn faults_have_their_numbers(rt: HostRuntime) {
     }
 }
 
-/// Returns a register of a response.
+/// Returns register `i` of a response.
 pub(crate) fn word_in(request: &Request<'_>, pdu: &[u8], i: usize) -> Option<u16> {
     decode_reply(request, pdu).ok()?.word(i)
 }
 
-/// Returns a coil or a discrete input of a response.
+/// Returns coil or discrete input `i` of a response.
 pub(crate) fn bit_in(request: &Request<'_>, pdu: &[u8], i: usize) -> Option<bool> {
     decode_reply(request, pdu).ok()?.bit(i)
 }
 
 static WORDS: [(usize, Option<u16>); 4] = [(0, Some(555)), (1, Some(0)), (2, Some(100)), (3, None)];
 
-/// Registers are read from a response.
+/// The registers in a response have the right values.
 #[test]
 fn registers_are_read(rt: HostRuntime) {
     for (i, word) in WORDS {
@@ -93,7 +94,7 @@ fn registers_are_read(rt: HostRuntime) {
     assert!(rt; word_in(&INPUT, &[4, 2, 0, 10], 1).is_none());
 }
 
-/// Exceptions and responses to writes are read.
+/// Exceptions and responses to writes have the right values.
 #[test]
 fn exceptions_and_echoes_are_read(rt: HostRuntime) {
     let refused = decode_reply(&HOLDING, &[0x83, 2]);
@@ -122,7 +123,7 @@ static BITS: [(usize, Option<bool>); 10] = [
     (19, None),
 ];
 
-/// Coils are read from the lowest bit of each byte.
+/// The coils in a response begin with the lowest bit of each byte.
 #[test]
 fn coils_are_read_from_the_lowest_bit(rt: HostRuntime) {
     for (i, on) in BITS {

@@ -1,4 +1,4 @@
-//! Plays tables of a session's events, each with the outcomes that it reports.
+//! Plays lists of a session's events. Each event has the outcomes that it must report.
 use mb_wire::ReadSpan;
 use poll_core::{Closing, Outcome, Session, StartFault};
 use std::alloc::Global;
@@ -7,13 +7,13 @@ use std::process::Abort;
 /// The latest time that a session accepts.
 const LATEST: u64 = 4_102_444_800;
 
-/// A response of unit 1 to the poll with transaction identifier 0: the registers 0, 5200, 0.
+/// A response of unit 1 to the poll with transaction identifier 0. Its registers are 0, 5200 and 0.
 pub const GOOD: [u8; 15] = [0, 0, 0, 0, 0, 9, 1, 3, 6, 0, 0, 20, 80, 0, 0];
 
 /// The number of a poll, and how it ended.
 pub type Told = (u64, Outcome);
 
-/// An event, and the outcomes that it reports.
+/// An event, and the outcomes that it must report.
 pub struct Line {
     pub event: Event,
     pub told: &'static [Told],
@@ -38,7 +38,7 @@ pub struct Asked {
     pub frame: [u8; 12],
 }
 
-/// Plays the events in order, and checks what each reports.
+/// Plays the events in order, and asserts the outcomes that each reports.
 pub fn play(rt: &impl Abort, alloc: Global, session: &mut Session, lines: &[Line]) {
     for (i, line) in lines.iter().enumerate() {
         let told = bring(rt, alloc, session, &line.event);
@@ -58,7 +58,7 @@ fn bring(rt: &impl Abort, alloc: Global, session: &mut Session, event: &Event) -
     Vec::new(alloc)
 }
 
-// Tries to start the poll, and returns the length of its frame.
+// Tries to start a poll, and returns the length of its frame.
 fn try_start(
     rt: &impl Abort,
     session: &mut Session,
@@ -71,14 +71,14 @@ fn try_start(
     session.start(asked.moment, asked.poll, 1, span, out)
 }
 
-/// Starts the poll, and checks its frame.
+/// Starts a poll, and asserts its frame.
 pub fn start(rt: &impl Abort, session: &mut Session, asked: &Asked) {
     let mut out = [0; 260];
     let started = try_start(rt, session, asked, &mut out);
     assert!(rt; started == Ok(12) && out[..12] == asked.frame[..]);
 }
 
-/// Tries to start a poll, and checks why it is refused.
+/// Tries to start a poll, and asserts why it is refused.
 pub fn refuse(rt: &impl Abort, session: &mut Session, moment: u64, fault: StartFault) {
     let asked = Asked {
         moment,
@@ -92,13 +92,13 @@ pub fn refuse(rt: &impl Abort, session: &mut Session, moment: u64, fault: StartF
     assert!(rt; started == Err(fault));
 }
 
-/// Checks the next transaction identifier, and how many polls may start.
+/// Asserts the next transaction identifier, and how many polls may be started.
 pub fn assert_ready(rt: &impl Abort, session: &Session, id: u16, count: usize) {
     let ready = session.ready();
     assert!(rt; ready.id == id && ready.count == count);
 }
 
-/// Feeds a piece, and lists the polls that it settles.
+/// Feeds a piece of the stream, and returns the polls that it settles.
 pub fn feed(
     rt: &impl Abort,
     alloc: Global,
@@ -122,7 +122,7 @@ pub fn feed(
     }
 }
 
-/// Feeds a timer event, and lists the polls that it settles.
+/// Feeds a timer event, and returns the polls that it settles.
 fn tick(rt: &impl Abort, alloc: Global, session: &mut Session, moment: u64) -> Vec<Told> {
     assert!(rt; !session.settling());
     assert!(rt; moment <= LATEST);
@@ -137,7 +137,7 @@ fn tick(rt: &impl Abort, alloc: Global, session: &mut Session, moment: u64) -> V
     }
 }
 
-/// Ends the session, and lists the polls that the end settles.
+/// Ends the session, and returns the polls that the end settles.
 fn close(
     rt: &impl Abort,
     alloc: Global,

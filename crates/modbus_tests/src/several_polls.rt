@@ -17,7 +17,7 @@ static ONE_AFTER_ANOTHER: [Line; 7] = [
         event: Event::Tick { moment: 1903 },
         told: &[(1, Outcome::Silent)],
     },
-    // the frame is a stray
+    // A frame that answers no poll.
     Line {
         event: Event::Piece {
             moment: 1903,
@@ -147,7 +147,7 @@ static THREE_ENDS: [Line; 7] = [
         }),
         told: &[],
     },
-    // the second poll's response, and a bad length
+    // The second poll's response, and a frame of a bad length.
     Line {
         event: Event::Piece {
             moment: 1005,
@@ -166,7 +166,7 @@ static THREE_ENDS: [Line; 7] = [
         },
         told: &[],
     },
-    // later pieces are dropped
+    // Pieces after a frame of a bad length are dropped.
     Line {
         event: Event::Piece {
             moment: 1006,
@@ -183,7 +183,7 @@ static THREE_ENDS: [Line; 7] = [
     },
 ];
 
-/// Each poll in turn is settled.
+/// Polls are started and settled one after another.
 #[test]
 fn one_poll_after_another(rt: HostRuntime) {
     let mut session = Session::new(5, 1);
@@ -206,7 +206,7 @@ fn two_polls_are_silent_in_the_order_of_their_starts(rt: HostRuntime) {
     play(&rt, rt.alloc(), &mut session, &BOTH_SILENT)
 }
 
-/// An event settles timeouts first, then answers, then losses.
+/// One event settles first the polls that timed out, then the answered ones, then the lost ones.
 #[test]
 fn silence_comes_before_frames_and_these_before_loss(rt: HostRuntime) {
     let mut session = Session::new(5, 3);

@@ -13,7 +13,8 @@ const LAST: ReadSpan = ReadSpan {
     count: 1,
 };
 
-// Function codes, addresses and counts that are a span, and then others that are not.
+// The function code, address and count of reads that are allowed. The next list has reads that are
+// not.
 static LAWFUL: [(u8, u16, u16); 4] = [(3, 0, 125), (4, 0, 125), (3, 65411, 125), (4, 65535, 1)];
 
 static UNLAWFUL: [(u8, u16, u16); 8] = [
@@ -40,7 +41,7 @@ fn spans_are_lawful(rt: HostRuntime) {
     }
 }
 
-/// A span gives the request that reads it.
+/// A span gives the request that reads its registers.
 #[test]
 fn a_span_is_asked_for(rt: HostRuntime) {
     assert!(rt; (THREE.function.code(), LAST.function.code()) == (3, 4));

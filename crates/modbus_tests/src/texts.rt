@@ -1,4 +1,4 @@
-//! Checks the sentences of faults.
+//! Checks the texts of faults.
 use std::alloc::Global;
 use std::fmt::Display;
 use std::process::Abort;

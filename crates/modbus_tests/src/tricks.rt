@@ -1,16 +1,16 @@
-//! A server that plays tricks, over a link.
+//! A server of a simulated device with injected faults, over a link.
 use crate::devices::bank_with_nine;
 use mb_device::{Bank, Kind, Server, Trick, Turned};
 use mb_wire::{Link, MemoryLink};
 use std::alloc::Global;
 use std::process::Abort;
 
-// A write of 5 to holding register 0 by unit 2, and a read of it by unit 1.
+// A write of 5 to holding register 0 by unit 2, and then a read of the register by unit 1.
 const WRITE_READ: &[u8] = &[
     0, 2, 0, 0, 0, 6, 2, 6, 0, 0, 0, 5, 0, 7, 0, 0, 0, 6, 1, 3, 0, 0, 0, 1,
 ];
 
-// The same in the other order.
+// The read of holding register 0 by unit 1, and then the write of 5 by unit 2.
 const READ_WRITE: &[u8] = &[
     0, 7, 0, 0, 0, 6, 1, 3, 0, 0, 0, 1, 0, 2, 0, 0, 0, 6, 2, 6, 0, 0, 0, 5,
 ];
@@ -23,8 +23,8 @@ const HIGHEST: &[u8] = &[
 // A read of 125 registers.
 const LONGEST: &[u8] = &[0, 7, 0, 0, 0, 6, 1, 3, 0, 0, 0, 125];
 
-// Tricks, and a stream in pieces of this length. Then the server's expected result, what it writes
-// and reads, and the value of holding register 0.
+// Injected faults, and a stream in pieces of this length. Then the server's expected result, what
+// the server writes and reads, and the value of holding register 0.
 #[derive(Drop)]
 struct Case {
     tricks: &'static [(u64, Trick)],
@@ -48,7 +48,7 @@ fn is_served(rt: &impl Abort, alloc: Global, case: &Case) -> bool {
     is_told && link.takes() == case.takes && register == Some(case.register)
 }
 
-// Tricks, and what the server writes for the write and the read in one piece.
+// Injected faults, and what the server writes for the write and the read in one piece.
 static ON_BOTH: [(&[(u64, Trick)], &[u8]); 16] = [
     (
         &[],
@@ -56,7 +56,7 @@ static ON_BOTH: [(&[(u64, Trick)], &[u8]); 16] = [
             0, 2, 0, 0, 0, 6, 2, 6, 0, 0, 0, 5, 0, 7, 0, 0, 0, 5, 1, 3, 2, 0, 5,
         ],
     ),
-    // The server executes the write, though its response is dropped.
+    // The server executes the write, although its response is dropped.
     (&[(1, Trick::Drop)], &[0, 7, 0, 0, 0, 5, 1, 3, 2, 0, 5]),
     (&[(2, Trick::Drop)], &[0, 2, 0, 0, 0, 6, 2, 6, 0, 0, 0, 5]),
     (
@@ -65,7 +65,7 @@ static ON_BOTH: [(&[(u64, Trick)], &[u8]); 16] = [
             0, 7, 0, 0, 0, 5, 1, 3, 2, 0, 5, 0, 7, 0, 0, 0, 5, 1, 3, 2, 0, 5,
         ],
     ),
-    // A buffered response follows the next frame, for any trick on that frame.
+    // A response that is held back follows the next frame, whatever fault that frame has.
     (
         &[(1, Trick::Later)],
         &[
@@ -83,7 +83,7 @@ static ON_BOTH: [(&[(u64, Trick)], &[u8]); 16] = [
             6, 0, 0, 0, 5,
         ],
     ),
-    // A second buffered response sends the first.
+    // When a second response is held back, the first one is sent.
     (
         &[(1, Trick::Later), (2, Trick::Later)],
         &[0, 2, 0, 0, 0, 6, 2, 6, 0, 0, 0, 5],
@@ -107,12 +107,12 @@ static ON_BOTH: [(&[(u64, Trick)], &[u8]); 16] = [
             0, 2, 0, 0, 0, 0, 2, 6, 0, 0, 0, 5, 0, 7, 0, 0, 0, 5, 1, 3, 2, 0, 5,
         ],
     ),
-    // The first trick with a number applies.
+    // If several faults have the number of a frame, the first one applies.
     (
         &[(1, Trick::Drop), (1, Trick::Twice)],
         &[0, 7, 0, 0, 0, 5, 1, 3, 2, 0, 5],
     ),
-    // No frame has these numbers.
+    // Faults for frames that do not exist change nothing.
     (
         &[
             (0, Trick::Drop),
@@ -123,7 +123,7 @@ static ON_BOTH: [(&[(u64, Trick)], &[u8]); 16] = [
             0, 2, 0, 0, 0, 6, 2, 6, 0, 0, 0, 5, 0, 7, 0, 0, 0, 5, 1, 3, 2, 0, 5,
         ],
     ),
-    // The last response is cut off: a buffered response is not sent.
+    // The last response is cut off, so a response that was held back is not sent.
     (
         &[(2, Trick::Cut(4))],
         &[0, 2, 0, 0, 0, 6, 2, 6, 0, 0, 0, 5, 0, 7, 0, 0],
@@ -131,7 +131,7 @@ static ON_BOTH: [(&[(u64, Trick)], &[u8]); 16] = [
     (&[(1, Trick::Later), (2, Trick::Cut(4))], &[0, 7, 0, 0]),
 ];
 
-/// Each trick changes what the server sends.
+/// Each injected fault changes what the server sends.
 #[test]
 fn each_trick_shows(rt: HostRuntime) {
     for (i, (tricks, given)) in ON_BOTH.iter().enumerate() {
@@ -148,7 +148,7 @@ fn each_trick_shows(rt: HostRuntime) {
     }
 }
 
-// The first response is cut off: the next frame is not executed, and is not read if it is in
+// The first response is cut off. The next frame is not executed, and is not read if it is in
 // another piece.
 static CUTS: [Case; 7] = [
     Case {
@@ -197,7 +197,8 @@ static CUTS: [Case; 7] = [
         takes: 1,
         register: 9,
     },
-    // The frame of another protocol has no number; the transaction identifier and the unit wrap.
+    // A frame of another protocol has no number. The transaction identifier and the unit wrap
+    // around.
     Case {
         tricks: &[(1, Trick::Id)],
         input: HIGHEST,
@@ -218,7 +219,7 @@ static CUTS: [Case; 7] = [
     },
 ];
 
-/// The trick on a frame applies to that frame alone.
+/// The fault injected for a frame applies to that frame alone.
 #[test]
 fn one_frame_is_answered_by_its_trick(rt: HostRuntime) {
     for (i, case) in CUTS.iter().enumerate() {
@@ -226,8 +227,8 @@ fn one_frame_is_answered_by_its_trick(rt: HostRuntime) {
     }
 }
 
-// Returns how many bytes the server writes for the longest read, whose response has 259 and is cut
-// off.
+// Returns how many bytes the server writes of the response to the longest read, which has 259
+// bytes, if it is cut off after `count` bytes.
 fn longest_given(rt: &impl Abort, alloc: Global, count: u16) -> usize {
     let mut bank = bank_with_nine(rt, alloc);
     let mut output = [0; 300];
@@ -238,7 +239,7 @@ fn longest_given(rt: &impl Abort, alloc: Global, count: u16) -> usize {
     link.given().len()
 }
 
-/// The longest response is cut off where the trick says.
+/// The longest response is cut off where the injected fault says.
 #[test]
 fn the_longest_answer_is_cut_off(rt: HostRuntime) {
     for (count, given) in [(258, 258), (259, 259), (260, 259)] {
@@ -257,7 +258,7 @@ fn is_over(server: &mut Server<'_>, link: &mut MemoryLink<'_>, bank: &mut Bank) 
     is_told && (link.given().len(), link.takes()) == before
 }
 
-/// After a cut the server reads nothing.
+/// After a response was cut off, the server reads nothing more.
 #[test]
 fn after_a_cut_nothing_is_taken(rt: HostRuntime) {
     let mut bank = bank_with_nine(&rt, rt.alloc());

@@ -4,7 +4,7 @@ use crate::session_script::{GOOD, assert_ready};
 
 static REGISTERS: [Option<u16>; 4] = [Some(0), Some(5200), Some(0), None];
 
-/// An answered poll lends the registers of its response.
+/// An answered poll lends the registers of its response to the caller.
 #[test]
 fn words_are_lent(rt: HostRuntime) {
     let mut session = first_poll(&rt, 5, 1);

@@ -44,7 +44,7 @@ holds_none none g zone old new x settles blank does =
 
 module _ {S X E : Type 0} (theirs : OpenedFilesKeepTheirs) (g : Ghosts S) (zone : List ℕ) (old new : Held S)
     (first : HasCleanDisk (state g new) → HasCleanDisk (state g old)) where
-  -- The promise of an opening.
+  -- What holds after an office's store was opened with this result, for a file of any layout.
   abbrev pub Opens : Result X E → Type 0
   Opens result = HasCleanDisk (state g new) → (layout : Layout) (content : Content)
       → (IsTrue (state g old).is_open → IsFile layout zone (state g old).committed content) → OpensFile layout zone content (state g old) (state g new) result

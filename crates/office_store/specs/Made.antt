@@ -1,4 +1,4 @@
--- The result of creating or opening a store, and its connection.
+-- The result of creating or opening a store, and the connection that it returns.
 use Rattle.std.specs.Prelude.{◌≡◌, ◌⊎◌, Result, Ok, Err}
 use Rattle.sqlite.specs.Store.{Ghosts}
 use Rattle.sqlite.specs.Held.{Held}
@@ -8,7 +8,7 @@ use Rattle.store_files.specs.declared.faults.OpenFault.TheVariants.{NotOurs, Zon
 use Rattle.office_store.specs.declared.books.SqlBooks.{SqlBooks}
 use Rattle.office_store.specs.declared.books.Unopened.{Unopened}
 
--- The time zone of the store, or the fault.
+-- The result without its connection: the time zone of the store, or the fault.
 abbrev pub told_by : {S : Type 0} {g : Ghosts S} → Result (SqlBooks S g) (Unopened S)
     → Result Zone OpenFault
 told_by (Ok books) = Ok books.zone
@@ -19,8 +19,8 @@ abbrev pub connection_in : {S : Type 0} {g : Ghosts S} → Result (SqlBooks S g)
 connection_in (Ok books) = books.connection
 connection_in (Err unopened) = unopened.connection
 
--- The connection is returned unchanged if its database is not ours, or if the text is not a time
--- zone.
+-- The connection is returned unchanged if the fault is `NotOurs` or `Zone`: the database is not
+-- ours, or its zone is not valid.
 abbrev pub HandsBackUntouched : {S : Type 0} → Held S → Unopened S → Type 0
 HandsBackUntouched connection unopened =
     (unopened.fault ≡ NotOurs) ⊎ (unopened.fault ≡ NoZone)

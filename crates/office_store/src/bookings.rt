@@ -1,4 +1,4 @@
-//! Writing records to the tables of the store, in one transaction.
+//! Writing records to the tables of the store, in one transaction. To book is to write records.
 
 mod books;
 mod corrections;

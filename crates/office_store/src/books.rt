@@ -7,7 +7,7 @@ use sqlite::{Alter, Connection};
 use std::alloc::Global;
 use store_files::OpenFault;
 
-/// The store of an office in a database. No transaction is open between calls.
+/// The store of an office in a SQLite database. No transaction is open between calls.
 #[derive(Drop)]
 pub struct SqlBooks<S: Alter> {
     pub(crate) connection: Connection<S>,

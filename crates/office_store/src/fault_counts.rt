@@ -1,4 +1,4 @@
-//! Mapping and counting faults of the tables.
+//! Mapping faults of the tables to faults of the store, and counting failures.
 ghost use Rattle.std.specs.Prelude.{◌≡◌};
 ghost use Rattle.office_books.specs.Faults.{faults_after};
 ghost use Rattle.office_store.specs.Answers.{answer_of, fault_of};
@@ -18,7 +18,7 @@ fn fault_of(fault: RowFault) -> BooksFault
     }
 }
 
-/// Maps the result of a query to that of the store, and counts a failure.
+/// Maps the result of a query to that of the store, and counts a failure of the database.
 pub(crate) fn answered<T: Drop>(
     failures: &mut Failures,
     found: Result<T, RowFault>,

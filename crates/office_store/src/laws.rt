@@ -1,4 +1,4 @@
-//! Theorems about the tables of an office.
+//! Theorems about the tables of an office's store.
 
 mod laws;
 

@@ -1,4 +1,4 @@
-//! The files of an office after a crash.
+//! The files of an office's store after a crash.
 
 mod connection_end;
 mod laws;

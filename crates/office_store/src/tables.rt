@@ -1,4 +1,4 @@
-//! The trait `Books` over the tables of a database.
+//! The trait `Books`, the interface of an office's store, over the tables of a database.
 use crate::books::SqlBooks;
 use crate::fault_counts::answered;
 use crate::laws::databases_tell_their_facts;

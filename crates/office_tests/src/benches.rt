@@ -1,4 +1,5 @@
-//! A bench of two devices that are polled at once, with an observer of every event.
+//! A test bench: an office with two devices that are polled at once, and an observer of every
+//! event.
 use crate::links::{SECOND_REPLY, first_reply};
 use crate::offices::{assert_list_accepted, inv, office_after};
 use office_books::Books;
@@ -12,21 +13,21 @@ use std::process::Abort;
 #[derive(Clone, Copy)]
 pub(crate) enum Step {
     Stands(usize),
-    /// The response to the first read arrives: 125 registers of 0.
+    /// The response to the slot's first read arrives: 125 registers of 0.
     First(usize),
-    /// The response to the second read arrives: one register of 7.
+    /// The response to the slot's second read arrives: one register of 7.
     Second(usize),
-    /// These bytes arrive.
+    /// These bytes arrive from the device in the slot.
     Came(usize, &'static [u8]),
     Ended(usize, Closing),
-    /// A second has passed.
+    /// A timer event: a second has passed.
     Tick,
 }
 
 /// An event and its time.
 pub(crate) type Moment = (u64, Step);
 
-/// The lines that add the two devices.
+/// The script lines that add the two devices.
 static DEVICES: [&str; 2] = ["1000 device inv 1 5 1", "1000 device two 1 5 1"];
 
 const NAMES: [&[u8]; 2] = [b"inv", b"two"];
@@ -36,7 +37,7 @@ pub(crate) fn names() -> [Option<Name>; 2] {
     [inv(), Name::new(b"two")]
 }
 
-/// The rounds of the two devices, and the observer.
+/// The rounds of the two devices in an office, and the observer.
 #[derive(Drop)]
 pub(crate) struct Bench<W> {
     pub(crate) rounds: Vec<Round>,

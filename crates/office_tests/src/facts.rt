@@ -1,4 +1,4 @@
-//! Builds the records of stores.
+//! Builds the records of an office's store.
 use crate::offices::name_of;
 use energy_core::{Cause, Entry};
 use mb_wire::{ReadFunction, ReadSpan};
@@ -11,25 +11,27 @@ use poll_core::Outcome;
 use std::alloc::Global;
 use std::process::Abort;
 
-/// A record of a store.
+/// A record of an office's store, in short form.
 #[derive(Clone, Copy)]
 pub(crate) enum Booked {
-    /// The device with a name.
+    /// A device with this name.
     Device(&'static [u8]),
-    /// The register with a name, its device, and where it is read.
+    /// An accounting register: its name, its device, and the function, address and scale of its
+    /// counter.
     Register(&'static [u8], &'static [u8], ReadFunction, u16, ScaleSource),
-    /// The meter with a name is installed at the register `main` at a time. It shows 0, and a count
-    /// is 1 Wh.
+    /// A meter with this name is installed at the accounting register `main` at this time. Its
+    /// counter shows 0, and a count is 1 Wh.
     Opening(&'static [u8], u64),
-    /// The meter shows a number at a time.
+    /// An entry of a meter: its kind, its time, and the value of the counter.
     Entry(&'static [u8], EntryKind, u64, u32),
-    /// The meter's entry with a sequence number is voided at a time.
+    /// The void of a meter's entry: the index of the entry, and the time of the void.
     Void(&'static [u8], u64, u64),
-    /// A poll of `inv`.
+    /// The start of a poll of `inv`.
     Poll(u64),
-    /// The poll timed out.
+    /// The poll with this number timed out.
     Ended(u64),
-    /// A rejected reading of a meter by a poll: its time, its number, and the cause.
+    /// A rejected reading of a meter by a poll: the poll, the time, the counter's value, and the
+    /// cause.
     Hold(&'static [u8], u64, u64, u32, Cause),
 }
 
@@ -99,7 +101,7 @@ fn fact(rt: &impl Abort, booked: &Booked) -> Fact {
     }
 }
 
-/// Returns records in their order.
+/// Returns the records of a history, in order.
 pub(crate) fn facts(rt: &impl Abort, alloc: Global, history: &[Booked]) -> Vec<Fact> {
     let mut facts = Vec::new(alloc);
     for booked in history {

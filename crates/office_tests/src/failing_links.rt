@@ -9,13 +9,13 @@ use office_rounds::RoundFault;
 use std::alloc::Global;
 use std::process::Abort;
 
-// Writes and reads of 7 bytes: 4 for both requests, 37 up to the end of the first response, 2 for
-// the second.
+// The number of calls of the link in a round. Writes and reads transfer 7 bytes: 4 calls for both
+// requests, 37 up to the end of the first response, 2 for the second.
 const CALLS: u64 = 43;
 
 const UP_TO_FIRST: u64 = 41;
 
-// Whether both polls ended as they must if this call of the link fails.
+// Returns whether both polls ended as they must if call `number` of the link fails.
 fn are_ends(polls: Ends, number: u64) -> bool {
     if number <= UP_TO_FIRST {
         polls == [LOST, LOST, None]
@@ -26,8 +26,8 @@ fn are_ends(polls: Ends, number: u64) -> bool {
     }
 }
 
-/// Runs a round in which both polls are pending at once, and this call of the link fails. The fault
-/// is `Link`, each pending poll is lost by the failure, and a restart adds nothing.
+/// Runs a round in which both polls are pending at once, and one call of the link fails. The fault
+/// is `Link`, and each pending poll is lost because of the failure. A restart changes no outcome.
 pub(crate) fn fail_call<B: Books>(rt: &impl Abort, alloc: Global, books: B, number: u64) {
     let mut office = listed(rt, alloc, books, BOTH_AT_ONCE);
     let mut given = [0; 24];
@@ -45,7 +45,7 @@ pub(crate) fn fail_call<B: Books>(rt: &impl Abort, alloc: Global, books: B, numb
     assert!(rt; are_ends(ends(&mut again), number), "call {number}");
 }
 
-/// A link that fails at any of its calls loses the pending polls.
+/// If any call of a link fails, all pending polls are lost.
 #[test]
 fn a_failing_link_loses_what_waits(rt: HostRuntime) {
     for number in 1..=CALLS + 1 {

@@ -1,4 +1,4 @@
-//! Tests stores that fail at each of their calls in turn, under each kind of event and query.
+//! Tests stores of which one call fails, each in turn, for each kind of event and query.
 use crate::offices::{inv, opened, request_of};
 use crate::scripts::{print_event, print_line};
 use crate::tried::{Trial, try_failing};
@@ -12,9 +12,9 @@ use std::str;
 enum Kind {
     /// A command or a query. If the store refuses a call, the line is sent again.
     Asks,
-    /// A command with this number.
+    /// A command with this number in its idempotency key.
     Requests(u64),
-    /// An event of a device. If the store refuses a call, these rows exist after the office is
+    /// An event of a device. If the store refuses a call, these rows exist when the office is
     /// opened again.
     Happens(&'static str),
 }
@@ -146,14 +146,15 @@ meter m2 last 1 sf 1 at 3600 total 0 open
     ),
 ];
 
-// A query after the office is opened again: the opening has ended the pending poll.
+// A query after the office was opened again. The opening of the office has ended the pending poll.
 static END: Line = asks!("poll 5", "poll 5 lost 4\n");
 
 static ROWS: [&str; 6] = [
     "poll 1", "poll 2", "poll 3", "poll 4", "meter m1", "meter m2",
 ];
 
-// Lines that a stopped office refuses.
+// Script lines that a stopped office refuses. An office stops if its store fails while it handles a
+// device event.
 static ASKED: [&str; 7] = [
     "9000 tick",
     "9000 connect inv",
@@ -168,7 +169,7 @@ fn is_stopped<T: Drop>(answer: Result<T, Refusal>) -> bool {
     matches!(answer, Err(Refusal::Stopped))
 }
 
-// Whether a stopped office refuses the queries that no line makes.
+// Returns whether a stopped office refuses the queries for which scripts have no line.
 fn has_stopped<B: Books>(office: &mut Office<B>) -> bool {
     is_stopped(office.device(&inv()))
         && is_stopped(office.register(&inv()))
@@ -201,7 +202,8 @@ fn print_kind<B: Books>(
     }
 }
 
-// Plays a line. If its event has stopped the office, returns the rows that exist afterwards.
+// Plays a line. If its event has stopped the office, returns the rows that must exist after a
+// restart.
 fn play_line<B: Books>(
     rt: &impl Abort,
     alloc: Global,
@@ -223,8 +225,8 @@ fn play_line<B: Books>(
     None
 }
 
-// Opens a stopped office again: it has its earlier rows, and no poll is pending. Returns how often
-// the store has failed.
+// Opens a stopped office again. It must have its earlier rows, and no pending poll. Returns how
+// often the store has failed.
 fn open_again<B: Books>(rt: &impl Abort, alloc: Global, mut office: Office<B>, rows: &str) -> u64 {
     assert_stopped(rt, alloc, &mut office);
     let mut again = opened(rt, alloc, office.into_books(), 9000);
@@ -237,7 +239,7 @@ fn open_again<B: Books>(rt: &impl Abort, alloc: Global, mut office: Office<B>, r
     again.into_books().faults()
 }
 
-/// Plays all lines over a store, and returns how often the store has failed.
+/// Plays all lines over a store. Returns how often the store has failed.
 pub(crate) fn play<B: Books>(rt: &impl Abort, alloc: Global, books: B) -> u64 {
     let mut office = opened(rt, alloc, books, 0);
     for line in &LINES {
@@ -251,7 +253,7 @@ pub(crate) fn play<B: Books>(rt: &impl Abort, alloc: Global, books: B) -> u64 {
 }
 
 /// If any one call of the store fails, a command succeeds when it is repeated. A device event stops
-/// the office; opened again, the office has its earlier rows.
+/// the office. When the office is opened again, it has its earlier rows.
 #[test]
 fn each_call_of_the_books_may_fail(rt: HostRuntime) {
     for failing in 1..1000 {

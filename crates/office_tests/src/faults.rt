@@ -1,4 +1,4 @@
-//! Tests the numbers and the sentences of refusals and faults, and how a store's failures are
+//! Tests the numbers and the texts of refusals and faults, and how the failures of a store are
 //! counted.
 use energy_core::Cause;
 use office_books::{BooksFault, Failures, StoreFault};
@@ -83,14 +83,14 @@ static STORES: [(StoreFault, &str); 2] = [
     (StoreFault::Damaged, DAMAGED),
 ];
 
-// Asserts that a fault has this sentence, without a full stop.
+// Asserts that a fault has this text, without a full stop.
 fn assert_text<F: Display>(rt: &impl Abort, alloc: Global, fault: &F, text: &str) {
     let said = format!(in alloc; "{fault}").expect(rt, "a text");
     assert!(rt; said.as_str() == text);
     assert!(rt; !text.ends_with('.'));
 }
 
-/// Each refusal has its number from 1 to 17, and its sentence.
+/// Each refusal has its number from 1 to 17, and its text.
 #[test]
 fn refusals_have_numbers_and_sentences(rt: HostRuntime) {
     let mut number = 0u8;
@@ -106,7 +106,7 @@ fn refusals_have_numbers_and_sentences(rt: HostRuntime) {
     }
 }
 
-/// Each fault of a round or a store has its sentence, and a round's fault its number.
+/// Each fault of a round or of a store has its text, and each fault of a round has its number.
 #[test]
 fn faults_have_numbers_and_sentences(rt: HostRuntime) {
     for (fault, number, text) in &ROUNDS {
@@ -124,7 +124,8 @@ const STORE_REFUSED: BooksFault = BooksFault::Store(StoreFault::Refused);
 
 const STORE_DAMAGED: BooksFault = BooksFault::Store(StoreFault::Damaged);
 
-// What a store answers, call by call; how often it has failed then, and its last failure.
+// What a store answers in each call. Then how often it has failed up to that call, and its last
+// failure.
 static CALLS: [(Result<u8, BooksFault>, u64, Option<BooksFault>); 5] = [
     (Ok(7), 0, None),
     (Err(STORE_REFUSED), 1, Some(STORE_REFUSED)),

@@ -1,4 +1,4 @@
-//! Tests a run: a device is polled, and the reading of its meter is recorded.
+//! Tests a complete run: a device is polled, and the reading of its meter is recorded.
 use crate::offices::event_of;
 use crate::runs::run_anew;
 use interval_core::Zone;
@@ -9,7 +9,7 @@ use poll_core::{LostCause, Outcome};
 use std::alloc::Global;
 use std::process::Abort;
 
-// The events, each with its answer.
+// The events of the run, each with its answer.
 static EVENTS: [(&str, Result<Answer, Refusal>); 8] = [
     (
         "1000 device inv 1 5 1",
@@ -32,7 +32,7 @@ static EVENTS: [(&str, Result<Answer, Refusal>); 8] = [
             of: 1,
         }),
     ),
-    // The counter shows 5200, at the scale 0.
+    // The response of the device. The counter shows 5200, at the scale factor 0.
     (
         "1900 bytes inv 000000000009010306000014500000",
         Ok(Answer::Noted),
@@ -56,7 +56,7 @@ fn events(rt: &impl Abort, alloc: Global) -> Vec<(u64, Event)> {
     events
 }
 
-// Asserts that the events have these answers, in their order.
+// Asserts that the events of the run have these answers, in order.
 fn assert_answers(rt: &impl Abort, answers: &[Result<Answer, Refusal>]) {
     assert!(rt; answers.len() == EVENTS.len());
     for (answer, (line, expected)) in answers.iter().zip(&EVENTS) {
@@ -71,7 +71,8 @@ const LOST: EndedPoll = EndedPoll {
     outcome: Outcome::Lost(LostCause::Restart),
 };
 
-// Asserts that the store of a run is refused before its latest event, and then opened again.
+// Asserts that an office over the run's store can't be opened at a time before the latest event. At
+// a later time it is opened.
 fn assert_opened_again<B: Books>(rt: &impl Abort, alloc: Global, books: B) {
     let (books, why) = run(alloc, books, 1900, &[]).err().expect(rt, "a refusal");
     assert!(rt; why == Refusal::ClockBack);
@@ -92,7 +93,8 @@ fn assert_run<B: Books>(rt: &impl Abort, alloc: Global, mut done: Run<B>) {
     assert_opened_again(rt, alloc, done.office.into_books());
 }
 
-/// A run returns each answer; its store opens again, with the pending poll lost.
+/// A run returns the answer to each event. Its store can be opened again, and the pending poll is
+/// then lost.
 #[test]
 fn a_run_keeps_each_answer(rt: HostRuntime) {
     let zone = Zone::read("UTC0").expect(&rt, "a zone");

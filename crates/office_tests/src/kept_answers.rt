@@ -1,4 +1,4 @@
-//! Tests a store that caches the answers of lookups, over a store that refuses one of its calls.
+//! Tests a store that caches the answers of lookups. The store below it refuses one of its calls.
 use crate::facts::Booked;
 use crate::offices::LIST;
 use crate::steps::{Step, try_step};
@@ -97,11 +97,11 @@ static STEPS: [Step; 49] = [
     Step::Held(b"old", Span::All, &[]),
 ];
 
-// The calls of the store below. A step without a cached answer makes one, an entry that does not
-// exist two, and an entry by the rows around it three.
+// The number of calls of the store below. A step without a cached answer makes one call. An entry
+// that does not exist makes two, and an entry by the rows around it three.
 const CALLS: u64 = 41;
 
-// The registers of `inv`, and a register of another device at the address of the first.
+// The accounting registers of `inv`, and one of another device at the address of the first.
 const REGISTERS: Step = Step::Books(&[
     Booked::Device(b"inv"),
     Booked::Device(b"pv"),
@@ -112,7 +112,8 @@ const REGISTERS: Step = Step::Books(&[
     Booked::Register(b"last", b"inv", HOLDING, 65_534, FIXED),
 ]);
 
-// The same reads and registers as in the golden test `polls/registers_of_a_read` of `script_cases`.
+// The reads and the accounting registers of the golden test `polls/registers_of_a_read` of
+// `script_cases`.
 static READS: [Step; 12] = [
     Step::Read(3, 100, 2, &["fixed"]),
     Step::Read(3, 100, 1, &[]),
@@ -130,7 +131,7 @@ static READS: [Step; 12] = [
 
 const REFUSED: BooksFault = BooksFault::Store(StoreFault::Refused);
 
-// Asserts that each step has its answer. If a call of the store is refused, the step is tried
+// Asserts that each step has its answer. If the store below refuses a call, the step is tried
 // again.
 fn assert_steps<B: Books>(rt: &impl Abort, alloc: Global, books: &mut B, steps: &[Step]) {
     for (place, step) in steps.iter().enumerate() {
@@ -145,8 +146,8 @@ fn assert_steps<B: Books>(rt: &impl Abort, alloc: Global, books: &mut B, steps: 
     }
 }
 
-// Plays steps over a caching store, and the last step also over the store below. Returns how often
-// the store below had failed before that.
+// Plays steps over a caching store, and then the last step over the store below. Returns how often
+// the store below had failed before the last step.
 fn play<B: Books>(rt: &impl Abort, alloc: Global, beneath: B, steps: &[Step]) -> u64 {
     let mut books = KeptBooks::new(alloc, beneath);
     assert_steps(rt, alloc, &mut books, steps);
@@ -163,7 +164,8 @@ pub(crate) fn play_all<B: Books>(rt: &impl Abort, alloc: Global, beneath: B) -> 
     play(rt, alloc, beneath, &STEPS)
 }
 
-/// Plays a read, by its index, before the registers of its device are cached and after.
+/// Plays one of the reads, by its index, before and after the accounting registers of its device
+/// are cached.
 pub(crate) fn read_twice<B: Books>(
     rt: &impl Abort,
     alloc: Global,
@@ -176,7 +178,7 @@ pub(crate) fn read_twice<B: Books>(
     }
 }
 
-// Asserts that each of these calls of the store below is made, and no later one.
+// Asserts that the store below gets exactly this number of calls.
 fn assert_calls(rt: &impl Abort, alloc: Global, trial: Trial, calls: u64) {
     for failing in 1..=calls.saturating_add(1) {
         let faults = try_failing(rt, alloc, failing, trial);
@@ -187,13 +189,13 @@ fn assert_calls(rt: &impl Abort, alloc: Global, trial: Trial, calls: u64) {
     }
 }
 
-/// Answers are right although any one call of the store below is refused.
+/// Cached answers are right even if any one call of the store below is refused.
 #[test]
 fn kept_answers_outlive_failures(rt: HostRuntime) {
     assert_calls(&rt, rt.alloc(), Trial::Kept, CALLS);
 }
 
-/// The registers of a read are queried once from the store below.
+/// The accounting registers of a read are queried only once from the store below.
 #[test]
 fn a_read_is_asked_of_the_store_once(rt: HostRuntime) {
     for place in 0..READS.len() {

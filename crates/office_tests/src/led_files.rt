@@ -1,4 +1,5 @@
-//! Tests which file a run continues, and when it begins a new one.
+//! Tests which file a run continues, and when it begins a new file. A run may have a file for each
+//! month or year.
 use energy_report::Period;
 use interval_core::{Day, Zone};
 use run_schedule::{
@@ -7,8 +8,8 @@ use run_schedule::{
 use std::alloc::Global;
 use std::process::Abort;
 
-// Names beside `office.db`, and the text of the period whose file a run continues by months, and by
-// years. The text is empty if the run begins a file.
+// Names of files in a folder beside `office.db`. Then the period whose file a run continues by
+// months, and the one by years. A period is empty if the run begins a file.
 static FOLDERS: [(&str, &str, &str); 8] = [
     ("office.db office.db-wal  .", "", ""),
     (
@@ -71,8 +72,8 @@ fn books_are_led_in_the_file_that_was_made_last(rt: HostRuntime) {
     assert_led(&rt, rt.alloc(), days, Period::Day, "2026-12-01");
 }
 
-// The text of a file's period, empty for a file without one; that of the current period; the last
-// entry; and what a run does at time 1,000.
+// The period of a file, which is empty for a file without one. Then the current period, the file's
+// last entry, and what a run does at time 1,000.
 static CASES: [(&str, &str, u64, Plan); 14] = [
     ("", "2026-11", 1000, Plan::Carry),
     ("", "2026-11", 1001, Plan::Wait),
@@ -99,7 +100,7 @@ fn plan_at(led: &str, current: &str, last_entry: u64) -> Plan {
     plan_of(led, current.as_bytes(), last_entry, 1000)
 }
 
-/// A file whose period is over is rolled over, unless its last entry is later than now.
+/// A file whose period is over is rolled over, unless its last entry is later than the clock.
 #[test]
 fn files_of_periods_that_are_over_are_carried(rt: HostRuntime) {
     nothing_goes_back();
@@ -117,18 +118,18 @@ fn until(every: u64) -> Option<u64> {
     period_until(&zone, Period::Month, day, every, 1_795_780_800)
 }
 
-/// A file lasts to the end of its period, and then for the round that is due there.
+/// A file is used to the end of its period, and then for the round that is due at that time.
 #[test]
 fn a_file_has_the_round_that_is_due_at_its_end(rt: HostRuntime) {
     assert!(rt; until(2) == Some(1_796_083_201));
     assert!(rt; until(900) == Some(1_796_083_230));
-    // If the file can't be made, the run tries again at the next full hour.
+    // If the next file can't be created, the run tries again at the next full hour.
     assert!(rt; next_try(2, 1_795_780_800) == Some(1_795_784_401));
     assert!(rt; next_try(900, 1_795_784_399) == Some(1_795_784_430));
     assert!(rt; next_try(900, 4_102_444_801) == None);
 }
 
-/// A run does not begin before the previous one, even if the clock was set back.
+/// A run does not begin earlier than the previous one, even if the clock was set back.
 #[test]
 fn no_run_begins_before_the_one_before_it(rt: HostRuntime) {
     let mut time = OnwardTime::new();

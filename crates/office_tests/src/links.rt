@@ -3,10 +3,10 @@ use mb_wire::{LastTake, Link, LinkFailed, Took};
 use std::alloc::Global;
 use std::process::Abort;
 
-/// The response to the second read of the list: a register of 7.
+/// The response to the second read of the point list: a register of 7.
 pub(crate) const SECOND_REPLY: &[u8] = b"\x00\x01\x00\x00\x00\x05\x01\x03\x02\x00\x07";
 
-/// Returns the response to the first read of the list: 125 registers of 0.
+/// Returns the response to the first read of the point list: 125 registers of 0.
 pub(crate) fn first_reply(rt: &impl Abort, alloc: Global) -> Vec<u8> {
     let mut bytes = b"\x00\x00\x00\x00\x00\xfd\x01\x03\xfa"
         .to_vec(alloc)
@@ -15,7 +15,7 @@ pub(crate) fn first_reply(rt: &impl Abort, alloc: Global) -> Vec<u8> {
     bytes
 }
 
-/// Returns the responses to both reads.
+/// Returns the responses to both reads of the point list.
 pub(crate) fn replies(rt: &impl Abort, alloc: Global) -> Vec<u8> {
     let mut bytes = first_reply(rt, alloc);
     bytes.extend_from_slice(SECOND_REPLY).expect(rt, "memory");

@@ -1,4 +1,5 @@
-//! Counts the calls of the store before an event is refused, or answered as a retry.
+//! Counts the calls of the store that an office makes before it refuses an event, or answers a
+//! retry.
 use crate::offices::{READ, event_of, new_books, office_after, opened, request_of};
 use failing_books::FailingBooks;
 use memory_books::ListBooks;
@@ -7,7 +8,7 @@ use office_events::{Answer, CommandKind, Event, Refusal, StoreCause};
 use std::alloc::Global;
 use std::process::Abort;
 
-// A line, the number of calls of the store before its answer, and the refusal.
+// A script line, the number of calls of the store before the answer, and the refusal.
 static CASES: [(&str, u64, Refusal); 25] = [
     ("2000 device inv 1 5 1", 0, Refusal::Exists),
     ("1000 device two 1 5 1", 0, Refusal::ClockBack),
@@ -36,15 +37,15 @@ static CASES: [(&str, u64, Refusal); 25] = [
     ("2000 round inv 0", 1, Refusal::NotFound),
 ];
 
-// The number of calls of an opening without pending polls.
+// The number of calls of the store when an office without pending polls is opened.
 const OPENING: u64 = 3;
 
 const REFUSED: Result<Answer, Refusal> = Err(Refusal::Store(StoreCause::Refused));
 
-// A reading by hand that is accepted at 2000.
+// The script line of a reading by hand that is accepted at time 2000.
 const KEPT: &str = "1900 manual main 5300 0";
 
-// Records the devices and readings of `READ`, and a request.
+// Stores the devices and readings of `READ`, and a request.
 fn book_read<B: Books>(rt: &impl Abort, alloc: Global, books: B) -> B {
     let mut office = office_after(rt, alloc, books, &READ);
     let (_, event) = request_of(rt, alloc, b"desk", 1, KEPT);
@@ -66,7 +67,8 @@ fn feed<B: Books>(
     opened(rt, alloc, books, 2000).feed(at, event)
 }
 
-// Returns the answer to an event if the store refuses the call after `calls` calls.
+// Returns the answer to an event if the store refuses the call that follows the first `calls`
+// calls.
 fn feed_after(
     rt: &impl Abort,
     alloc: Global,
@@ -79,7 +81,7 @@ fn feed_after(
     feed(rt, alloc, books, at, event)
 }
 
-/// The office makes no call of the store after it has found the reason of a refusal.
+/// When the office has found why an event is refused, it makes no further call of the store.
 #[test]
 fn books_are_asked_no_more_than_it_takes(rt: HostRuntime) {
     for (line, calls, answer) in &CASES {
@@ -93,7 +95,7 @@ fn books_are_asked_no_more_than_it_takes(rt: HostRuntime) {
     }
 }
 
-/// One call of the store finds that a request is a retry.
+/// With one call of the store, the office finds that a request is a retry.
 #[test]
 fn a_retry_is_looked_up_once(rt: HostRuntime) {
     let (at, event) = request_of(&rt, rt.alloc(), b"desk", 1, KEPT);

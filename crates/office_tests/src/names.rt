@@ -3,7 +3,7 @@ use crate::offices::{LIST, name_of, planned};
 use office_events::{Piece, Timeout, Window};
 use read_plan::lists_are_planned_once;
 
-/// A name equals only a name with the same text.
+/// Two names are equal only if their texts are equal.
 #[test]
 fn a_name_is_its_text(rt: HostRuntime) {
     let name = name_of(&rt, b"m1");
@@ -20,7 +20,7 @@ fn a_timeout_and_a_window_are_their_numbers(rt: HostRuntime) {
     assert!(rt; window.expect(&rt, "a window").polls() == 16);
 }
 
-/// A copy of bytes or of a planned list equals the original.
+/// A copy of bytes or of a planned list is equal to the original.
 #[test]
 fn copies_are_the_same(rt: HostRuntime) {
     let bytes = b"abc".to_vec(rt.alloc()).expect(&rt, "bytes");

@@ -12,15 +12,15 @@ use script_lines::{GivenStart, ScriptLine};
 use std::alloc::Global;
 use std::process::Abort;
 
-/// A point list whose plan has two reads: the registers 0 to 124, and 125.
+/// A point list whose plan has two reads: of the Modbus registers 0 to 124, and of register 125.
 pub(crate) const LIST: &[u8] = b"name,function,area,address,type,scale
 a,3,0,0,acc32,
 b,3,0,124,uint16,
 c,3,0,125,uint16,
 ";
 
-/// A device, its register and its meter; a poll is sent, and its response shows 5200 at the scale
-/// 0.
+/// Script lines that add a device, its accounting register and its meter, and then poll the device.
+/// The response shows 5200 at the scale factor 0.
 pub(crate) static READ: [&str; 6] = [
     "1000 device inv 1 5 1",
     "1000 register main inv 3 40094 @40096",
@@ -30,7 +30,7 @@ pub(crate) static READ: [&str; 6] = [
     "1900 bytes inv 000000000009010306000014500000",
 ];
 
-/// Returns the name of the device of most tests.
+/// Returns the name `inv`, which the device of most tests has.
 pub(crate) fn inv() -> Option<Name> {
     Name::new(b"inv")
 }
@@ -44,7 +44,7 @@ pub(crate) fn new_books(rt: &impl Abort, alloc: Global) -> ListBooks {
     ListBooks::new(alloc, Zone::read("UTC0").expect(rt, "a zone"))
 }
 
-/// Returns a store in memory that refuses the call with this number; with 0 it refuses none.
+/// Returns a store in memory that refuses the call with number `call`. With 0 it refuses no call.
 pub(crate) fn books_failing_at(rt: &impl Abort, alloc: Global, call: u64) -> FailingBooks {
     FailingBooks::new(new_books(rt, alloc), call)
 }
@@ -62,7 +62,7 @@ pub(crate) fn opened<B: Books>(rt: &impl Abort, alloc: Global, books: B, moment:
         .expect(rt, "an office that is opened again")
 }
 
-/// Returns the event of a start.
+/// Returns the event that starts a poll.
 pub(crate) fn start_of(rt: &impl Abort, given: &GivenStart) -> Event {
     Event::Command(Command::StartPoll(StartPoll {
         device: given.device,
@@ -70,7 +70,7 @@ pub(crate) fn start_of(rt: &impl Abort, given: &GivenStart) -> Event {
     }))
 }
 
-/// Returns the time and the event of a script's line.
+/// Returns the time and the event of a script line.
 pub(crate) fn event_of(rt: &impl Abort, alloc: Global, line: &str) -> (u64, Event) {
     match ScriptLine::read(alloc, line.as_bytes()) {
         Ok(ScriptLine::Event { at, event }) => (at, event),
@@ -79,8 +79,8 @@ pub(crate) fn event_of(rt: &impl Abort, alloc: Global, line: &str) -> (u64, Even
     }
 }
 
-/// Returns the time and the command of a line, as a request of a caller with a number. The
-/// request's bytes are those of the line.
+/// Returns the time and the command of a script line, as a request under an idempotency key. The
+/// bytes of the request are those of the line.
 pub(crate) fn request_of(
     rt: &impl Abort,
     alloc: Global,

@@ -1,4 +1,5 @@
-//! Tests queries for some of a meter's entries and quarter hours, for which HTTP has no target.
+//! Tests queries for some of a meter's entries and quarter hours, for which the HTTP interface has
+//! no target.
 use crate::offices::{READ, event_of, office_after};
 use crate::site::LINES;
 use crate::tried::{Trial, try_in_memory};
@@ -37,7 +38,7 @@ const SHOWN: Entry = Entry::Step {
     rolls: 0,
 };
 
-// An exchange has closed m1.
+// The closing of m1 in an exchange of meters.
 const CLOSED: MeterEntry = later!(2, EntryKind::Closing, true, 0, SHOWN);
 
 const VOIDED: MeterEntry = later!(2, EntryKind::Reading, false, 0, SHOWN);
@@ -55,7 +56,8 @@ const RESCALED: MeterEntry = later!(
     }
 );
 
-// An index, the largest number of entries of m1 to return from there, and these entries.
+// An index, the greatest number of entries of m1 to return from that index, and the returned
+// entries.
 type Asked = (u64, u32, &'static [MeterEntry]);
 
 static ENTRIES: [Asked; 7] = [
@@ -82,14 +84,14 @@ fn assert_entries<B: Books>(rt: &impl Abort, office: &mut Office<B>, asked: &[As
     }
 }
 
-// Spans, each with the quarter hours that begin in it.
+// Time spans, each with the lines of the quarter hours that begin in it.
 static SPANS: [(u64, u64, &[u8]); 3] = [
     (900, 900, b""),
     (901, u64::MAX, b"1800 22223\n"),
     (0, 1800, b"900 177777\n"),
 ];
 
-// Prints the quarter hours of a meter in a span.
+// Prints the quarter hours of a meter that begin in a time span.
 fn print_span<B: Books>(
     office: &mut Office<B>,
     meter: &[u8],
@@ -109,7 +111,7 @@ fn assert_spans<B: Books>(rt: &impl Abort, alloc: Global, office: &mut Office<B>
     }
 }
 
-// Asserts that entries and quarter hours exist for meters only.
+// Asserts that only a name of a meter has entries and quarter hours.
 fn assert_none<B: Books>(rt: &impl Abort, alloc: Global, office: &mut Office<B>) {
     for name in [Name::new(b"main"), None] {
         assert!(rt; matches!(office.entries(&name, 1, 9), Err(Refusal::NotFound)));
@@ -136,7 +138,8 @@ pub(crate) fn ask_changed<B: Books>(rt: &impl Abort, alloc: Global, books: B) {
     assert_entries(rt, &mut office, &CHANGED);
 }
 
-/// Queries for a part return exactly the entries from an index on, and the quarter hours in a span.
+/// A query returns exactly the entries from an index on, or exactly the quarter hours that begin in
+/// a time span.
 #[test]
 fn some_entries_and_quarter_hours_are_listed(rt: HostRuntime) {
     try_in_memory(&rt, rt.alloc(), Trial::Parts);

@@ -1,4 +1,4 @@
-//! Tests the slots of HTTP connections.
+//! Tests the slots for HTTP connections. A run has 64 slots.
 use run_schedule::{Admission, Peers};
 
 fn at(place: usize) -> Option<Admission> {
@@ -8,7 +8,7 @@ fn at(place: usize) -> Option<Admission> {
     })
 }
 
-// 64 connections without a request, one a second.
+// Returns 64 connections that have not sent a request. One came each second.
 fn full() -> Peers {
     let mut peers = Peers::new();
     for second in 0..64 {
@@ -17,7 +17,7 @@ fn full() -> Peers {
     peers
 }
 
-/// New connections get the first free slot.
+/// A new connection gets the first free slot.
 #[test]
 fn places_are_given_in_order(rt: HostRuntime) {
     let mut peers = Peers::new();
@@ -28,7 +28,7 @@ fn places_are_given_in_order(rt: HostRuntime) {
     assert!(rt; peers.admit(101, 10) == at(7));
 }
 
-/// If no slot is free, the oldest connection without a request is dropped.
+/// If no slot is free, the oldest connection without a request is dropped for a new one.
 #[test]
 fn the_oldest_that_has_not_asked_makes_room(rt: HostRuntime) {
     let mut peers = full();
@@ -39,7 +39,7 @@ fn the_oldest_that_has_not_asked_makes_room(rt: HostRuntime) {
     }
 }
 
-/// If the connections of all slots have sent requests, none is dropped and none is admitted.
+/// If each connection has sent a request, none is dropped, and a new one is not admitted.
 #[test]
 fn none_makes_room_where_all_have_asked(rt: HostRuntime) {
     let mut peers = full();
@@ -51,7 +51,8 @@ fn none_makes_room_where_all_have_asked(rt: HostRuntime) {
     assert!(rt; peers.admit(64, 10) == at(63));
 }
 
-/// A connection lasts ten seconds here, with or without a request; a freed slot is never over.
+/// A connection lasts ten seconds in this test, with or without a request. A slot that was freed
+/// has no time limit.
 #[test]
 fn a_silent_connection_lasts_ten_seconds(rt: HostRuntime) {
     let mut peers = full();

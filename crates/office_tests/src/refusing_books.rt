@@ -1,4 +1,4 @@
-//! Tests rounds whose store refuses each of its calls in turn.
+//! Tests rounds whose store refuses one of its calls, each in turn.
 use crate::failures::assert_stopped;
 use crate::links::replies;
 use crate::offices::opened;
@@ -20,8 +20,8 @@ const STOPPED: Result<(), RoundFault> = Err(RoundFault::Refused(Refusal::Stopped
 
 const NONE: Ends = [None, None, None];
 
-// The polls that such a round leaves: at the first start, at the first response, at the second
-// start, and at the second response.
+// The outcomes of the polls after a round whose store refused a call: at the first start, at the
+// first response, at the second start, and at the second response.
 static LEFT: [Ends; 4] = [
     NONE,
     [RESTARTED, None, None],
@@ -29,7 +29,7 @@ static LEFT: [Ends; 4] = [
     [ANSWERED, RESTARTED, None],
 ];
 
-// No call was refused, or none of the round.
+// The number that means that no call was refused, or no call of the round.
 const NOT_REFUSED: u64 = 10;
 
 const NOT_BROKEN: u64 = 11;
@@ -76,7 +76,8 @@ pub(crate) fn refuse_call<B: Books>(rt: &impl Abort, alloc: Global, books: B) ->
     place_of(left)
 }
 
-/// Each call of the store that is refused breaks the round off, and the completed polls stay.
+/// If the store refuses a call, the round is broken off, and the outcomes of completed polls
+/// remain.
 #[test]
 fn failing_books_break_the_round_off(rt: HostRuntime) {
     let mut last = 0;

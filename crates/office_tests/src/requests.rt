@@ -10,8 +10,8 @@ use std::process::Abort;
 
 const START: &str = "3700 start inv 3 40094 3";
 
-// A command with its caller and number, its answer, and the number of bytes that are sent. The
-// retry of a start sends nothing.
+// A command with its idempotency key, its answer, and the number of bytes that are sent to the
+// device. The retry of a start sends nothing.
 static REQUESTS: [(&[u8], u64, &str, Result<Answer, Refusal>, usize); 4] = [
     (
         b"desk",
@@ -58,7 +58,8 @@ fn assert_repeats<B: Books>(rt: &impl Abort, office: &mut Office<B>) {
     }
 }
 
-/// Sends the requests to an office whose meter was read, and compares each with the stored one.
+/// Sends the requests to an office whose meter was read, and compares each request with the stored
+/// one.
 pub(crate) fn play<B: Books>(rt: &impl Abort, alloc: Global, books: B) {
     let mut office = office_after(rt, alloc, books, &READ);
     assert_requests(rt, alloc, &mut office);

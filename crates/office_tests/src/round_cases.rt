@@ -31,7 +31,7 @@ poll 1 lost 1
 ok
 ";
 
-// The device's timeout is five seconds.
+// What a round prints if the device never responds. The device's timeout is five seconds.
 const SILENT: &str = "ok
 started 1 1 2 00000000000601030000007d
 ok
@@ -62,7 +62,8 @@ ok
 /// What a device does in a round.
 #[derive(Clone, Copy)]
 enum Does {
-    /// The device responds to both reads; the call of the link with this number fails.
+    /// The device responds to both reads. The call of the link with this number fails, if there is
+    /// one.
     Replies(Option<u64>),
     /// The device closes the link.
     Ends,
@@ -72,8 +73,8 @@ enum Does {
     IsSilent,
 }
 
-/// What the device does, the clock's times, the result of the round, the printed text, and how the
-/// polls end.
+/// What the device does, the times that the clock shows, the result of the round, the printed text,
+/// and the outcomes of the polls.
 type Case = (
     Does,
     &'static [u64],
@@ -103,7 +104,7 @@ const FIRST: Ends = [LOST, None, None];
 const SECOND: Ends = [ANSWERED, LOST, None];
 
 static CASES: [Case; 11] = [
-    // Each read of the plan is answered.
+    // The device responds to each read of the plan.
     (
         Does::Replies(None),
         &[1000, 1001],
@@ -111,9 +112,9 @@ static CASES: [Case; 11] = [
         BOTH_ANSWERED,
         BOTH,
     ),
-    // If the link ends, the device has ended it.
+    // If the link ends, the device has closed it.
     (Does::Ends, &[1000], Ok(()), GONE, [WENT, None, None]),
-    // A device that does not respond still gets each read.
+    // A device that does not respond still gets each read of the plan.
     (
         Does::IsSilent,
         &[1000, 1000, 1004, 1005, 1005, 1009, 1010],
@@ -121,7 +122,8 @@ static CASES: [Case; 11] = [
         SILENT,
         [WAS_SILENT, WAS_SILENT, None],
     ),
-    // A refused time loses the poll: the clock was set back, or is past the last time of all.
+    // If the office refuses a time, the poll is lost. The clock was set back, or is past the latest
+    // time that the office accepts.
     (
         Does::IsSilent,
         &[1000, 1002, 1001],
@@ -136,18 +138,18 @@ static CASES: [Case; 11] = [
         BROKEN_OFF,
         FIRST,
     ),
-    // Each call of the link may fail: a write and a read for each poll; the fifth is never made.
+    // Each call of the link may fail: a write and a read for each poll. A fifth call is never made.
     (Does::Replies(Some(1)), &[1000], LINK, BROKEN_OFF, FIRST),
     (Does::Replies(Some(2)), &[1000], LINK, BROKEN_OFF, FIRST),
     (Does::Replies(Some(3)), &[1000], LINK, SECOND_LOST, SECOND),
     (Does::Replies(Some(4)), &[1000], LINK, SECOND_LOST, SECOND),
     (Does::Replies(Some(5)), &[1000], Ok(()), BOTH_ANSWERED, BOTH),
-    // A write that accepts no bytes is a failure of the link.
+    // A write that transfers no bytes counts as a failure of the link.
     (Does::TakesNothing, &[1000], LINK, BROKEN_OFF, FIRST),
 ];
 
-// Runs a round over a link in memory with this input; one of its calls may fail. Returns the number
-// of failed calls.
+// Runs a round over a link in memory with this input. One call of the link may fail. Returns the
+// number of failed calls.
 fn round_over_memory<B: Books>(
     alloc: Global,
     office: &mut Office<B>,
@@ -199,7 +201,7 @@ pub(crate) fn assert_case<B: Books>(rt: &impl Abort, alloc: Global, books: B, pl
 static FRAMES: &[u8] =
     b"\x00\x00\x00\x00\x00\x06\x01\x03\x00\x00\x00\x7d\x00\x01\x00\x00\x00\x06\x01\x03\x00\x7d\x00\x01";
 
-// Asserts that each read of the plan is sent once, for responses in chunks of `piece` bytes.
+// Asserts that each read of the plan is sent once, if responses arrive in chunks of `piece` bytes.
 pub(crate) fn assert_pieces<B: Books>(rt: &impl Abort, alloc: Global, books: B, piece: usize) {
     let input = replies(rt, alloc);
     let mut office = listed(rt, alloc, books, ONE_BY_ONE);
@@ -211,7 +213,8 @@ pub(crate) fn assert_pieces<B: Books>(rt: &impl Abort, alloc: Global, books: B, 
     assert!(rt; ends(&mut office) == BOTH, "{piece}");
 }
 
-// Asserts that a device without a point list is gone again, and that unknown devices are refused.
+// Asserts that a round of a device without a point list is refused, after the device has connected
+// and disconnected. Also asserts that a round of an unknown device is refused.
 pub(crate) fn assert_not_found<B: Books>(rt: &impl Abort, alloc: Global, books: B) {
     let mut office = office_after(rt, alloc, books, &[ONE_BY_ONE]);
     for _round in 0..2 {
@@ -256,7 +259,7 @@ pub(crate) fn assert_narrow<B: Books>(
     assert!(rt; ends(&mut office) == polls, "room for {room}");
 }
 
-// Asserts that a round reads its link 100,000 times at most.
+// Asserts that a round reads its link at most 100,000 times.
 pub(crate) fn assert_takes<B: Books>(rt: &impl Abort, alloc: Global, books: B) {
     let mut office = listed(rt, alloc, books, ONE_BY_ONE);
     let mut link = IdleLink::new();
@@ -266,7 +269,7 @@ pub(crate) fn assert_takes<B: Books>(rt: &impl Abort, alloc: Global, books: B) {
     assert!(rt; ends(&mut office) == [LOST, None, None]);
 }
 
-/// Each round ends, prints and settles its polls as its case says.
+/// Each round has the result, the printed text and the outcomes of its case.
 #[test]
 fn rounds_end_so(rt: HostRuntime) {
     for place in 0..CASES.len() {
@@ -274,7 +277,7 @@ fn rounds_end_so(rt: HostRuntime) {
     }
 }
 
-/// Responses may come complete or byte by byte.
+/// Responses may arrive complete or one byte at a time.
 #[test]
 fn replies_come_byte_by_byte(rt: HostRuntime) {
     for piece in [259, 1] {

@@ -1,4 +1,4 @@
-//! Rounds over links in memory, and how their polls end.
+//! Rounds over links in memory, and the outcomes of their polls.
 use crate::offices::{assert_list_accepted, inv, office_after};
 use mb_wire::Link;
 use office_books::Books;
@@ -9,13 +9,13 @@ use socket_link::FixedClock;
 use std::alloc::Global;
 use std::process::Abort;
 
-/// A device that may have one pending poll.
+/// The script line of a device that may have one pending poll.
 pub(crate) const ONE_BY_ONE: &str = "1000 device inv 1 5 1";
 
-/// A device that may have two pending polls.
+/// The script line of a device that may have two pending polls.
 pub(crate) const BOTH_AT_ONCE: &str = "1000 device inv 1 5 2";
 
-/// Returns an office with this device and its point list.
+/// Returns an office with the device of this line and the device's point list.
 pub(crate) fn listed<B: Books>(
     rt: &impl Abort,
     alloc: Global,
@@ -34,7 +34,7 @@ pub(crate) struct Done {
     pub(crate) printed: Vec<u8>,
 }
 
-/// Runs a round of `inv` with a clock that shows these times.
+/// Runs a round of the device `inv` with a clock that shows these times.
 pub(crate) fn round<B: Books, L: Link>(
     alloc: Global,
     office: &mut Office<B>,
@@ -47,8 +47,8 @@ pub(crate) fn round<B: Books, L: Link>(
     Done { done, printed }
 }
 
-/// The outcomes of the first three polls: `None` for a poll that does not exist, `Some(None)` for a
-/// pending one.
+/// The outcomes of the first three polls. `None` is a poll that does not exist, and `Some(None)` is
+/// a pending one.
 pub(crate) type Ends = [Option<Option<Outcome>>; 3];
 
 pub(crate) const ANSWERED: Option<Option<Outcome>> = Some(Some(Outcome::Answered));

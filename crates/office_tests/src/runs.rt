@@ -9,7 +9,8 @@ use office_core::{Run, run};
 use office_events::{Event, Refusal};
 use std::alloc::Global;
 
-/// Runs events over a new store in memory. The headline holds for any events, without a premise.
+/// Runs events over a new store in memory. The main theorem about an office applies to any events,
+/// without a premise.
 pub(crate) fn run_anew(
     alloc: Global,
     zone: Zone,

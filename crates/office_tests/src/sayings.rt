@@ -1,4 +1,4 @@
-//! Tests messages that are printed once, and lines that nobody reads.
+//! Tests messages that are printed once, and lines whose reader does not read.
 use office_events::Name;
 use run_status::{LineQueue, Told, ToldNumber, Topic};
 
@@ -18,7 +18,8 @@ fn held(name: &[u8], number: u8) -> ToldNumber {
     }
 }
 
-/// A number is reported once, and again after another number or after it was forgotten.
+/// The number of a refusal is reported once. It is reported again after another number, or after it
+/// was forgotten.
 #[test]
 fn a_number_is_told_until_it_changes(rt: HostRuntime) {
     let mut told = Told::new(rt.alloc());
@@ -43,8 +44,8 @@ const FIRST: &[u8] = b"one\ntwo\n";
 
 const DROPPED: &[u8] = b"1700000000 - dropped 3 lines\n";
 
-/// Lines without room are dropped and counted. Here 65,528 bytes wait after the first 8, so no
-/// other line has room until all of them were written.
+/// Lines for which there is no room are dropped and counted. In this test, 65,528 bytes wait after
+/// the first 8. So no other line has room until all of them were written.
 #[test]
 fn lines_that_nobody_reads_are_counted(rt: HostRuntime) {
     let long = vec![in rt.alloc(); b'x'; 65_528].expect(&rt, "some room");

@@ -1,4 +1,5 @@
-//! Tests the registers and meters of a site, also if the store refuses a call.
+//! Tests queries for the accounting registers and meters of a site, also if the store refuses a
+//! call. A site is all devices of an office.
 use crate::offices::office_after;
 use crate::tried::{Trial, try_failing, try_in_memory};
 use office_books::Books;
@@ -9,8 +10,8 @@ use std::alloc::Global;
 use std::process::Abort;
 use std::str;
 
-/// Two devices whose names are not in order, and three registers. One register never had a meter,
-/// one has its second, and the meter of one was closed.
+/// Script lines with two devices whose names are not in order, and three accounting registers. One
+/// register never had a meter, one has its second meter, and the meter of one was closed.
 pub(crate) static LINES: [&str; 9] = [
     "1000 device roof 1 5 1",
     "1000 device inv 2 5 1",
@@ -23,8 +24,8 @@ pub(crate) static LINES: [&str; 9] = [
     "1900 close solo 9 0",
 ];
 
-// Each register with its device and its latest meter. The meter at solo advanced from 7 to 9 at the
-// scale 2, which is 200 Wh; m2 has just begun.
+// Each accounting register with its device and its latest meter. The counter at solo advanced from
+// 7 to 9 at the scale factor 2, which is 200 Wh. The meter m2 has just been installed.
 const SITE: &str = "roof main meter m2 last 10 sf -1 at 1900 total 0 open
 roof export refused 1
 inv solo meter m3 last 9 sf 2 at 1900 total 200000 ended
@@ -53,8 +54,8 @@ fn assert_rows(rt: &impl Abort, alloc: Global, rows: &[SiteRow]) {
     assert!(rt; str::from_utf8(&text) == Ok(SITE));
 }
 
-/// Queries the site, and once more if the store refuses a call. Returns 1 if it does, and otherwise
-/// 0.
+/// Queries the site, and a second time if the store refuses a call. Returns 1 if the store refused
+/// a call, and otherwise 0.
 pub(crate) fn ask<B: Books>(rt: &impl Abort, alloc: Global, books: B) -> u64 {
     let mut office = office_after(rt, alloc, books, &LINES);
     match office.site() {
@@ -71,8 +72,8 @@ pub(crate) fn ask<B: Books>(rt: &impl Abort, alloc: Global, books: B) -> u64 {
     }
 }
 
-/// A query for the site makes six calls of the store; if one is refused, the query succeeds when it
-/// is repeated.
+/// A query for the site makes six calls of the store. If one of them is refused, the query succeeds
+/// when it is repeated.
 #[test]
 fn a_site_is_told_where_the_store_refuses_a_call(rt: HostRuntime) {
     let mut refused = 0u64;
@@ -80,11 +81,12 @@ fn a_site_is_told_where_the_store_refuses_a_call(rt: HostRuntime) {
         let asked = try_failing(&rt, rt.alloc(), failing, Trial::Site);
         refused = refused.saturating_add(asked);
     }
-    // The calls for the devices, for the registers of two, and for the meters of three.
+    // One call for the devices, two for the accounting registers of the two devices, and three for
+    // the meters.
     assert!(rt; refused == 6);
 }
 
-// Names, and the latest meter at the register with each name.
+// Names, and the latest meter at the accounting register with each name.
 static METERS: [(&[u8], &str); 5] = [
     (b"main", "meter m2 last 10 sf -1 at 1900 total 0 open\n"),
     (b"export", "refused 1\n"),
@@ -101,7 +103,7 @@ fn assert_meters<B: Books>(rt: &impl Abort, alloc: Global, office: &mut Office<B
     }
 }
 
-// Names, and the unit of the device with each name.
+// Names, and the unit identifier of the device with each name.
 static UNITS: [(&[u8], Option<u8>); 4] = [
     (b"roof", Some(1)),
     (b"inv", Some(2)),
@@ -116,10 +118,10 @@ fn has_unit<B: Books>(office: &mut Office<B>, device: &Option<Name>, unit: Optio
     }
 }
 
-// The address and the scale of a register.
+// The address and the scale of an accounting register.
 type Place = (u16, ScaleSource);
 
-// Names, and the place of the register with each name.
+// Names, and the address and the scale of the accounting register with each name.
 static PLACES: [(&[u8], Option<Place>); 5] = [
     (b"main", Some((40094, ScaleSource::Register(40096)))),
     (b"export", Some((40098, ScaleSource::Fixed(-3)))),
@@ -162,7 +164,7 @@ pub(crate) fn look_up<B: Books>(rt: &impl Abort, alloc: Global, books: B) {
     }
 }
 
-/// Devices, registers and meters are found by their names, and nothing else is.
+/// Devices, accounting registers and meters are found by their names. Other names find nothing.
 #[test]
 fn devices_registers_and_meters_are_found_by_their_names(rt: HostRuntime) {
     try_in_memory(&rt, rt.alloc(), Trial::Names);

@@ -1,4 +1,4 @@
-//! Tests the status and the metrics of a known history.
+//! Tests the status and the metrics of an office for a known history.
 use energy_core::{Cause, Last};
 use mb_wire::ReadFunction;
 use office_core::SiteRow;
@@ -12,8 +12,8 @@ fn outcome(outcome: Outcome) -> Note {
     Note::Outcome { poll: 1, outcome }
 }
 
-// Two polls were answered, and one each had another outcome; one reading was accepted, two were
-// rejected.
+// The counts of a known history. Two polls were answered, and one poll had each other outcome. One
+// reading was accepted, and two were rejected.
 fn counts() -> Counts {
     let mut counts = Counts::new();
     counts.note_all(&[
@@ -138,7 +138,8 @@ fn site_row(meter: &[u8], total: u64, ended: bool) -> Option<SiteRow> {
     })
 }
 
-// A register without a meter, and three meters, one of them closed.
+// The site of a known history: an accounting register without a meter, and three meters, one of
+// which was closed.
 fn site() -> Option<[SiteRow; 4]> {
     Some([
         SiteRow {
@@ -151,7 +152,7 @@ fn site() -> Option<[SiteRow; 4]> {
     ])
 }
 
-/// The metrics of a known history are this text, with the open meters only.
+/// The metrics of a known history have this text. Only open meters are in it.
 #[test]
 fn the_metrics_are_in_text_format(rt: HostRuntime) {
     let mut text = Vec::new(rt.alloc());
@@ -161,7 +162,8 @@ fn the_metrics_are_in_text_format(rt: HostRuntime) {
     assert!(rt; str::from_utf8(&text) == Ok(METRICS));
 }
 
-// The register import of grid, which needs the registers 40117 to 40125 by function 3.
+// Returns the accounting register import of the device grid. A reading of it needs the Modbus
+// registers 40117 to 40125 by function 3.
 fn import() -> Option<Register> {
     Some(Register {
         name: Name::new(b"import")?,
@@ -187,7 +189,7 @@ fn no_meter(import: &Register) -> DeviceLack {
     lack(b"grid", Lack::NoMeter(*import))
 }
 
-// One of each kind.
+// Returns a lack of each kind.
 fn lacks(import: &Register) -> [DeviceLack; 5] {
     [
         lack(b"none", Lack::NoDevice),
@@ -201,7 +203,7 @@ fn lacks(import: &Register) -> [DeviceLack; 5] {
 const LACKS: &str =
     "\"refusals\":0,\"lacks\":[{\"device\":\"none\",\"lack\":\"no_device\"},{\"device\":\"inv\",\"lack\":\"no_list\"},{\"device\":\"inv\",\"lack\":\"no_register\"},{\"device\":\"grid\",\"lack\":\"not_in_list\",\"register\":\"import\"},{\"device\":\"grid\",\"lack\":\"no_meter\",\"register\":\"import\"}]}\n";
 
-/// The status has what each device lacks.
+/// The status says what each device lacks before it can be polled.
 #[test]
 fn what_devices_lack_is_in_the_status(rt: HostRuntime) {
     let mut text = Vec::new(rt.alloc());
@@ -219,7 +221,7 @@ sunreg: register import: missing from the point list of grid; add function 3, re
 sunreg: register import: no open meter; install one with POST /registers/import/install
 ";
 
-/// Each lack of a device has its sentence.
+/// Each lack of a device has its text.
 #[test]
 fn what_devices_lack_is_said(rt: HostRuntime) {
     let mut text = Vec::new(rt.alloc());

@@ -1,4 +1,4 @@
-//! Steps over a store: records to write, and lookups with their answers.
+//! Steps over a store: records to write, or lookups with their answers.
 use crate::facts::{Booked, facts};
 use crate::offices::{name_of, planned};
 use energy_core::Cause;
@@ -10,43 +10,46 @@ use office_events::{
 use std::alloc::Global;
 use std::process::Abort;
 
-/// Records to write, or a lookup with this answer. The device is `inv`.
+/// A step over a store: records to write, or a lookup with this answer. The device of the records
+/// and lookups is `inv`.
 #[derive(Clone, Copy)]
 pub(crate) enum Step {
     Books(&'static [Booked]),
-    /// The device gets the point list of a text.
+    /// The device gets the point list with this text.
     Lists(&'static [u8]),
-    /// The point list of the device has this number of reads.
+    /// The plan of the device's point list has this number of reads.
     Reads(usize),
-    /// The device has this number of registers.
+    /// The device has this number of accounting registers.
     Registers(usize),
-    /// A read of the device, by function, address and count, gives readings of these registers.
+    /// A read of the device, by function, address and count, gives readings of these accounting
+    /// registers.
     Read(u8, u16, u16, &'static [&'static str]),
-    /// The latest meter at the register `main`, its energy in mWh, and whether it was closed.
+    /// The latest meter at the accounting register `main`: its name, its energy in mWh, and whether
+    /// it was closed.
     Installed(&'static [u8], u64, bool),
-    /// The meter with a name, its energy in mWh, and whether it was closed.
+    /// The meter with this name: its energy in mWh, and whether it was closed.
     Meter(&'static [u8], u64, bool),
     /// This number of meters was installed.
     Meters(usize),
-    /// An entry of a meter, by its sequence number: the energy in mWh before it, and whether it was
-    /// voided.
+    /// An entry of a meter, by its index: the energy in mWh before it, and whether it was voided.
     Entry(&'static [u8], u64, u64, bool),
-    /// An entry by the rows around it: the number before it, and the meter's total energy in mWh.
+    /// An entry of a meter that is built from the rows around it: the counter's value before it,
+    /// and the meter's total energy in mWh.
     EntryNear(&'static [u8], u64, u32, u64),
     NoEntry(&'static [u8], u64),
-    /// The times and causes of the rejected readings of a meter in a span.
+    /// The times and causes of the rejected readings of a meter in a time span.
     Held(&'static [u8], Span, &'static [(u64, Cause)]),
     /// This number of polls was started.
     Started(u64),
-    /// The poll with a number is pending, or has ended.
+    /// The poll with this number, and whether it is pending.
     Waits(u64, bool),
-    /// These polls are pending.
+    /// The pending polls have these numbers.
     Pending(&'static [u64]),
-    /// The latest time of a record.
+    /// The latest time of all records.
     Latest(u64),
 }
 
-/// Collects the times and causes of rejected readings.
+/// A sink that collects the times and causes of rejected readings.
 #[derive(Drop)]
 struct HeldRows {
     rows: Vec<(u64, Cause)>,
@@ -126,7 +129,7 @@ fn is_entry(found: &Option<EntryPlace>, total: u64, is_voided: bool) -> bool {
     }
 }
 
-// Whether the rows around an entry give this entry, with the meter's total energy.
+// Returns whether the rows around an entry give this entry, with the meter's total energy.
 fn is_near<B: Books>(
     books: &mut B,
     meter: &Name,
@@ -172,7 +175,7 @@ fn is_waiting<B: Books>(books: &mut B, number: u64, waits: bool) -> Result<bool,
     }
 }
 
-// Writes the records of a step of the device, or compares what it looks up.
+// Writes the records of a step about the device, or compares a lookup with its answer.
 fn try_device<B: Books>(
     rt: &impl Abort,
     alloc: Global,
@@ -207,7 +210,7 @@ fn try_device<B: Books>(
     }
 }
 
-/// Writes the records of a step, or compares what it looks up with its answer.
+/// Writes the records of a step, or compares a lookup with its answer.
 pub(crate) fn try_step<B: Books>(
     rt: &impl Abort,
     alloc: Global,

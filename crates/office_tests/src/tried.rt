@@ -1,4 +1,4 @@
-//! The trials over an office's store. They are called here once for a store in memory, since each
+//! The trials over an office's store. They are called only here for a store in memory, because each
 //! such call takes seconds to prove.
 use crate::offices::books_failing_at;
 use crate::rounds::Ends;
@@ -9,10 +9,10 @@ use office_books::Books;
 use std::alloc::Global;
 use std::process::Abort;
 
-/// A trial.
+/// A trial: a test that can run over any store.
 #[derive(Clone, Copy)]
 pub(crate) enum Trial {
-    /// A script; each of its lines may fail.
+    /// A script, of which each line may fail.
     Script,
     /// A round whose store refuses a call.
     RefusedRound,
@@ -20,17 +20,17 @@ pub(crate) enum Trial {
     Link(u64),
     /// The round of a case, by its index.
     Round(usize),
-    /// A round with responses in chunks of this number of bytes.
+    /// A round whose responses arrive in chunks of this number of bytes.
     Pieces(usize),
     /// Rounds of devices that do not exist.
     NoDevice,
-    /// A round whose writer accepts this number of bytes, and how its polls end.
+    /// A round whose writer accepts this number of bytes, and the outcomes of its polls.
     Narrow(usize, Ends),
     /// A round that never ends.
     Takes,
     /// Steps over a caching store.
     Kept,
-    /// A read of registers, by its index.
+    /// A read of accounting registers, by its index.
     Read(usize),
     Site,
     Names,
@@ -39,7 +39,8 @@ pub(crate) enum Trial {
     Requests,
 }
 
-/// Runs a trial over a store, and returns what the trial's function does; 0 if it returns nothing.
+/// Runs a trial over a store, and returns what the trial's function returns. The result is 0 if the
+/// function returns nothing.
 fn try_over<B: Books>(rt: &impl Abort, alloc: Global, books: B, trial: Trial) -> u64 {
     match trial {
         Trial::Script => return failures::play(rt, alloc, books),
@@ -61,8 +62,8 @@ fn try_over<B: Books>(rt: &impl Abort, alloc: Global, books: B, trial: Trial) ->
     0
 }
 
-/// Runs a trial over a store in memory that refuses the call with this number; with 0 it refuses
-/// none.
+/// Runs a trial over a store in memory that refuses the call with number `failing`. With 0 it
+/// refuses no call.
 pub(crate) fn try_failing(rt: &impl Abort, alloc: Global, failing: u64, trial: Trial) -> u64 {
     try_over(rt, alloc, books_failing_at(rt, alloc, failing), trial)
 }

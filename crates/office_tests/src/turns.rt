@@ -1,4 +1,5 @@
-//! Tests turns over made-up events.
+//! Tests turns over made-up events. A turn handles one device event, and then the events that the
+//! rounds request.
 use crate::benches::{Bench, Moment, Step, play};
 use crate::observer::Seen;
 use crate::offices::new_books;
@@ -11,7 +12,8 @@ fn seen(rt: &impl Abort, alloc: Global, moments: &[Moment]) -> Bench<Seen> {
     play(rt, alloc, new_books(rt, alloc), moments, Seen::new(alloc))
 }
 
-// Events, what the observer writes of them, and the bytes of the frames: 12 for each read.
+// Events, what the observer writes about them, and the bytes of all request frames: 12 for each
+// read.
 static TURNS: [(&[Moment], &str, usize); 7] = [
     // A device is polled to the end of its round.
     (
@@ -36,7 +38,7 @@ static TURNS: [(&[Moment], &str, usize); 7] = [
         "1C 1S 0C 0S 1Ba 1S 0Ba 0S 0Ba 0G 1Ba 1G ",
         48,
     ),
-    // Two polls are pending at once, and both time out at one timer event.
+    // Two polls are pending at once, and one timer event makes both time out.
     (
         &[
             (1001, Step::Stands(0)),
@@ -70,7 +72,7 @@ static TURNS: [(&[Moment], &str, usize); 7] = [
         "0C 0S 0Fl 0C 0S ",
         24,
     ),
-    // Bytes of a device that is not polled, and an empty slot.
+    // Events of devices that are not being polled, and of an empty slot.
     (
         &[
             (1001, Step::First(0)),
@@ -80,8 +82,8 @@ static TURNS: [(&[Moment], &str, usize); 7] = [
         "",
         0,
     ),
-    // A time before the latest breaks the round off. A run never feeds one: `SteadyClock` prevents
-    // it.
+    // A time before the latest time breaks the round off. A run never feeds such a time, because
+    // `SteadyClock` prevents it.
     (
         &[(1001, Step::Stands(0)), (999, Step::First(0))],
         "0C 0S 0B! 0F! ",
@@ -89,7 +91,7 @@ static TURNS: [(&[Moment], &str, usize); 7] = [
     ),
 ];
 
-/// A turn feeds its event, and then the events that rounds request.
+/// A turn feeds its event to the office, and then the events that the rounds request.
 #[test]
 fn turns_feed_what_rounds_wish(rt: HostRuntime) {
     for (moments, text, frames) in TURNS {
@@ -99,13 +101,14 @@ fn turns_feed_what_rounds_wish(rt: HostRuntime) {
     }
 }
 
-// The stage of the device in a slot.
+// Returns the stage of the round of the device in this slot.
 fn stage(bench: &Bench<Seen>, place: usize) -> Option<Stage> {
     let round = bench.rounds.get(place)?;
     Some(round.stage)
 }
 
-/// After its second connection a device has pending responses, as in the fifth of the turns.
+/// A device that connected for the second time waits for responses, as in the fifth case of
+/// `TURNS`.
 #[test]
 fn a_device_that_came_again_waits(rt: HostRuntime) {
     let bench = seen(&rt, rt.alloc(), TURNS[4].0);

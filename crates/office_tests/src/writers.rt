@@ -1,4 +1,4 @@
-//! Writers that accept few bytes.
+//! Writers for tests that accept only a few bytes.
 use std::io::{self, ErrorKind, Write};
 
 /// A writer that fails once it has accepted `room` bytes.

@@ -1,4 +1,5 @@
-//! Writes of answers that fail at each call in turn. Golden tests show what is written.
+//! Writing answers to a writer of which one call fails, each in turn. Golden tests show what is
+//! written.
 use crate::streams::Kept;
 use energy_core::Cause;
 use office_events::{Answer, Name, Note};
@@ -13,7 +14,7 @@ const STARTED: Answer = Answer::Started {
     of: 2,
 };
 
-// An outcome of a poll, its accepted reading, and a rejected one.
+// Returns the notifications of a poll's outcome, of its accepted reading, and of a rejected one.
 fn notes(rt: &impl Abort) -> [Note; 3] {
     let meter = Name::new(b"m1").expect(rt, "no name");
     let answered = Note::Outcome {
@@ -40,8 +41,8 @@ const WHOLE: &str = "\
     held m1 4294967295 cause 6\n\
     started 1 1 2 00ff\n";
 
-// Makes each write fail in turn, of at most `most` bytes, until none fails. Returns how many writes
-// there are.
+// Makes each write fail in turn, until none fails. A write has at most `most` bytes. Returns how
+// many writes there are.
 fn assert_failing_writes(
     rt: &impl Abort,
     alloc: Global,
@@ -62,14 +63,15 @@ fn assert_failing_writes(
     panic!(rt; "a write fails each time")
 }
 
-/// Frames, the line with them, and the number of calls of at most 50 bytes that write the line.
+/// Request frames, the printed line that has them, and the number of writes of at most 50 bytes for
+/// the line.
 struct Case {
     frames: &'static [u8],
     line: &'static str,
     calls: usize,
 }
 
-// Digits are written in pieces of 64.
+// Frames that need several writes: digits are written in pieces of 64.
 static CASES: [Case; 5] = [
     Case {
         frames: b"\x00\x00\x00\x00\x00\x06\x01\x03\x9c\x9e\x00\x03",
@@ -104,7 +106,7 @@ static CASES: [Case; 5] = [
     },
 ];
 
-// Notifications are written before the answer, and each failing write is reported.
+// Notifications are written before the answer. If any write fails, the failure is reported.
 #[test]
 fn each_failing_write_is_told(rt: HostRuntime) {
     let notes = notes(&rt);

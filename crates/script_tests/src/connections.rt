@@ -1,4 +1,4 @@
-//! A stand-in over a link that fails.
+//! A simulated device over a link that fails.
 use mb_device::{Area, Bank, Kind, ServeFault, Trick, answer_one};
 use mb_wire::MemoryLink;
 use std::alloc::Global;
@@ -19,7 +19,8 @@ fn bank_with_nine(rt: &impl Abort, alloc: Global) -> Bank {
     bank
 }
 
-// The failing call of a link, if any, the result of a read under a trick, and the written bytes.
+// The call of the link that fails, if any, the result of a read with an injected fault, and the
+// written bytes.
 static ANSWERS: [(Option<u64>, Result<u64, ServeFault>, &[u8]); 2] = [
     (None, Ok(1), &[0, 7, 0, 0]),
     (Some(1), Err(ServeFault::Read), &[]),

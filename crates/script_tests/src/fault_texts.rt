@@ -1,4 +1,4 @@
-//! What faults of inputs, of lines and of the program's words say to a person.
+//! The texts of faults of inputs, of script lines and of the program's arguments.
 use command_io::ReadFault;
 use command_words::{DeviceFault, ListFault, WordsFault};
 use script_lines::LineFault;
@@ -6,7 +6,7 @@ use std::alloc::Global;
 use std::fmt::Display;
 use std::process::Abort;
 
-// Asserts that each fault says its text, which has no full stop.
+// Asserts that each fault has the text beside it, without a full stop.
 fn assert_texts<F: Display>(rt: &impl Abort, alloc: Global, texts: &[(F, &str)]) {
     for (fault, text) in texts {
         let said = format!(in alloc; "{fault}").expect(rt, "no memory");

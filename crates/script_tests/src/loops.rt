@@ -1,4 +1,4 @@
-//! Loops with writers that fail, and with connections that can't be made.
+//! Loops of the program whose writer fails, or whose connections can't be made.
 use crate::replays::zone;
 use crate::streams::Kept;
 use command_io::ExitStatus;
@@ -6,7 +6,7 @@ use mb_wire::MemoryLink;
 use script_run::{Connects, Ends, Loopback, loop_text};
 use std::io::{self, ErrorKind};
 
-// Connections that always fail.
+// A source of connections that always fails.
 #[derive(Drop)]
 struct Broken;
 
@@ -36,7 +36,8 @@ const PRINTED: &str = "\
     ok\n\
     bad line 6\n";
 
-// The bytes that are written before a write fails: up to the end of each line, and all.
+// The number of bytes that are written before a write fails, and the exit status: up to the end of
+// each line, and all bytes.
 static ENDS: [(usize, ExitStatus); 9] = [
     (0, ExitStatus::Failed),
     (3, ExitStatus::Failed),
@@ -49,7 +50,7 @@ static ENDS: [(usize, ExitStatus); 9] = [
     (89, ExitStatus::Refused),
 ];
 
-// A failing writer ends the loop at once.
+// If the writer fails, the loop ends at once.
 #[test]
 fn a_writer_that_fails_ends_the_run(rt: HostRuntime) {
     let mut loopback = Loopback::new(&rt).expect(&rt, "no loopback");
@@ -64,7 +65,7 @@ fn a_writer_that_fails_ends_the_run(rt: HostRuntime) {
     }
 }
 
-// A failing connection ends the loop at once.
+// If a connection can't be made, the loop ends at once.
 #[test]
 fn a_connection_that_cannot_be_made_ends_the_run(rt: HostRuntime) {
     let mut printed = Vec::new(rt.alloc());

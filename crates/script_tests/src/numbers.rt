@@ -1,4 +1,5 @@
-//! The words of the kinds of printed numbers. `tests/words.py` explains each number.
+//! The words for the kinds of numbers that the program prints. `tests/words.py` explains each
+//! number.
 use printed_numbers::{Kind, kind_named, kinds};
 
 #[test]

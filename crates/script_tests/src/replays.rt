@@ -1,11 +1,11 @@
-//! Runs scripts over streams.
+//! Runs scripts from a reader to a writer.
 use crate::streams::{Kept, Slow};
 use interval_core::Zone;
 use script_run::{Replayed, replay};
 use std::alloc::Global;
 use std::process::Abort;
 
-/// Returns the zone of the tests.
+/// Returns the time zone that the tests use.
 pub(crate) fn zone(rt: &impl Abort) -> Zone {
     Zone::read("UTC0").ok().expect(rt, "no zone")
 }

@@ -1,9 +1,9 @@
-//! Tests that arguments spell their command: options in any order, defaults, and numbers at their
-//! limits.
+//! Tests which command the program's arguments give: options in any order, defaults, and numbers at
+//! their limits.
 use crate::spelled_words::assert_spelled;
 use command_words::{CommandLine, command_of};
 
-/// Each line with its command.
+/// Each command line with the command that it gives.
 static RIGHT: [(&str, &str); 60] = [
     ("replay", r#"Replay { zone: "UTC0" }"#),
     ("replay|--zone|CET-1", r#"Replay { zone: "CET-1" }"#),
@@ -14,7 +14,7 @@ static RIGHT: [(&str, &str); 60] = [
     ),
     ("plan", "Plan"),
     ("chain", "Chain"),
-    // options in any order
+    // Options may be in any order.
     (
         "create|--db|a b.db|--zone|UTC0",
         r#"Create { db: "a b.db", zone: "UTC0" }"#,
@@ -27,18 +27,18 @@ static RIGHT: [(&str, &str); 60] = [
         "round|--db=o.db|--device=inv|--host=meter.lan|--port=502",
         r#"Round { db: "o.db", device: "inv", host: "meter.lan", port: 502 }"#,
     ),
-    // without a host: this machine
+    // Without a host, this machine is used.
     (
         "round|--db|o.db|--device|\u{e4} b|--port|502",
         "Round { db: \"o.db\", device: \"\u{e4} b\", host: \"127.0.0.1\", port: 502 }",
     ),
-    // a name is not changed
+    // A name is passed on unchanged.
     (
         "report|--db|o.db|--register|Main,=1 \u{3bc}",
         "Report { db: \"o.db\", register: \"Main,=1 \u{3bc}\", form: FormWords { from: None, \
          till: None, period: None, unit: None, format: None, statement: false } }",
     ),
-    // days are not checked here
+    // The text of a day is not checked at this point.
     (
         "report|--db|o.db|--register|main|--from|2024-02-30|--till=|--by|year|--unit|kwh\
          |--format|json",
@@ -46,7 +46,7 @@ static RIGHT: [(&str, &str); 60] = [
          from: Some(\"2024-02-30\"), till: Some(\"\"), period: Some(Year), \
          unit: Some(KilowattHours), format: Some(Json), statement: false } }",
     ),
-    // the other words of a form
+    // The other words for the form of a report.
     (
         "report|--db|o.db|--register|main|--by|day|--unit|mwh|--format|text",
         "Report { db: \"o.db\", register: \"main\", form: FormWords { from: None, till: None, \
@@ -57,19 +57,19 @@ static RIGHT: [(&str, &str); 60] = [
         "Report { db: \"o.db\", register: \"main\", form: FormWords { from: None, till: None, \
          period: Some(Month), unit: None, format: Some(Csv), statement: false } }",
     ),
-    // a statement has no periods
+    // A statement has no option for periods.
     (
         "report|--db|o.db|--register|main|--statement|--unit|kwh",
         "Report { db: \"o.db\", register: \"main\", form: FormWords { from: None, till: None, \
          period: None, unit: Some(KilowattHours), format: None, statement: true } }",
     ),
-    // several files keep their order
+    // Several files keep their order.
     (
         "report|--db=2026.db|--register|main|--db|o.db|--statement|--",
         "ReportFiles { files: [\"2026.db\", \"o.db\"], register: \"main\", form: FormWords { \
          from: None, till: None, period: None, unit: None, format: None, statement: true } }",
     ),
-    // unit 1 and five seconds where none are given
+    // The defaults are unit 1 and five seconds.
     (
         "scan|--port|502",
         "Scan { host: \"127.0.0.1\", port: 502, unit: 1, timeout: 5, list: false, setup: None }",
@@ -88,7 +88,7 @@ static RIGHT: [(&str, &str); 60] = [
         "stand-in|--host|::1|--port|1502|--connections|10",
         r#"StandIn { host: "::1", port: 1502, connections: 10 }"#,
     ),
-    // at this host where none is given
+    // Without a host, this machine is used.
     (
         "stand-in|--port|1502|--connections|10",
         r#"StandIn { host: "127.0.0.1", port: 1502, connections: 10 }"#,
@@ -105,7 +105,7 @@ static RIGHT: [(&str, &str); 60] = [
         "carry|--until|4294967295|--to|n.db|--from|o.db",
         r#"Carry { from: "o.db", to: "n.db", until: Some(4294967295) }"#,
     ),
-    // `explain` reports itself that a word is no number
+    // The command `explain` itself reports that a word is no number.
     (
         "explain|refused|12",
         r#"Explain { what: "refused", number: "12" }"#,
@@ -131,7 +131,7 @@ static RIGHT: [(&str, &str); 60] = [
         "audit|--db=old.db|--db|o.db",
         r#"Audit { dbs: ["old.db", "o.db"], seal: Nothing }"#,
     ),
-    // no counter is read where no device is given
+    // Without a device, no counter is read.
     (
         "enter|--db|o.db|--caller|site",
         r#"Enter { db: "o.db", caller: "site", devices: [], only_read: false }"#,
@@ -146,7 +146,7 @@ static RIGHT: [(&str, &str); 60] = [
          host: \"meter.lan\", port: 502 }, Device { name: \"b\", host: \"[::1]\", port: 1 }], \
          only_read: false }",
     ),
-    // `serve` goes by this machine's names where none is given
+    // Without host names, `serve` accepts the names of this machine.
     (
         "serve|--db|o.db|--port|8080|--connections|7",
         r#"Serve { db: "o.db", port: 8080, connections: 7, host_names: [] }"#,
@@ -156,7 +156,7 @@ static RIGHT: [(&str, &str); 60] = [
         "Serve { db: \"o.db\", port: 8080, connections: 7, \
          host_names: [\"a.example\", \"b.example\"] }",
     ),
-    // `run` has no end, no new files and no limit where none is given
+    // Without these options, `run` has no end, begins no new files, and has no limit.
     (
         "run|--db|o.db|--listen|8080|--every|60|--devices|inv=192.0.2.7:502",
         "Run { dbs: [\"o.db\"], listen: 8080, every: 60, devices: [Device { name: \"inv\", \
@@ -185,7 +185,7 @@ static RIGHT: [(&str, &str); 60] = [
          name: \"inv\", host: \"192.0.2.7\", port: 502 }], lasts: None, carry: Some(Month), \
          earlier: None, host_names: [], most_kept: None, verbose: false }",
     ),
-    // numbers at their limits, and lists of devices, of which 64 are the most
+    // Numbers at their limits, and lists of devices, which have at most 64.
     (
         "serve|--db|x|--connections|1|--port|1",
         "Serve { db: \"x\", port: 1, connections: 1, host_names: [] }",

@@ -1,4 +1,4 @@
-//! Rows that no script prints: the greatest numbers, and days long before 1970.
+//! Rows that no script can print: the greatest numbers, and days long before 1970.
 use interval_core::{Day, DayTotal, Share};
 use script_text::{Line, write_day, write_end, write_interval};
 
@@ -33,7 +33,7 @@ fn the_greatest_numbers_and_days_of_any_year_are_written(rt: HostRuntime) {
     assert!(rt; told.as_slice() == WRITTEN.as_bytes());
 }
 
-// A line is built from texts and numbers, and can be cloned.
+// A line is built from texts and numbers, and its clone is equal to it.
 #[test]
 fn a_line_is_built_up(rt: HostRuntime) {
     let mut line = Line::new();

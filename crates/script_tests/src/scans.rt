@@ -1,10 +1,10 @@
-//! A scan over a link that fails. `tests/stand_in.py` scans simulators.
+//! A scan of a simulated device over a link that fails. `tests/stand_in.py` scans simulators.
 use device_scan::{ScanFault, ScanObserver};
 use mb_wire::MemoryLink;
 use sun_chain::Model;
 use sunspec_text::{ScanForm, scan_text};
 
-// Who is shown nothing.
+// An observer of a scan that ignores everything.
 #[derive(Drop)]
 struct Nobody;
 
@@ -12,8 +12,8 @@ impl ScanObserver for Nobody {
     fn reads(&mut self, _model: Model) {}
 }
 
-// A device's responses to the four reads of a scan: the mark, a model 103 with 50 registers whose
-// counter WH shows 5000 at scale 0, and the end.
+// The responses of a device to the four reads of a scan. They are the SunSpec mark, a model 103
+// with 50 registers whose counter WH shows 5000 at scale factor 0, and the end model.
 const REPLIES: &[u8] = &[
     0, 1, 0, 0, 0, 7, 1, 3, 4, 83, 117, 110, 83, 0, 2, 0, 0, 0, 7, 1, 3, 4, 0, 103, 0, 50, 0, 3, 0,
     0, 0, 103, 1, 3, 100, 0, 0, 0, 0, 0, 0, 0, 0, 0, 0, 0, 0, 0, 0, 0, 0, 0, 0, 0, 0, 0, 0, 0, 0,
@@ -22,7 +22,8 @@ const REPLIES: &[u8] = &[
     0, 0, 0, 0, 0, 0, 0, 0, 0, 0, 0, 0, 0, 0, 4, 0, 0, 0, 7, 1, 3, 4, 255, 255, 0, 0,
 ];
 
-// The first give, the first take, and a give of the last request.
+// The calls of the link that fail, each in turn: the first write, the first read, and a write of
+// the last request.
 static CALLS: [u64; 3] = [1, 13, 180];
 
 #[test]

@@ -1,9 +1,10 @@
-//! Spells the words of a command line: the command, the text of a fault, help or the version.
+//! Formats what the program's arguments give: a command, the text of a fault, the help or the
+//! version.
 use command_words::{WordsFault, command_of};
 use std::alloc::Global;
 use std::process::Abort;
 
-/// Returns what a command line spells, as a text. Bars separate the words of the line.
+/// Returns what a command line gives, as a text. Bars separate the arguments in the line.
 fn spelled(rt: &impl Abort, alloc: Global, line: &str) -> String {
     let words: Vec<&str> = line.split('|').collect(alloc).expect(rt, "no memory");
     let text = match command_of(alloc, &words) {
@@ -15,7 +16,7 @@ fn spelled(rt: &impl Abort, alloc: Global, line: &str) -> String {
     text.expect(rt, "no memory")
 }
 
-/// Asserts that each command line spells its text.
+/// Asserts what each command line gives.
 pub(crate) fn assert_spelled(rt: &impl Abort, alloc: Global, lines: &[(&str, &str)]) {
     for (line, text) in lines {
         let found = spelled(rt, alloc, line);

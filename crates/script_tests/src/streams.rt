@@ -1,9 +1,9 @@
-//! Streams that fail at one of their calls.
+//! Readers and writers of which one call fails.
 use std::alloc::Global;
 use std::io::{self, ErrorKind, Read, Write};
 use std::process::Abort;
 
-/// A reader that returns its text a byte at a time. One call of `read` fails.
+/// A reader that returns its text one byte at a time. One call of `read` fails.
 #[derive(Drop)]
 pub(crate) struct Slow<'a> {
     text: &'a [u8],
@@ -13,7 +13,7 @@ pub(crate) struct Slow<'a> {
 }
 
 impl<'a> Slow<'a> {
-    /// Makes a reader whose call number `failing` fails. Calls are numbered from 1.
+    /// Returns a reader whose call with number `failing` fails. Calls are numbered from 1.
     pub(crate) fn of(text: &'a [u8], failing: usize, kind: ErrorKind) -> Slow<'a> {
         Slow {
             text,
@@ -23,7 +23,7 @@ impl<'a> Slow<'a> {
         }
     }
 
-    /// Makes a reader whose calls all succeed.
+    /// Returns a reader whose calls all succeed.
     pub(crate) fn whole(text: &'a [u8]) -> Slow<'a> {
         Slow::of(text, 0, ErrorKind::Other)
     }
@@ -46,7 +46,7 @@ impl Read for Slow<'_> {
     }
 }
 
-/// A writer that keeps what is written, at most `most` bytes a call. One call of `write` fails.
+/// A writer that keeps what is written, at most `most` bytes in a call. One call of `write` fails.
 #[derive(Drop)]
 pub(crate) struct Kept {
     pub(crate) got: Vec<u8>,
@@ -65,13 +65,13 @@ impl Kept {
         }
     }
 
-    /// Makes a writer whose calls all succeed.
+    /// Returns a writer whose calls all succeed.
     pub(crate) fn whole(alloc: Global) -> Kept {
         Kept::new(alloc, usize::MAX, 8192)
     }
 
-    /// Asserts that a prefix of the text was written, all of it unless a call failed, and that no
-    /// call followed a failed one. Returns whether no call failed.
+    /// Asserts that a prefix of the text was written, or all of it if no call failed. Also asserts
+    /// that no call followed a failed one. Returns whether no call failed.
     pub(crate) fn assert_written(&self, rt: &impl Abort, output: &str) -> bool {
         let whole = self.calls < self.failing;
         assert!(rt; self.calls <= self.failing);

@@ -1,5 +1,5 @@
--- Examples of registers whose counter and scale one read covers, and the first that one read can't
--- cover.
+-- Examples of accounting registers whose counter and scale one read covers, and the first ones that
+-- one read can't cover.
 use Rattle.std.proofs.Common.{◌≡◌, ℕ, true, false, pos, negsuc, List, [], ◌∷◌, Ok, Err, codes, refl}
 use Rattle.mb_wire.specs.declared.span.ReadFunction.TheVariants.{HoldingRegisters}
 use Rattle.sqlite.specs.declared.types.Value.TheVariants.{Int, Text}
@@ -8,7 +8,7 @@ use Rattle.store_tables.specs.declared.faults.RowFault.TheVariants.{Damaged}
 use Rattle.store_devices.specs.declared.devices.rows.RegisterScale.TheVariants.{Fixed, At}
 use Rattle.store_devices.specs.Devices.Rows.{registers_spanned, fits_a_read, register_in}
 
--- A scale after the counter, before it, and inside it.
+-- A scale factor that is after the counter, before it, or in one of its two Modbus registers.
 following : registers_spanned 40094 (At 40096) ≡ 3
 following = refl
 
@@ -18,7 +18,7 @@ before = refl
 fixed : registers_spanned 65534 (Fixed (negsuc 2)) ≡ 2
 fixed = refl
 
--- 125 registers and 126, with the scale on either side.
+-- A counter and its scale that span 125 or 126 Modbus registers, with the scale on either side.
 last_of_rows : fits_a_read 0 (At 124) ≡ true
 last_of_rows = refl
 
@@ -34,7 +34,7 @@ too_far_before = refl
 row : (address : ℕ) → (scale : ℕ) → Row
 row address scale = Int (pos 1) ∷ Text (codes "r1") ∷ Text (codes "d1") ∷ Int (pos 3) ∷ Int (pos address) ∷ Int (pos 1) ∷ Int (pos scale) ∷ []
 
--- The same for reading a row: a register, or damage.
+-- Rows of accounting registers at these limits are read, or are reported as damage.
 reached : register_in (row 0 124) ≡ Ok (record { place = 1; function = HoldingRegisters; address = 0; scale = At 124 })
 unfolding row
 reached = refl

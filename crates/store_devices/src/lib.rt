@@ -1,5 +1,5 @@
-//! The rows of devices and polls in the tables of the store: lists, registers, outcomes, rejected
-//! readings and kept requests.
+//! The rows of devices and polls in the store: point lists, accounting registers, outcomes,
+//! rejected readings and kept requests.
 #![tactic(auto)]
 
 mod devices;

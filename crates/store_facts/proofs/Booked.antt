@@ -41,7 +41,7 @@ untouched share [] h = refl
 untouched share (row ∷ rows) h =
     let parts = neither _ _ h in ap₂ ◌∷◌ (cond-false _ _ _ parts.0) (untouched share rows parts.1)
 
--- A row with this start exists: its energy grows.
+-- If a row with this start exists, its energy grows by the share.
 joined_there : (share : Share) (rows : List Share) → AreApart rows → list_any (has_start share.start) rows ≡ true → journal.with_share share rows ≡ map (grown share) rows
 joined_there share [] apart h = absurd (cc)
 joined_there share (row ∷ rows) apart h =
@@ -55,7 +55,7 @@ joined_there share (row ∷ rows) apart h =
           cond-false _ _ _ off ∙ ap₂ ◌∷◌ (sym (cond-false _ _ _ off)) (joined_there share rows apart.1 more)
     ]
 
--- No row has this start: the share becomes a new row after the others.
+-- If no row has this start, the share becomes a new row after the others.
 stands_after : (share : Share) (rows : List Share) → list_any (has_start share.start) rows ≡ false → journal.with_share share rows ≡ rows ++ share ∷ []
 stands_after share [] h = refl
 stands_after share (row ∷ rows) h =
@@ -95,7 +95,7 @@ apart_with share rows h =
 pub itself : (meter : List ℕ) → bytes_eq meter meter ≡ true
 itself meter = (bytes_eq-Decides meter meter).1 refl
 
--- The rows of a meter are those of the journal.
+-- The interval rows of a meter are those that its journal gives.
 abbrev pub AreRowsOf : (meter : List ℕ) → List Interval → List Share → Type 0
 AreRowsOf meter rows shares = IsPermutation (filter (is_of meter) rows) (map (interval_of meter) shares)
 
@@ -114,7 +114,8 @@ any_there meter start rows shares are =
     ∙ any_map (is_at meter start) (interval_of meter) shares
     ∙ any_agree (λ share. is_at meter start (interval_of meter share)) (has_start start) (at_start meter start) shares
 
--- An edit that keeps the meters of all rows, and edits the shares of one meter.
+-- An edit of the interval rows keeps the meters of all rows, and edits only the shares of one
+-- meter.
 edited : (meter : List ℕ) (f : Interval → Interval) (h : Share → Share) (rows : List Interval) (shares : List Share)
     → ((i : Interval) → (f i).meter ≡ i.meter) → ((share : Share) → f (interval_of meter share) ≡ interval_of meter (h share))
     → AreRowsOf meter rows shares → AreRowsOf meter (map f rows) (map h shares)

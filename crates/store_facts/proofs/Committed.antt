@@ -31,7 +31,7 @@ by_err : {X E Q : Type 0} (r : Result X E) → ((e : E) → r ≡ Err e → Q) �
 by_err (Ok x) f = tt
 by_err (Err e) f = f e refl
 
--- A call that commits nothing.
+-- After a call that commits nothing, a crash leaves what it could leave before.
 pub quiet_leaves : {S : Type 0} (g : Ghosts S) (zone : List ℕ) (old new : Held S) (left : List (List Fact)) → Survives (state g old) (state g new) (λ _. ⊥) → LeavesFacts g zone old left → LeavesFacts g zone new left
 unfolding LeavesFacts
 quiet_leaves g zone old new left quiet leaves clean trees it = elim (quiet.crash clean trees it) [
@@ -45,7 +45,7 @@ more_leaves g zone h left more leaves clean trees it =
     let one = leaves clean trees it in
     record { facts = one.facts; one = one_more left more one.facts one.one; db = one.db; has = one.has; same = one.same }
 
--- The same records are held after a call that keeps the commit.
+-- After a call that keeps the last commit, the connection holds the same records.
 pub kept_holds : {S : Type 0} (g : Ghosts S) (zone : List ℕ) (old new : Held S) (facts : List Fact) → (HasCleanDisk (state g new) → HasCleanDisk (state g old)) → (HasCleanDisk (state g new) → KeepsCommit (state g old) (state g new))
     → HoldsFacts g zone old facts → HoldsFacts g zone new facts
 unfolding HoldsFacts
@@ -126,7 +126,7 @@ module _ {S X E : Type 0} (g : Ghosts S) (zone : List ℕ) (old mid new : Held S
     nothing = λ none. absurd (some none);
   }
 
--- A transaction that failed before its first write.
+-- A transaction that failed before its first write leaves the known records.
 pub untouched : {S X E : Type 0} (g : Ghosts S) (zone : List ℕ) (old new : Held S) (fs : List Fact) (e : E) → (fs ≢ []) → (HasCleanDisk (state g new) → KeepsCommit (state g old) (state g new))
     → Survives (state g old) (state g new) (λ _. ⊥) → BooksFacts g zone {X = X} fs old new (Err e)
 untouched g zone old new fs e some kept quiet = record {
@@ -138,7 +138,7 @@ untouched g zone old new fs e some kept quiet = record {
   nothing = λ none. absurd (some none);
 }
 
--- No records, and no call.
+-- Without records, no call is made.
 pub no_facts : {S X E : Type 0} (g : Ghosts S) (zone : List ℕ) (h : Held S) (fs : List Fact) (x : X) → fs ≡ [] → BooksFacts g zone {E = E} fs h h (Ok x)
 no_facts g zone h fs x none = record {
   clean = λ clean. clean;

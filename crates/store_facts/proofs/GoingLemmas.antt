@@ -27,7 +27,7 @@ of_steps old new r Makes one = record {
   survives = one.survives;
 }
 
--- One query.
+-- One query inside a transaction.
 pub of_answer : {S A D E X : Type 0} (g : Ghosts S) (old new : Held S) (tree : ℕ) (columns : X → Row) (Answers : List X → A → Type 0) (a : A)
     → AsksInside {X = A} {E = D} g old new (Ok a) → TellsAnswer g old new tree columns (Ok a) Answers
     → Goes {X = A} {E = E} (state g old) (state g new) (Ok a) (Told tree columns Answers a)
@@ -67,7 +67,7 @@ goes_then a b c x r P Q R one two goes = record {
   survives = survives_then a b c (λ _. ⊥) (λ _. ⊥) (λ _. ⊥) (λ _ db none. none) (λ _ db none. none) one.survives two.survives;
 }
 
--- The second call failed.
+-- If the second of two calls failed, the two calls together failed.
 pub then_failed : {X Y Z D E F : Type 0} (a b c : State) (x : X) (e : E) (f : F) (P Q R : Content → Content → Type 0) → Goes {X = X} {E = D} a b (Ok x) P → Goes {X = Y} b c (Err e) Q
     → Goes {X = Z} a c (Err f) R
 then_failed a b c x e f P Q R one two = record {
@@ -86,7 +86,7 @@ failed a b e d P Q one = record { kept = one.kept; makes = λ clean inside conte
 pub then_refused : {X Y D E : Type 0} (a b : State) (x : X) (d : E) (P Q : Content → Content → Type 0) → Goes {X = X} {E = D} a b (Ok x) P → Goes {X = Y} a b (Err d) Q
 then_refused a b x d P Q one = record { kept = one.kept; makes = λ clean inside content has. tt; survives = one.survives }
 
--- A call with a weaker postcondition and another result value.
+-- What `Goes` states is also true with a weaker postcondition, and with another value in Ok.
 pub told_less : {X Y D E : Type 0} (a b : State) (x : X) (y : Y) (P Q : Content → Content → Type 0) → ((content after : Content) → P content after → Q content after)
     → Goes {X = X} {E = D} a b (Ok x) P → Goes {X = Y} {E = E} a b (Ok y) Q
 told_less a b x y P Q tells one = record {
@@ -121,7 +121,7 @@ module _ {S : Type 0} (g : Ghosts S) (old : Held S) (mid end : State) (Makes : C
   kept_begun : (new : State) → KeepsCommit (state g (record old { in_transaction = true })) new → KeepsCommit (state g old) new
   kept_begun new k = record { was_open = k.was_open; committed = k.committed }
 
-  -- A transaction up to its commit.
+  -- A transaction whose calls before the commit succeeded.
   pub committed : {D : Type 0} (r : Result (Unit {0}) Error) → Goes {X = Unit {0}} {E = D} (state g (record old { in_transaction = true })) mid (Ok tt) Makes
       → (HasCleanDisk end → OnOk r (IsTrue mid.in_transaction × Shows mid end mid.now mid.now false × KeepsCounts mid end × (end.marks ≡ []))) → (HasCleanDisk end → IfErr r (FailsToCommit mid end))
       → Survives mid end (λ db. db ≡ mid.now.trees) → Commits (state g old) end r Makes
@@ -138,7 +138,7 @@ module _ {S : Type 0} (g : Ghosts S) (old : Held S) (mid end : State) (Makes : C
             (λ _ db none. absurd none) (λ clean db is. record { db = mid.now; made = made clean; same = is }) done.survives crash);
       }
 
-  -- A transaction that was rolled back.
+  -- A transaction that was rolled back leaves the last commit.
   pub given_up : {X Y D E : Type 0} (e : D) (d : E) → Goes {X = X} (state g (record old { in_transaction = true })) mid (Err e) Makes → (HasCleanDisk end → IsRolledBack mid end) → Survives mid end (λ _. ⊥)
       → Commits {X = Y} (state g old) end (Err d) Makes
   given_up e d done undone crash =

@@ -121,7 +121,7 @@ poll_recorded poll content after e zone facts a lawful = record {
   replies = stay poll_tree.replies reply_columns (map kept (replies_in facts)) content after (e.others 16 (λ is. omega (arith, is))) a.replies;
 }
 
--- An outcome.
+-- The record of an outcome is stored.
 pub outcome_recorded : (ended : EndedPoll) (content after : Content) → Edits poll_tree.outcomes outcome_columns (with_row (outcome_row ended)) content after → Records (fact.Outcome ended) content after
 outcome_recorded ended content after e zone facts a lawful = record {
   lawful = lawful;
@@ -140,7 +140,7 @@ outcome_recorded ended content after e zone facts a lawful = record {
   replies = stay poll_tree.replies reply_columns (map kept (replies_in facts)) content after (e.others 16 (λ is. omega (arith, is))) a.replies;
 }
 
--- A kept request.
+-- The record of a kept request is stored.
 pub reply_recorded : (reply : Reply) (content after : Content) → Edits poll_tree.replies reply_columns (with_row (kept reply)) content after → Records (fact.Reply reply) content after
 reply_recorded reply content after e zone facts a lawful = record {
   lawful = lawful;

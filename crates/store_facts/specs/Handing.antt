@@ -1,4 +1,5 @@
--- Streaming the rows of a query to a sink, in order.
+-- Streaming the rows of a query to a sink, in order. A sink is a caller's object that takes one row
+-- at a time.
 use Rattle.std.specs.Prelude.{◌≡◌, ◌≤◌, ◌⊎◌, ℕ, List, [], ◌∷◌, ◌++◌, length, Result, Ok, Err, OnOk, IfErr}
 use Rattle.std.specs.List.{AllByRecursion, AllZip}
 use Rattle.sqlite.specs.Given.{IsPlain}
@@ -16,31 +17,30 @@ use Rattle.store_tables.specs.Content.{Content, AreTables}
 use Rattle.store_tables.specs.Failing.{IsFault, StateAfterCall}
 use Rattle.store_tables.specs.Asking.{Asks}
 
--- The sink took only rows with this property.
+-- The sink took only rows that have the property `IsRow`.
 abbrev pub TookSome : {K T : Type 0} → (IsRow : T → Type 0) → (takes : K → T → K → Type 0)
     → (before after : K) → Type 0
 TookSome {K} {T} IsRow takes before after =
     (rows : List T) × AllByRecursion IsRow rows × TakesAll takes before rows after
 
--- The most rows that a stream counts: 2^64 - 1, more than any table has.
+-- The greatest number of rows that a stream can count: 2^64 - 1. No table has so many.
 abbrev pub most_rows : ℕ
 most_rows = 18446744073709551615
 
--- The sink took the greatest count of rows.
+-- The sink took `most_rows` rows.
 abbrev pub TookMost : {K T : Type 0} → (takes : K → T → K → Type 0) → (before after : K) → Type 0
 TookMost {K} {T} takes before after =
     (rows : List T) × (length rows ≡ most_rows) × TakesAll takes before rows after
 
--- Why a stream ends early: an error of the store, a row that is not sound, or the greatest count of
--- rows.
+-- Why a stream ends early: an error of the store, a row that is not sound, or `most_rows` rows.
 abbrev pub IsStreamFault : {K T : Type 0} → (old new : State) → (takes : K → T → K → Type 0)
     → (before after : K) → (IsSound : Type 0) → RowFault → Type 0
 IsStreamFault old new takes before after IsSound e =
     IsFault old new IsSound e ⊎ ((e ≡ Sql InvalidQuery) × TookMost takes before after)
 
 -- The sink took the first rows of some tables, in order, and at Ok all of them. It took only rows
--- with the property `IsRow`, even from damaged tables. Damage is reported only if a row of the
--- tables is not sound. Any other fault is an error of the store, or the greatest count.
+-- with the property `IsRow`, even from damaged tables. `Damaged` is reported only if a row of the
+-- tables is not sound. Any other fault is an error of the store, or follows after `most_rows` rows.
 pub record HandsOn {S K T Tables : Type 0} (g : Ghosts S) (old new : Held S)
     (takes : K → T → K → Type 0) (before after : K)
     (result : Result (Unit {0}) RowFault) (IsRow : T → Type 0) (Have : Tables → Content → Type 0)
@@ -62,17 +62,17 @@ pub record HandsOn {S K T Tables : Type 0} (g : Ghosts S) (old new : Held S)
 
 -- ---- the rows of a query, with one reader
 
--- The values that the rows are read as.
+-- `reads` returns these values for the rows, one by one.
 abbrev pub AreRead : {T : Type 0} → (reads : Row → Result T RowFault) → List Row → List T → Type 0
 AreRead reads = AllZip (λ row read. reads row ≡ Ok read)
 
--- A query that changes nothing ran, and its answer begins with these rows.
+-- A query that changes nothing was started, and its answer begins with the rows `given`.
 abbrev pub IsAsked : {S : Type 0} → Ghosts S → (sql : List ℕ) → (params : Row)
     → (old asked : Held S) → (given : List Row) → Type 0
 IsAsked g sql params old asked given =
     IsUnchanged (state g old) (state g asked) × Begins sql params (state g asked) given
 
--- A call of the query failed, after calls that left the rows unchanged.
+-- A call of the query failed. The earlier calls of the query left the rows unchanged.
 pub record HasStopped {S : Type 0} (g : Ghosts S) (sql : List ℕ) (params : Row) (old new : Held S)
     (e : Error) : Type 0 where
   pub asked : Held S
@@ -81,7 +81,7 @@ pub record HasStopped {S : Type 0} (g : Ghosts S) (sql : List ℕ) (params : Row
   pub counts : (state g asked).faults ≤ (state g new).faults
   pub fails : FailsToQuery sql params (state g asked) (state g new) e
 
--- Why the reading ended: a call of the query failed, the greatest count was reached, or the next
+-- Why reading the rows ended: a call of the query failed, `most_rows` rows were read, or the next
 -- row can't be read.
 abbrev pub IsReadFault : {S T : Type 0} → Ghosts S → (sql : List ℕ) → (params : Row)
     → (reads : Row → Result T RowFault) → (old new : Held S) → (given : List Row) → (read : List T)
@@ -92,7 +92,8 @@ IsReadFault {S} g sql params reads old new given read Damaged =
     (asked : Held S) × (row : Row) × IsAsked g sql params old asked (given ++ row ∷ [])
     × (reads row ≡ Err Damaged)
 
--- The rows of a query were read from the first, and handed to the sink, at Ok all of them.
+-- The first rows of a query were read, in order, and handed to the sink. At Ok these are all rows
+-- of the query.
 pub record HandsOnQuery {S K T : Type 0} (g : Ghosts S) (sql : List ℕ) (params : Row)
     (reads : Row → Result T RowFault) (old new : Held S)
     (takes : K → T → K → Type 0) (before after : K) (result : Result (Unit {0}) RowFault) : Type 0
@@ -107,7 +108,8 @@ pub record HandsOnQuery {S K T : Type 0} (g : Ghosts S) (sql : List ℕ) (params
         × Shown sql params (state g asked) (state g end) given)
     pub fault : IfErr result (IsReadFault g sql params reads old new given rows)
 
--- The same for a query of tables alone, if the store gave back what was written.
+-- `HandsOnQuery` for a query that depends only on the tables, if the database gave back what was
+-- written to it.
 abbrev pub HandsOnPlain : {S K T : Type 0} → Ghosts S → (sql : List ℕ) → (params : Row)
     → (reads : Row → Result T RowFault) → (old new : Held S)
     → (takes : K → T → K → Type 0) → (before after : K)

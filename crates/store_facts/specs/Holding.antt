@@ -1,4 +1,4 @@
--- The records that a connection holds, and the records that a crash leaves.
+-- The records that the database of a connection has, and the records that a crash would leave.
 use Rattle.std.specs.Prelude.{◌≡◌, ◌≢◌, ◌⊎◌, ℕ, false, List, [], ◌∷◌, ◌++◌, reverse, Result, IsOk, IsTrue, OnOk, OnErr}
 use Rattle.sqlite.specs.Tree.{Trees}
 use Rattle.sqlite.specs.Effect.{Database}
@@ -11,18 +11,18 @@ use Rattle.store_tables.specs.Content.{Content, AreTables}
 use Rattle.store_tables.specs.Failing.{StateAfterCall}
 use Rattle.store_facts.specs.Tables.{AreOf}
 
--- A database has the tables of these records.
+-- A database has the tables of these records and this time zone.
 pub record HasFacts (zone : List ℕ) (facts : List Fact) (db : Database) : Type 0 where
   pub content : Content
   pub tables : AreTables db content
   pub are : AreOf zone facts content
 
--- The records are one of these lists.
+-- `facts` is one of the lists of records in `left`.
 abbrev pub IsOneOf : List (List Fact) → List Fact → Type 0
 IsOneOf [] facts = ⊥
 IsOneOf (one ∷ left) facts = (facts ≡ one) ⊎ IsOneOf left facts
 
--- The trees are those of a database with one of these lists of records.
+-- The trees are those of a database with one of the lists of records in `left`.
 pub record IsLeft (zone : List ℕ) (left : List (List Fact)) (trees : Trees) : Type 0 where
   pub facts : List Fact
   pub one : IsOneOf left facts
@@ -31,20 +31,19 @@ pub record IsLeft (zone : List ℕ) (left : List (List Fact)) (trees : Trees) : 
   pub same : trees ≡ db.trees
 
 module _ {S : Type 0} (g : Ghosts S) (zone : List ℕ) where
-  -- The last commit has the tables of these records, while the connection is open and its store
-  -- gave back what was written.
+  -- The committed database has the tables of these records. This needs an open connection, and a
+  -- database that gave back what was written to it.
   unfoldable pub HoldsFacts : Held S → List Fact → Type 0
   HoldsFacts h facts =
       HasCleanDisk (state g h) → IsTrue (state g h).is_open
       → HasFacts zone facts (state g h).committed
 
-  -- A crash now leaves the tables of one of these lists of records.
+  -- A crash at this point leaves the tables of one of the lists of records in `left`.
   unfoldable pub LeavesFacts : Held S → List (List Fact) → Type 0
   LeavesFacts h left = HasCleanDisk (state g h) → (trees : Trees) → (state g h).may_leave trees
       → IsLeft zone left trees
 
-  -- A look-up outside a transaction. It commits nothing, and a crash after it leaves what a crash
-  -- before it could leave.
+  -- A look-up outside a transaction. It commits nothing, and adds no state that a crash can leave.
   pub record OnlyLooks (old new : Held S) : Type 0 where
     pub clean : HasCleanDisk (state g new) → HasCleanDisk (state g old)
     pub mode : old.in_transaction ≡ false → new.in_transaction ≡ false
@@ -55,9 +54,9 @@ module _ {S : Type 0} (g : Ghosts S) (zone : List ℕ) where
     pub goes : (facts : List Fact) → HoldsFacts old facts → HasCleanDisk (state g new)
         → StateAfterCall (state g old) (state g new)
 
-  -- One transaction that stores records which may follow the known records. At Ok all of them are
-  -- stored, and a crash leaves nothing else from then on. On a fault none of them is known, but a
-  -- crash may leave all of them. Storing no records does nothing.
+  -- One transaction that stores the records `fs`, if they may follow the known records. At Ok all
+  -- of them are stored, and a later crash leaves them. On a fault the known records are unchanged,
+  -- but a crash may leave all of the new ones. Without records, nothing is done.
   pub record BooksFacts {X E : Type 0} (fs : List Fact) (old new : Held S) (result : Result X E) :
       Type 0 where
     pub clean : HasCleanDisk (state g new) → HasCleanDisk (state g old)

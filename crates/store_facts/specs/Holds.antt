@@ -18,7 +18,7 @@ use Rattle.store_devices.specs.Polls.Rows.{Held, hold_columns, hold_place}
 
 -- ---- one row
 
--- The cause with a number, if there is one.
+-- The cause of a rejection that has this number in the store, if there is one.
 abbrev pub cause_of : ℕ → Option Cause
 cause_of n =
     if n == 1 then Some cause.NotAccumulated else
@@ -30,12 +30,12 @@ cause_of n =
     if n == 7 then Some cause.TotalFull else
     if n == 8 then Some cause.NotBelowRange else None
 
--- A signed 16-bit integer.
+-- Whether an integer is in the range of a signed 16-bit integer.
 abbrev pub has_sixteen_bits : ℤ → Bool
 has_sixteen_bits (pos n) = nat_le n 32767
 has_sixteen_bits (negsuc n) = nat_le n 32767
 
--- The 16-bit integer that a value encodes.
+-- The 16-bit integer that a value has, if it is in this range.
 abbrev pub sixteen_in : Value → Option ℤ
 sixteen_in (Int n) = if has_sixteen_bits n then Some n else None
 sixteen_in Null = None
@@ -47,14 +47,14 @@ sixteen_in (Blob b) = None
 abbrev pub greatest_raw : ℕ
 greatest_raw = 4294967295
 
--- The columns that the queries show of a rejected reading.
+-- The result row that shows a rejected reading, in queries of `holds`.
 abbrev pub reading_shown : Held → Row
 reading_shown h =
     Int (pos h.row.poll) ∷ Int (pos h.row.moment) ∷ Int (pos h.row.raw) ∷ Int h.row.sf
     ∷ Int (pos (cause_number h.row.cause))
     ∷ []
 
--- The rejected reading of a row of a meter.
+-- The rejected reading of this meter that a row of `holds` encodes.
 abbrev pub reading_of : (meter : List ℕ) → Held → HeldReading
 reading_of meter h = record {
   meter = meter;
@@ -72,11 +72,12 @@ pub record IsSoundReading (reading : HeldReading) : Type 0 where
   pub raw : reading.raw ≤ greatest_raw
   pub sf : IsTrue (has_sixteen_bits reading.sf)
 
--- Every value of the row is in its range.
+-- Every value of the reading in this row is in its range.
 abbrev pub HasSoundReading : Held → Type 0
 HasSoundReading h = IsSoundReading (reading_of h.meter h)
 
--- The rejected reading that a row of a meter shows, or damage.
+-- The rejected reading of this meter that a result row shows, or `Damaged` if a column is out of
+-- its range.
 abbrev pub reading_in : (meter : List ℕ) → Row → Result HeldReading RowFault
 reading_in meter row =
     and_then (or_damaged (whole_in 1 greatest_place (column row 0))) (λ poll.
@@ -89,11 +90,11 @@ reading_in meter row =
 
 -- ---- the rows of a meter, in order of index
 
--- The rows of `holds`.
+-- The table `holds` has these rows.
 abbrev pub HaveHolds : List Held → Content → Type 0
 HaveHolds = HasRows holds hold_columns
 
--- The row is of this meter.
+-- Whether the rejected reading is of this meter.
 abbrev pub is_of : (meter : List ℕ) → Held → Bool
 is_of meter h = bytes_eq h.meter meter
 
@@ -103,13 +104,13 @@ AreReadingsOf meter rows all =
     (found : List Held) × AreFound (is_of meter) (FirstFirst hold_place) rows found
     × (all ≡ map (reading_of meter) found)
 
--- Every row is sound.
+-- Every row of rejected readings is sound.
 abbrev pub AreSoundHolds : List Held → Type 0
 AreSoundHolds = AllByRecursion HasSoundReading
 
 -- ---- the rows of a meter with timestamps in a range
 
--- The timestamp of the row is at least `from` and less than `till`.
+-- Whether the timestamp of the rejected reading is at least `from` and less than `till`.
 abbrev pub is_between : (from till : ℕ) → Held → Bool
 is_between from till h = nat_le from h.row.moment && nat_lt h.row.moment till
 

@@ -1,4 +1,4 @@
--- The rows of each kind of record.
+-- The rows that encode each kind of record.
 use Rattle.std.specs.Prelude.{◌≡◌, ℕ, ℤ, ◌+◌, ◌≤◌, IsTrue, true, false, List, [], ◌∷◌, length, map, Vec, Option, Some, None}
 use Rattle.std.specs.List.{find}
 use Rattle.mb_wire.specs.declared.span.ReadFunction.{ReadFunction}
@@ -47,19 +47,19 @@ use Rattle.store_facts.specs.Intervals.Rows.{Interval}
 use Rattle.store_devices.specs.declared.polls.rows.OutcomeRow.{OutcomeRow}
 use Rattle.store_devices.specs.Polls.Rows.{Started, Held, Kept}
 
--- The rows of a list with the latest element first. Indices begin at 1.
+-- The rows of a list whose latest element is first. The oldest element has index 1.
 abbrev pub placed : {X Y : Type 0} → (row : ℕ → X → Y) → List X → List Y
 placed row [] = []
 placed row (x ∷ xs) = row (length xs + 1) x ∷ placed row xs
 
--- The rows of a list in its own order. The first index is `before` + 1.
+-- The rows of a list in its own order. The first row has index `before` + 1.
 abbrev pub placed_on : {X Y : Type 0} → (row : ℕ → X → Y) → (before : ℕ) → List X → List Y
 placed_on row before [] = []
 placed_on row before (x ∷ xs) = row (before + 1) x ∷ placed_on row (before + 1) xs
 
 -- ---- devices, their lists and their registers
 
--- The row of a device.
+-- The row that encodes a device.
 abbrev pub added : (place : ℕ) → Device → Added
 added place device = record {
   name = device.name;
@@ -75,7 +75,7 @@ abbrev pub point_row : (place : ℕ) → ReadFunction → (area address : ℕ) �
 point_row place function area address =
     record { place = place; function = function; area = area; address = address }
 
--- The row of a point in a device's list.
+-- The row that encodes a point of a device's list.
 abbrev pub listed : (device : List ℕ) → (place : ℕ) → ListedPoint → Listed
 listed device place point = record {
   device = device;
@@ -90,30 +90,30 @@ listed device place point = record {
   };
 }
 
--- The point is converted for this index of any device's list.
+-- `row` is the point converted to columns, at this index of any device's list.
 abbrev pub IsPlacedPoint : (place : ℕ) → ListedPoint → Point → Type 0
 IsPlacedPoint place point row = (device : List ℕ) → listed_at device row ≡ listed device place point
 
--- The points of a complete list are converted, with indices from 1.
+-- `rows` are the points of a complete list converted to columns, with indices from 1.
 abbrev pub ArePlacedPoints : {Z : Type 0} → List ListedPoint → Vec Point Z → Type 0
 ArePlacedPoints points rows =
     (device : List ℕ) → map (listed_at device) rows.items ≡ placed_on (listed device) 0 points
 
--- The points of a device's latest list, in order.
+-- The points of a point list, in order. Without a list there are none.
 abbrev pub points_put : Option DeviceList → List ListedPoint
 points_put None = []
 points_put (Some put) = put.list.points
 
--- The points of a device's latest list, in order, by all records.
+-- The points of a device's latest list in these records, in order.
 abbrev pub points_of : List Fact → (device : List ℕ) → List ListedPoint
 points_of facts device = points_put (find (λ put. same put.device device) (lists_in facts))
 
--- The scale of a register, as the table has it.
+-- The scale of an accounting register, as the table has it.
 abbrev pub scale_as : ScaleSource → RegisterScale
 scale_as (source.Fixed sf) = scale.Fixed sf
 scale_as (source.Register address) = scale.At address
 
--- The row of a register.
+-- The row that encodes an accounting register.
 abbrev pub registered : (place : ℕ) → Register → Registered
 registered place register = record {
   name = register.name;
@@ -126,8 +126,8 @@ registered place register = record {
   };
 }
 
--- A register's row is sound if its index, address and scale are, and one read covers its counter
--- and its scale.
+-- The row of an accounting register is sound if its index, address and scale are, and one read
+-- covers its counter and its scale.
 abbrev pub GivesSoundRow : (place : ℕ) → Register → RegisterRow → Type 0
 GivesSoundRow place register row =
     IsPlace place → register.address ≤ LAST_COUNTER → IsSoundScale (scale_as register.scale)
@@ -135,16 +135,16 @@ GivesSoundRow place register row =
 
 -- ---- meters
 
--- A new installation.
+-- An installation at its opening: no energy, and not closed.
 abbrev pub begun : Opening → Installation
 begun opening = record { opening = opening; last = opened opening; total = 0; ended = false }
 
--- The last entry of an installation, and its total energy, as columns.
+-- The last entry and the total energy of an installation, as columns.
 abbrev pub last_row : Installation → LastRow
 last_row row =
     record { moment = row.last.at; raw = row.last.raw; sf = row.last.sf; total = row.total }
 
--- The row of an installation.
+-- The row that encodes an installation.
 abbrev pub installed_as : (place : ℕ) → Installation → Installed
 installed_as place row = record {
   meter = row.opening.meter;
@@ -157,7 +157,7 @@ installed_as place row = record {
   };
 }
 
--- The row of an installation after all records.
+-- The row of an opening's installation after all records.
 abbrev pub installed_row : List Fact → (place : ℕ) → Opening → Installed
 installed_row facts place opening = installed_as place (installation_of facts opening)
 
@@ -168,7 +168,7 @@ pub record IsSoundOpening (opening : Opening) : Type 0 where
   pub moment : opening.at ≤ latest_moment
   pub sf : IsTrue (is_within 3 opening.sf)
 
--- The row of a meter's range.
+-- The row with the range of a meter's counter.
 abbrev pub ranged : Opening → Ranged
 ranged opening = record { meter = opening.meter; range = opening.range }
 
@@ -182,22 +182,22 @@ kind_as from.Closing = kind.Closing
 kind_as from.Reset = kind.Reset
 kind_as from.Rescale = kind.Rescale
 
--- The value of the counter, for a change before it was set.
+-- The counter's value at an entry. For a change, the value before the counter was set.
 abbrev pub raw_of : Entry → ℕ
 raw_of (entry.Step at raw rolls) = raw
 raw_of (entry.Change at before after sf) = before
 
--- How often the counter rolled over before the entry.
+-- How often the counter rolled over before the entry. A change has no rollovers.
 abbrev pub rolls_of : Entry → ℕ
 rolls_of (entry.Step at raw rolls) = rolls
 rolls_of (entry.Change at before after sf) = 0
 
--- The value that a change set the counter to, or 0.
+-- The value that a change set the counter to. 0 for other entries.
 abbrev pub after_of : Entry → ℕ
 after_of (entry.Step at raw rolls) = 0
 after_of (entry.Change at before after sf) = after
 
--- The row of an entry, with the scale factor after the entry.
+-- The row that encodes an entry, with the scale factor after the entry.
 abbrev pub entry_row : (sf : ℤ) → journal.EntryRow → EntryRow
 entry_row sf row = record {
   place = row.place;
@@ -209,7 +209,7 @@ entry_row sf row = record {
   sf = sf;
 }
 
--- The row of an opening as the first entry.
+-- The row that encodes an opening as the meter's first entry.
 abbrev pub opening_row : Opening → EntryRow
 opening_row opening =
     record {
@@ -236,38 +236,38 @@ counter_after e = record { at = e.moment; raw = raw_after e.kind e; sf = e.sf }
 abbrev pub entered : (meter : List ℕ) → EntryRow → Entered
 entered meter row = record { meter = meter; entry = row }
 
--- The scale factor after the entries that are not voided.
+-- The scale factor after the entries of a meter that are not voided.
 abbrev pub scale_after : Opening → List journal.EntryRow → ℤ
 scale_after opening rows = (last_of (opened opening) (entries_in rows)).sf
 
--- The rows of the opening and of the entries after it, the latest first. Each row has the scale
--- factor after its entry.
+-- The rows of a meter's opening and of the entries after it, the latest first. Each row has the
+-- scale factor after its entry.
 abbrev pub entered_rows : Opening → List journal.EntryRow → List Entered
 entered_rows opening [] = entered opening.meter (opening_row opening) ∷ []
 entered_rows opening (row ∷ rows) =
     entered opening.meter (entry_row (scale_after opening (row ∷ rows)) row)
     ∷ entered_rows opening rows
 
--- The rows of a meter's entries.
+-- The rows of all entries of an opening's meter. Without an opening there are none.
 abbrev pub entries_at : List Fact → Option Opening → List Entered
 entries_at facts None = []
 entries_at facts (Some opening) = entered_rows opening (rows_of facts opening)
 
--- The rows of a meter's entries, by all records.
+-- The rows of all entries of a meter, by these records.
 abbrev pub entries_of : List Fact → (meter : List ℕ) → List Entered
 entries_of facts meter = entries_at facts (opening_of facts meter)
 
--- The row of a void.
+-- The row that encodes a void.
 abbrev pub voided : VoidedEntry → Voided
 voided void = record { meter = void.meter; place = void.place; moment = void.at }
 
--- The row of a meter's energy in a quarter hour.
+-- The row that encodes a meter's energy in a quarter hour.
 abbrev pub interval_of : (meter : List ℕ) → Share → Interval
 interval_of meter share = record { meter = meter; share = share }
 
 -- ---- polls and kept requests
 
--- The row of a poll.
+-- The row that encodes a poll.
 abbrev pub started : Poll → Started
 started poll = record {
   device = poll.device;
@@ -282,11 +282,11 @@ started poll = record {
   };
 }
 
--- The row of an outcome.
+-- The row that encodes an outcome.
 abbrev pub outcome_row : EndedPoll → OutcomeRow
 outcome_row ended = record { poll = ended.poll; moment = ended.at; outcome = ended.outcome }
 
--- The row of a rejected reading.
+-- The row that encodes a rejected reading.
 abbrev pub held_row : (place : ℕ) → HeldReading → Held
 held_row place reading = record {
   meter = reading.meter;
@@ -300,7 +300,7 @@ held_row place reading = record {
   };
 }
 
--- The row of a kept request.
+-- The row that encodes a kept request.
 abbrev pub kept : Reply → Kept
 kept given = record {
   caller = given.caller;

@@ -1,4 +1,5 @@
--- When tables are those of lawful records.
+-- When the tables of the store encode lawful records. Lawful records are those that the rules
+-- accept one after another.
 use Rattle.std.specs.Prelude.{ℕ, pos, List, [], ◌∷◌, map}
 use Rattle.std.specs.List.{filter}
 use Rattle.std.specs.List.Sorted.{IsPermutation}
@@ -21,15 +22,16 @@ use Rattle.store_devices.specs.Polls.Trees as poll_tree
 use Rattle.store_devices.specs.Polls.Rows.{poll_columns, outcome_columns, hold_columns, reply_columns}
 use Rattle.store_facts.specs.Rows.{placed, placed_on, added, listed, points_of, registered, installed_row, ranged, entries_of, voided, interval_of, started, outcome_row, held_row, kept}
 
--- The table `meta` has one row: the version of the tables, and the time zone of the civil days.
+-- The tree number of the table `meta`, which has the version of the tables and the time zone of the
+-- civil days in one row.
 abbrev pub meta_tree : ℕ
 meta_tree = 0
 
--- The columns of the row of `meta`, at version 3.
+-- The columns of the row of `meta`, in a file of version 3.
 abbrev pub meta_columns : (zone : List ℕ) → Row
 meta_columns zone = Int (pos 1) ∷ Null ∷ Int (pos 3) ∷ Text zone ∷ []
 
--- The points of each device are those of its latest list, in order.
+-- `points` has the points of each device's latest list, in order.
 pub record ArePoints (facts : List Fact) (content : Content) : Type 0 where
   pub rows : List Listed
   pub there : HasRows list_tree.points point_columns rows content
@@ -37,14 +39,14 @@ pub record ArePoints (facts : List Fact) (content : Content) : Type 0 where
       → IsPermutation (filter (is_point_of device) rows)
       (placed_on (listed device) 0 (points_of facts device))
 
--- The entries of each meter are its opening and the entries after it.
+-- `entries` has the opening of each meter and the entries after it.
 pub record AreEntries (facts : List Fact) (content : Content) : Type 0 where
   pub rows : List Entered
   pub there : HasRows entry_tree.entries entry_columns rows content
   pub each : (meter : List ℕ)
       → IsPermutation (filter (is_entry_of meter) rows) (entries_of facts meter)
 
--- The interval rows of each meter have its energy by quarter hours.
+-- `intervals` has the energy of each meter by quarter hours.
 pub record AreIntervals (facts : List Fact) (content : Content) : Type 0 where
   pub rows : List Interval
   pub there : HasRows interval_tree.intervals interval_columns rows content
@@ -52,7 +54,7 @@ pub record AreIntervals (facts : List Fact) (content : Content) : Type 0 where
       → IsPermutation (filter (is_interval_of meter) rows)
       (map (interval_of meter) (rows_of_meter facts meter))
 
--- The tables have the rows of these lawful records, the latest first, and name this time zone.
+-- The tables have the rows of these lawful records, the latest first, and this time zone.
 pub record AreOf (zone : List ℕ) (facts : List Fact) (content : Content) : Type 0 where
   pub lawful : AreLawful facts
   pub meta : HasRows meta_tree meta_columns (zone ∷ []) content

@@ -1,4 +1,4 @@
-//! The installations at a register.
+//! The installations at an accounting register.
 ghost use Rattle.store_tables.specs.Answer.{FirstFirst};
 ghost use Rattle.store_tables.specs.Asking.{Asks, Shows, TellsRows};
 ghost use Rattle.store_tables.specs.Meters.Rows.{installed_columns, installed_place, installed_shown, is_at};
@@ -6,8 +6,8 @@ ghost use Rattle.store_tables.specs.Meters.Trees.{installations};
 
 use sqlite::{Alter, Connection, Error, Row, params};
 
-/// Queries the installations at a register in order of their indices. `read_installation` reads
-/// each row.
+/// Queries the installations at an accounting register in order of their indices.
+/// `read_installation` reads each row.
 pub fn register_meter_rows<S: Alter>(
     conn: &mut Connection<S>,
     register: &str,

@@ -16,8 +16,8 @@ use store_devices::{Point, PointRow};
 use store_tables::{GREATEST_PLACE, RowFault};
 use sun_points::PointType;
 
-/// Returns the text of a point type. Out of memory becomes an error of SQLite, as for every text
-/// here.
+/// Returns the text of a point type. Out of memory is reported as an error of SQLite, here and in
+/// the functions below.
 fn kind(alloc: Global, kind: PointType) -> Result<String, Error>
     ensures { IfOk result (λ text. string_bytes text ≡ written.type_text kind) }
 {
@@ -48,7 +48,7 @@ fn name(alloc: Global, name: &PointName) -> Result<String, RowFault>
     }
 }
 
-/// Returns the text of a scale: empty, an exponent, or the name of a point.
+/// Returns the text of a point's scale: empty, an exponent, or the name of another point.
 fn scale(alloc: Global, scale: &PointScale) -> Result<String, RowFault>
     ensures { IfOk result (λ text. string_bytes text ≡ written.scale_text scale.now) }
 {
@@ -71,7 +71,7 @@ fn numbers(place: u64, function: ReadFunction, area: u8, address: u16) -> PointR
     }
 }
 
-/// Converts a point at index `place` of its list.
+/// Converts a point at index `place` of its list to the columns of its row.
 fn point_at(alloc: Global, point: &ListedPoint, place: u64) -> Result<Point, RowFault>
     ensures listed { IfOk result (IsPlacedPoint place point.now) }
     ensures sound { IsPlace place → IfOk result (λ p. IsSoundPoint p.row) }
@@ -94,7 +94,8 @@ fn push(points: &mut Vec<Point>, point: Point) -> Result<(), Error>
     Ok(())
 }
 
-/// Converts the points of a list. Their indices begin at 1. A name that is not UTF-8 is damage.
+/// Converts the points of a list to the columns of their rows. Their indices begin at 1. A name
+/// that is not UTF-8 is damage.
 pub fn points_at(alloc: Global, points: &[ListedPoint]) -> Result<Vec<Point>, RowFault>
     ensures listed { IfOk result (ArePlacedPoints points.now) }
     ensures sound { IfOk result (λ ps. All (λ p. IsSoundPoint p.row) ps.items) }

@@ -1,4 +1,4 @@
-//! Conversions from records to rows.
+//! Conversions from records to the rows of the tables.
 ghost use Rattle.std.specs.Prelude.{◌≡◌, ◌≤◌, true, IsTrue};
 ghost use Rattle.energy_core.specs.Account.{IsScale, moment_of};
 ghost use Rattle.store_tables.specs.Columns.{is_within};
@@ -38,7 +38,7 @@ fn scale(source: ScaleSource) -> RegisterScale
     }
 }
 
-/// Returns the row of a register at index `place`.
+/// Returns the row of an accounting register at index `place`.
 pub fn register_row(register: Register, place: u64) -> RegisterRow
     ensures row { result ≡ (rows.registered place register).row }
     ensures sound { rows.GivesSoundRow place register result }
@@ -51,8 +51,8 @@ pub fn register_row(register: Register, place: u64) -> RegisterRow
     }
 }
 
-/// Returns the last entry of an installation as columns. `total` is its energy since the opening,
-/// in mWh.
+/// Returns the columns of a meter's last entry. `total` is the meter's energy since its opening, in
+/// mWh.
 pub fn last_row(last: Last, total: u64) -> LastRow
     ensures { result ≡ record { moment = last.at; raw = last.raw; sf = last.sf; total = total } }
 {
@@ -64,7 +64,8 @@ pub fn last_row(last: Last, total: u64) -> LastRow
     }
 }
 
-/// Returns the state of the counter after an entry.
+/// Returns the state of the counter after an entry. After a reset or a rescale, this is the value
+/// that the counter was set to.
 pub fn counter_after(entry: &EntryRow) -> Last
     ensures { result ≡ rows.counter_after entry.now }
 {
@@ -94,7 +95,7 @@ fn kind(kind: EntryKind) -> store_tables::EntryKind
     }
 }
 
-/// Returns the row of an entry at index `place`, with the scale factor after the entry.
+/// Returns the row of an entry at index `place`. `sf` is the scale factor after the entry.
 pub fn entry_row(of: EntryKind, entry: Entry, place: u64, sf: &i16) -> EntryRow
     ensures row { result ≡ rows.entry_row sf.now
         (record { place = place; kind = of; entry = entry; stands = true }) }
@@ -128,7 +129,7 @@ pub fn entry_row(of: EntryKind, entry: Entry, place: u64, sf: &i16) -> EntryRow
     }
 }
 
-/// Returns whether counters and the tables allow a scale factor: -3 to 3.
+/// Returns whether a scale factor is from -3 to 3, as counters and the tables allow.
 pub fn is_scale(sf: i16) -> bool
     ensures within { result ≡ is_within 3 sf }
     ensures lawful { IsTrue result → IsScale sf }
@@ -167,7 +168,7 @@ pub fn begun_row(opening: &Opening, place: u64) -> InstallationRow
     }
 }
 
-/// Returns the entry of an opening. Its index is 1.
+/// Returns the row of an opening as the meter's first entry, at index 1.
 pub fn opening_row(opening: &Opening) -> EntryRow
     ensures row { result ≡ rows.opening_row opening.now }
     ensures sound { IsSoundOpening opening.now → IsSoundEntry result }

@@ -21,10 +21,10 @@ pub(crate) trait RowReader<T> {
     /// The value that a row is read as, or its fault.
     ghost reads: { Self → order.Row → Result T faults.RowFault };
 
-    /// A property of every value that is read.
+    /// A property of every value that the reader returns.
     ghost is_row: { T → Type 0 };
 
-    /// Reads a row.
+    /// Reads the value of a row.
     fn read(&self, row: &Row) -> Result<T, RowFault>
         ensures read { result ≡ reads self.now row.now }
         ensures sound { IfOk result is_row }

@@ -1,4 +1,4 @@
-//! The queries and the deletions that the void of an entry needs.
+//! The queries and the deletions that voiding an entry needs.
 
 mod entries;
 mod neighbours;

@@ -159,7 +159,7 @@ module _ (layout : Layout) (zone : List ℕ) (content : Content) where
   passed_on a b e (Ok y) Q fails it = absurd fails
   passed_on a b e (Err d) Q fails it = record { ok = tt; err = it.err; survives = it.survives }
 
-  -- The same with another result value.
+  -- What `OpensFile` states does not depend on the value in Ok.
   pub told_as : {X Y E D : Type 0} (a b : State) (x : X) (y : Y) → OpensFile {X = X} {E = E} layout zone content a b (Ok x) → OpensFile {X = Y} {E = D} layout zone content a b (Ok y)
   told_as a b x y it = record { ok = it.ok; err = tt; survives = it.survives }
 

@@ -1,4 +1,4 @@
--- The faults of an opening, and their numbers.
+-- Why a file is not opened, and the numbers of these faults.
 use Rattle.std.specs.Prelude.{⊤, ◌≤◌, ◌⊎◌, ℕ, IsSome}
 use Rattle.sqlite.specs.State.{State}
 use Rattle.sqlite.specs.declared.error.ErrorCode.TheVariants.{OutOfMemory}
@@ -15,8 +15,8 @@ open_fault_number Zone = 2
 open_fault_number Store = 3
 open_fault_number Memory = 4
 
--- A fault of the store: the database was closed, its disk failed, or a limit of steps was reached.
--- Out of memory is the fault `Memory`.
+-- A fault of the database itself: it was closed, its disk failed, or SQLite's limit of steps was
+-- reached. Out of memory is the fault `Memory`.
 abbrev pub IsOwnFault : (old new : State) → OpenFault → Type 0
 IsOwnFault old new Store =
     (old.faults ≤ new.faults) × (HasFailed old new ⊎ IsSome old.step_limit)
@@ -24,7 +24,8 @@ IsOwnFault old new Memory = ⊤
 IsOwnFault old new NotOurs = ⊥
 IsOwnFault old new Zone = ⊥
 
--- Out of memory is `Memory`. Any other error of SQLite is `Store`.
+-- The fault that an error of SQLite means for opening a file: `Memory` for out of memory, `Store`
+-- for any other error.
 abbrev pub fault_of : Error → OpenFault
 fault_of (SqliteFailure OutOfMemory) = Memory
 fault_of _ = Store

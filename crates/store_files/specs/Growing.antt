@@ -6,7 +6,8 @@ use Rattle.store_tables.specs.Content.{Content, HasTree, AreApart, AreTablesIn, 
 use Rattle.store_tables.specs.Schema.{books_schema}
 use Rattle.store_files.specs.Layouts.{first_tables}
 
--- The database has the first tables, with these rows. Every other table of the schema has no rows.
+-- The database has the first `count` tables of the schema. Its rows are those of `content`, in
+-- which every other table is empty.
 pub record HasFirst (count : ℕ) (db : Database) (content : Content) : Type 0 where
   pub schema : db.schema ≡ first_tables count
   pub rows : (t : ℕ) → HasTree (first_tables count).tables t
@@ -15,8 +16,8 @@ pub record HasFirst (count : ℕ) (db : Database) (content : Content) : Type 0 w
   pub none : (t : ℕ) → HasTree books_schema.tables t → (HasTree (first_tables count).tables t → ⊥)
       → content t ≡ []
 
--- From the first tables to more of them: the new tables have no rows, and the old tables keep
--- theirs.
+-- A database with the first `from` tables gets the first `to` tables. The new tables have no rows,
+-- and the old tables keep their rows.
 abbrev pub Grows : (from to : ℕ) → Database → Database → Type 0
 Grows from to old new = (content : Content) → HasFirst from old content
     → AreTablesIn (first_tables to) new content

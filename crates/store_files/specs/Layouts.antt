@@ -8,15 +8,16 @@ use Rattle.store_tables.specs.Schema.{books_schema}
 use Rattle.store_files.specs.declared.layouts.Layout.{Layout}
 use Rattle.store_files.specs.declared.layouts.Layout.TheVariants.{First, Second, Third}
 
--- A database without tables.
+-- The schema of a database without tables.
 abbrev pub no_schema : Schema
 no_schema = record { tables = []; indexes = []; views = [] }
 
--- The index belongs to one of the tables.
+-- Whether the index belongs to one of these tables.
 abbrev pub is_index_of : List Table → Index → Bool
 is_index_of tables i = list_any (λ (t : Table). t.tree == i.table) tables
 
--- The first `n` tables in the order in which they are created, with their indexes.
+-- The schema with the first `n` tables, in the order in which they are created, and with their
+-- indexes.
 abbrev pub first_tables : ℕ → Schema
 first_tables n =
     let tables = take n books_schema.tables in
@@ -26,13 +27,14 @@ first_tables n =
       views = [];
     }
 
--- The version of a layout.
+-- The version number of a layout, as `meta` has it.
 abbrev pub version_of : Layout → ℕ
 version_of First = 1
 version_of Second = 2
 version_of Third = 3
 
--- Version 1 has all tables but the last two. Each later version has one more.
+-- How many tables a layout has. Version 1 has all tables except the last two, and each later
+-- version has one more.
 abbrev pub table_count : Layout → ℕ
 table_count layout = version_of layout + 10
 
@@ -40,10 +42,10 @@ table_count layout = version_of layout + 10
 abbrev pub schema_of : Layout → Schema
 schema_of layout = first_tables (table_count layout)
 
--- The names of a schema's tables, in order.
+-- The names of a schema's tables, in the order in which they were created.
 abbrev pub names_of : Schema → List (List ℕ)
 names_of schema = map (λ (t : Table). t.name) schema.tables
 
--- The tables have the names of this layout.
+-- The tables have the names of this layout's tables, in the same order.
 abbrev pub IsNamedAs : Schema → Layout → Type 0
 IsNamedAs schema layout = names_of schema ≡ names_of (schema_of layout)

@@ -4,11 +4,11 @@ use Rattle.sqlite.specs.declared.types.Value.TheVariants.{Null, Int, Text}
 use Rattle.sqlite.specs.Order.{Row}
 use Rattle.store_tables.specs.Content.{Content, HasRows}
 
--- The tree number of `meta`.
+-- The tree number of the table `meta`.
 abbrev pub meta : ℕ
 meta = 0
 
--- The row of `meta`.
+-- The row of `meta`: the version of the file, and its time zone.
 pub record Meta : Type 0 where
   pub version : ℕ
   pub zone : List ℕ
@@ -17,14 +17,14 @@ pub record Meta : Type 0 where
 abbrev pub meta_columns : Meta → Row
 meta_columns m = Int (pos 1) ∷ Null ∷ Int (pos m.version) ∷ Text m.zone ∷ []
 
--- The columns that the query shows of `meta`.
+-- The result row that shows `meta`, in the query that opens a file.
 abbrev pub meta_shown : Meta → Row
 meta_shown m = Int (pos m.version) ∷ Text m.zone ∷ []
 
--- The row with another version and the same zone.
+-- The row of `meta` with another version and the same zone.
 abbrev pub with_version : ℕ → Meta → Meta
 with_version n m = record m { version = n }
 
--- The file has this version and this zone.
+-- The file has this version and this time zone in `meta`.
 abbrev pub IsMarked : Meta → Content → Type 0
 IsMarked m content = HasRows meta meta_columns (m ∷ []) content

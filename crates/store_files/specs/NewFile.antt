@@ -1,11 +1,11 @@
--- The tables after a file was created.
+-- The tables of a file that was just created.
 use Rattle.std.specs.Prelude.{◌≡◌, ◌≢◌, ℕ, List, []}
 use Rattle.sqlite.specs.Effect.{Database}
 use Rattle.store_tables.specs.Content.{Content, AreTables}
 use Rattle.store_files.specs.Layouts.{no_schema}
 use Rattle.store_files.specs.Meta.{meta, IsMarked}
 
--- Version 3 and this zone, and no other row.
+-- The tables have the row of `meta` with version 3 and this zone, and no other row.
 pub record IsNew (zone : List ℕ) (content : Content) : Type 0 where
   pub marked : IsMarked (record { version = 3; zone = zone }) content
   pub empty : (t : ℕ) → t ≢ meta → content t ≡ []

@@ -1,4 +1,4 @@
--- What an opening reads from `meta`, and the connection after it.
+-- What the opening of a file reads from `meta`, and the state of the connection after the opening.
 use Rattle.std.specs.Prelude.{◌≡◌, ◌≢◌, ◌⊎◌, ℕ, [], ◌∷◌, Vec, Result, Err, OnOk, OnErr, IfOk, IfErr, IsUtf8, IsTrue}
 use Rattle.sqlite.specs.Order.{Row}
 use Rattle.sqlite.specs.State.{State, KeepsCommit, Survives, IsUnchanged}
@@ -13,13 +13,13 @@ use Rattle.store_files.specs.Layouts.{version_of, schema_of}
 use Rattle.store_files.specs.Meta.{Meta, meta_shown, IsMarked}
 use Rattle.store_files.specs.Zones.{IsZone}
 
--- The query shows the row of `meta` alone, and nothing changed.
+-- The query shows the row of `meta` and no other row, and nothing changed.
 abbrev pub ShowsMeta : {Z : Type 0} → Content → (old new : State) → Vec Row Z → Type 0
 ShowsMeta content old new rows =
     IsUnchanged old new × ((m : Meta) → IsMarked m content → rows.items ≡ meta_shown m ∷ [])
 
--- The result of reading `meta`: `NotOurs` for another version, `Zone` for a text that is not a time
--- zone.
+-- The result of reading `meta`: the zone, `NotOurs` for another version, or `Zone` for a text that
+-- is not a time zone. The only other fault is `Memory`.
 pub record ReadsMeta (version : ℕ) (m : Meta) (result : Result Zone OpenFault) : Type 0 where
   pub other : m.version ≢ version → result ≡ Err NotOurs
   pub ours : m.version ≡ version → IfErr result (λ e. (e ≡ NoZone) ⊎ (e ≡ Memory))
@@ -27,9 +27,9 @@ pub record ReadsMeta (version : ℕ) (m : Meta) (result : Result Zone OpenFault)
   pub rule : IsUtf8 m.zone → IsZone m.zone → IfErr result (λ e. e ≢ NoZone)
   pub none : (IsZone m.zone → ⊥) → OnOk result ⊥
 
--- The result of an opening, unless the store itself failed. A file of another version, or with an
--- invalid zone, is not opened, and the fault says which. A file of this version is ours, and the
--- opening returns its zone. A file of version 3 with a valid zone is opened.
+-- The result of opening a file, unless the database itself failed. For another version, the fault
+-- is `NotOurs`. For an invalid zone it is `Zone`. Otherwise Ok has the file's zone. A file of
+-- version 3 with a valid zone is opened.
 pub record TellsOpening (version : ℕ) (m : Meta) (old new : State)
     (result : Result Zone OpenFault) : Type 0 where
   pub other : m.version ≢ version
@@ -43,7 +43,8 @@ pub record TellsOpening (version : ℕ) (m : Meta) (old new : State)
       → IfErr result (IsOwnFault old new)
   pub kept : OnErr result (KeepsCommit old new)
 
--- The zone was queried from tables of this layout. The query changes nothing and commits nothing.
+-- The result of querying the zone in tables of this layout. The query changes nothing and commits
+-- nothing.
 pub record FindsZone (layout : Layout) (content : Content) (old new : State)
     (result : Result Zone OpenFault) : Type 0 where
   pub kept : KeepsCommit old new
@@ -51,7 +52,8 @@ pub record FindsZone (layout : Layout) (content : Content) (old new : State)
   pub survives : Survives old new (λ _. ⊥)
   pub told : (m : Meta) → IsMarked m content → TellsOpening (version_of layout) m old new result
 
--- The result of opening a file of this layout, over an open connection with no uncommitted changes.
+-- The result of opening a file of this layout. The connection is open, and has no uncommitted
+-- changes.
 abbrev pub TellsOfLayout : Layout → (old new : State) → Result Zone OpenFault → Type 0
 TellsOfLayout layout old new result =
     (content : Content) → IsTrue old.is_open → old.now ≡ old.committed

@@ -1,4 +1,4 @@
--- The tables after an opening upgraded a file of an earlier version.
+-- The tables of a file of an earlier version, after the opening of the file upgraded them.
 use Rattle.std.specs.Prelude.{◌≡◌, ◌≢◌, ℕ, List, [], ◌∷◌, ◌++◌, map, Vec, Result, IsTrue, OnOk, OnErr}
 use Rattle.std.specs.List.Sorted.{IsPermutation}
 use Rattle.sqlite.specs.declared.types.Value.{Value}
@@ -25,11 +25,12 @@ pub record IsFile (layout : Layout) (zone : List ℕ) (db : Database)
   pub tables : AreTablesIn (schema_of layout) db content
   pub marked : IsMarked (record { version = version_of layout; zone = zone }) content
 
--- The range of a meter of version 1: 2^32 values.
+-- The range that the counter of a version 1 meter gets: 2^32 values.
 abbrev pub full_range : Installed → Ranged
 full_range i = record { meter = i.meter; range = 4294967296 }
 
--- Each installation of version 1 gets a range. Later versions keep their ranges.
+-- The table `ranges` after an upgrade. Each meter of a version 1 file gets a range. A file of a
+-- later version keeps its ranges.
 abbrev pub HasRanges : Layout → (content after : Content) → Type 0
 HasRanges First content after =
     (is : List Installed) → HasRows installations installed_columns is content
@@ -37,13 +38,15 @@ HasRanges First content after =
 HasRanges Second content after = after ranges ≡ content ranges
 HasRanges Third content after = after ranges ≡ content ranges
 
--- Versions 1 and 2 get no voids. Version 3 keeps its voids.
+-- The table `voids` after an upgrade. A file of version 1 or 2 gets no voids. A file of version 3
+-- keeps its voids.
 abbrev pub HasVoids : Layout → (content after : Content) → Type 0
 HasVoids First content after = after voids ≡ []
 HasVoids Second content after = after voids ≡ []
 HasVoids Third content after = after voids ≡ content voids
 
--- Version 3 and the same zone. All other rows are unchanged.
+-- The tables after an upgrade: version 3, and the same zone. The upgrade leaves all other rows
+-- unchanged.
 pub record IsBrought (layout : Layout) (zone : List ℕ) (content after : Content) : Type 0 where
   pub marked : IsMarked (record { version = 3; zone = zone }) after
   pub with_ranges : HasRanges layout content after
@@ -57,21 +60,21 @@ Brings layout zone old new = (content : Content) → IsFile layout zone old cont
 
 -- ---- the meters of a file of version 1, as a query shows them
 
--- The column that the query shows of an installation: its meter.
+-- The result row that shows the meter of an installation.
 abbrev pub meter_shown : Installed → Row
 meter_shown i = Text i.meter ∷ []
 
--- A row for each meter of the file, in any order.
+-- The rows show the name of each meter of the file, in any order.
 abbrev pub AreMetersOf : Content → (shown : List Row) → Type 0
 AreMetersOf content shown =
     (is : List Installed) → HasRows installations installed_columns is content
     → IsPermutation (map meter_shown is) shown
 
--- The query shows these rows, and nothing changed.
+-- The query shows the name of each meter of the file, and nothing changed.
 abbrev pub ShowsMeters : {Z : Type 0} → Content → (old new : State) → Vec Row Z → Type 0
 ShowsMeters content old new rows = IsUnchanged old new × AreMetersOf content rows.items
 
--- The text of a value, or an empty text.
+-- The text that a value has, or an empty text for any other value.
 abbrev pub text_in : Value → List ℕ
 text_in Null = []
 text_in (Int n) = []
@@ -79,11 +82,11 @@ text_in (Real x) = []
 text_in (Text t) = t
 text_in (Blob b) = []
 
--- The range of the meter that a row shows: 2^32 values.
+-- The range for the meter that a row shows: 2^32 values.
 abbrev pub range_in : Row → Ranged
 range_in row = record { meter = text_in (column row 0); range = 4294967296 }
 
--- A range for the meter of each row is added.
+-- The ranges with one added for the meter of each row.
 abbrev pub with_ranges : List Row → List Ranged → List Ranged
 with_ranges shown rs = map range_in shown ++ rs
 
@@ -93,7 +96,7 @@ GivesRanges shown = Edits ranges ranged_columns (with_ranges shown)
 
 -- ---- one opening
 
--- The effect of upgrading a file of version 1, if these rows show its meters.
+-- The effect of upgrading a file of version 1, if the rows `shown` show its meters.
 abbrev pub BringsFirst : (shown : List Row) → Database → Database → Type 0
 BringsFirst shown old new =
     (zone : List ℕ) (content : Content) → IsFile First zone old content
@@ -104,8 +107,8 @@ BringsFirst shown old new =
 abbrev pub BringsSecond : Database → Database → Type 0
 BringsSecond old new = (zone : List ℕ) → Brings Second zone old new
 
--- The connection after an opening: the upgraded file at Ok, otherwise the old file. A crash leaves
--- the new file or the old.
+-- The connection after opening a file of this layout. At Ok the upgraded file is committed,
+-- otherwise the old file. A crash leaves the old file or the upgraded one.
 pub record OpensFile {X E : Type 0} (layout : Layout) (zone : List ℕ) (content : Content)
     (old new : State) (result : Result X E) : Type 0 where
   pub ok : OnOk result
@@ -116,13 +119,13 @@ pub record OpensFile {X E : Type 0} (layout : Layout) (zone : List ℕ) (content
       (λ trees. (after : Content) × IsBrought layout zone content after × (db : Database)
       × AreTables db after × (trees ≡ db.trees))
 
--- An open connection to a file of this layout, with no uncommitted changes.
+-- A connection is open to a file of this layout, with no uncommitted changes.
 pub record IsOpenTo (layout : Layout) (zone : List ℕ) (content : Content) (s : State) : Type 0 where
   pub is_open : IsTrue s.is_open
   pub settled : s.now ≡ s.committed
   pub file : IsFile layout zone s.committed content
 
--- The connection after an opening, for any layout.
+-- The connection after opening a file of any layout.
 abbrev pub OpensAnyFile : {X E : Type 0} → (old new : State) → Result X E → Type 0
 OpensAnyFile old new result =
     (layout : Layout) (zone : List ℕ) (content : Content)

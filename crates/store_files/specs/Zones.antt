@@ -1,8 +1,8 @@
--- The texts that are time zones.
+-- Which texts are valid time zones.
 use Rattle.std.specs.Prelude.{◌≤◌, ℕ, List, length, IsSome}
 use Rattle.interval_core.specs.declared.limits.TheConstants.{MAX_ZONE_TEXT}
 use Rattle.jiff_tz.specs.PosixReader.{read_whole}
 
--- A POSIX rule of at most 64 bytes.
+-- The text is a POSIX time zone rule of at most 64 bytes.
 abbrev pub IsZone : List ℕ → Type 0
 IsZone text = IsSome (read_whole text) × (length text ≤ MAX_ZONE_TEXT)

@@ -6,13 +6,13 @@ use sqlite::{Error, ErrorCode};
 use std::fmt;
 use std::fmt::{Display, Formatter};
 
-/// Why a database was not opened as an office's store, or not made one.
+/// Why a database was not opened as an office's store, or why no store was created in it.
 #[derive(Clone, Copy, Debug, PartialEq, Eq)]
 pub enum OpenFault {
-    /// The tables are not those of an office, their version is unknown, or a transaction is open.
-    /// For a new file: the database is not empty.
+    /// For an opening: the tables are not those of an office, their version is unknown, or a
+    /// transaction is open. For a new file: the database is not empty.
     NotOurs,
-    /// The text is not a time zone.
+    /// The text of the time zone is not a POSIX rule.
     Zone,
     /// SQLite refused the statement or failed.
     Store,
@@ -49,7 +49,7 @@ impl Display for OpenFault {
 
 impl std::error::Error for OpenFault {}
 
-/// Returns the fault that an error of SQLite means for an opening.
+/// Returns the fault that an error of SQLite means for opening a file.
 pub(crate) fn fault_of(error: Error) -> OpenFault
     ensures value { result ≡ fault_of error }
     ensures kind { (result ≡ OpenFault.Store) ⊎ (result ≡ OpenFault.Memory) }

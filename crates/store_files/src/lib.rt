@@ -1,5 +1,5 @@
-//! The file of an office's store: how its tables are created, found again, and upgraded from an
-//! earlier version.
+//! The file of an office's store: creating its tables, opening it, and upgrading it from an earlier
+//! version.
 #![tactic(auto)]
 
 mod faults;

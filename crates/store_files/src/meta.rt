@@ -1,4 +1,4 @@
-//! Statements on the table `meta`.
+//! SQL statements on the table `meta`.
 ghost use Rattle.std.specs.Prelude.{◌≤◌, [], ◌∷◌};
 ghost use Rattle.sqlite.specs.Held.{state};
 ghost use Rattle.store_tables.specs.Content.{Edits, with_row, changed_where};

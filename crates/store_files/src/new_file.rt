@@ -1,4 +1,4 @@
-//! Creating a file.
+//! Creating the file of a store.
 ghost use Rattle.std.specs.Prelude.{◌≡◌, ◌≢◌, ◌⊎◌, ◌↔◌, false, IsTrue, Err, IfOk, IfErr};
 ghost use Rattle.sqlite.specs.Held.{state};
 ghost use Rattle.store_tables.specs.Steps.{StepsTo, TransactsTo, IsSameBorrow};
@@ -24,7 +24,7 @@ fn is_blank(schema: &Schema) -> bool
         && schema.views.as_slice().is_empty()
 }
 
-/// Creates all tables, and inserts the row of `meta`.
+/// Creates all tables of a store, and inserts the row of `meta`.
 fn fill<S: Alter>(tx: &mut Transaction<'_, S>, zone: &str) -> Result<usize, Error>
     ensures same_reference { IsSameBorrow tx.old.conn tx.new.conn }
     ensures does { StepsTo (state S.Store tx.old.conn.now) (state S.Store tx.new.conn.now) result
@@ -34,7 +34,7 @@ fn fill<S: Alter>(tx: &mut Transaction<'_, S>, zone: &str) -> Result<usize, Erro
     insert_meta(tx, zone)
 }
 
-/// Creates all tables and inserts the row of `meta`, in one transaction.
+/// Creates all tables of a store and inserts the row of `meta`, in one transaction.
 fn made<S: Alter>(conn: &mut Connection<S>, zone: &str) -> Result<(), Error>
     requires autocommit { conn.old.in_transaction ≡ false }
     ensures autocommit { conn.new.in_transaction ≡ false }
@@ -46,7 +46,7 @@ fn made<S: Alter>(conn: &mut Connection<S>, zone: &str) -> Result<(), Error>
     tx.commit()
 }
 
-/// Does the same as `made`, and maps its error to a fault.
+/// Creates all tables as `made` does, and maps an error to a fault.
 fn make<S: Alter>(conn: &mut Connection<S>, zone: &str) -> Result<(), OpenFault>
     requires autocommit { conn.old.in_transaction ≡ false }
     ensures autocommit { conn.new.in_transaction ≡ false }

@@ -1,4 +1,4 @@
-//! Opening a file.
+//! Opening the file of a store.
 ghost use Rattle.std.specs.Prelude.{◌≡◌, ◌≢◌, ◌⊎◌, ◌↔◌, false, [], ◌∷◌, IsTrue, IfOk, IfErr};
 ghost use Rattle.std.specs.Prelude.{IsUtf8, Err, OnErr};
 ghost use Rattle.sqlite.specs.State.{HasCleanDisk, KeepsCommit, Survives};
@@ -65,7 +65,8 @@ fn told_zone(row: &Row) -> Result<Zone, OpenFault>
     }
 }
 
-/// Reads the time zone from the only row of `meta`, if the row has this version.
+/// Reads the time zone from the only row of `meta`. Another version, or another number of rows, is
+/// `NotOurs`.
 fn zone_in(rows: &[Row], version: u64) -> Result<Zone, OpenFault>
     ensures tells { (m : Meta) → rows.now ≡ meta_shown m ∷ [] → ReadsMeta version m result }
 {
@@ -81,7 +82,7 @@ fn zone_in(rows: &[Row], version: u64) -> Result<Zone, OpenFault>
     }
 }
 
-/// Returns the time zone of the file, if its version is that of its tables.
+/// Returns the time zone of the file, if `meta` has the version of this layout.
 fn stored_zone<S: Alter>(conn: &mut Connection<S>, layout: Layout) -> Result<Zone, OpenFault>
     ensures clean { HasCleanDisk (state S.Store conn.new) → HasCleanDisk (state S.Store conn.old) }
     ensures mode { conn.old.in_transaction ≡ false → conn.new.in_transaction ≡ false }

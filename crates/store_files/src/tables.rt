@@ -1,4 +1,4 @@
-//! The CREATE TABLE statements, in order.
+//! The CREATE TABLE statements of the store, in order.
 ghost use Rattle.sqlite.specs.Held.{state};
 ghost use Rattle.store_tables.specs.Steps.{StepsTo, IsSameBorrow};
 ghost use Rattle.store_files.specs.Growing.{Grows};
@@ -148,7 +148,7 @@ pub(crate) fn create_voids<S: Alter>(tx: &mut Transaction<'_, S>) -> Result<usiz
     )
 }
 
-/// Creates `meta`, and the tables of devices, points and registers.
+/// Creates `meta`, and the tables of devices, points and accounting registers.
 fn create_lists<S: Alter>(tx: &mut Transaction<'_, S>) -> Result<usize, Error>
     ensures same_reference { IsSameBorrow tx.old.conn tx.new.conn }
     ensures does { StepsTo (state S.Store tx.old.conn.now) (state S.Store tx.new.conn.now) result
@@ -183,7 +183,7 @@ fn create_answers<S: Alter>(tx: &mut Transaction<'_, S>) -> Result<usize, Error>
     create_replies(tx)
 }
 
-/// Creates the tables of version 1.
+/// Creates all tables that version 1 has.
 fn create_first<S: Alter>(tx: &mut Transaction<'_, S>) -> Result<usize, Error>
     ensures same_reference { IsSameBorrow tx.old.conn tx.new.conn }
     ensures does { StepsTo (state S.Store tx.old.conn.now) (state S.Store tx.new.conn.now) result

@@ -17,7 +17,7 @@ use crate::tables::{create_last, create_voids};
 use sqlite::{Alter, Connection, Error, Row, Transaction};
 use store_tables::insert_range;
 
-/// Queries the meters of a file of version 1.
+/// Queries the names of the meters in a file of version 1.
 fn meter_rows<S: Alter>(conn: &mut Connection<S>) -> Result<Vec<Row>, Error>
     ensures clean { HasCleanDisk (state S.Store conn.new) → HasCleanDisk (state S.Store conn.old) }
     ensures mode { conn.old.in_transaction ≡ false → conn.new.in_transaction ≡ false }
@@ -34,14 +34,14 @@ fn meter_rows<S: Alter>(conn: &mut Connection<S>) -> Result<Vec<Row>, Error>
     conn.query_all("SELECT meter FROM installations", &[])
 }
 
-/// Reads the meter of a row.
+/// Reads the name of a meter from a row.
 fn meter_in(row: &Row) -> Result<String, Error>
     ensures { IfOk result (λ meter. column row.now 0 ≡ Text (string_bytes meter)) }
 {
     row.get(0)
 }
 
-/// Inserts a range of 2^32 for the meter of each row.
+/// Inserts a range of 2^32 values for the meter of each row.
 fn give_ranges<S: Alter>(tx: &mut Transaction<'_, S>, meters: &[Row]) -> Result<(), Error>
     ensures same_reference { IsSameBorrow tx.old.conn tx.new.conn }
     ensures does { Steps (state S.Store tx.old.conn.now) (state S.Store tx.new.conn.now) result

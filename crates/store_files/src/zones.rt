@@ -1,4 +1,4 @@
-//! The time zone of the civil days.
+//! The time zone of the store's civil days.
 ghost use Rattle.std.specs.Prelude.{◌≡◌, ◌↔◌, IsOk, IfOk, IfErr};
 ghost use Rattle.interval_core.specs.Zone.{HasRule};
 ghost use Rattle.store_files.specs.Zones.{IsZone};
@@ -6,7 +6,7 @@ ghost use Rattle.store_files.specs.Zones.{IsZone};
 use crate::faults::OpenFault;
 use interval_core::Zone;
 
-/// Parses a time zone.
+/// Parses a time zone: a POSIX rule of at most 64 bytes.
 pub(crate) fn zone_of(text: &str) -> Result<Zone, OpenFault>
     ensures read { IsOk result ↔ IsZone text.now }
     ensures value { IfOk result (HasRule text.now) }

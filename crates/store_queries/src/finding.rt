@@ -1,4 +1,5 @@
-//! Queries for devices, lists, registers, polls, kept requests and the latest time.
+//! Queries for devices, point lists, accounting registers, polls, kept requests and the latest
+//! time.
 
 mod device_rows;
 mod kept;

@@ -61,7 +61,7 @@ pub probe_whole : (schema : Schema) → IsWhole (codes "SELECT 1") 0 (understood
 unfolding understood everything
 probe_whole schema = (refl, refl, refl)
 
--- A property of an error also applies to the error that is passed on.
+-- A property of an error is also true of the error that a caller passes on.
 pub passed : {X E : Type 0} (P : E → Type 0) (e : E) (r : Result X E) → IsErrAnd r (λ d. d ≡ e) → P e → IfErr r P
 passed P e (Ok x) fails h = absurd fails
 passed P e (Err d) fails h = subst P (sym fails) h
@@ -124,7 +124,7 @@ module _ (schema : Schema) (sql : List ℕ) (params : Row) (suits : Suits schema
       let bare = subst IsPlain (sym known) suits.plain in
       absurd (let f = subst IsSome bare.0 late.2 in cc)
 
--- From a weaker answer and a weaker error to a result.
+-- A result with a stronger postcondition also has a weaker one.
 pub told : {A : Type 0} (r : Result A Error) (P Q : A → Type 0) (R T : Error → Type 0) → ((a : A) → P a → Q a) → ((e : Error) → R e → T e) → IfOk r P → IfErr r R → MatchResult r Q T
 told (Ok a) P Q R T tells fails ok err = tells a ok
 told (Err e) P Q R T tells fails ok err = fails e err
@@ -140,7 +140,7 @@ pub on_err : {X E : Type 0} {P Q : E → Type 0} (r : Result X E) → ((e : E) �
 on_err (Ok x) f h = tt
 on_err (Err e) f h = f e h
 
--- The state after no call.
+-- Without a call, the state is unchanged.
 pub still_goes : (a : State) → StateAfterCall a a
 still_goes a = record { faults = omega arith; closes = λ is. inl is; limit = refl }
 
@@ -177,7 +177,7 @@ pub later_fault : (a b c : State) (Sound : Type 0) (f : RowFault) → StateAfter
 later_fault a b c Sound (Sql e) goes up why = later_error a b c e goes up why
 later_fault a b c Sound Damaged goes up why = why
 
--- A fault of a part is a fault of the whole.
+-- A fault in a part of the rows is a fault of all rows.
 pub less_fault : (a b : State) (Sound Part : Type 0) (f : RowFault) → (Sound → Part) → IsFault a b Part f → IsFault a b Sound f
 less_fault a b Sound Part (Sql e) part why = why
 less_fault a b Sound Part Damaged part not = λ sound. not (part sound)

@@ -19,7 +19,7 @@ use Rattle.store_tables.specs.Columns.{whole_in, first_of, first_in, or_damaged,
 use Rattle.store_tables.specs.Asking.{Asks, TellsAnswer, ShowsFirst, ReadsRow, LooksUp}
 
 module _ {S A X : Type 0} (g : Ghosts S) (old new : Held S) (tree : ℕ) (columns : X → Row) (IsSound : X → Type 0) (Answers : List X → A → Type 0) (asks : Asks g old new) where
-  -- The query failed.
+  -- If the query failed, the look-up returns its error.
   pub refused : (e : Error) (r : Result A RowFault)
       → (HasCleanDisk (state g new) → (content : Content) → AreTables (state g old).now content → (rows : List X) → HasRows tree columns rows content → IsStoreError (state g old) (state g new) e)
       → IsErrAnd r (λ d. d ≡ Sql e) → LooksUp g old new tree columns IsSound r Answers
@@ -44,7 +44,7 @@ module _ {S A X : Type 0} (g : Ghosts S) (old new : Held S) (tree : ℕ) (column
   some_shown row [] is e = absurd (let f = sym is ∙ ap (λ rs. slice_get rs 0) e in cc)
   some_shown row (x ∷ found) is e = (x, refl, (let f : Some row ≡ Some (shown x) = sym is ∙ ap (λ rs. slice_get rs 0) e in cc))
 
-  -- The query shows no row.
+  -- If the query shows no row, the look-up returns None.
   pub looked_none : slice_get items 0 ≡ None → ((xs found : List X) → AreFound passes Later xs found → slice_get found 0 ≡ None → Answers xs None) → LooksUp g old new tree columns IsSound (Ok None) Answers
   looked_none is tells = record {
     asks = asks;
@@ -52,7 +52,7 @@ module _ {S A X : Type 0} (g : Ghosts S) (old new : Held S) (tree : ℕ) (column
     fault = λ clean content has rows of. tt;
   }
 
-  -- The first row is read.
+  -- If the first row can be read, the look-up returns its value.
   pub looked_some : (IsSeen : X → A → Type 0) (row : Row) (a : A) → slice_get items 0 ≡ Some row → ReadsRow row shown IsSeen IsSound (Ok a)
       → ((xs found : List X) (x : X) → AreFound passes Later xs found → slice_get found 0 ≡ Some x → IsSeen x a → Answers xs (Some a)) → LooksUp g old new tree columns IsSound (Ok (Some a)) Answers
   looked_some IsSeen row a is reads tells = record {
@@ -70,7 +70,7 @@ module _ {S A X : Type 0} (g : Ghosts S) (old new : Held S) (tree : ℕ) (column
       let all = recursion_from_All IsSound (y ∷ found) (All-permutation IsSound _ _ are.all (All-from_recursion IsSound _ (all-filter IsSound passes xs sound))) in
       let same : y ≡ x = cc in subst IsSound same all.0
 
-  -- The first row is not read.
+  -- If the first row can't be read, the look-up returns its fault.
   pub looked_fault : (IsSeen : X → A → Type 0) (row : Row) (e : RowFault) (r : Result (Option A) RowFault) → slice_get items 0 ≡ Some row → ReadsRow row shown IsSeen IsSound (Err e) → IsErrAnd r (λ d. d ≡ e)
       → LooksUp g old new tree columns IsSound r Answers
   looked_fault IsSeen row e (Ok a) is reads fails = absurd fails

@@ -28,7 +28,7 @@ module _ {A B : Type 0} (Sound : Type 0) (Is : B → Type 0) (next : A → Resul
   tested true x sound rest = rest
   tested false x sound rest = record { read = tt; fault = λ is. let f = sound is in cc }
 
-  -- A column that is in its range.
+  -- A column that is in its range, before the other columns of the row.
   pub fair_some : (o : Option A) (x : A) → o ≡ Some x → IsFair Sound Is (next x) → IsFair Sound Is (and_then (or_damaged o) next)
   fair_some o x is rest = rw is rest
 
@@ -37,7 +37,7 @@ both true b e f = f
 both false b e f = absurd (let g = e in cc)
 
 module _ {B : Type 0} (Sound : Type 0) (Is : B → Type 0) where
-  -- An integer within its bounds.
+  -- An integer column within its bounds, before the other columns of the row.
   pub fair_whole : (next : ℕ → Result B RowFault) (low high n : ℕ) → (Sound → (low ≤ n) × (n ≤ high)) → IsFair Sound Is (next n) → IsFair Sound Is (and_then (or_damaged (whole_in low high (Int (pos n)))) next)
   fair_whole next low high n sound rest = tested Sound Is next (nat_le low n && nat_le n high) n (λ is. both _ _ (le-leb low n (sound is).0) (le-leb n high (sound is).1)) rest
 
@@ -48,12 +48,12 @@ module _ {B : Type 0} (Sound : Type 0) (Is : B → Type 0) where
   if_fair true x sound is = record { read = is; fault = tt }
   if_fair false x sound is = record { read = tt; fault = λ s. let f = sound s in cc }
 
-  -- A part of the row that has its own reader.
+  -- A part of the row that has a reader of its own, before the other columns.
   pub fair_then : {A : Type 0} (Part : Type 0) (a : A) (first : Result A RowFault) (next : A → Result B RowFault) → (Sound → Part) → IsFair Part (λ x. x ≡ a) first → IsFair Sound Is (next a) → IsFair Sound Is (and_then first next)
   fair_then Part a (Ok x) next part one rest = subst (λ y. IsFair Sound Is (next y)) (sym one.read) rest
   fair_then Part a (Err e) next part one rest = record { read = tt; fault = less_sound Sound Part part e one.fault }
 
--- The last integer of a row.
+-- An integer column within its bounds that is the last column of the row.
 pub fair_last : (Sound : Type 0) (Is : ℕ → Type 0) (low high n : ℕ) → (Sound → (low ≤ n) × (n ≤ high)) → Is n → IsFair Sound Is (or_damaged (whole_in low high (Int (pos n))))
 fair_last Sound Is low high n sound is = if_fair Sound Is (nat_le low n && nat_le n high) n (λ s. both _ _ (le-leb low n (sound s).0) (le-leb n high (sound s).1)) is
 
@@ -64,7 +64,7 @@ then_read (Err f) next b e = absurd (let g = e in cc)
 
 -- ---- what was read is within its bounds
 
--- A value was read, and then the remaining columns.
+-- A value `x` was read from a column, and then `b` from the remaining columns.
 pub record HasRead {X B : Type 0} (o : Option X) (next : X → Result B RowFault) (b : B) : Type 0 where
   pub value : X
   pub is : o ≡ Some value

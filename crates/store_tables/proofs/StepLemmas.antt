@@ -36,7 +36,7 @@ pub ran : (sql : List ℕ) (params : Row) (old new : State) (r : Result ℕ Erro
 ran sql params old new (Ok count) Q f h = f h.0
 ran sql params old new (Err e) Q f h = tt
 
--- One statement.
+-- One statement inside a transaction.
 pub steps : (sql : List ℕ) (params : Row) (old new : State) (r : Result ℕ Error) (Goes : Database → Database → Type 0)
     → (HasCleanDisk new → IsTrue old.in_transaction → ExecutesInside 0 sql params old new r) → Survives old new (λ _. ⊥)
     → (Executes sql params old new r → OnOk r (Goes old.now new.now)) → StepsTo old new r Goes
@@ -62,7 +62,7 @@ turns_then schema a b c P Q R goes one two content has =
     let second = two first.0 first.2 in
     (second.0, goes content first.0 second.0 first.1 second.1, second.2)
 
--- Two steps, the first of them Ok.
+-- If the first of two calls is Ok, the two calls together are one step.
 pub goes_then : {X Y D E : Type 0} (a b c : State) (x : X) (r : Result Y E) (P Q R : Database → Database → Type 0) → StepsTo {X = X} {E = D} a b (Ok x) P → StepsTo b c r Q
     → (P a.now b.now → Q b.now c.now → R a.now c.now) → StepsTo a c r R
 goes_then a b c x r P Q R one two goes = record {
@@ -78,7 +78,7 @@ pub steps_then : {X Y D E : Type 0} (a b c : State) (x : X) (r : Result Y E) (P 
     → ((x y z : Content) → P x y → Q y z → R x z) → StepsTo a c r (Turns R)
 steps_then a b c x r P Q R one two goes = goes_then a b c x r (Turns P) (Turns Q) (Turns R) one two (turns_then _ a.now b.now c.now P Q R goes)
 
--- No step.
+-- Without any call, the tables are unchanged.
 pub no_steps : {X E : Type 0} (a : State) (x : X) → StepsTo {X = X} {E = E} a a (Ok x) (Turns (λ content after. after ≡ content))
 no_steps a x = record {
   kept = λ clean inside. record { was_open = λ still. still; committed = λ still. refl };
@@ -91,11 +91,11 @@ no_steps a x = record {
 pub failed : {X Y D E : Type 0} (a b : State) (e : D) (d : E) (P Q : Database → Database → Type 0) → StepsTo {X = X} a b (Err e) P → StepsTo {X = Y} a b (Err d) Q
 failed a b e d P Q one = record { kept = one.kept; inside = λ clean inside. tt; rows = λ clean inside. tt; survives = one.survives }
 
--- A step with another result value.
+-- A step with one Ok value is a step with any other Ok value.
 pub answered : {X Y D E : Type 0} (a b : State) (x : X) (y : Y) (P : Database → Database → Type 0) → StepsTo {X = X} {E = D} a b (Ok x) P → StepsTo {X = Y} {E = E} a b (Ok y) P
 answered a b x y P one = record { kept = one.kept; inside = one.inside; rows = one.rows; survives = one.survives }
 
--- A step with a weaker postcondition.
+-- A step whose postcondition is implied by that of another step.
 pub weaker : {X E : Type 0} (a b : State) (r : Result X E) (P Q : Database → Database → Type 0) → (P a.now b.now → Q a.now b.now) → StepsTo a b r P → StepsTo a b r Q
 weaker a b r P Q tells one = record { kept = one.kept; inside = one.inside; rows = λ clean inside. on_ok r tells (one.rows clean inside); survives = one.survives }
 
@@ -116,7 +116,7 @@ module _ {S : Type 0} (g : Ghosts S) (old : Held S) (mid end : State) (Goes : Da
   kept_begun : (new : State) → KeepsCommit (state g (record old { in_transaction = true })) new → KeepsCommit (state g old) new
   kept_begun new k = record { was_open = k.was_open; committed = k.committed }
 
-  -- A transaction up to its commit.
+  -- A transaction whose calls before the commit succeeded.
   pub transacted : {D : Type 0} (r : Result (Unit {0}) Error) → StepsTo {X = Unit {0}} {E = D} (state g (record old { in_transaction = true })) mid (Ok tt) Goes
       → (HasCleanDisk end → OnOk r (IsTrue mid.in_transaction × Shows mid end mid.now mid.now false × KeepsCounts mid end × (end.marks ≡ []))) → (HasCleanDisk end → IfErr r (FailsToCommit mid end))
       → Survives mid end (λ db. db ≡ mid.now.trees) → TransactsTo (state g old) end r Goes
@@ -133,7 +133,7 @@ module _ {S : Type 0} (g : Ghosts S) (old : Held S) (mid end : State) (Goes : Da
             (λ _ db none. absurd none) (λ clean db is. (mid.now, turns clean, is)) done.survives crash);
       }
 
-  -- A transaction that was rolled back.
+  -- A transaction that was rolled back leaves the last commit.
   pub given_up : {X Y D E : Type 0} (e : D) (d : E) → StepsTo {X = X} (state g (record old { in_transaction = true })) mid (Err e) Goes → (HasCleanDisk end → IsRolledBack mid end) → Survives mid end (λ _. ⊥)
       → TransactsTo {X = Y} (state g old) end (Err d) Goes
   given_up e d done undone crash =
@@ -166,7 +166,7 @@ pub asked_kept : {X : Type 0} (sql : List ℕ) (params : Row) (old new : State) 
 asked_kept sql params old new (Ok x) rows plain ok err = unchanged_kept old new (shown_same sql params old new (rows x) plain ok)
 asked_kept sql params old new (Err e) rows plain ok err = failed_query_kept sql params old new e plain err
 
--- A text means the same in a database of the same schema.
+-- An SQL text has the same meaning in all databases with the same schema.
 pub plain_in : (schema : Schema) (sql : List ℕ) (d : Database) → d.schema ≡ schema → IsPlain (understood schema sql) → IsPlain (understood d.schema sql)
 plain_in schema sql d has plain = subst (λ s. IsPlain (understood s sql)) (sym has) plain
 
@@ -174,7 +174,7 @@ plain_in schema sql d has plain = subst (λ s. IsPlain (understood s sql)) (sym 
 pub shown_survives : (sql : List ℕ) (params : Row) (old new : State) → IsPlain (understood old.now.schema sql) → Survives old new (CommitsShowing sql params old) → Survives old new (λ _. ⊥)
 shown_survives sql params old new plain = survives_weaker old new _ _ (λ _ db. never_commits sql params old db plain)
 
--- A look-up by one query.
+-- What `Asks` states is true of a look-up by one query.
 pub asks : {S X : Type 0} (g : Ghosts S) (sql : List ℕ) (params : Row) (old new : Held S) (r : Result X Error) (rows : X → List Row) → IsPlain (understood books_schema sql)
     → (HasCleanDisk (state g new) → IfOk r (λ x. Shown sql params (state g old) (state g new) (rows x))) → (HasCleanDisk (state g new) → IfErr r (FailsToQuery sql params (state g old) (state g new)))
     → (old.in_transaction ≡ false → new.in_transaction ≡ false) → Survives (state g old) (state g new) (CommitsShowing sql params (state g old)) → Asks g old new
@@ -196,7 +196,7 @@ shown_still : {X : Type 0} (sql : List ℕ) (params : Row) (old new : State) (r 
 shown_still sql params old new (Ok x) rows plain ok inside = let same = shown_same sql params old new (rows x) plain ok in (same.0.mode ∙ inside, same.0.now_is)
 shown_still sql params old new (Err e) rows plain ok inside = tt
 
--- The same inside a transaction.
+-- What `AsksInside` states is true of one query inside a transaction.
 pub asks_inside : {S X : Type 0} (g : Ghosts S) (sql : List ℕ) (params : Row) (old new : Held S) (r : Result X Error) (rows : X → List Row) → IsPlain (understood books_schema sql)
     → (HasCleanDisk (state g new) → IfOk r (λ x. Shown sql params (state g old) (state g new) (rows x)))
     → (HasCleanDisk (state g new) → IfErr r (λ e. FailsToQuery sql params (state g old) (state g new) e ⊎ IsTooLate sql params (state g old) (state g new) e))

@@ -1,4 +1,4 @@
--- The effect and the answer of a query.
+-- What a query leaves unchanged, and how its answer follows from the rows.
 use Rattle.std.specs.Prelude.{◌≡◌, ℕ, Bool, false, List, take, map, Result, Vec, IsTrue, IfOk, IfErr, OnOk, MatchResult}
 use Rattle.std.specs.List.{AllByRecursion}
 use Rattle.sqlite.specs.Order.{Row}
@@ -11,7 +11,8 @@ use Rattle.store_tables.specs.Failing.{IsStoreError, IsFault, IsRowFault}
 use Rattle.store_tables.specs.Content.{Content, AreTables, HasRows}
 use Rattle.store_tables.specs.Answer.{AreFound}
 
--- A query commits nothing and opens no transaction, over a database with the store's schema.
+-- What a query of a database with the store's schema leaves unchanged: it commits nothing, and
+-- opens no transaction.
 pub record Asks {S : Type 0} (g : Ghosts S) (old new : Held S) : Type 0 where
   pub clean : HasCleanDisk (state g new) → HasCleanDisk (state g old)
   pub mode : old.in_transaction ≡ false → new.in_transaction ≡ false
@@ -20,8 +21,8 @@ pub record Asks {S : Type 0} (g : Ghosts S) (old new : Held S) : Type 0 where
   pub survives : (content : Content) → AreTables (state g old).now content
       → Survives (state g old) (state g new) (λ _. ⊥)
 
--- The same inside a transaction. A query that succeeds leaves the rows of the transaction
--- unchanged.
+-- What a query inside a transaction leaves unchanged: it commits nothing. If it succeeds, the
+-- transaction stays open with the same rows.
 pub record AsksInside {S X E : Type 0} (g : Ghosts S) (old new : Held S) (result : Result X E) :
     Type 0 where
   pub kept : HasCleanDisk (state g new) → (content : Content) → AreTables (state g old).now content
@@ -32,19 +33,20 @@ pub record AsksInside {S X E : Type 0} (g : Ghosts S) (old new : Held S) (result
       → OnOk result (IsTrue new.in_transaction × ((state g new).now ≡ (state g old).now))
   pub survives : Survives (state g old) (state g new) (λ _. ⊥)
 
--- The rows that a SELECT shows: those of a table that pass its test, in its order.
+-- `answer` has the rows that a SELECT shows: the table's rows that pass its test, in its order.
 abbrev pub Shows : {X : Type 0} → (passes : X → Bool) → (Later : X → X → Type 0) → (shown : X → Row)
     → (rows : List X) → (answer : List Row) → Type 0
 Shows {X} passes Later shown rows answer =
     (found : List X) × AreFound passes Later rows found × (answer ≡ map shown found)
 
--- The first row that a SELECT shows.
+-- `answer` has the first row that a SELECT shows, or no row if it shows none.
 abbrev pub ShowsFirst : {X : Type 0} → (passes : X → Bool) → (Later : X → X → Type 0)
     → (shown : X → Row) → (rows : List X) → (answer : List Row) → Type 0
 ShowsFirst {X} passes Later shown rows answer =
     (found : List X) × AreFound passes Later rows found × (answer ≡ take 1 (map shown found))
 
--- The answer follows from the rows of one table. An error has one of the causes of `IsStoreError`.
+-- An Ok answer follows from the rows of one table. An error has one of the causes of
+-- `IsStoreError`.
 abbrev pub TellsAnswer : {S A X : Type 0} → Ghosts S → (old new : Held S) → (tree : ℕ)
     → (columns : X → Row) → (result : Result A Error) → (Answers : List X → A → Type 0) → Type 0
 TellsAnswer {S} {A} {X} g old new tree columns result Answers =
@@ -52,22 +54,24 @@ TellsAnswer {S} {A} {X} g old new tree columns result Answers =
     → (rows : List X) → HasRows tree columns rows content
     → MatchResult result (Answers rows) (IsStoreError (state g old) (state g new))
 
--- The same for an answer that is a list of rows.
+-- An Ok list of rows follows from the rows of one table. An error has one of the causes of
+-- `IsStoreError`.
 abbrev pub TellsRows : {S X Z : Type 0} → Ghosts S → (old new : Held S) → (tree : ℕ)
     → (columns : X → Row) → (result : Result (Vec Row Z) Error)
     → (Answers : List X → List Row → Type 0) → Type 0
 TellsRows {S} {X} {Z} g old new tree columns result Answers =
     TellsAnswer g old new tree columns result (λ rows answer. Answers rows answer.items)
 
--- A result row that shows a value is read back as the value. Damage is reported only for a value
--- out of its ranges. Otherwise only a lack of memory prevents the read.
+-- A result row that shows a value is read back as this value. `Damaged` is reported only for a
+-- value out of its range. The only other fault is out of memory.
 pub record ReadsRow {A X : Type 0} (row : Row) (shown : X → Row) (IsSeen : X → A → Type 0)
     (IsSound : X → Type 0) (result : Result A RowFault) : Type 0 where
   pub read : (x : X) → row ≡ shown x → IfOk result (IsSeen x)
   pub fault : (x : X) → row ≡ shown x → IfErr result (IsRowFault (IsSound x))
 
--- A look-up queries one table and answers from its rows. Damage is reported only if a row is out of
--- its ranges. Any other fault has one of the causes of `IsStoreError`.
+-- A look-up queries one table, and an Ok answer follows from the table's rows. `Damaged` is
+-- reported only if a row is out of its ranges. Any other fault has one of the causes of
+-- `IsStoreError`.
 pub record LooksUp {S A X : Type 0} (g : Ghosts S) (old new : Held S) (tree : ℕ) (columns : X → Row)
     (IsSound : X → Type 0) (result : Result A RowFault) (Answers : List X → A → Type 0) : Type 0
   where

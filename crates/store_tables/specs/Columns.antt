@@ -10,7 +10,7 @@ use Rattle.sqlite.specs.declared.types.Value.TheVariants.{Null, Int, Real, Text,
 use Rattle.store_tables.specs.declared.faults.RowFault.{RowFault}
 use Rattle.store_tables.specs.declared.faults.RowFault.TheVariants.{Damaged}
 
--- An integer from `low` to `high`.
+-- The integer that a value has, if it is from `low` to `high`.
 abbrev pub whole_in : (low high : ℕ) → Value → Option ℕ
 whole_in low high (Int (pos n)) = if nat_le low n && nat_le n high then Some n else None
 whole_in low high (Int (negsuc n)) = None
@@ -24,7 +24,7 @@ abbrev pub is_within : (bound : ℕ) → ℤ → Bool
 is_within bound (pos n) = nat_le n bound
 is_within bound (negsuc n) = nat_le (suc n) bound
 
--- An integer from `-bound` to `bound`.
+-- The integer that a value has, if it is from `-bound` to `bound`.
 abbrev pub within : (bound : ℕ) → Value → Option ℤ
 within bound (Int n) = if is_within bound n then Some n else None
 within bound Null = None
@@ -32,32 +32,34 @@ within bound (Real x) = None
 within bound (Text t) = None
 within bound (Blob b) = None
 
--- The Modbus read function with this code.
+-- The Modbus read function with this function code, if there is one.
 abbrev pub function_of : ℕ → Option ReadFunction
 function_of code =
     if code == 3 then Some HoldingRegisters else if code == 4 then Some InputRegisters else None
 
--- The Modbus read function that a value encodes.
+-- The Modbus read function whose code a value has, if there is one.
 abbrev pub function_in : Value → Option ReadFunction
 function_in v = option_and_then function_of (whole_in 3 4 v)
 
--- The value, or damage if there is none.
+-- The value as Ok, or `Damaged` if there is no value.
 abbrev pub or_damaged : {X : Type 0} → Option X → Result X RowFault
 or_damaged None = Err Damaged
 or_damaged (Some x) = Ok x
 
--- Continues with the next column, unless this column is damaged.
+-- Passes an Ok column to the reader of the next column. A damaged column ends the row as damaged.
 abbrev pub and_then : {X Y : Type 0} → Result X RowFault → (X → Result Y RowFault)
     → Result Y RowFault
 and_then (Err e) next = Err e
 and_then (Ok x) next = next x
 
--- The integer in the first column of a row, if there is a row.
+-- The integer in the first column of the row, or None without a row. An integer outside `low` to
+-- `high` is damage.
 abbrev pub first_of : (low high : ℕ) → Option Row → Result (Option ℕ) RowFault
 first_of low high None = Ok None
 first_of low high (Some row) =
     and_then (or_damaged (whole_in low high (column row 0))) (λ n. Ok (Some n))
 
--- The integer in the first column of the first row, if there is a row.
+-- The integer in the first column of the first row, or None without rows. An integer outside `low`
+-- to `high` is damage.
 abbrev pub first_in : (low high : ℕ) → List Row → Result (Option ℕ) RowFault
 first_in low high rows = first_of low high (slice_get rows 0)

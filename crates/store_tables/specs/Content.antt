@@ -1,4 +1,4 @@
--- The rows of the tables, and the edits that statements make.
+-- The rows of the store's tables, and the changes that SQL statements make to them.
 use Rattle.std.specs.Prelude.{◌≡◌, ◌≢◌, ◌⊎◌, ℕ, ℤ, ◌==◌, Bool, true, false, List, [], ◌∷◌, map, drop, filter, not, if◌then◌else◌}
 use Rattle.std.specs.List.{list_any, AllByRecursion, IsDistinct}
 use Rattle.std.specs.List.Sorted.{IsPermutation}
@@ -12,21 +12,23 @@ use Rattle.sqlite.specs.Schema.{Schema}
 use Rattle.sqlite.specs.Effect.{Database, IsDatabase}
 use Rattle.store_tables.specs.Schema.{books_schema}
 
--- A table of the list has this tree number.
+-- A table in the list is stored in the tree (B-tree) with this number.
 abbrev pub HasTree : List Table → ℕ → Type 0
 HasTree [] t = ⊥
 HasTree (x ∷ xs) t = (t ≡ x.tree) ⊎ HasTree xs t
 
--- The rows of each table, by the table's tree number, in any order. If a table's integer primary
--- key is its rowid, its rows begin with the rowid, and the key's own column is NULL.
+-- The rows of each table, in any order. The key is the number of the table's tree. If a table's
+-- integer primary key is its rowid, its rows begin with the rowid, and the key's own column is
+-- NULL.
 abbrev pub Content : Type 0
 Content = ℕ → List Row
 
--- The tables whose primary key is their rowid.
+-- Whether the primary key of the table with this tree number is its rowid.
 abbrev pub is_numbered : ℕ → Bool
 is_numbered t = list_any (λ n. n == t) (0 ∷ 1 ∷ 5 ∷ 7 ∷ 11 ∷ 12 ∷ 13 ∷ [])
 
--- The columns of a stored row, without a rowid that SQLite chose.
+-- The columns of a stored row. The first column, the rowid, is dropped from a row whose rowid
+-- SQLite chose.
 abbrev pub told : Bool → Row → Row
 told true row = row
 told false row = drop 1 row
@@ -39,12 +41,12 @@ id_of r = id_in (rowid r)
 abbrev pub same_id : ℤ → ℤ → Bool
 same_id x y = is_eq (int_cmp x y)
 
--- Each row has a rowid, and no two rows have the same.
+-- Each row has an integer rowid, and no two rows have equal rowids.
 pub record AreApart (rows : List Row) : Type 0 where
   pub keyed : AllByRecursion (λ r. rowid r ≡ Int (id_of r)) rows
   pub distinct : IsDistinct same_id (map id_of rows)
 
--- A database of this schema has these rows.
+-- A database has this schema, and its tables have the rows of `content`.
 pub record AreTablesIn (form : Schema) (db : Database) (content : Content) : Type 0 where
   pub schema : db.schema ≡ form
   pub rows : (t : ℕ) → HasTree form.tables t
@@ -52,7 +54,7 @@ pub record AreTablesIn (form : Schema) (db : Database) (content : Content) : Typ
   pub apart : (t : ℕ) → HasTree form.tables t → AreApart (db.trees t)
   pub sound : IsDatabase db
 
--- A database of the store's schema has these rows.
+-- A database has the store's schema, and its tables have the rows of `content`.
 abbrev pub AreTables : Database → Content → Type 0
 AreTables = AreTablesIn books_schema
 
@@ -64,20 +66,22 @@ with_rows k rows content t = if t == k then rows else content t
 abbrev pub HasRows : {X : Type 0} → (tree : ℕ) → (columns : X → Row) → List X → Content → Type 0
 HasRows tree columns xs content = IsPermutation (map columns xs) (content tree)
 
--- The edit applies to all rows of one table. Every other table is unchanged.
+-- The table with number `tree` has the rows that `edit` makes of its old rows. Every other table is
+-- unchanged.
 pub record Edits {X : Type 0} (tree : ℕ) (columns : X → Row) (edit : List X → List X)
     (content after : Content) : Type 0 where
   pub rows : (xs : List X) → HasRows tree columns xs content → HasRows tree columns (edit xs) after
   pub others : (t : ℕ) → t ≢ tree → after t ≡ content t
 
--- The three edits: add a row, change the rows that pass a test, delete the rows that pass a test.
+-- The rows with `x` added. `changed_where` and `without_where` are the other two changes of a
+-- table's rows.
 abbrev pub with_row : {X : Type 0} → X → List X → List X
 with_row x xs = x ∷ xs
 
--- The rows that pass a test are changed.
+-- The rows, with each row that passes the test `p` changed by `f`.
 abbrev pub changed_where : {X : Type 0} → (X → Bool) → (X → X) → List X → List X
 changed_where p f xs = map (λ x. if p x then f x else x) xs
 
--- The rows that pass a test are deleted.
+-- The rows that do not pass the test `p`.
 abbrev pub without_where : {X : Type 0} → (X → Bool) → List X → List X
 without_where p xs = filter (λ x. not (p x)) xs

@@ -3,11 +3,11 @@ use Rattle.std.specs.Prelude.{ℕ, ◌≤◌}
 use Rattle.poll_core.specs.declared.limits.TheConstants.{LAST_MOMENT}
 use Rattle.store_tables.specs.declared.limits.TheConstants.{GREATEST_PLACE}
 
--- The greatest index of a row, and the greatest number of a poll.
+-- The greatest index of a row, and the greatest number of a poll: 2^62.
 abbrev pub greatest_place : ℕ
 greatest_place = GREATEST_PLACE
 
--- An index of a row: at least 1, and in range.
+-- An index of a row is from 1 to `greatest_place`.
 abbrev pub IsPlace : ℕ → Type 0
 IsPlace place = (1 ≤ place) × (place ≤ greatest_place)
 

@@ -1,4 +1,4 @@
--- The effect of a call inside a transaction, and of a complete transaction.
+-- The effect of a call inside a transaction, and the effect of a complete transaction.
 use Rattle.std.specs.Prelude.{◌≡◌, Result, IsTrue, OnOk, OnErr}
 use Rattle.std.specs.Borrow.{MutBor}
 use Rattle.sqlite.specs.Effect.{Database}
@@ -7,22 +7,23 @@ use Rattle.sqlite.specs.State.{State, HasCleanDisk, KeepsCommit, Survives}
 use Rattle.store_tables.specs.Schema.{books_schema}
 use Rattle.store_tables.specs.Content.{Content, AreTablesIn}
 
--- The same borrow, by its ghost name: the lender of the connection gets back the state that the
--- call left.
+-- Both are borrows of the same connection. Its owner gets back the state that the call left.
 abbrev pub IsSameBorrow : {X : Type 0} → MutBor X → MutBor X → Type 0
 IsSameBorrow old new = new.ghost_name ≡ old.ghost_name
 
--- The new tables have a content that `Makes` allows after the old content.
+-- For each content of the old database, the new one has a content that `Makes` relates to it. Both
+-- databases have this schema.
 abbrev pub TurnsIn : Schema → (Content → Content → Type 0) → Database → Database → Type 0
 TurnsIn schema Makes old new = (content : Content) → AreTablesIn schema old content
     → (after : Content) × Makes content after × AreTablesIn schema new after
 
--- The same for databases of the store's schema.
+-- For each content of the old database, the new one has a content that `Makes` relates to it. Both
+-- have the store's schema.
 abbrev pub Turns : (Content → Content → Type 0) → Database → Database → Type 0
 Turns = TurnsIn books_schema
 
--- A step inside a transaction. At Ok, `Goes` relates the new database to the old. Nothing is
--- committed.
+-- A call inside a transaction. At Ok, `Goes` relates the new database to the old one. The call
+-- commits nothing.
 pub record StepsTo {X E : Type 0} (old new : State) (result : Result X E)
     (Goes : Database → Database → Type 0) : Type 0 where
   pub kept : HasCleanDisk new → IsTrue old.in_transaction → KeepsCommit old new
@@ -31,13 +32,14 @@ pub record StepsTo {X E : Type 0} (old new : State) (result : Result X E)
   pub rows : HasCleanDisk new → IsTrue old.in_transaction → OnOk result (Goes old.now new.now)
   pub survives : Survives old new (λ _. ⊥)
 
--- At Ok, `Makes` relates the new content of the store's tables to the old content.
+-- A call inside a transaction. At Ok, `Makes` relates the new content of the store's tables to the
+-- old content.
 abbrev pub Steps : {X E : Type 0} → State → State → Result X E → (Content → Content → Type 0)
     → Type 0
 Steps old new result Makes = StepsTo old new result (Turns Makes)
 
--- A complete transaction. Everything is committed, or nothing is. A crash leaves the old rows, or
--- all changes.
+-- A complete transaction. At Ok it commits everything, and on an error nothing. A crash leaves the
+-- old rows, or all changes.
 pub record TransactsTo {X E : Type 0} (old new : State) (result : Result X E)
     (Goes : Database → Database → Type 0) : Type 0 where
   pub ok : HasCleanDisk new

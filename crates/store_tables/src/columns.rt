@@ -11,7 +11,7 @@ use mb_wire::ReadFunction;
 use sqlite::types::ValueRef;
 use sqlite::{Error, ErrorCode, Row};
 
-/// Reads a column as an integer from `low` to `high`.
+/// Reads the column at index `at` as an integer from `low` to `high`. Anything else is damage.
 pub fn whole(row: &Row, at: usize, low: u64, high: u64) -> Result<u64, RowFault>
     ensures read { result ≡ or_damaged (whole_in low high (column row.now at)) }
     ensures bounds { IfOk result (λ n. (low ≤ n) × (n ≤ high)) }
@@ -32,7 +32,8 @@ pub fn whole(row: &Row, at: usize, low: u64, high: u64) -> Result<u64, RowFault>
     }
 }
 
-/// Reads the first column of the first row as an integer from `low` to `high`, if there is a row.
+/// Reads the first column of the first row as an integer from `low` to `high`. Returns None without
+/// rows.
 pub fn first_whole(rows: &[Row], low: u64, high: u64) -> Result<Option<u64>, RowFault>
     ensures read { result ≡ first_in low high rows.now }
     ensures bounds { IfOk result (λ found. IfSome found (λ n. (low ≤ n) × (n ≤ high))) }
@@ -43,7 +44,8 @@ pub fn first_whole(rows: &[Row], low: u64, high: u64) -> Result<Option<u64>, Row
     }
 }
 
-/// Reads a column as a SunSpec scale factor from -3 to 3, the range that the store keeps.
+/// Reads the column at index `at` as a SunSpec scale factor from -3 to 3, the range that the store
+/// keeps.
 pub fn scale(row: &Row, at: usize) -> Result<i16, RowFault>
     ensures { result ≡ or_damaged (within 3 (column row.now at)) }
 {
@@ -59,7 +61,7 @@ pub fn scale(row: &Row, at: usize) -> Result<i16, RowFault>
     }
 }
 
-/// Reads a column as the Modbus function code of a read: 3 or 4.
+/// Reads the column at index `at` as the Modbus function code of a read: 3 or 4.
 pub fn function(row: &Row, at: usize) -> Result<ReadFunction, RowFault>
     ensures { result ≡ or_damaged (function_in (column row.now at)) }
 {
@@ -70,7 +72,8 @@ pub fn function(row: &Row, at: usize) -> Result<ReadFunction, RowFault>
     }
 }
 
-/// Reads a column as a text. A column of another type, or a text that is not UTF-8, is damage.
+/// Reads the column at index `at` as a text. A column of another type, or a text that is not UTF-8,
+/// is damage.
 pub fn text(row: &Row, at: usize) -> Result<String, RowFault>
     ensures read { IfOk result (λ s. column row.now at ≡ Text (string_bytes s)) }
     ensures fault { (t : _) → column row.now at ≡ Text t → IfErr result (IsRowFault (IsUtf8 t)) }

@@ -1,4 +1,4 @@
-//! The reasons why a look-up returns no value.
+//! Why a look-up in the tables returns no value.
 use sqlite::Error;
 use std::fmt;
 use std::fmt::{Display, Formatter};

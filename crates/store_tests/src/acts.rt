@@ -1,5 +1,5 @@
-//! What the tests do over a database, and the one place that does it over files in memory. The gate
-//! pays for each place that names the type of a store.
+//! The acts of the tests over a database. Only this file runs them over files in memory, because
+//! the gate takes longer for each place that names the type of a store.
 use crate::stops::asked::Asked;
 use crate::stops::files::{Stop, Stopping, connected, files};
 use crate::stops::offices::play;
@@ -11,20 +11,22 @@ use sqlite_disk::{Fuse, Memory};
 use std::alloc::Global;
 use std::process::Abort;
 
-/// An act over a database.
+/// An act of a test over a database.
 #[derive(Clone, Copy, Debug)]
 pub(crate) enum Act {
-    /// Makes a file of version 1.
+    /// Creates a file of version 1.
     Prepare,
-    /// Opens a file, which brings it to today's version.
+    /// Opens a file of version 1, which upgrades it to version 3.
     Bring,
-    /// Plays all steps of an office.
+    /// Plays all steps of an office, and then this request.
     Play(Asked),
-    /// Asserts what the file holds after a crash, where so many steps were acknowledged.
+    /// Asserts what the upgraded file holds after a crash. The number is that of the acknowledged
+    /// steps.
     Brought(usize),
-    /// Asserts what the office holds after a crash, where so many steps were acknowledged.
+    /// Asserts what the office's file holds after a crash. The number is that of the acknowledged
+    /// steps.
     Played(Asked, usize),
-    /// Tests an empty database.
+    /// Runs a test that begins with an empty database.
     Damage,
     Databases,
     HeldReadings,
@@ -32,7 +34,7 @@ pub(crate) enum Act {
     RefusedFacts,
 }
 
-/// Acts over a database. Returns how many steps were acknowledged, and the store.
+/// Runs an act over a database. Returns how many steps were acknowledged, and the store.
 fn act_over<S: Alter + Drop>(
     rt: &impl Abort,
     alloc: Global,
@@ -56,7 +58,8 @@ fn act_over<S: Alter + Drop>(
     }
 }
 
-/// Acts over the database in these files. Returns how many steps were acknowledged, and the files.
+/// Runs an act over the database in these files. Returns how many steps were acknowledged, and the
+/// files.
 pub(crate) fn act_in(
     rt: &impl Abort,
     alloc: Global,
@@ -75,7 +78,7 @@ pub(crate) fn act_in(
     }
 }
 
-/// Returns the files of an empty database, where no call fails.
+/// Returns the files of an empty database. None of their calls fails.
 pub(crate) fn empty_files(rt: &impl Abort, alloc: Global) -> Files<Fuse<Memory>> {
     let never = Stop {
         file: Stopping::Log,
@@ -85,7 +88,7 @@ pub(crate) fn empty_files(rt: &impl Abort, alloc: Global) -> Files<Fuse<Memory>>
     files(rt, alloc, b"", b"", never)
 }
 
-/// The tests over an empty database.
+/// The tests that begin with an empty database.
 static TESTS: [Act; 5] = [
     Act::Damage,
     Act::Databases,
@@ -94,8 +97,8 @@ static TESTS: [Act; 5] = [
     Act::RefusedFacts,
 ];
 
-// A store counts its failures. It returns a database without an office. It returns rejected
-// readings with all fields, and the days of a range. Records that it refuses leave no row.
+// A store counts its failures, and returns a database that has no office. It returns rejected
+// readings with all fields, and the days of a range. Records that the store refuses leave no row.
 #[test]
 fn stores_keep_what_they_promise(rt: HostRuntime) {
     for act in &TESTS {

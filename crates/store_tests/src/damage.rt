@@ -1,5 +1,5 @@
-//! A store with damage answers the question that reads the damage with a failure, and counts its
-//! failures. Checks of the program damage every column (`tests/damaged_rows.py`).
+//! A store with damaged rows. A query that reads the damage fails, and the store counts its
+//! failures. `tests/damaged_rows.py` damages every column.
 use crate::made::{found, opened};
 use crate::refused_facts::known_device;
 use crate::tables::strict;
@@ -9,7 +9,7 @@ use sqlite::{Alter, Connection};
 use std::alloc::Global;
 use std::process::Abort;
 
-/// Asserts that an office refuses the question that reads the damage, for this cause. Returns the
+/// Asserts that an office refuses the query that reads the damage, with this cause. Returns the
 /// store.
 fn asked<B: Books>(rt: &impl Abort, alloc: Global, books: B) -> B {
     let mut office = opened(rt, alloc, books, 5000);
@@ -18,8 +18,8 @@ fn asked<B: Books>(rt: &impl Abort, alloc: Global, books: B) -> B {
     office.into_books()
 }
 
-/// Asserts failures and their count, where each entry has a counter below zero. A known device is
-/// refused. Returns the store.
+/// Asserts the failures of a store and their count, where each entry has a counter below zero. A
+/// known device is refused. Returns the store.
 pub(crate) fn failures_are_counted<S: Alter + Drop>(
     rt: &impl Abort,
     alloc: Global,

@@ -1,11 +1,12 @@
-//! Databases that hold no office are returned. None is made or opened inside a transaction.
+//! A database that has no office is returned to the caller. No store is created or opened inside a
+//! transaction.
 use office_store::SqlBooks;
 use sqlite::{Alter, Connection};
 use std::alloc::Global;
 use std::process::Abort;
 
-/// Makes a store in a zone, or opens one. Returns the number of the fault, or 0, and the
-/// connection.
+/// Creates a store with this time zone, or opens one if there is no time zone. Returns the number
+/// of the fault, or 0, and the connection.
 fn opening<S: Alter + Drop>(
     alloc: Global,
     connection: Connection<S>,
@@ -21,8 +22,8 @@ fn opening<S: Alter + Drop>(
     }
 }
 
-/// A change of the database, the zone of the store that is made then (none opens the store), and
-/// the number of the fault.
+/// An SQL statement that changes the database, the time zone of the store that is then created, and
+/// the number of the fault. Without a time zone, a store is opened.
 type Step = (&'static str, Option<&'static str>, u8);
 
 static STEPS: [Step; 10] = [
@@ -38,7 +39,7 @@ static STEPS: [Step; 10] = [
     ("UPDATE meta SET version = 9", None, 1),
 ];
 
-/// Carries out a step, which has its fault, and returns the connection.
+/// Carries out a step, asserts the number of its fault, and returns the connection.
 fn stepped<S: Alter + Drop>(
     rt: &impl Abort,
     alloc: Global,
@@ -52,7 +53,7 @@ fn stepped<S: Alter + Drop>(
     left
 }
 
-/// Carries out all steps over an empty database, and returns its store.
+/// Carries out all steps over an empty database. Returns its store.
 pub(crate) fn each_is_handed_back<S: Alter + Drop>(
     rt: &impl Abort,
     alloc: Global,

@@ -1,8 +1,9 @@
-//! The exit status of each ending, and what is printed of it on standard error.
+//! The exit status of each ending of a command, and what is printed about the ending on standard
+//! error.
 use stored_files::{Ending, Failure, say};
 
-// Nothing is printed of a command that ended well or was refused. Of a failure `failed` is printed,
-// and a line that says more.
+// Nothing is printed about a command that ended well or was refused. About a failure, `failed` is
+// printed, and a line with details.
 #[test]
 fn endings_have_their_statuses_and_texts(rt: HostRuntime) {
     let text = String::from_str(rt.alloc(), "error: x\n").expect(&rt, "no memory");

@@ -1,9 +1,9 @@
-//! The text of each failure of a command.
+//! The texts of all failures of a command.
 use device_scan::ScanFault;
 use office_store::OpenFault;
 use stored_files::{AuditFault, CopyFault, Failure, FileFault};
 
-/// Each failure, and what it says.
+/// Each failure of a command, and its text.
 static FAILURES: [(Failure<'static>, &str); 40] = [
     (Failure::Memory, "out of memory"),
     (
@@ -246,7 +246,7 @@ static FAILURES: [(Failure<'static>, &str); 40] = [
     ),
 ];
 
-// Each failure names its file or port, says what happened, and what to do.
+// The text of each failure names the file or the port, says what happened, and what to do.
 #[test]
 fn failures_have_their_texts(rt: HostRuntime) {
     for (failure, text) in &FAILURES {

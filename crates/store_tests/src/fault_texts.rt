@@ -1,4 +1,4 @@
-//! The texts of faults of the tables and of their file, which no command prints, and the numbers of
+//! The texts of faults of the tables and of their file that no command prints, and the numbers of
 //! faults.
 use sqlite::Error;
 use std::alloc::Global;
@@ -8,7 +8,7 @@ use store_files::OpenFault;
 use store_tables::RowFault;
 use stored_files::FileFault;
 
-/// Asserts that each fault has its text, which ends without a full stop.
+/// Asserts that each fault has the text beside it, without a full stop.
 fn assert_texts<F: Display>(rt: &impl Abort, alloc: Global, texts: &[(F, &str)]) {
     for (fault, text) in texts {
         let said = format!(in alloc; "{fault}").expect(rt, "no memory");
@@ -41,7 +41,7 @@ const ROWS: [(RowFault, &str); 2] = [
     ),
 ];
 
-/// Faults of a database's tables, and of a file, by their numbers.
+/// Faults of opening a store, with their numbers.
 static OPENINGS: [(OpenFault, u8); 4] = [
     (OpenFault::NotOurs, 1),
     (OpenFault::Zone, 2),

@@ -9,15 +9,16 @@ use std::alloc::Global;
 use std::process::Abort;
 use store_queries::holds;
 
-/// Two readings of m1 and a reading of m0 between them. The later row of m1 has the earlier time.
+/// SQL statements that insert two rejected readings of m1, and one of m0 between them. The second
+/// row of m1 has an earlier time than the first.
 const HOLDS: &str =
     "DELETE FROM holds; INSERT INTO installations VALUES (2, 'm0', 'main', 20000, 1, 2000, 0, 0, 0);
 INSERT INTO holds VALUES (3, 'm1', 2, 1500, 4294967295, -32768, 1), (1, 'm1', 1, 1900, 0, 32767, 8), (2, 'm0', 2, 2000, 7, 0, 6)";
 
-/// Poll, time, counter, scale factor and cause of a reading.
+/// A rejected reading: its poll, time, counter value, scale factor and cause.
 type Shown = (u64, u64, u32, i16, Cause);
 
-/// Collects readings. Out of memory is recorded.
+/// A sink that collects rejected readings, and remembers if memory ran out.
 #[derive(Drop)]
 struct Taken {
     readings: Vec<HeldReading>,
@@ -34,7 +35,7 @@ impl RowSink<HeldReading> for Taken {
     }
 }
 
-/// Makes a store with these readings.
+/// Creates a store that has these rejected readings.
 fn held<S: Alter + Drop>(
     rt: &impl Abort,
     alloc: Global,
@@ -45,7 +46,7 @@ fn held<S: Alter + Drop>(
     conn
 }
 
-/// Asserts that a query returns these readings of m1, in this order.
+/// Asserts that a query returns these rejected readings of m1, in this order.
 fn assert_readings<S: Alter>(
     rt: &impl Abort,
     alloc: Global,
@@ -75,7 +76,7 @@ fn assert_readings<S: Alter>(
     }
 }
 
-/// A span of time, and the readings of m1 in it.
+/// A time span, and the rejected readings of m1 in it.
 struct Part {
     from: u64,
     till: u64,
@@ -113,7 +114,7 @@ static PARTS: [Part; 5] = [
     },
 ];
 
-/// Queries all readings, and those of each span. Returns the store.
+/// Queries all rejected readings, and those in each time span. Returns the store.
 pub(crate) fn they_are_handed_on<S: Alter + Drop>(
     rt: &impl Abort,
     alloc: Global,

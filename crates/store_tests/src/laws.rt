@@ -1,4 +1,5 @@
-//! Theorems about the energy of several files, and the days of a range, by examples.
+//! The theorems about the energy of several files and about the days of a range, applied to
+//! examples.
 use crate::made::{made, opened};
 use crate::stops::offices::accepts;
 use carried_books::{
@@ -14,7 +15,7 @@ use sqlite::{Alter, Connection};
 use std::alloc::Global;
 use std::process::Abort;
 
-/// Counts days.
+/// A sink that counts days.
 #[derive(Drop)]
 struct CountedDays {
     count: u32,
@@ -28,13 +29,13 @@ impl RowSink<DayTotal> for CountedDays {
     }
 }
 
-/// A meter whose energy is that of one day, 1970-01-01.
+/// A script for a meter that has energy on one day only, 1970-01-01.
 const DAY: &str = "0 device d 1 60 1
 0 register main d 3 0 0
 0 install main m 0 0 1000000
 900 manual main 100 0";
 
-/// Returns the number of days from one day up to, and without, another.
+/// Returns the number of days in a range: from the first day on, and before the end day.
 fn days_between<B: Books>(rt: &impl Abort, office: &mut Office<B>, from: &str, till: &str) -> u32 {
     let range = DayRange {
         from: read_day(from),
@@ -46,8 +47,8 @@ fn days_between<B: Books>(rt: &impl Abort, office: &mut Office<B>, from: &str, t
     counted.count
 }
 
-/// Asserts that a range has its days. A range that ends before it begins has none, and no command
-/// asks for it. Returns the store.
+/// Asserts that ranges have their days. A range that ends before it begins has none, and no command
+/// makes such a query. Returns the store.
 fn ranges_over<B: Books>(rt: &impl Abort, alloc: Global, books: B) -> B {
     let mut office = opened(rt, alloc, books, 0);
     for line in DAY.lines() {
@@ -58,8 +59,8 @@ fn ranges_over<B: Books>(rt: &impl Abort, alloc: Global, books: B) -> B {
     office.into_books()
 }
 
-/// Applies the theorems: the energy over several files is the energy of one file. Asserts the days
-/// of ranges over an empty database, and returns its store.
+/// Applies the theorem that the energy over several files is the energy of one file. Asserts the
+/// days of ranges over an empty database. Returns the database's store.
 pub(crate) fn files_and_ranges_have_their_days<S: Alter + Drop>(
     rt: &impl Abort,
     alloc: Global,

@@ -1,6 +1,6 @@
 //! Tests of a store in tables: crashes at each call of its files, failures, and records that the
-//! tables refuse. Also tests of how commands over files end, and what they say. Scripts and checks
-//! of the program show what a text in and a text out can show.
+//! tables refuse. Also tests of how commands over files end, and of their messages. Golden tests
+//! and tests of the program cover what can be shown by an input text and an output text.
 #![tactic(auto)]
 
 #[cfg(test)]

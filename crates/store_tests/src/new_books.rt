@@ -1,4 +1,4 @@
-//! Questions that the store itself has not.
+//! Queries for tests that the store itself does not have.
 ghost use Rattle.std.specs.Prelude.{◌≡◌, false, IfOk};
 
 use sqlite::{Alter, Connection, Error};

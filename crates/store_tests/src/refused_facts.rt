@@ -1,4 +1,4 @@
-//! Records that the store refuses leave no row of their event.
+//! If the store refuses one record of an event, no row of the event is stored.
 use crate::new_books::{count, ready};
 use crate::tables::strict;
 use energy_core::Entry;
@@ -29,7 +29,7 @@ fn poll(rt: &impl Abort) -> Fact {
     })
 }
 
-/// Returns the device that the store has already.
+/// Returns the record of a device that the store already has.
 pub(crate) fn known_device(rt: &impl Abort) -> Fact {
     Fact::Device(Device {
         name: Name::new(b"inv").expect(rt, "no name"),
@@ -39,7 +39,7 @@ pub(crate) fn known_device(rt: &impl Abort) -> Fact {
     })
 }
 
-/// Whether the store books these facts.
+/// Returns whether the store accepts these records.
 fn is_booked<S: Alter>(
     rt: &impl Abort,
     alloc: Global,
@@ -50,7 +50,7 @@ fn is_booked<S: Alter>(
     book_facts(alloc, conn, facts).is_ok()
 }
 
-/// Tables, and the number of their rows before and after.
+/// Each table with its number of rows, which refused records leave unchanged.
 static COUNTS: [(&str, i64); 4] = [
     ("devices", 1),
     ("polls", 2),
@@ -58,8 +58,8 @@ static COUNTS: [(&str, i64); 4] = [
     ("intervals", 2),
 ];
 
-/// Books a poll and a reading, which may follow the rows. A known device may not, and neither may a
-/// counter that goes back. Returns the store.
+/// Stores a poll and a reading, which may follow the known records. A device that is already known
+/// may not follow them. A reading with a lower counter value may not either. Returns the store.
 pub(crate) fn they_leave_no_row<S: Alter + Drop>(
     rt: &impl Abort,
     alloc: Global,

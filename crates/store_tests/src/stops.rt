@@ -1,6 +1,7 @@
-//! The machine crashes at each call of the two files of a database. Meanwhile a file is brought to
-//! today's version, or an office makes its tables and handles events and a request. After the crash
-//! the file holds what was acknowledged, or also the change in flight, complete.
+//! Crashes of the machine at each call of the two files of a database. The file is being upgraded
+//! to version 3, or an office creates its tables and handles events and a request. After the crash
+//! the file holds every acknowledged change. The change in flight is there completely, or not at
+//! all.
 pub(crate) mod asked;
 mod crashes;
 mod day;

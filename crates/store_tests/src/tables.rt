@@ -1,14 +1,14 @@
-//! A store with rows in each table.
+//! A store that has rows in each table.
 use crate::made::made;
 use sqlite::{Alter, Connection};
 use std::alloc::Global;
 use std::process::Abort;
 
-/// A zone in which the clocks go forward on 2024-03-31 and back on 2024-10-27.
+/// A time zone in which the clocks go forward on 2024-03-31 and back on 2024-10-27.
 const ZONE: &str = "CET-1CEST,M3.5.0,M10.5.0/3";
 
-/// A meter with two readings. The second is voided. Another poll is pending, and one reading was
-/// rejected.
+/// SQL statements for a meter with two readings, the second of which is voided. Another poll is
+/// pending, and one reading was rejected.
 const ROWS: &str = "INSERT INTO devices VALUES (1, 'inv', 1, 5, 1);
 INSERT INTO points VALUES ('inv', 1, 'Wh', 3, 0, 40094, 'acc32', 'Wh_SF'), ('inv', 2, 'Wh_SF', 3, 0, 40096, 'sunssf', '');
 INSERT INTO registers VALUES (1, 'main', 'inv', 3, 40094, 1, 40096);
@@ -22,7 +22,7 @@ INSERT INTO outcomes VALUES (1, 1900, 1, 0);
 INSERT INTO holds VALUES (1, 'm1', 1, 1900, 5100, 1, 2);
 INSERT INTO replies VALUES ('desk', 7, x'766f6964', 'void', 4000)";
 
-/// Makes a store in an empty database, and adds these rows.
+/// Creates a store in an empty database, and inserts these rows.
 pub(crate) fn strict<S: Alter + Drop>(
     rt: &impl Abort,
     alloc: Global,

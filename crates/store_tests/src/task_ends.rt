@@ -1,4 +1,4 @@
-//! The ends of tasks over an office: their exit statuses, and which failure is printed.
+//! The exit statuses of tasks over an office, and which failure is printed.
 use command_io::ExitStatus;
 use office_events::Refusal;
 use office_program::{PollEnd, ServeEnd};
@@ -9,8 +9,8 @@ use std::process::Abort;
 use stored_files::{Ending, Failure, ending_of};
 use stored_office::{Done, ending_of_done};
 
-/// How a task at port 80 of h ended, its exit status, and how the text of its failure begins. Only
-/// status 3 has one.
+/// How a task with sockets at port 80 of the host h ended, its exit status, and how the text of its
+/// failure begins. Only status 3 has a failure.
 const ENDS: [(Result<Done, Failure<'static>>, u8, &str); 25] = [
     (Ok(Done::Reported(ExitStatus::Fine)), 0, ""),
     (Ok(Done::Reported(ExitStatus::Refused)), 1, ""),
@@ -111,14 +111,15 @@ const ENDS: [(Result<Done, Failure<'static>>, u8, &str); 25] = [
     (Err(Failure::Host { host: "h" }), 3, "can't resolve h"),
 ];
 
-/// The exit status of a command that prints.
+/// How a command that prints ended, and its exit status.
 const STATUSES: [(ExitStatus, u8); 3] = [
     (ExitStatus::Fine, 0),
     (ExitStatus::Refused, 1),
     (ExitStatus::Failed, 3),
 ];
 
-/// Asserts that a task ends with this status, and fails with a text that begins so.
+/// Asserts that a task ends with this exit status, and that the text of its failure begins with
+/// this text.
 fn ends(rt: &impl Abort, alloc: Global, done: Result<Done, Failure<'_>>, status: u8, text: &str) {
     let ending = ending_of_done(done, "h", 80);
     assert!(rt; ending.number() == status, "{text}");
@@ -134,7 +135,7 @@ fn ends(rt: &impl Abort, alloc: Global, done: Result<Done, Failure<'_>>, status:
     }
 }
 
-// Each end of a report, a server, a round and a run has its status and its failure.
+// Each end of a report, a server, a round and a run has its exit status and its failure.
 #[test]
 fn tasks_have_their_ends(rt: HostRuntime) {
     for (done, status, text) in ENDS {

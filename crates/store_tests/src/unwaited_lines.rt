@@ -1,7 +1,7 @@
 //! Lines that are written without waiting for their reader.
 use office_running::write_without_waiting;
 
-// Such lines are complete.
+// A line that is written without waiting for its reader is written completely.
 #[test]
 fn what_nobody_waits_for_is_written_whole(rt: HostRuntime) {
     let mut written = Vec::new(rt.alloc());

@@ -1,4 +1,4 @@
--- The records of a database's file, and the model of a store in it.
+-- The records that the file of a database has, and the model of a store in the database.
 use Rattle.std.specs.Prelude.{ℕ, List}
 use Rattle.sqlite.specs.Store.{Ghosts}
 use Rattle.sqlite.specs.Held.{Held}
@@ -16,6 +16,6 @@ module _ {S : Type 0} (g : Ghosts S) where
     pub is_past : IsPast past
     pub has : HasFile g zone h (facts_of past)
 
-  -- The model of a store in a database.
+  -- The model of a store in a database, which specifications call its ledger.
   abbrev pub ledger_beneath : SqlBooks S g → Ledger
   ledger_beneath books = ledger_of g books.connection books.failures books.zone

@@ -9,8 +9,8 @@ use Rattle.store_files.specs.NewFile.{Makes}
 use Rattle.store_tables.specs.Steps.{TransactsTo}
 use Rattle.office_store.specs.Database.{HoldsAlone}
 
--- The tables of a new office were created in one transaction. The connection then held no records,
--- and a crash left nothing else. Nothing is said about the connection afterwards.
+-- The tables of a new office were created in one transaction. After this call the connection held
+-- no records, and a crash would have left none. Later calls are not described.
 pub record IsMade {S : Type 0} (g : Ghosts S) (zone : List ℕ) (from : Held S) : Type 0 where
   pub made : Held S
   pub told : Zone

@@ -1,4 +1,4 @@
--- The report on an office that was recovered.
+-- The report on an office that was recovered from a damaged log.
 use Rattle.std.specs.Prelude.{◌≡◌, ℕ, true, false, List, [], ◌∷◌, ◌++◌, if◌then◌else◌, codes, decimal, string_bytes}
 use Rattle.sqlite.specs.Store.{Ghosts}
 use Rattle.sqlite.specs.Held.{Held, state}
@@ -10,26 +10,26 @@ use Rattle.table_seals.specs.declared.filed.FiledMeter.{FiledMeter}
 use Rattle.stored_files.specs.BooksFound.{ledger_beneath}
 
 module _ {S : Type 0} (g : Ghosts S) where
-  -- The latest timestamp of the records of a store, if the database gave back what was written to
-  -- it.
+  -- `latest` is the latest timestamp of the store's records. The claim needs a database that gave
+  -- back what was written to it.
   pub record IsLatestIn (books : SqlBooks S g) (latest : ℕ) : Type 0 where
     pub asked : SqlBooks S g
     pub clean : (ledger_beneath g asked).is_clean → (ledger_beneath g books).is_clean
     pub is_latest : (facts : List Fact) → (ledger_beneath g books).holds facts
         → (ledger_beneath g asked).is_clean → latest ≡ latest_in facts
 
-  -- The latest timestamp of these records, which the database's file has.
+  -- `latest` is the latest timestamp of the records `facts`, which the file of the database has.
   pub record HasLatest (old : Held S) (facts : List Fact) (latest : ℕ) : Type 0 where
     pub asked : SqlBooks S g
     pub clean : (ledger_beneath g asked).is_clean → HasCleanDisk (state g old)
     pub is_latest : (ledger_beneath g asked).is_clean → latest ≡ latest_in facts
 
--- A line with the last entry of a meter.
+-- The text with a line about the last entry of a meter.
 abbrev pub with_last_entry : List ℕ → List ℕ → ℕ → List ℕ
 with_last_entry text meter at =
     text ++ meter ++ codes " last entry " ++ decimal at ++ codes ", later ones may be lost\n"
 
--- Such a line for an open meter.
+-- The text with a line about the last entry of a meter, if the meter is open.
 abbrev pub with_open_meter : List ℕ → FiledMeter → List ℕ
 with_open_meter text meter =
     if meter.standing.is_ended then text
@@ -39,7 +39,7 @@ abbrev pub with_open_meters : List ℕ → List FiledMeter → List ℕ
 with_open_meters text [] = text
 with_open_meters text (meter ∷ meters) = with_open_meters (with_open_meter text meter) meters
 
--- The latest timestamp, and a line for each open meter.
+-- The text of the report: the latest timestamp, and a line for each open meter.
 abbrev pub with_recovered : List ℕ → ℕ → List FiledMeter → List ℕ
 with_recovered text latest meters =
     with_open_meters (text ++ codes "latest " ++ decimal latest ++ codes "\n") meters

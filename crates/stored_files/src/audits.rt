@@ -22,7 +22,7 @@ use sun_points::Sink;
 use table_audit::{Findings, audit_tables, put_findings};
 use table_seals::{FiledMeter, FiledOffice, Joining, filed_meters, put_joins};
 
-/// Why an audit has no result.
+/// Why an audit of an office's file has no result.
 #[derive(Clone, Copy, Debug, PartialEq, Eq)]
 pub enum AuditFault {
     /// The tables are not those of an office.
@@ -33,7 +33,7 @@ pub enum AuditFault {
     Unsealable,
     /// A name or the time zone is not a text.
     NoText,
-    /// The text is not a seal.
+    /// The text of the seal's file is not a seal.
     NoSeal,
     /// The file of the seal can't be read.
     Unread,
@@ -62,7 +62,7 @@ pub(crate) fn check_ours<S: Alter>(connection: &Connection<S>) -> Result<(), Aud
     }
 }
 
-/// Maps a fault of the tables to that of an audit.
+/// Maps a fault of the tables to a fault of an audit.
 pub(crate) fn fault_of(fault: RowFault) -> AuditFault
     ensures { (result ≡ AuditFault.Memory) ⊎ (result ≡ AuditFault.Store) }
 {
@@ -92,7 +92,7 @@ pub fn audit_stored<S: Alter>(
     }
 }
 
-/// Writes the result of an audit. Returns whether the tables are fine.
+/// Writes the result of an audit to `output`. Returns whether the tables are fine.
 pub fn write_audit<W: Write>(
     alloc: Global,
     findings: &Findings,
@@ -140,9 +140,9 @@ pub fn meters_stored<'a, S: Alter>(
     }
 }
 
-/// Checks a file against the earlier files, by its time zone and its meters. Adds a line for each
-/// way in which it does not continue them. If memory runs out, lines may be missing, and what was
-/// kept of the files is lost.
+/// Checks whether a file continues the earlier files, by its time zone and its meters. Adds a line
+/// for each way in which it does not. If memory runs out, lines may be missing, and what was kept
+/// of the files is lost.
 pub fn hold_to_earlier<'a>(
     alloc: Global,
     joining: &mut Joining<'a>,

@@ -1,4 +1,4 @@
-//! Backups: files that hold an office alone, without a log.
+//! Backups: database files that hold an office without a log.
 
 mod faults;
 mod whole;

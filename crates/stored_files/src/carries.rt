@@ -1,4 +1,5 @@
-//! The rollover of an office into a new database.
+//! The rollover of an office into a new database. Each open meter continues there from its last
+//! entry.
 
 mod stored;
 mod zones;

@@ -1,4 +1,4 @@
-//! The file of an office: how a connection to it is opened, and why it may not be.
+//! The database file of an office: how a connection to it is opened, and why it may not be.
 
 mod beside;
 mod faults;

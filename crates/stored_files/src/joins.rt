@@ -1,4 +1,4 @@
-//! What the offices in several databases report together of a register.
+//! The merged report on an accounting register, from the offices in several databases.
 
 mod stored;
 

@@ -1,4 +1,4 @@
-//! The report on an office that was recovered.
+//! The report on an office that was recovered from a damaged log.
 ghost use Rattle.std.specs.Prelude.{◌≡◌, ◌++◌, ℕ, List, [], OnOk, IfOk, codes, decimal, string_bytes};
 ghost use Rattle.std.specs.Io.KnownBytes.{Appends};
 ghost use Rattle.office_events.specs.declared.facts.Fact.{Fact};
@@ -15,7 +15,7 @@ use std::io::Write;
 use sun_points::Sink;
 use table_seals::FiledMeter;
 
-// Maps a fault of an office's opening to that of an audit.
+// Maps a fault of opening an office to a fault of an audit.
 fn opening_fault(fault: OpenFault) -> AuditFault {
     match fault {
         OpenFault::NotOurs => AuditFault::NotOurs,
@@ -25,7 +25,7 @@ fn opening_fault(fault: OpenFault) -> AuditFault {
     }
 }
 
-// The latest timestamp of a store.
+// Returns the latest timestamp of the records in a store.
 fn latest_in_books<S: Alter + Drop>(books: SqlBooks<S>) -> Result<u64, AuditFault>
     ensures { IfOk result (IsLatestIn S.Store books) }
 {
@@ -63,7 +63,7 @@ fn put_number(text: &mut Vec<u8>, number: u64) -> Result<(), AllocError>
     put(text, buffer.format(number).as_bytes())
 }
 
-// Appends a line with the last entry of a meter.
+// Appends the line about the last entry of a meter.
 fn put_last_entry(text: &mut Vec<u8>, meter: &str, at: u64) -> Result<(), AllocError>
     ensures { OnOk result (text.new.items ≡ with_last_entry text.old.items meter.now at) }
 {
@@ -73,7 +73,7 @@ fn put_last_entry(text: &mut Vec<u8>, meter: &str, at: u64) -> Result<(), AllocE
     put(text, b", later ones may be lost\n")
 }
 
-// Appends such a line for an open meter.
+// Appends the line about the last entry of a meter, if the meter is open.
 fn put_open_meter(text: &mut Vec<u8>, meter: &FiledMeter<'_>) -> Result<(), AllocError>
     ensures { OnOk result (text.new.items ≡ with_open_meter text.old.items meter.now) }
 {

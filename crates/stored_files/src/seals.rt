@@ -1,4 +1,4 @@
-//! Seals of an office in a database.
+//! Seals of an office in a database: signed-off digests of its tables.
 ghost use Rattle.std.specs.Prelude.{◌≡◌, ◌≢◌, ◌↔◌, ◌⊎◌, false, Err, Some, IsTrue, IfOk, IfErr, OnOk};
 ghost use Rattle.std.specs.Io.KnownBytes.{Appends};
 ghost use Rattle.sqlite.specs.Held.{state};
@@ -60,7 +60,7 @@ pub fn write_seal<W: Write>(alloc: Global, seal: &Seal, output: &mut W) -> Resul
     }
 }
 
-/// Checks an office in a database against the seal of a text. Returns the meters that the tables no
+/// Checks an office in a database against the seal in a text. Returns the meters that the tables no
 /// longer have as they were sealed, and whether the polls differ. Writes nothing to the database.
 pub fn check_stored_seal<S: Alter>(
     alloc: Global,
@@ -90,7 +90,7 @@ pub fn check_stored_seal<S: Alter>(
     }
 }
 
-/// Writes the result of a check. Returns whether nothing differs.
+/// Writes the result of checking a seal. Returns whether nothing differs.
 pub fn write_checked<W: Write>(
     alloc: Global,
     checked: &Checked,

@@ -1,4 +1,4 @@
--- Tasks over the store that a database is found to have.
+-- Tasks over the store that is found in a database.
 use Rattle.std.specs.Prelude.{ℕ, List}
 use Rattle.sqlite.specs.Store.{Ghosts}
 use Rattle.office_rules.specs.History.{History, facts_of}
@@ -10,13 +10,13 @@ use Rattle.office_store.specs.declared.books.SqlBooks.{SqlBooks}
 use Rattle.stored_files.specs.BooksFound.{ledger_beneath}
 
 module _ {S : Type 0} (g : Ghosts S) where
-  -- The model of a cached store in a database.
+  -- The model of a cached store in a database. A cached store keeps what it has read.
   abbrev pub ledger_in : KeptBooks (SqlBooks S g) → Ledger
   ledger_in books = ledger_over (ledger_beneath g) books
 
-  -- A store was found with the records of a history of accepted events, and a crash leaves nothing
-  -- else. `Does` relates this store to the store after the task, if the database gave back what was
-  -- written up to then.
+  -- A task ran over the store that was found in a database. The store had the records of a history
+  -- of accepted events, and a crash would have left exactly these. If the database gave back what
+  -- was written to it, `Does` relates the store to the one after the task.
   pub record OverBooks (past : History)
       (Does : (found left : KeptBooks (SqlBooks S g)) → Type 0) : Type 0 where
     pub zone : List ℕ

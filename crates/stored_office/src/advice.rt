@@ -1,5 +1,5 @@
-//! Messages beside the lines of a round: what its device lacks, and what its refusals and rejected
-//! readings mean.
+//! Messages that follow a round: what its device lacks, and what its refusals and rejected readings
+//! mean.
 
 mod ends;
 mod lacking;

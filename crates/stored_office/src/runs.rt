@@ -1,4 +1,4 @@
-//! The headline for stores in a database.
+//! The main theorem about an office, for stores in a database.
 
 mod runs;
 

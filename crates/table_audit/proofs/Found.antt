@@ -78,7 +78,7 @@ module _ (row : InstallationRow) (rows : MeterRows) where
         (subst (λ n. IsLawful n row fine.voids fine.entries fine.shares) same_range fine.lawful)))),
   )
 
-  -- The same for values that were passed as slices.
+  -- The result for values that were passed on as slices.
   pub fine_found : (range : ℕ) (voids named vs : List ℕ) (entries es : List TableRow) (shares ss : List Share) (b : Bool)
       → named ≡ voids → vs ≡ voids → es ≡ entries → ss ≡ shares
       → all_in range_in rows.ranges.items ≡ Ok (range ∷ []) → all_in place_in rows.voids.items ≡ Ok voids

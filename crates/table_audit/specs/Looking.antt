@@ -1,4 +1,4 @@
--- Queries of the tables of a connection, for any content.
+-- Queries over any tables, whether or not they encode lawful records.
 use Rattle.std.specs.Prelude.{◌≡◌, false, Result, IfOk, IfErr, IsTrue}
 use Rattle.sqlite.specs.Order.{Row}
 use Rattle.sqlite.specs.Tree.{Trees}
@@ -9,20 +9,19 @@ use Rattle.store_tables.specs.declared.faults.RowFault.{RowFault}
 use Rattle.store_tables.specs.Content.{Content, AreTables}
 use Rattle.store_tables.specs.Failing.{IsFault, StateAfterCall}
 
--- A row as the table has it.
+-- The query shows the row as the table has it.
 abbrev pub itself : Row → Row
 itself row = row
 
 module _ {S : Type 0} (g : Ghosts S) where
-  -- The last commit has these tables, while the connection is open and its store gave back what was
-  -- written.
+  -- The committed database has these tables. This needs an open connection, and a database that
+  -- gave back what was written to it.
   unfoldable pub HoldsTables : Held S → Content → Type 0
   HoldsTables h content =
       HasCleanDisk (state g h) → IsTrue (state g h).is_open
       → AreTables (state g h).committed content
 
-  -- A look-up outside a transaction. It commits nothing, and a crash after it leaves what a crash
-  -- before it could leave.
+  -- A look-up outside a transaction. It commits nothing, and adds no state that a crash can leave.
   pub record OnlyLooks (old new : Held S) : Type 0 where
     pub clean : HasCleanDisk (state g new) → HasCleanDisk (state g old)
     pub mode : old.in_transaction ≡ false → new.in_transaction ≡ false
@@ -33,8 +32,9 @@ module _ {S : Type 0} (g : Ghosts S) where
     pub goes : (content : Content) → HoldsTables old content → HasCleanDisk (state g new)
         → StateAfterCall (state g old) (state g new)
 
--- If the store gave back what was written, the answer is what the tables have. Any error has one of
--- the causes of `IsStoreError`, and damage is never reported. Nothing is changed.
+-- What a query finds, if the database gave back what was written to it. An Ok answer is what the
+-- tables have. An error has one of the causes of `IsStoreError`, and `Damaged` is never reported. A
+-- query changes nothing.
 pub record Finds {S A : Type 0} (g : Ghosts S) (old new : Held S) (result : Result A RowFault)
     (Says : Content → A → Type 0) : Type 0 where
   pub answer : (content : Content) → HoldsTables g old content → HasCleanDisk (state g new)

@@ -1,4 +1,4 @@
--- When the tables are fine for every meter, and what an audit reports of them.
+-- When the tables are fine for every meter, and which differences an audit reports.
 use Rattle.std.specs.Prelude.{⊤, ◌≡◌, ◌↔◌, ◌+◌, ℕ, suc, min, ◌^◌, ◌-◌, List, [], ◌∷◌, map, length, Option, Some, None, Ok, IsUtf8}
 use Rattle.std.specs.List.{AllByRecursion}
 use Rattle.sqlite.specs.declared.types.Value.TheVariants.{Text}
@@ -14,15 +14,15 @@ use Rattle.table_audit.specs.Showing.{AreRowsOf, ShowsInstallations}
 
 -- ---- fine
 
--- A row of `installations` has values in their ranges and this index, and its meter's rows are
--- fine.
+-- A row of `installations` has values in their ranges and the index `place`, and the rows of its
+-- meter are fine.
 pub record IsFineMeter (place : ℕ) (row : Row) (rows : MeterRows) : Type 0 where
   pub installation : InstallationRow
   pub read : installation_in row ≡ Ok installation
   pub placed : installation.place ≡ place
   pub fine : IsFine installation rows
 
--- A row of `installations`, and the rows of its meter, if it names one.
+-- A row of `installations` with the rows of its meter. Without rows, the row names no meter.
 pub record LookedAt : Type 0 where
   pub row : Row
   pub rows : Option MeterRows
@@ -30,23 +30,24 @@ pub record LookedAt : Type 0 where
 abbrev pub row_of : LookedAt → Row
 row_of looked = looked.row
 
--- These are the rows of the meter that the row names, or the row names no meter.
+-- The rows are those that the tables have for the meter that `row` names. None means that `row`
+-- names no meter.
 abbrev pub AreTheirs : Content → Row → Option MeterRows → Type 0
 AreTheirs content row None = (name : List ℕ) → IsUtf8 name → column row 1 ≡ Text name → ⊥
 AreTheirs content row (Some rows) =
     (name : List ℕ) × (column row 1 ≡ Text name) × AreRowsOf name content rows
 
--- The row was read with the rows of its meter.
+-- The rows of an audited installation are those of its meter.
 abbrev pub IsLookedUp : Content → LookedAt → Type 0
 IsLookedUp content looked = AreTheirs content looked.row looked.rows
 
--- The row names a meter, has this index, and the rows of its meter are fine.
+-- The row names a meter and has the index `place`, and the rows of its meter are fine.
 abbrev pub IsFineAt : (place : ℕ) → Row → Option MeterRows → Type 0
 IsFineAt place row None = ⊥
 IsFineAt place row (Some rows) = IsFineMeter place row rows
 
--- Each row names a meter, has the next index, and the rows of its meter are fine. The schema keeps
--- two rows from naming the same meter.
+-- Each row names a meter and has the next index, beginning at `place`, and the rows of its meter
+-- are fine. The schema excludes two rows of one meter.
 abbrev pub AreFineFrom : (place : ℕ) → List LookedAt → Type 0
 AreFineFrom place [] = ⊤
 AreFineFrom place (looked ∷ others) =
@@ -54,20 +55,20 @@ AreFineFrom place (looked ∷ others) =
 
 -- ---- counts, up to 2^64 - 1
 
--- A count, up to the greatest that a counter can have.
+-- A count, limited to 2^64 - 1.
 abbrev pub up_to_most : ℕ → ℕ
 up_to_most n = min n (2 ^ 64 - 1)
 
--- The counts before the first row.
+-- The counts at the beginning of an audit, all 0.
 abbrev pub none_counted : Counts
 none_counted = record { meters = 0; entries = 0; intervals = 0; polls = 0 }
 
--- The count of entries with those of a meter.
+-- The count of entries, with the entries of one more meter.
 abbrev pub and_entries : Option MeterRows → ℕ → ℕ
 and_entries None n = n
 and_entries (Some rows) n = up_to_most (n + length rows.entries.items)
 
--- The count of interval rows with those of a meter.
+-- The count of interval rows, with the interval rows of one more meter.
 abbrev pub and_intervals : Option MeterRows → ℕ → ℕ
 and_intervals None n = n
 and_intervals (Some rows) n = up_to_most (n + length rows.intervals.items)
@@ -88,14 +89,16 @@ counted_from counts (looked ∷ others) = counted_from (counted looked.rows coun
 
 -- ---- the report
 
--- A difference is added, unless the row and its meter's rows are fine. The rows are counted.
+-- The audit of one row of `installations`. It adds a difference unless the row and its meter's rows
+-- are fine, and counts the rows.
 pub record TellsRow (content : Content) (place : ℕ) (row : Row) (old new : Findings) : Type 0 where
   pub rows : Option MeterRows
   pub theirs : AreTheirs content row rows
   pub told : (new.first.items ≡ []) ↔ ((old.first.items ≡ []) × IsFineAt place row rows)
   pub counts : new.counts ≡ counted rows old.counts
 
--- There is no difference if and only if all of these rows of `installations` are fine.
+-- The audit of several rows of `installations`. There is no difference if and only if all of them
+-- are fine.
 pub record TellsRows (rows : List Row) (content : Content) (found : Findings) : Type 0 where
   pub looked : List LookedAt
   pub each : map row_of looked ≡ rows
@@ -103,7 +106,7 @@ pub record TellsRows (rows : List Row) (content : Content) (found : Findings) : 
   pub told : (found.first.items ≡ []) ↔ AreFineFrom 1 looked
   pub counts : found.counts ≡ counted_from none_counted looked
 
--- The same for the rows of `installations` that the tables have.
+-- The audit of all rows of `installations` that the tables have.
 pub record TellsMeters (content : Content) (found : Findings) : Type 0 where
   pub rows : List Row
   pub shown : ShowsInstallations content rows

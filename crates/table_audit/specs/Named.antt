@@ -1,4 +1,5 @@
--- The differences of a meter among those of others.
+-- The findings of all meters, after the differences of one meter were added. A finding is a
+-- difference with the name of its meter.
 use Rattle.std.specs.Prelude.{◌≡◌, ◌+◌, ◌-◌, ℕ, List, ◌++◌, map, take, length, Some, None, string_bytes}
 use Rattle.std.specs.List.{AllByRecursion}
 use Rattle.table_audit.specs.declared.differences.Difference.{Difference}
@@ -14,7 +15,7 @@ difference_of finding = finding.difference
 abbrev pub IsUnder : (meter : List ℕ) → Finding → Type 0
 IsUnder meter finding = (name : _) × (finding.meter ≡ Some name) × (string_bytes name ≡ meter)
 
--- The differences of a meter are added under its name. At most `MOST` findings are kept.
+-- The differences of a meter are added as findings with its name. At most `MOST` findings are kept.
 pub record KeepsFirst (meter : List ℕ) (differences : List Difference) (old new : Findings) :
     Type 0 where
   pub added : List Finding
@@ -22,11 +23,12 @@ pub record KeepsFirst (meter : List ℕ) (differences : List Difference) (old ne
   pub named : AllByRecursion (IsUnder meter) added
   pub kept : new.first.items ≡ take MOST (old.first.items ++ added)
 
--- A difference without a meter.
+-- The finding of a difference that belongs to no meter.
 abbrev pub of_none : Difference → Finding
 of_none difference = record { meter = None; difference = difference }
 
--- Differences without a meter are added. At most `MOST` findings are kept, and the others counted.
+-- Differences that belong to no meter are added as findings. At most `MOST` findings are kept, and
+-- further ones are counted.
 pub record IsTold (differences : List Difference) (old new : Findings) : Type 0 where
   pub kept : new.first.items ≡ take MOST (old.first.items ++ map of_none differences)
   pub more : new.more

@@ -7,7 +7,7 @@ use Rattle.store_tables.specs.Limits.{greatest_place, latest_moment}
 use Rattle.table_audit.specs.declared.poll_rows.OutcomeRow.{OutcomeRow}
 use Rattle.table_audit.specs.declared.poll_rows.PollRow.{PollRow}
 
--- The greatest count of a read from an address.
+-- The greatest count of Modbus registers in a read from this address.
 abbrev pub greatest_count : (address : ℕ) → ℕ
 greatest_count address = min 125 (65536 - address)
 
@@ -23,8 +23,8 @@ poll_in row =
     and_then (or_damaged (whole_in 1 (greatest_count address) (column row 6))) (λ count.
     Ok (record { number = number; started = started }))))))))
 
--- The least code of a kind of outcome. The code of an exception is the device's, of a malformed
--- response 1 to 5, and of a lost poll 1 to 4. Other outcomes have code 0.
+-- The least code of a kind of outcome. The code of an exception is that of the device. A malformed
+-- response has codes 1 to 5, a lost poll 1 to 4, and any other outcome 0.
 abbrev pub least_code : (kind : ℕ) → ℕ
 least_code kind = if kind == 4 then 1 else if kind == 5 then 1 else 0
 

@@ -1,4 +1,4 @@
--- The rows of a run of polls in the tables, for any content.
+-- Queries for a run of polls, over any tables.
 use Rattle.std.specs.Prelude.{◌≡◌, ℕ, ℤ, pos, negsuc, ◌+◌, ◌*◌, ◌==◌, Bool, false, ◌&&◌, List, [], ◌∷◌, if◌then◌else◌}
 use Rattle.std.specs.Ordering.{is_gt}
 use Rattle.sqlite.specs.Collation.TheVariants.{Binary}
@@ -15,17 +15,17 @@ use Rattle.table_audit.specs.Showing.{InPlace}
 use Rattle.table_audit.specs.declared.poll_rows.RunRows.{RunRows}
 use Rattle.table_audit.specs.declared.poll_rows.TheConstants.{RUN}
 
--- The tree number of `polls`.
+-- The tree number of the table `polls`.
 abbrev pub polls_tree : ℕ
 polls_tree = 11
 
--- The tree number of `outcomes`.
+-- The tree number of the table `outcomes`.
 abbrev pub outcomes_tree : ℕ
 outcomes_tree = 13
 
 -- ---- the numbers of a run
 
--- The least integer of SQL.
+-- The least 64-bit integer, which is the least integer in SQLite.
 abbrev pub least_number : ℤ
 least_number = negsuc 9223372036854775807
 
@@ -45,15 +45,15 @@ is_from low v = is_true (binary (Compare Ge Binary) v (Int low))
 abbrev pub is_up_to : (high : ℤ) → Value → Bool
 is_up_to high v = is_true (binary (Compare Le Binary) v (Int high))
 
--- Whether the number in the first column is in a range.
+-- Whether the number in the first column is from `low` to `high`.
 abbrev pub is_between : (low high : ℤ) → Row → Bool
 is_between low high row = is_from low (column row 0) && is_up_to high (column row 0)
 
--- The number of the row is in this run.
+-- Whether the number of the row is in this run.
 abbrev pub is_in_run : (run : ℕ) → Row → Bool
 is_in_run run row = is_between (low_of run) (high_of run) row
 
--- In descending order of numbers, as SQL compares values.
+-- The order of rows by descending numbers, as SQL compares values.
 abbrev pub FromLast : Row → Row → Type 0
 FromLast row later = is_gt (value_cmp (column later 0) (column row 0)) ≡ false
 
@@ -62,27 +62,27 @@ FromLast row later = is_gt (value_cmp (column later 0) (column row 0)) ≡ false
 abbrev pub number_shown : Row → Row
 number_shown row = column row 0 ∷ []
 
--- The columns that the query shows of a poll: its number, the columns after the device's name, and
--- that name last.
+-- The result row that shows a poll: its number, the columns after the device's name, and that name
+-- last.
 abbrev pub poll_shown : Row → Row
 poll_shown row =
     column row 0 ∷ column row 3 ∷ column row 4 ∷ column row 5 ∷ column row 6 ∷ column row 7
     ∷ column row 8 ∷ column row 2 ∷ []
 
--- The columns that the query shows of an outcome.
+-- The result row that shows an outcome.
 abbrev pub outcome_shown : Row → Row
 outcome_shown row = column row 0 ∷ column row 2 ∷ column row 3 ∷ column row 4 ∷ []
 
--- The query shows the greatest number of a poll, if there is a poll.
+-- The query shows the greatest number of a poll, or no row without polls.
 abbrev pub ShowsLast : Content → List Row → Type 0
 ShowsLast content rows = ShowsFirst every FromLast number_shown (content polls_tree) rows
 
--- The query shows the polls of a run.
+-- The query shows the polls of a run, in order of their numbers.
 abbrev pub ShowsPolls : (run : ℕ) → Content → List Row → Type 0
 ShowsPolls run content rows =
     Shows (is_in_run run) InPlace poll_shown (content polls_tree) rows
 
--- The query shows the outcomes of a run's polls.
+-- The query shows the outcomes of a run's polls, in order of their numbers.
 abbrev pub ShowsOutcomes : (run : ℕ) → Content → List Row → Type 0
 ShowsOutcomes run content rows =
     Shows (is_in_run run) InPlace outcome_shown (content outcomes_tree) rows

@@ -1,4 +1,4 @@
--- When the polls of the tables are fine, and what an audit reports of them.
+-- When the polls in the tables are fine, and which differences an audit reports.
 use Rattle.std.specs.Prelude.{⊤, ◌≡◌, ◌≤◌, ◌↔◌, ◌⊎◌, ◌+◌, ◌*◌, ◌==◌, ℕ, suc, Bool, true, false, nat_lt, nat_le, ◌&&◌, List, [], ◌∷◌, length, Option, Ok, Result, MatchResult, unwrap_or}
 use Rattle.std.specs.List.{list_all, list_any}
 use Rattle.sqlite.specs.Order.{Row}
@@ -28,16 +28,16 @@ are_numbered next last [] = nat_lt last next
 are_numbered next last (poll ∷ polls) =
     (poll.number == next) && nat_le next last && are_numbered (next + 1) last polls
 
--- The poll is the outcome's, and started no later than it ended.
+-- Whether the poll is that of the outcome, and started no later than the outcome.
 abbrev pub is_begun : OutcomeRow → PollRow → Bool
 is_begun outcome poll = (poll.number == outcome.poll) && nat_le poll.started outcome.moment
 
--- The outcome has a poll among these that started no later than it ended.
+-- Whether one of the polls is that of the outcome, and started no later than the outcome.
 abbrev pub has_begun : List PollRow → OutcomeRow → Bool
 has_begun polls outcome = list_any (is_begun outcome) polls
 
--- Each row of a run has values in their ranges, no number is missing, and no poll ended before its
--- start.
+-- A run of polls is fine. Its rows have values in their ranges, no number is missing, and no poll
+-- ended before its start.
 pub record IsFineRun (run last : ℕ) (rows : RunRows) : Type 0 where
   pub polls : List PollRow
   pub outcomes : List OutcomeRow
@@ -46,24 +46,25 @@ pub record IsFineRun (run last : ℕ) (rows : RunRows) : Type 0 where
   pub numbered : are_numbered (first_number run) (last_number run last) polls ≡ true
   pub begun : list_all (has_begun polls) outcomes ≡ true
 
--- The rows that the tables have for one run after another.
+-- The rows that the tables have for consecutive runs of polls, beginning with index `run`.
 abbrev pub AreRuns : Content → (run : ℕ) → List RunRows → Type 0
 AreRuns content run [] = ⊤
 AreRuns content run (rows ∷ others) =
     AreRowsOfRun run content rows × AreRuns content (suc run) others
 
--- All these runs are fine.
+-- Consecutive runs of polls are fine, beginning with index `run`.
 abbrev pub AreFineRuns : (run last : ℕ) → List RunRows → Type 0
 AreFineRuns run last [] = ⊤
 AreFineRuns run last (rows ∷ others) = IsFineRun run last rows × AreFineRuns (suc run) last others
 
 -- ---- the report
 
--- The audit ends after a run that has no poll, if `MOST` differences are kept.
+-- The audit may end after these rows: the run has no poll, and `MOST` differences are kept.
 abbrev pub Stops : RunRows → Findings → Type 0
 Stops rows found = (rows.polls.items ≡ []) × (MOST ≤ length found.first.items)
 
--- The differences of a run are reported, and whether the audit continues with the next run.
+-- The audit of one run reports its differences. It ends the audit only if `Stops` is true of the
+-- run.
 pub record TellsRun (run last : ℕ) (old new : Findings) (content : Content) (goes_on : Bool) :
     Type 0 where
   pub rows : RunRows
@@ -71,15 +72,15 @@ pub record TellsRun (run last : ℕ) (old new : Findings) (content : Content) (g
   pub told : IsTold (differences_of_run run last rows) old new
   pub stops : goes_on ≡ false → Stops rows new
 
--- The audit ends after the last of these runs.
+-- The audit may end after the last of these runs.
 abbrev pub StopsAfter : List RunRows → Findings → Type 0
 StopsAfter [] found = ⊥
 StopsAfter (rows ∷ []) found = Stops rows found
 StopsAfter (rows ∷ next ∷ others) found = StopsAfter (next ∷ others) found
 
--- The differences of the runs are reported, from the first run to that of the last poll. Once
--- `MOST` differences are kept, the runs end with one without a poll. There is no difference if and
--- only if all runs are fine.
+-- The audit of all runs, from the first run to that of the last poll. It may end earlier, after a
+-- run without polls, if `MOST` differences are kept. There is no difference if and only if all runs
+-- are fine.
 pub record TellsRuns (last : ℕ) (old new : Findings) (content : Content) : Type 0 where
   pub runs : List RunRows
   pub theirs : AreRuns content 0 runs
@@ -88,29 +89,30 @@ pub record TellsRuns (last : ℕ) (old new : Findings) (content : Content) : Typ
   pub told : (new.first.items ≡ [])
       ↔ ((old.first.items ≡ []) × AreFineRuns 0 last runs × (last ≤ length runs * RUN))
 
--- The counts with this number of polls.
+-- The counts with the number of polls set to `polls`.
 abbrev pub with_polls : ℕ → Counts → Counts
 with_polls polls counts = record counts { polls = polls }
 
--- The findings with this number of polls.
+-- The findings with the number of polls set to `polls`.
 abbrev pub counting_polls : ℕ → Findings → Findings
 counting_polls polls found = record found { counts = with_polls polls found.counts }
 
--- The last number is 0 if there is no poll. A last number out of range is reported.
+-- The audit up to the last number that a query found, or 0 without polls. A last number out of
+-- range is reported as a difference.
 abbrev pub TellsUpTo : Result (Option ℕ) RowFault → (old new : Findings) → Content → Type 0
 TellsUpTo found old new content =
     MatchResult found
     (λ last. TellsRuns (unwrap_or last 0) (counting_polls (unwrap_or last 0) old) new content)
     (λ _. new.first.items ≡ [] → ⊥)
 
--- The runs continue up to the greatest number of a poll. The schema keeps an outcome without a poll
--- from the tables.
+-- The audit of all polls, up to the greatest number of a poll. The schema excludes an outcome
+-- without a poll.
 pub record TellsPolls (old new : Findings) (content : Content) : Type 0 where
   pub rows : List Row
   pub shown : ShowsLast content rows
   pub tells : TellsUpTo (first_in 1 greatest_place rows) old new content
 
--- The differences of meters, and then of polls.
+-- The audit of all tables: first the meters, then the polls.
 pub record TellsTables (content : Content) (found : Findings) : Type 0 where
   pub meters : Findings
   pub told : TellsMeters content meters

@@ -1,4 +1,4 @@
--- The rows of a meter in the tables, for any content.
+-- Queries for the rows of a meter, over any tables.
 use Rattle.std.specs.Prelude.{◌≡◌, ℕ, Bool, false, bytes_eq, List, [], ◌∷◌}
 use Rattle.std.specs.Ordering.{is_gt}
 use Rattle.sqlite.specs.declared.types.Value.{Value}
@@ -15,7 +15,7 @@ use Rattle.table_audit.specs.declared.rows.MeterRows.{MeterRows}
 abbrev pub intervals_tree : ℕ
 intervals_tree = 14
 
--- The value is a text of these bytes.
+-- Whether the value is a text with these bytes.
 abbrev pub is_text : List ℕ → Value → Bool
 is_text name (Text t) = bytes_eq t name
 is_text name Null = false
@@ -23,39 +23,40 @@ is_text name (Int n) = false
 is_text name (Real x) = false
 is_text name (Blob b) = false
 
--- The first column of the row is the name of this meter.
+-- Whether the first column of the row is the name of this meter.
 abbrev pub is_of : (meter : List ℕ) → Row → Bool
 is_of meter row = is_text meter (column row 0)
 
--- In ascending order of the second column, an index or a start, as SQL compares values.
+-- The order of rows by ascending second column, which is an index or a start, as SQL compares
+-- values.
 abbrev pub InOrder : Row → Row → Type 0
 InOrder row later = is_gt (value_cmp (column row 1) (column later 1)) ≡ false
 
--- In ascending order of the first column, which is the rowid if the key is an index.
+-- The order of rows by ascending first column, which is the rowid if the key is an index.
 abbrev pub InPlace : Row → Row → Type 0
 InPlace row later = is_gt (value_cmp (column row 0) (column later 0)) ≡ false
 
--- The columns that the query shows of an installation: its index, and the columns after it.
+-- The result row that shows an installation: its index, and the columns after the index.
 abbrev pub installation_shown : Row → Row
 installation_shown row =
     column row 0 ∷ column row 2 ∷ column row 3 ∷ column row 4 ∷ column row 5 ∷ column row 6
     ∷ column row 7 ∷ column row 8 ∷ column row 9 ∷ []
 
--- The columns that the query shows of a range: the columns after the meter's name.
+-- The result row that shows a counter's range: the columns after the meter's name.
 abbrev pub range_shown : Row → Row
 range_shown row = column row 1 ∷ []
 
--- The columns that the query shows of an entry.
+-- The result row that shows an entry.
 abbrev pub entry_shown : Row → Row
 entry_shown row =
     column row 1 ∷ column row 2 ∷ column row 3 ∷ column row 4 ∷ column row 5 ∷ column row 6
     ∷ column row 7 ∷ []
 
--- The columns that the query shows of a void.
+-- The result row that shows a void.
 abbrev pub void_shown : Row → Row
 void_shown row = column row 1 ∷ []
 
--- The columns that the query shows of an interval row.
+-- The result row that shows the energy of a quarter hour.
 abbrev pub share_shown : Row → Row
 share_shown row = column row 1 ∷ column row 2 ∷ []
 
@@ -64,7 +65,7 @@ abbrev pub ShowsInstallations : Content → List Row → Type 0
 ShowsInstallations content rows =
     Shows every InPlace installation_shown (content meter_tree.installations) rows
 
--- The query shows the range of a meter.
+-- The query shows the range of a meter's counter.
 abbrev pub ShowsRange : (meter : List ℕ) → Content → List Row → Type 0
 ShowsRange meter content rows =
     Shows (is_of meter) AnyOrder range_shown (content meter_tree.ranges) rows

@@ -13,7 +13,8 @@ use sqlite::{Alter, Connection, Error, ErrorCode};
 use std::alloc::{AllocError, Global};
 use store_tables::{InstallationRow, RowFault};
 
-/// Returns whether the rows of a meter are those of a lawful journal, and reports the differences.
+/// Returns whether the rows of a meter are those of a lawful journal, and adds the differences to
+/// `found`.
 pub fn audit_rows(
     alloc: Global,
     installation: &InstallationRow,

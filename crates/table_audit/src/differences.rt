@@ -1,11 +1,11 @@
-//! The differences that an audit reports.
+//! The differences that an audit reports: places where tables are not those of a lawful office.
 ghost use Rattle.std.specs.Prelude.{◌≡◌, ◌<◌, ◌≤◌, [], length, OnOk};
 
 use energy_core::Last;
 use meter_audit::{IntervalFault, RowFault};
 use std::alloc::{AllocError, Global};
 
-/// A table with rows of meters.
+/// A table that has rows of meters.
 #[derive(Clone, Copy, Debug, PartialEq, Eq)]
 pub enum Table {
     Installations,
@@ -15,7 +15,7 @@ pub enum Table {
     Intervals,
 }
 
-/// How a poll differs from the polls of an office.
+/// How a poll in the tables differs from the polls that an office records.
 #[derive(Clone, Copy, Debug, PartialEq, Eq)]
 pub enum PollFault {
     /// The poll has a value out of its range.
@@ -28,8 +28,8 @@ pub enum PollFault {
     EndedBefore,
 }
 
-/// How the rows of a meter differ from those of a lawful journal, or a poll from the polls of an
-/// office.
+/// How the rows of a meter differ from those of a lawful journal, or a poll from the polls that an
+/// office records.
 #[derive(Clone, Copy, Debug, PartialEq, Eq)]
 pub enum Difference {
     /// A row of the table has a value out of its range.
@@ -40,28 +40,29 @@ pub enum Difference {
     Installation { has: u64, wanted: u64 },
     /// The meter has no entry, or its first entry is not a lawful opening.
     NotOpened,
-    /// An entry may not follow the entry before it.
+    /// The rules do not accept the entry after the entry before it.
     Entry { place: u64, fault: RowFault },
-    /// A void is of no entry after the opening, or of an entry with another void.
+    /// A void is of no entry after the opening, or of an entry that has another void.
     Void { place: u64 },
-    /// The energy of a quarter hour differs.
+    /// The energy of a quarter hour is not the one that the entries give.
     Interval(IntervalFault),
-    /// The installation has another last entry than the entries give.
+    /// The installation has another last entry than the one that follows from the entries.
     Last { has: Last, wanted: Last },
-    /// The installation has another total energy than the entries give, in mWh.
+    /// The installation has another total energy than the one that follows from the entries, in
+    /// mWh.
     Total { has: u64, wanted: u64 },
     /// The installation and the entries disagree on whether the meter was closed.
     Ended { wanted: bool },
-    /// No poll has a number from `first` to `last`.
+    /// No poll has one of the numbers from `first` to `last`.
     NoPolls { first: u64, last: u64 },
-    /// The poll with this number. A number below 1 is reported as 0.
+    /// The poll with this number differs. A number below 1 is reported as 0.
     Poll { poll: u64, fault: PollFault },
 }
 
-/// The most differences that an audit keeps.
+/// The greatest number of differences that an audit keeps. Further ones are counted.
 pub const MOST: usize = 100;
 
-/// The first differences, and how many more there are.
+/// The first differences of an audit, and how many more there are.
 #[derive(Debug, Drop)]
 pub struct Differences {
     pub first: Vec<Difference>,

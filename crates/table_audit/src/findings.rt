@@ -7,7 +7,7 @@ use crate::differences::{Difference, MOST};
 use crate::rows::MeterRows;
 use std::alloc::{AllocError, Global};
 
-/// A difference, with its meter.
+/// A difference that an audit found, with the name of its meter.
 #[derive(Debug, Drop)]
 pub struct Finding {
     /// The meter's name. None if a row of `installations` names no meter, or if a poll differs.
@@ -55,7 +55,7 @@ impl Findings {
         }
     }
 
-    /// Returns whether the tables are fine: whether there is no difference.
+    /// Returns whether the audit found no difference.
     pub fn is_fine(&self) -> bool
         ensures { IsTrue result ↔ (self.now.first.items ≡ []) }
     {
@@ -81,7 +81,7 @@ impl Findings {
         Ok(())
     }
 
-    /// Adds the differences of a meter: the first of them, and how many more there are.
+    /// Adds the differences of a meter as findings with its name, and how many more there are.
     pub(crate) fn tell(
         &mut self,
         alloc: Global,
@@ -106,7 +106,7 @@ impl Findings {
         Ok(())
     }
 
-    /// Adds differences without a meter.
+    /// Adds differences that belong to no meter.
     pub(crate) fn tell_all(&mut self, found: &[Difference]) -> Result<(), AllocError>
         requires few { length self.old.first.items ≤ MOST }
         ensures told { OnOk result (IsTold found.now self.old self.new) }
@@ -150,7 +150,7 @@ impl Findings {
     }
 }
 
-/// Returns a difference with its meter's name.
+/// Returns the finding of a meter's difference.
 fn under(alloc: Global, meter: &str, difference: &Difference) -> Result<Finding, AllocError>
     ensures meter { IfOk result (IsUnder meter.now) }
     ensures difference { IfOk result (λ finding. finding.difference ≡ difference.now) }
@@ -162,7 +162,7 @@ fn under(alloc: Global, meter: &str, difference: &Difference) -> Result<Finding,
     })
 }
 
-/// Returns a difference without a meter.
+/// Returns the finding of a difference that belongs to no meter.
 fn alone(difference: &Difference) -> Finding
     ensures meter { result.meter ≡ None }
     ensures difference { result.difference ≡ difference.now }

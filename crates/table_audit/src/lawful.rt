@@ -1,4 +1,4 @@
-//! The comparison of a meter's rows with the rows that its entries give.
+//! The comparison of a meter's rows with the rows that follow from its entries.
 ghost use Rattle.std.specs.Prelude.{◌≡◌, ◌<◌, ◌≤◌, ◌^◌, ◌↔◌, [], All, reverse, length, true};
 ghost use Rattle.std.specs.Prelude.{IsTrue, IsNone, IfSome, IfOk, OnOk, MatchOption};
 ghost use Rattle.meter_audit.specs.Fitting.{AreTold};
@@ -19,7 +19,7 @@ use meter_journal::Installed;
 use std::alloc::{AllocError, Global};
 use store_tables::InstallationRow;
 
-/// Checks the rows after an opening, up to the first row that is refused.
+/// Checks the entries after an opening, up to the first one that the rules refuse.
 fn go_over(
     meter: &Installed,
     progress: &mut Progress,
@@ -44,7 +44,7 @@ fn go_over(
     Ok(None)
 }
 
-/// Reports the first refused row, and each later row that is refused.
+/// Reports the first entry that the rules refuse, and each later one that they refuse.
 fn tell_refused(
     meter: &Installed,
     progress: &mut Progress,
@@ -74,8 +74,7 @@ fn tell_refused(
     Ok(())
 }
 
-/// Returns the first of some indices that does not rise. All are to be after the opening and up to
-/// the last entry.
+/// Returns the first index that is not greater than the one before it, or is not from 2 to `last`.
 fn first_astray(last: u64, places: &[u64]) -> Option<u64>
     ensures { IsNone result ↔ (agreeing.rises 1 last places.now ≡ true) }
 {
@@ -90,7 +89,7 @@ fn first_astray(last: u64, places: &[u64]) -> Option<u64>
 }
 
 /// Reports the first void that is of no entry, or of an entry with another void. Returns whether
-/// there is none.
+/// there is no such void.
 fn tell_voids(last: u64, voids: &[u64], found: &mut Differences) -> Result<bool, AllocError>
     requires few { length found.old.first.items ≤ MOST }
     ensures named { IfOk result (λ named. IsTrue named ↔ (agreeing.rises 1 last voids.now ≡ true)) }
@@ -128,8 +127,8 @@ fn tell_each(wanted: &[Share], has: &[Share], found: &mut Differences) -> Result
     Ok(())
 }
 
-/// Reports each difference between the interval rows and those that the entries give. Returns
-/// whether there is none.
+/// Reports each difference between the interval rows and those that follow from the entries.
+/// Returns whether there is none.
 fn tell_intervals(
     wanted: &[Share],
     has: &[Share],
@@ -150,7 +149,8 @@ fn tell_intervals(
     Ok(false)
 }
 
-/// Reports the last entry, if the installation has another. Returns whether the two agree.
+/// Reports the last entry that the entries give, if the installation has another. Returns whether
+/// the two agree.
 fn tell_last(has: Last, wanted: Option<Last>, found: &mut Differences) -> Result<bool, AllocError>
     requires few { length found.old.first.items ≤ MOST }
     ensures none { IfOk result (λ same. IsTrue same ↔ IsNone wanted) }
@@ -164,7 +164,8 @@ fn tell_last(has: Last, wanted: Option<Last>, found: &mut Differences) -> Result
     Ok(false)
 }
 
-/// Reports the total energy, if the installation has another. Returns whether the two agree.
+/// Reports the total energy that the entries give, if the installation has another. Returns whether
+/// the two agree.
 fn tell_total(has: u64, wanted: Option<u64>, found: &mut Differences) -> Result<bool, AllocError>
     requires few { length found.old.first.items ≤ MOST }
     ensures none { IfOk result (λ same. IsTrue same ↔ IsNone wanted) }
@@ -178,7 +179,7 @@ fn tell_total(has: u64, wanted: Option<u64>, found: &mut Differences) -> Result<
     Ok(false)
 }
 
-/// Reports whether the meter was closed, if the installation says otherwise. Returns whether the
+/// Reports whether the entries close the meter, if the installation disagrees. Returns whether the
 /// two agree.
 fn tell_ended(wanted: Option<bool>, found: &mut Differences) -> Result<bool, AllocError>
     requires few { length found.old.first.items ≤ MOST }
@@ -193,8 +194,8 @@ fn tell_ended(wanted: Option<bool>, found: &mut Differences) -> Result<bool, All
     Ok(false)
 }
 
-/// Reports each difference between an installation and the result of the check. Returns whether
-/// there is none.
+/// Reports each difference between an installation and the result of checking its entries. Returns
+/// whether there is none.
 fn tell_standing(
     check: &Check,
     row: &InstallationRow,
@@ -223,8 +224,8 @@ fn tell_standing(
     Ok(last && total && ended)
 }
 
-/// Reports each difference between the remaining rows and the result of the check. Returns whether
-/// there is none.
+/// Reports each difference of voids, interval rows and installation from the result of checking the
+/// entries. Returns whether there is none.
 fn tell_rest(
     progress: &Progress,
     row: &InstallationRow,
@@ -245,8 +246,8 @@ fn tell_rest(
     Ok(named && same && stands)
 }
 
-/// Returns whether the values that were read of a meter are those of a lawful journal, and reports
-/// the differences.
+/// Returns whether the values that were read of a meter are those of a lawful journal, and adds the
+/// differences to `found`.
 pub(crate) fn audit_read(
     alloc: Global,
     range: u64,

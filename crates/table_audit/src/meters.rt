@@ -14,7 +14,7 @@ use sqlite::{Alter, Connection, Error, ErrorCode, Row};
 use std::alloc::{AllocError, Global};
 use store_tables::RowFault;
 
-/// Reports an installation whose index is not the next. Returns whether it is.
+/// Reports an installation whose index is not the next one. Returns whether it is the next one.
 fn tell_place(has: u64, wanted: u64, found: &mut Differences) -> Result<bool, AllocError>
     requires few { length found.old.first.items ≤ MOST }
     ensures placed { IfOk result (λ placed. IsTrue placed ↔ (has ≡ wanted)) }
@@ -28,7 +28,7 @@ fn tell_place(has: u64, wanted: u64, found: &mut Differences) -> Result<bool, Al
     Ok(false)
 }
 
-/// Returns whether a row of `installations` has this index, and the rows of its meter are fine.
+/// Returns whether a row of `installations` has the index `place` and its meter's rows are fine.
 /// Reports the differences.
 fn audit_installation(
     alloc: Global,
@@ -89,7 +89,7 @@ fn audit_unnamed(place: u64, findings: &mut Findings) -> Result<(), AllocError>
     Ok(())
 }
 
-/// Audits a row of `installations`, which should have this index, and the rows of its meter.
+/// Audits a row of `installations`, which should have the index `place`, and the rows of its meter.
 fn audit_row<S: Alter>(
     alloc: Global,
     conn: &mut Connection<S>,

@@ -1,4 +1,4 @@
-//! The differences of the polls of a run, in order.
+//! The differences of the polls of a run, in order. A run is `RUN` consecutive numbers of polls.
 ghost use Rattle.std.specs.Prelude.{◌≡◌, ◌≤◌, ◌<◌, ◌^◌, ◌++◌, ◌∷◌, [], true, IsTrue, IfOk, OnOk};
 ghost use Rattle.std.specs.List.{list_any};
 ghost use Rattle.store_tables.specs.Limits.{greatest_place};
@@ -23,7 +23,7 @@ fn number(row: &Row) -> Option<u64>
     }
 }
 
-/// Appends a difference of a poll.
+/// Adds a difference of a poll to `found`.
 fn put(found: &mut Vec<Difference>, poll: u64, fault: PollFault) -> Result<(), AllocError>
     ensures { OnOk result (found.new.items ≡ found.old.items ++ Difference.Poll poll fault ∷ []) }
 {
@@ -85,7 +85,7 @@ fn number_of(row: &Row) -> Option<u64>
     }
 }
 
-/// Reports the missing numbers from `next` to `below` - 1.
+/// Reports the numbers from `next` to `below` - 1 as missing, if there are any.
 fn put_gap(next: u64, below: u64, found: &mut Vec<Difference>) -> Result<(), AllocError>
     ensures { OnOk result (found.new.items ≡ found.old.items ++ differing.gap next below) }
 {
@@ -97,7 +97,7 @@ fn put_gap(next: u64, below: u64, found: &mut Vec<Difference>) -> Result<(), All
 }
 
 /// Reports the missing numbers before a number, or that the number is out of order. Returns the
-/// next number.
+/// number that is expected after it.
 fn put_number(
     next: u64,
     last: u64,
@@ -118,7 +118,7 @@ fn put_number(
 }
 
 /// Reports the missing numbers before the number of a row, or that this number is out of order.
-/// Returns the next number.
+/// Returns the number that is expected after it.
 fn put_row(next: u64, last: u64, row: &Row, found: &mut Vec<Difference>) -> Result<u64, AllocError>
     requires last { last ≤ greatest_place }
     ensures put { OnOk result (found.new.items
@@ -152,8 +152,8 @@ fn put_order(
 
 // ---- outcomes
 
-/// Returns whether a row is of the outcome's poll, and the poll started no later than it ended. If
-/// the row can't be read, its number alone decides.
+/// Returns whether a row is of the outcome's poll, and the poll started no later than the outcome.
+/// If the row can't be read, its number alone decides.
 fn began(outcome: &OutcomeRow, row: &Row) -> bool
     ensures { result ≡ differing.began outcome.now row.now }
 {
@@ -163,7 +163,8 @@ fn began(outcome: &OutcomeRow, row: &Row) -> bool
     }
 }
 
-/// Returns `began` for the row at the position that the outcome's poll has if no number is missing.
+/// Returns what `began` returns for one row: the row at the position that the outcome's poll has if
+/// no number is missing.
 fn began_there(first: u64, polls: &[Row], outcome: &OutcomeRow) -> bool
     ensures { IsTrue result → list_any (differing.began outcome.now) polls.now ≡ true }
 {
@@ -174,7 +175,7 @@ fn began_there(first: u64, polls: &[Row], outcome: &OutcomeRow) -> bool
     false
 }
 
-/// Returns whether one of these polls is the outcome's and started no later than it ended.
+/// Returns whether one of these polls is that of the outcome and started no later than the outcome.
 fn began_anywhere(polls: &[Row], outcome: &OutcomeRow) -> bool
     ensures { result ≡ list_any (differing.began outcome.now) polls.now }
 {
@@ -186,7 +187,7 @@ fn began_anywhere(polls: &[Row], outcome: &OutcomeRow) -> bool
     false
 }
 
-/// Does the same as `began_anywhere`, but tries the likely position first.
+/// Returns the result of `began_anywhere`. Tries the likely position of the poll first.
 fn has_begun(first: u64, polls: &[Row], outcome: &OutcomeRow) -> bool
     ensures { result ≡ list_any (differing.began outcome.now) polls.now }
 {
@@ -196,7 +197,7 @@ fn has_begun(first: u64, polls: &[Row], outcome: &OutcomeRow) -> bool
     began_anywhere(polls, outcome)
 }
 
-/// Reports an outcome that is earlier than its poll.
+/// Reports an outcome that is earlier than the start of its poll, or has no poll.
 fn put_early(
     first: u64,
     polls: &[Row],
@@ -214,7 +215,7 @@ fn put_early(
     put(found, outcome.poll, PollFault::EndedBefore)
 }
 
-/// Reports each outcome that is earlier than its poll.
+/// Reports each outcome that is earlier than the start of its poll, or has no poll.
 fn put_each_early(
     first: u64,
     polls: &[Row],
@@ -232,7 +233,7 @@ fn put_each_early(
 
 // ---- all differences
 
-/// Reports the values of a run that are out of range.
+/// Reports the rows of a run that have values out of range.
 fn put_values(rows: &RunRows, found: &mut Vec<Difference>) -> Result<(), AllocError>
     ensures { OnOk result (found.new.items ≡ found.old.items ++ differing.values_of rows.now) }
 {

@@ -1,4 +1,4 @@
-//! Queries for polls and outcomes by runs of numbers.
+//! Queries for polls and outcomes by runs of numbers. A run is `RUN` consecutive numbers of polls.
 ghost use Rattle.std.specs.Prelude.{◌≡◌, ◌<◌, ◌^◌, false};
 ghost use Rattle.sqlite.specs.declared.types.Value.TheVariants.{Int};
 ghost use Rattle.store_tables.specs.Answer.{every};

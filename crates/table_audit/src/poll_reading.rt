@@ -6,7 +6,8 @@ use crate::poll_rows::{OutcomeRow, PollRow};
 use sqlite::Row;
 use store_tables::{GREATEST_PLACE, LATEST_MOMENT, RowFault, whole};
 
-/// Returns the greatest count of a read from `address`: at most 125 registers, none past 65535.
+/// Returns the greatest count of a read from `address`: at most 125 Modbus registers, none past
+/// address 65535.
 fn room(address: u64) -> u64
     requires { address ≤ 65535 }
     ensures { result ≡ values.greatest_count address }

@@ -2,7 +2,7 @@
 
 use sqlite::Row;
 
-/// How many numbers a run of polls has. The first run begins at number 1.
+/// How many consecutive numbers of polls form a run. The first run begins at number 1.
 pub const RUN: u64 = 4096;
 
 /// The rows of a run of polls, as the queries show them, in order of their numbers. The first run

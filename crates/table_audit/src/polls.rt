@@ -62,9 +62,9 @@ fn audit_run<S: Alter>(
     }
 }
 
-/// Reports the differences of the polls up to the last, by runs. Once `MOST` differences are kept,
-/// the first run without a poll is the last one read. Each other run has rows, so the audit ends
-/// soon for any last number.
+/// Reports the differences of all runs up to that of the last poll. Once `MOST` differences are
+/// kept, the audit ends after the first run without polls. So it ends soon even if a damaged file
+/// has a very large last number.
 fn audit_runs<S: Alter>(
     alloc: Global,
     conn: &mut Connection<S>,
@@ -109,7 +109,7 @@ fn audit_polls<S: Alter>(
     audit_runs(alloc, conn, last, findings)
 }
 
-/// Reports that the greatest number of a poll is out of range.
+/// Reports that the greatest number of a poll is out of its range.
 fn tell_last(findings: &mut Findings) -> Result<(), RowFault>
     requires few { length findings.old.first.items ≤ MOST }
     ensures told { OnOk result (findings.new.first.items ≡ [] → ⊥) }

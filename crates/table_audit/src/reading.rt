@@ -15,7 +15,7 @@ use store_tables::{
     GREATEST_PLACE, InstallationRow, LATEST_MOMENT, LastRow, RowFault, scale, whole,
 };
 
-/// Reads the kind of an entry.
+/// Reads the kind of an entry from the column at index `at`.
 fn kind(row: &Row, at: usize) -> Result<RowKind, RowFault>
     ensures { result ≡ or_damaged (values.kind_in (column row.now at)) }
 {
@@ -30,7 +30,7 @@ fn kind(row: &Row, at: usize) -> Result<RowKind, RowFault>
     }
 }
 
-/// Returns whether one of these voids is of the entry at an index.
+/// Returns whether the entry at index `place` has one of these voids.
 fn is_named(voids: &[u64], place: u64) -> bool
     ensures { result ≡ values.is_named voids.now place }
 {
@@ -78,7 +78,8 @@ fn share(row: &Row) -> Result<Share, RowFault>
     Ok(Share { start, mwh })
 }
 
-/// Reads the range of a meter, if it has exactly one.
+/// Reads the range of a meter's counter, or None if the meter does not have exactly one valid
+/// range.
 pub fn range(rows: &[Row]) -> Option<u64>
     ensures { (n : _) → (values.all_in values.range_in rows.now ≡ Ok (n ∷ [])) ↔ (result ≡ Some n) }
 {
@@ -91,7 +92,7 @@ pub fn range(rows: &[Row]) -> Option<u64>
     }
 }
 
-/// Reads entries in order, unless one can't be read.
+/// Reads entries in order, or returns None if one can't be read.
 pub fn entries(
     alloc: Global,
     rows: &[Row],
@@ -111,7 +112,7 @@ pub fn entries(
     Ok(Some(found))
 }
 
-/// Reads the indices of voided entries, unless one can't be read.
+/// Reads the indices of voided entries, or returns None if one can't be read.
 pub fn places(alloc: Global, rows: &[Row]) -> Result<Option<Vec<u64>>, AllocError>
     ensures { IfOk result (values.AreRead values.place_in rows.now) }
 {
@@ -125,7 +126,7 @@ pub fn places(alloc: Global, rows: &[Row]) -> Result<Option<Vec<u64>>, AllocErro
     Ok(Some(found))
 }
 
-/// Reads the energy of quarter hours, unless one can't be read.
+/// Reads the energy of quarter hours, or returns None if one can't be read.
 pub(crate) fn shares(alloc: Global, rows: &[Row]) -> Result<Option<Vec<Share>>, AllocError>
     ensures { IfOk result (values.AreRead values.share_in rows.now) }
 {
@@ -165,7 +166,7 @@ fn last(row: &Row) -> Result<LastRow, RowFault>
     })
 }
 
-/// Reads all columns of an installation but its names.
+/// Reads all columns of an installation except its names.
 pub fn installation(row: &Row) -> Result<InstallationRow, RowFault>
     ensures { result ≡ installation_in row.now }
 {
@@ -181,7 +182,7 @@ pub fn installation(row: &Row) -> Result<InstallationRow, RowFault>
     })
 }
 
-/// Reads the name of an installation's meter, if the row has one.
+/// Reads the name of an installation's meter, or returns None if the row has none.
 pub(crate) fn name(row: &Row) -> Result<Option<String>, RowFault>
     ensures text { IfOk result (values.IsTextIn (column row.now 1)) }
     ensures fault { IfErr result (λ fault. fault ≡ RowFault.Sql want_of_memory) }

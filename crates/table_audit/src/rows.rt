@@ -1,4 +1,4 @@
-//! The rows of a meter.
+//! The rows of a meter, as the queries show them.
 
 use sqlite::Row;
 

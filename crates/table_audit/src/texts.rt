@@ -54,7 +54,7 @@ fn table_name(table: Table) -> &'static [u8]
     }
 }
 
-/// Appends why an entry may not follow there.
+/// Appends why an entry may not follow the entry before it.
 fn put_cause(text: &mut Vec<u8>, cause: RowFault) -> Result<(), AllocError>
     ensures { OnOk result (text.new.items ≡ say.with_cause text.old.items cause) }
 {

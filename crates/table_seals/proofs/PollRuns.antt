@@ -97,7 +97,7 @@ module _ (last : ℕ) (hidden : List ℕ) (n first : ℕ) (old new : Sha256) (ol
             one.adds.pending ∙ ap (λ (t : List ℕ). t ++ pending_among more) before.pending_are ∙ sym (flat_map-append pending_of before.polls more);
       }
 
--- The same for a known result.
+-- The result for a run whose polls can't be read.
 pub run_unread : (last : ℕ) (hidden : List ℕ) (n first : ℕ) (old new : Sha256) (old_pending new_pending : List ℕ) (content : Content) (greatest : ℕ)
     (found : Option ℕ) → found ≡ None → RunsSoFar last hidden n first old old_pending content
     → LooksAtRun n last hidden first old new old_pending new_pending content found → DigestsRuns greatest last hidden content None

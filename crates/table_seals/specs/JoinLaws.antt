@@ -1,4 +1,5 @@
--- Theorems about files that continue each other.
+-- Theorems about files of one office that continue each other. A line reports that a file does not
+-- continue the earlier ones.
 use Rattle.std.specs.Prelude.{⊤, ◌≡◌, ◌↔◌, ◌≤◌, ◌+◌, ℕ, true, List, [], ◌∷◌, ◌++◌, length, Some, Ok, string_bytes}
 use Rattle.std.specs.List.{AllByRecursion, filter}
 use Rattle.energy_core.specs.declared.limits.TheConstants.{MAX_TOTAL}
@@ -15,14 +16,15 @@ use Rattle.table_seals.specs.declared.filed.FiledMeter.{FiledMeter}
 use Rattle.table_seals.specs.Filing.{IsFiledAs}
 use Rattle.table_seals.specs.Joins.{Known, known_with, joins_by, joins_of_all, is_meter, is_within}
 
--- The meter of an earlier file continues as this meter, at the same register. The energy of all its
--- files is within the limit of one meter.
+-- The meter `old` of an earlier file continues as `new`, at the same accounting register. The
+-- energy of all its files is within the limit of one meter.
 pub record MeterGoesOn (known : List FiledMeter) (old new : FiledMeter) : Type 0 where
   pub goes_on : GoesOnAs old.installed old.standing.last old.standing.is_ended new.installed
   pub register : string_bytes new.register ≡ string_bytes old.register
   pub within : is_within known new ≡ true
 
--- A meter of an earlier file has no line if and only if it continues so.
+-- Theorem: there is no line about a meter of an earlier file if and only if the meter continues in
+-- the next file.
 abbrev pub JoinedMetersGoOn : Type 0
 JoinedMetersGoOn = (known : List FiledMeter) (old new : FiledMeter)
     → (joins_by known new (Some old) ≡ []) ↔ MeterGoesOn known old new
@@ -33,18 +35,18 @@ JoinedMetersGoOn = (known : List FiledMeter) (old new : FiledMeter)
 abbrev pub named : (name : List ℕ) → List FiledMeter → List FiledMeter
 named name meters = filter (is_meter name) meters
 
--- The total energy of meters.
+-- The total energy of these meters, in mWh.
 abbrev pub energy_of : List FiledMeter → ℕ
 energy_of [] = 0
 energy_of (meter ∷ meters) = meter.standing.total + energy_of meters
 
--- No two meters of a file have the same name, by the key of the table. Each has at most the energy
--- of one meter.
+-- No two meters of a file have the same name, which the key of the table ensures. Each meter has at
+-- most the energy of one meter.
 pub record IsOfMeters (file : Known) : Type 0 where
   pub apart : (name : List ℕ) → length (named name file.meters) ≤ 1
   pub totals : AllByRecursion (λ meter. meter.standing.total ≤ MAX_TOTAL) file.meters
 
--- Each meter continues the next one in the list: the latest is the first.
+-- Each meter continues the next one in the list, which is of an earlier file.
 abbrev pub EachGoesOn : List FiledMeter → Type 0
 EachGoesOn [] = ⊤
 EachGoesOn (new ∷ []) = ⊤
@@ -52,18 +54,19 @@ EachGoesOn (new ∷ old ∷ older) =
     GoesOnAs old.installed old.standing.last old.standing.is_ended new.installed
     × EachGoesOn (old ∷ older)
 
--- The meters of a name continue through all files that have them, and their total energy is within
--- the limit of one meter.
+-- The meters of a name continue through all files that have them. Their total energy is within the
+-- limit of one meter.
 pub record IsOneMeter (name : List ℕ) (known : Known) : Type 0 where
   pub goes_on : EachGoesOn (named name known.meters)
   pub energy : energy_of (named name known.meters) ≤ MAX_TOTAL
 
--- What is kept of all files.
+-- What is kept of all files: the first, and all later ones.
 abbrev pub known_with_all : Known → (later : List Known) → Known
 known_with_all known [] = known
 known_with_all known (next ∷ later) = known_with_all (known_with known next) later
 
--- If the files are of such meters and have no lines, the meters of each name are one meter.
+-- Theorem: if each file is one of `IsOfMeters` and there are no lines, the meters of each name are
+-- one meter.
 abbrev pub JoinedFilesAreOne : Type 0
 JoinedFilesAreOne = (first : Known) (later : List Known) → IsOfMeters first
     → AllByRecursion IsOfMeters later
@@ -72,7 +75,7 @@ JoinedFilesAreOne = (first : Known) (later : List Known) → IsOfMeters first
 
 -- ---- the tables of several files
 
--- The tables are fine, and have the state of the meter that is kept.
+-- The tables are fine, and their meter has the state that is kept.
 pub record IsToldBy (meter : FiledMeter) (tables : Tables) : Type 0 where
   pub well : IsWellInstalled meter.installed
   pub fine : AreFine meter.installed tables
@@ -80,7 +83,8 @@ pub record IsToldBy (meter : FiledMeter) (tables : Tables) : Type 0 where
   pub total : tables.total ≡ meter.standing.total
   pub ended : tables.ended ≡ meter.standing.is_ended
 
--- A meter that is kept of a file which an audit finds fine has such tables.
+-- Theorem: if an audit finds a file fine, each meter that is kept of it has fine tables with the
+-- state that is kept.
 abbrev pub FiledMetersAreTold : Type 0
 FiledMetersAreTold = (row : Row) (rows : MeterRows) (installation : InstallationRow)
     (filed : FiledMeter) → installation_in row ≡ Ok installation
@@ -90,8 +94,7 @@ FiledMetersAreTold = (row : Row) (rows : MeterRows) (installation : Installation
 abbrev pub in_file : (tables : FiledMeter → Tables) → FiledMeter → InFile
 in_file tables meter = record { meter = meter.installed; tables = tables meter }
 
--- Each of these meters with its tables. The list of meters has the latest first, and the result has
--- the oldest first.
+-- Each meter with its tables, the oldest file first. The list of meters has the latest file first.
 abbrev pub in_files : (tables : FiledMeter → Tables) → List FiledMeter → List InFile
 in_files tables [] = []
 in_files tables (meter ∷ older) = in_files tables older ++ in_file tables meter ∷ []
@@ -104,8 +107,8 @@ pub record HasOneJournal (tables : FiledMeter → Tables) (meters : List FiledMe
   pub are : in_files tables meters ≡ first ∷ later
   pub lawful : AreLawful first.meter (told_by_all first.tables later)
 
--- The same for meters that continue each other and whose tables are fine, with a total energy
--- within the limit of one meter.
+-- Theorem: suppose that the meters continue each other, that their tables are fine, and that their
+-- total energy is within the limit of one meter. Then their files have one journal.
 abbrev pub JoinedFilesAreLawful : Type 0
 JoinedFilesAreLawful = (tables : FiledMeter → Tables) (meter : FiledMeter)
     (older : List FiledMeter) → AllByRecursion (λ m. IsToldBy m (tables m)) (meter ∷ older)

@@ -1,4 +1,4 @@
--- The lines of a seal at the beginning of a text.
+-- A text that begins with lines of a seal.
 use Rattle.std.specs.Prelude.{◌≡◌, ◌<◌, ◌^◌, ℕ, true, List, ◌++◌, flat_map, codes}
 use Rattle.std.specs.List.{AllByRecursion}
 use Rattle.table_seals.specs.declared.parsing.MeterLine.{MeterLine}
@@ -8,7 +8,7 @@ use Rattle.table_seals.specs.Sealed.{Sealed, SealedPolls, SealedTables}
 use Rattle.table_seals.specs.Tables.{is_word}
 use Rattle.table_seals.specs.Texts.{meter_text, void_line, pending_line, polls_part}
 
--- The line has all values of a seal but its voids.
+-- The line has all values of a meter's seal except its voids.
 pub record IsLineOf (seal : Sealed) (line : MeterLine) : Type 0 where
   pub meter : line.meter.now ≡ seal.meter
   pub register : line.register.now ≡ seal.register
@@ -21,41 +21,42 @@ pub record IsLineOf (seal : Sealed) (line : MeterLine) : Type 0 where
 abbrev pub Begins : (word text : List ℕ) → Type 0
 Begins word text = (rest : List ℕ) × (text ≡ word ++ rest)
 
--- The text begins with the lines of a meter's voids, and the rest does not begin with such a line.
+-- `text` begins with the lines of these voids of a meter. Its `rest` does not begin with another
+-- such line.
 pub record AreVoids (meter places rest text : List ℕ) : Type 0 where
   pub word : is_word meter ≡ true
   pub fit : AllByRecursion (λ place. place < 2 ^ 64) places
   pub ends : Begins (codes "void ") rest → ⊥
   pub is : text ≡ flat_map (void_line meter) places ++ rest
 
--- The text begins with the seals of these meters, and the rest does not begin with the line of a
--- meter or a void.
+-- `text` begins with the seals of these meters. Its `rest` does not begin with a line of a meter or
+-- a void.
 pub record AreMeters (seals : List Sealed) (rest text : List ℕ) : Type 0 where
   pub fit : AreSealable seals
   pub no_meter : Begins (codes "meter ") rest → ⊥
   pub no_void : Begins (codes "void ") rest → ⊥
   pub is : text ≡ flat_map meter_text seals ++ rest
 
--- The line has all values of the polls' seal but the pending polls.
+-- The line has all values of the polls' seal except the pending polls.
 pub record IsPollsLineOf (seal : SealedPolls) (line : PollsLine) : Type 0 where
   pub count : line.count ≡ seal.count
   pub digest : line.digest ≡ seal.digest
 
--- The text begins with the lines of pending polls, and the rest does not begin with such a line.
+-- `text` begins with the lines of these pending polls. Its `rest` does not begin with another such
+-- line.
 pub record ArePending (polls rest text : List ℕ) : Type 0 where
   pub fit : AllByRecursion (λ poll. poll < 2 ^ 64) polls
   pub ends : Begins (codes "pending ") rest → ⊥
   pub is : text ≡ flat_map pending_line polls ++ rest
 
--- The text begins with the seal of polls, and the rest does not begin with the line of a pending
--- poll.
+-- `text` begins with the seal of polls. Its `rest` does not begin with the line of a pending poll.
 pub record ArePolls (seal : SealedPolls) (rest text : List ℕ) : Type 0 where
   pub fit : ArePollsSealable seal
   pub ends : Begins (codes "pending ") rest → ⊥
   pub is : text ≡ polls_part seal ++ rest
 
--- The text begins with the seals of meters and polls, and the rest does not begin with the line of
--- a pending poll.
+-- `text` begins with the seals of meters and polls. Its `rest` does not begin with the line of a
+-- pending poll.
 pub record AreTables (seal : SealedTables) (rest text : List ℕ) : Type 0 where
   pub fit : AreTablesSealable seal
   pub ends : Begins (codes "pending ") rest → ⊥

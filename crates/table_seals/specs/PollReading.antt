@@ -1,4 +1,4 @@
--- The polls that rows show, each with its outcome.
+-- The polls that rows of the tables show, each with its outcome.
 use Rattle.std.specs.Borrow.{Bor}
 use Rattle.std.specs.Prelude.{◌≡◌, ℕ, suc, ◌+◌, ◌==◌, List, [], ◌∷◌, ◌++◌, length, drop, Option, Some, None, Result, Ok, Err, if◌then◌else◌}
 use Rattle.std.specs.List.{fold}
@@ -15,7 +15,7 @@ use Rattle.table_seals.specs.Tables.{is_word}
 
 -- ---- a row
 
--- The numbers of a poll, or damage.
+-- The numbers of the poll that a row shows. A column out of its range is damage.
 abbrev pub numbers_in : Row → Result PollNumbers RowFault
 numbers_in row =
     and_then (or_damaged (whole_in 1 greatest_place (column row 0))) (λ number.
@@ -35,7 +35,7 @@ numbers_in row =
       count = count;
     }))))))))
 
--- A name that is a word.
+-- The text of a value, if it is a word: all bytes are greater than 32.
 abbrev pub word_in : Value → Option (List ℕ)
 word_in (Text t) = if is_word t then Some t else None
 word_in Null = None
@@ -43,12 +43,12 @@ word_in (Int n) = None
 word_in (Real x) = None
 word_in (Blob b) = None
 
--- The word of a column was read, or the column has none.
+-- The word of a column was read, or the result is None because the column has no word.
 abbrev pub IsWordIn : Value → Option (Bor (List ℕ)) → Type 0
 IsWordIn v None = word_in v ≡ None
 IsWordIn v (Some word) = word_in v ≡ Some word.now
 
--- The outcome of a poll, or damage.
+-- The outcome that a row shows. A column out of its range is damage.
 abbrev pub ending_in : Row → Result Ending RowFault
 ending_in row =
     and_then (or_damaged (whole_in 1 greatest_place (column row 0))) (λ poll.
@@ -59,28 +59,28 @@ ending_in row =
 
 -- ---- a poll with its outcome, if it has one
 
--- A poll with its outcome, if it has one.
+-- A poll with its device and its outcome. Without an outcome it is pending.
 pub record ReadPoll : Type 0 where
   pub numbers : PollNumbers
   pub device : List ℕ
   pub ending : Option Ending
 
--- The outcome that was read, if it is of the poll with this number.
+-- The outcome that was read, if it is that of the poll with this number.
 abbrev pub if_of : (number : ℕ) → Result Ending RowFault → Option Ending
 if_of number (Err e) = None
 if_of number (Ok ending) = if ending.poll == number then Some ending else None
 
--- The outcome in the first row, if it is of the poll with this number.
+-- The outcome in the first row, if it is that of the poll with this number.
 abbrev pub ending_at : (number : ℕ) → List Row → Option Ending
 ending_at number [] = None
 ending_at number (row ∷ rows) = if_of number (ending_in row)
 
--- The rows after an outcome, if there was one.
+-- The rows without the first, if that row was the outcome of a poll. Otherwise all rows.
 abbrev pub rows_after : Option Ending → List Row → List Row
 rows_after None rows = rows
 rows_after (Some ending) rows = drop 1 rows
 
--- The poll that was read, if it has this number.
+-- The poll that was read, if it has this number and the name of its device is a word.
 abbrev pub if_numbered : (number : ℕ) → Result PollNumbers RowFault → Option (List ℕ)
     → Option Ending → Option ReadPoll
 if_numbered number (Err e) word ending = None
@@ -89,7 +89,7 @@ if_numbered number (Ok numbers) (Some device) ending =
     if numbers.number == number
     then Some (record { numbers = numbers; device = device; ending = ending }) else None
 
--- The poll of a row, if it can be read and has this number.
+-- The poll of a row, if the row can be read and has this number.
 abbrev pub poll_at : (number : ℕ) → Row → Option Ending → Option ReadPoll
 poll_at number row ending = if_numbered number (numbers_in row) (word_in (column row 7)) ending
 
@@ -100,8 +100,8 @@ and_more None more = None
 and_more (Some poll) None = None
 and_more (Some poll) (Some polls) = Some (poll ∷ polls)
 
--- The polls of some rows, if each can be read and has the next number. Each outcome is of one of
--- these polls.
+-- The polls of some rows with their outcomes. None if a row can't be read, if a number is missing,
+-- or if an outcome is of none of these polls.
 abbrev pub polls_in : (next : ℕ) → (polls outcomes : List Row) → Option (List ReadPoll)
 polls_in next [] [] = Some []
 polls_in next [] (row ∷ rows) = None
@@ -115,12 +115,12 @@ abbrev pub after : List ReadPoll → Option (List ReadPoll) → Option (List Rea
 after polls None = None
 after polls (Some more) = Some (polls ++ more)
 
--- The polls so far, with those of one more run.
+-- The polls of earlier runs with those of one more run. None if one of them can't be read.
 abbrev pub with_run : Option (List ReadPoll) → RunRows → Option (List ReadPoll)
 with_run None rows = None
 with_run (Some polls) rows =
     after polls (polls_in (length polls + 1) rows.polls.items rows.outcomes.items)
 
--- The polls of all runs, if each can be read. They have all numbers from 1.
+-- The polls of all runs, with all numbers from 1. None if one of them can't be read.
 abbrev pub polls_of : List RunRows → Option (List ReadPoll)
 polls_of runs = fold with_run (Some []) runs

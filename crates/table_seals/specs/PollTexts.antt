@@ -1,4 +1,4 @@
--- The text of polls whose digest a seal has.
+-- The text of polls whose digest is in a seal.
 use Rattle.std.specs.Prelude.{ℕ, Bool, true, false, nat_le, List, [], ◌∷◌, ◌++◌, flat_map, Option, Some, None, if◌then◌else◌}
 use Rattle.std.specs.Prelude.{codes, decimal}
 use Rattle.table_audit.specs.Reading.{is_named}
@@ -20,27 +20,28 @@ ending_line ending =
     codes "outcome " ++ decimal ending.moment ++ codes " " ++ decimal ending.kind ++ codes " "
     ++ decimal ending.code ++ codes "\n"
 
--- The line of an outcome, if there is one.
+-- The line of an outcome, or an empty text for a pending poll.
 abbrev pub ending_text : Option Ending → List ℕ
 ending_text None = []
 ending_text (Some ending) = ending_line ending
 
--- The line of a poll, and the line of its outcome, if it has one.
+-- The line of a poll, and the line of its outcome if it has one.
 abbrev pub poll_text : ReadPoll → List ℕ
 poll_text poll = poll_line poll.numbers poll.device ++ ending_text poll.ending
 
--- The text of polls.
+-- The text of polls: their lines, in order.
 abbrev pub polls_text : List ReadPoll → List ℕ
 polls_text polls = flat_map poll_text polls
 
 -- ---- the text at the time of the seal
 
--- The outcome, unless the poll was pending.
+-- The outcome of a poll, or None if the poll was pending.
 abbrev pub unless_pending : Bool → Option Ending → Option Ending
 unless_pending true ending = None
 unless_pending false ending = ending
 
--- The text of a poll at the time of the seal, or nothing for a later poll.
+-- The text that a poll had at the time of the seal, when the polls `pending` had no outcome. Empty
+-- for a poll after `last`.
 abbrev pub text_then : (last : ℕ) → (pending : List ℕ) → ReadPoll → List ℕ
 text_then last pending poll =
     if nat_le poll.numbers.number last
@@ -59,10 +60,10 @@ abbrev pub unless_ended : (number : ℕ) → Option Ending → List ℕ
 unless_ended number None = number ∷ []
 unless_ended number (Some ending) = []
 
--- The number of a poll, if it is pending.
+-- The number of a poll as a list, or an empty list if the poll has an outcome.
 abbrev pub pending_of : ReadPoll → List ℕ
 pending_of poll = unless_ended poll.numbers.number poll.ending
 
--- The numbers of the pending polls.
+-- The numbers of all pending polls.
 abbrev pub pending_among : List ReadPoll → List ℕ
 pending_among polls = flat_map pending_of polls

@@ -4,8 +4,8 @@ use Rattle.table_seals.specs.declared.seals.MeterSeal.{MeterSeal}
 use Rattle.table_seals.specs.declared.seals.PollSeal.{PollSeal}
 use Rattle.table_seals.specs.declared.seals.Seal.{Seal}
 
--- The seal of a meter: its name, register and terms, the number and the digest of its entries, and
--- the indices of the voided entries.
+-- The seal of a meter: its name, its accounting register and terms, the number and the digest of
+-- its entries, and the indices of its voided entries.
 pub record Sealed : Type 0 where
   pub meter : List ℕ
   pub register : List ℕ
@@ -15,7 +15,7 @@ pub record Sealed : Type 0 where
   pub digest : List ℕ
   pub voids : List ℕ
 
--- The values of a meter's seal.
+-- The values of a meter's seal, without its allocations.
 abbrev pub sealed_of : MeterSeal → Sealed
 sealed_of seal = record {
   meter = string_bytes seal.meter;
@@ -27,13 +27,13 @@ sealed_of seal = record {
   voids = seal.voids.items;
 }
 
--- The seal of polls: their number, the digest of their text, and the pending polls.
+-- The seal of polls: their number, the digest of their text, and the numbers of the pending polls.
 pub record SealedPolls : Type 0 where
   pub count : ℕ
   pub digest : List ℕ
   pub pending : List ℕ
 
--- The values of the polls' seal.
+-- The values of the polls' seal, without its allocations.
 abbrev pub sealed_polls_of : PollSeal → SealedPolls
 sealed_polls_of seal = record {
   count = seal.count;
@@ -41,12 +41,12 @@ sealed_polls_of seal = record {
   pending = seal.pending.items;
 }
 
--- The seal of a file: its meters in order of index, and its polls.
+-- The seal of a file: the seals of its meters in order of index, and the seal of its polls.
 pub record SealedTables : Type 0 where
   pub meters : List Sealed
   pub polls : SealedPolls
 
--- The values of a file's seal.
+-- The values of a file's seal, without its allocations.
 abbrev pub sealed_tables_of : Seal → SealedTables
 sealed_tables_of seal = record {
   meters = map sealed_of seal.meters.items;

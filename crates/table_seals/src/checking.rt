@@ -1,4 +1,4 @@
-//! Checking whether the tables keep what was sealed.
+//! Checking whether the tables of a file still have what its seal covers.
 ghost use Rattle.std.specs.Prelude.{◌≡◌, ◌↔◌, ◌++◌, false, map, IsTrue, IfOk, OnOk, string_bytes};
 ghost use Rattle.std.specs.List.{list_all};
 ghost use Rattle.table_audit.specs.Looking.{Finds};
@@ -20,21 +20,21 @@ use std::collections::BTreeSet;
 use store_tables::RowFault;
 use table_audit::{MeterRows, installations, meter_rows};
 
-/// Returns whether one of these voids is of the entry at an index.
+/// Returns whether the entry at index `place` has one of these voids.
 fn is_named(voids: &[u64], place: u64) -> bool
     ensures { result ≡ values.is_named voids.now place }
 {
     voids.iter().any(|v| *v == place)
 }
 
-/// Returns whether the entries at all these indices are still voided.
+/// Returns whether the entries at all these indices still have voids.
 fn are_named(voids: &[u64], places: &[u64]) -> bool
     ensures { result ≡ list_all (λ place. values.is_named voids.now place) places.now }
 {
     places.iter().all(|place| is_named(voids, *place))
 }
 
-/// Returns whether the rows of a meter keep what was sealed.
+/// Returns whether the rows of a meter still have what its seal covers.
 fn has_sealed(alloc: Global, rows: &MeterRows, seal: &MeterSeal) -> Result<bool, AllocError>
     ensures { IfOk result (λ has. IsTrue has ↔ HasSealed rows.now (sealed_of seal.now)) }
 {
@@ -57,8 +57,8 @@ fn has_sealed(alloc: Global, rows: &MeterRows, seal: &MeterSeal) -> Result<bool,
     Ok(digest.as_slice() == seal.digest.as_slice())
 }
 
-/// Returns whether a meter is installed on the terms of its seal, and its rows keep what was
-/// sealed. `known` has the terms of all meters.
+/// Returns whether a meter is installed on the terms of its seal, and its rows still have what the
+/// seal covers. `known` has the terms of all meters.
 fn keeps(
     alloc: Global,
     known: &BTreeSet<Terms>,
@@ -72,7 +72,7 @@ fn keeps(
     Ok(there && has)
 }
 
-/// Returns whether the tables keep a meter as it was sealed.
+/// Returns whether the tables keep a meter as it was sealed. `known` has the terms of all meters.
 fn check_meter<S: Alter>(
     alloc: Global,
     conn: &mut Connection<S>,
@@ -90,7 +90,7 @@ fn check_meter<S: Alter>(
     }
 }
 
-/// Appends the name of a meter that differs.
+/// Appends the name of a meter that differs from its seal.
 fn tell(
     alloc: Global,
     kept: bool,
@@ -128,7 +128,8 @@ fn check_told<S: Alter>(
     }
 }
 
-/// Returns the names of the meters that the tables don't keep as they were sealed.
+/// Returns the names of the meters that the tables don't keep as they were sealed. `known` has the
+/// terms of all meters.
 fn check_each<S: Alter>(
     alloc: Global,
     conn: &mut Connection<S>,
@@ -147,7 +148,8 @@ fn check_each<S: Alter>(
     Ok(differing)
 }
 
-/// Does the same with the terms that the tables have.
+/// Returns the names of the meters that the tables don't keep as they were sealed, with the terms
+/// that the tables have.
 fn check_meters<S: Alter>(
     alloc: Global,
     conn: &mut Connection<S>,

@@ -1,4 +1,4 @@
-//! The result of a check, and its printed lines.
+//! The result of checking a seal, and its printed lines.
 ghost use Rattle.std.specs.Prelude.{◌≡◌, ◌++◌, ◌↔◌, OnOk, IsTrue, flat_map};
 ghost use Rattle.table_seals.specs.Checking.{IsAsSealed};
 ghost use Rattle.table_seals.specs.Texts as say;
@@ -6,8 +6,8 @@ ghost use Rattle.table_seals.specs.Texts as say;
 use crate::texts::{put, put_number, put_word};
 use std::alloc::AllocError;
 
-/// The names of the meters that differ from a seal, how many meters the seal has, and whether the
-/// polls differ.
+/// The result of checking a seal: the names of the meters that differ, how many meters the seal
+/// has, and whether the polls differ.
 #[derive(Debug, Drop)]
 pub struct Checked {
     pub differing: Vec<String>,
@@ -16,7 +16,7 @@ pub struct Checked {
 }
 
 impl Checked {
-    /// Returns whether no meter differs, and the polls don't.
+    /// Returns whether no meter differs from the seal, and the polls don't differ.
     pub fn is_fine(&self) -> bool
         ensures { IsTrue result ↔ IsAsSealed self.now }
     {

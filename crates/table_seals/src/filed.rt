@@ -2,7 +2,8 @@
 use meter_audit::Standing;
 use meter_journal::Installed;
 
-/// A meter as a file has it: its register, its opening, and its state at the end of the file.
+/// A meter as a file has it: its accounting register, its opening, and its state at the end of the
+/// file.
 #[derive(Debug, Drop)]
 pub struct FiledMeter<'a> {
     /// The name of the file in messages.

@@ -1,4 +1,4 @@
-//! Reading the meters of a file's tables.
+//! Reading the meters of a file's tables, to check whether the next file continues this one.
 ghost use Rattle.std.specs.Prelude.{◌≡◌, ◌++◌, ◌∷◌, [], false, IfOk, IfErr, OnOk};
 ghost use Rattle.store_tables.specs.Failing.{want_of_memory};
 ghost use Rattle.table_audit.specs.Looking.{Finds};
@@ -16,7 +16,7 @@ use std::alloc::{AllocError, Global};
 use store_tables::{InstallationRow, RowFault};
 use table_audit::{MeterRows, installation, installations, meter_rows};
 
-/// Returns the state of the meter that an installation has.
+/// Returns the state of the meter in an installation's row.
 fn standing_of(row: &InstallationRow) -> Standing
     ensures { result ≡ standing_in row.now }
 {

@@ -1,4 +1,4 @@
-//! The terms of installed meters.
+//! The terms of all installed meters: name, accounting register and ceiling.
 ghost use Rattle.std.specs.Prelude.{IfOk, OnOk};
 ghost use Rattle.table_seals.specs.Installed.{AddsTerms, AddsTermsOf, AreTermsOf, TellsInstalled};
 ghost use Rattle.table_seals.specs.Sealed.{sealed_of};
@@ -17,7 +17,7 @@ fn add(known: &mut BTreeSet<Terms>, terms: Terms) -> Result<(), AllocError>
     Ok(())
 }
 
-/// Adds the terms of a row, if it has some.
+/// Adds the terms of a row of `installations`, if it has terms.
 fn add_row(known: &mut BTreeSet<Terms>, row: &Row) -> Result<(), AllocError>
     ensures { OnOk result (AddsTermsOf row.now known.old known.new) }
 {
@@ -41,7 +41,7 @@ pub(crate) fn terms_in(alloc: Global, installed: &[Row]) -> Result<BTreeSet<Term
     Ok(known)
 }
 
-/// Returns whether the meter of a seal is installed on the same terms. `known` has the terms of all
+/// Returns whether the sealed meter is installed on the same terms. `known` has the terms of all
 /// meters.
 pub(crate) fn is_installed(known: &BTreeSet<Terms>, seal: &MeterSeal) -> Result<bool, AllocError>
     ensures { IfOk result (TellsInstalled known.now (sealed_of seal.now)) }

@@ -1,18 +1,18 @@
-//! Why a meter does not continue from one file to the next.
+//! Why a meter of one file does not continue in the next file.
 
-/// Why a meter of a file does not continue the meter of the earlier file.
+/// Why a meter of a file does not continue the meter of the same name in the earlier file.
 #[derive(Clone, Copy, Debug, PartialEq, Eq)]
 pub enum JoinFault {
-    /// The meter was closed in the earlier file.
+    /// The meter was already closed in the earlier file.
     Closed,
-    /// The meter was at another register.
+    /// The meter was at another accounting register in the earlier file.
     Register,
-    /// The counter had another range.
+    /// The meter's counter had another range in the earlier file.
     Range,
-    /// The meter had another ceiling.
+    /// The meter had another ceiling in the earlier file.
     Ceiling,
-    /// The opening differs from the last entry of the earlier file.
+    /// The meter's opening differs from its last entry in the earlier file.
     Opening,
-    /// The total energy of all files is more than one meter may have.
+    /// The meter's total energy in all files is more than one meter may have.
     Energy,
 }

@@ -4,21 +4,21 @@ ghost use Rattle.table_seals.specs.JoinLaws.{FiledMetersAreTold, JoinedFilesAreL
 
 use meter_audit::files_are_one_history;
 
-/// Theorem: a meter of an earlier file has no line if and only if it continues from its last entry
-/// there.
+/// Theorem: there is no line about a meter of an earlier file if and only if the meter continues
+/// from its last entry there.
 pub fn joined_meters_go_on()
     ensures { JoinedMetersGoOn }
 {}
 
 /// Theorem: suppose that no two meters of a file have the same name, and each has at most the
-/// energy of one meter. If the files have no lines, the meters of each name continue through all
-/// files that have them. Their total energy is then within the limit of one meter.
+/// energy of one meter. If there are no lines about the files, the meters of each name continue
+/// through all files that have them. Their total energy is then within the limit of one meter.
 pub fn joined_files_are_one()
     ensures { JoinedFilesAreOne }
 {}
 
-/// Theorem: the meter that is kept of a file is the meter of its tables, if an audit finds the file
-/// fine. The tables are those of a lawful journal.
+/// Theorem: if an audit finds a file fine, each meter that is kept of it has the tables of a lawful
+/// journal.
 pub fn filed_meters_are_told()
     ensures { FiledMetersAreTold }
 {}

@@ -20,7 +20,7 @@ fn put_stand(text: &mut Vec<u8>, last: &Last) -> Result<(), AllocError>
     put_scale(text, b" ", last.sf)
 }
 
-/// Appends the value of a meter in a file, and its value in the earlier file.
+/// Appends the text of a value that a meter has in a file, and of its value in the earlier file.
 fn put_words(
     text: &mut Vec<u8>,
     what: &[u8],
@@ -152,7 +152,7 @@ fn put_meter(text: &mut Vec<u8>, meter: &FiledMeter<'_>) -> Result<(), AllocErro
 
 // ---- lines
 
-/// Returns the line on why a meter of the next file does not continue.
+/// Returns the line that says why a meter of the next file does not continue.
 pub(crate) fn fault_line(
     alloc: Global,
     fault: JoinFault,
@@ -169,7 +169,8 @@ pub(crate) fn fault_line(
     Ok(line)
 }
 
-/// Returns the line on a meter that begins before the last entry of another meter at its register.
+/// Returns the line about a meter that begins before the last entry of another meter at its
+/// accounting register.
 pub(crate) fn overlap_line(
     alloc: Global,
     old: &FiledMeter<'_>,
@@ -194,7 +195,7 @@ pub(crate) fn overlap_line(
     Ok(line)
 }
 
-/// Returns the line on an open meter that is not in the next file.
+/// Returns the line about an open meter that is not in the next file.
 pub(crate) fn missing_line(
     alloc: Global,
     old: &FiledMeter<'_>,
@@ -210,7 +211,7 @@ pub(crate) fn missing_line(
     Ok(line)
 }
 
-/// Returns the line on two files with different time zones.
+/// Returns the line about two files with different time zones.
 pub(crate) fn zone_line(
     alloc: Global,
     old: &FiledOffice<'_>,
@@ -260,8 +261,8 @@ fn put_all(text: &mut Vec<u8>, all: u64) -> Result<(), AllocError>
     put(text, b" differences between files\n")
 }
 
-/// Appends the text about files: the first of these lines, how many more there are, and their
-/// number. Out of memory leaves a part of the text.
+/// Appends the text about several files: the first of these lines, how many more there are, and
+/// their number. Out of memory leaves a part of the text.
 pub fn put_joins(text: &mut Vec<u8>, lines: &[Vec<u8>]) -> Result<(), AllocError>
     ensures { OnOk result (text.new.items ≡ text.old.items ++ say.joined_text lines.now) }
 {

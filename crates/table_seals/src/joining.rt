@@ -1,4 +1,4 @@
-//! The files of an office, one after another.
+//! The files of an office, which are added one after another.
 ghost use Rattle.std.specs.Prelude.{◌≡◌, ◌++◌, [], Some, None, IfOk, OnOk, option_map};
 ghost use Rattle.table_seals.specs.Joins.{known_of, known_with};
 
@@ -6,7 +6,7 @@ use crate::filed::FiledOffice;
 use crate::joins::tell_joins;
 use std::alloc::{AllocError, Global};
 
-/// Merges what is kept of earlier files with the next file.
+/// Merges what is kept of earlier files with what is kept of the next file.
 fn with_next<'a>(
     known: FiledOffice<'a>,
     next: FiledOffice<'a>,
@@ -26,8 +26,8 @@ fn with_next<'a>(
     })
 }
 
-/// Files one after another, the oldest first: what is kept of them, and a line for each way in
-/// which a file does not continue the earlier files.
+/// Files of an office, the oldest first: what is kept of them, and a line for each way in which a
+/// file does not continue the earlier files.
 #[derive(Debug, Drop)]
 pub struct Joining<'a> {
     pub known: Option<FiledOffice<'a>>,
@@ -38,7 +38,7 @@ impl<'a> Joining<'a> {
     ghost use Rattle.table_seals.specs.Joins.{after_next, joins_after};
     ghost use Rattle.table_seals.specs.JoinTexts.{lines_of, texts_of};
 
-    /// Creates a list without files. Keeps the allocator, and allocates no memory.
+    /// Creates a value without files. Allocates no memory yet, and keeps the allocator.
     pub fn new(alloc: Global) -> Joining<'a>
         ensures none { result.known ≡ None }
         ensures lines { result.lines.items ≡ [] }

@@ -18,29 +18,29 @@ fn is_meter(name: &str, meter: &FiledMeter<'_>) -> bool
     meter.meter.as_str() == name
 }
 
-/// Returns whether one of these meters has the name.
+/// Returns whether one of these meters has this name.
 fn has_meter(name: &str, meters: &[FiledMeter<'_>]) -> bool
     ensures { result ≡ joins.has_meter name.now meters.now }
 {
     meters.iter().any(|meter| is_meter(name, meter))
 }
 
-/// Returns the first of these meters with the name.
+/// Returns the first of these meters with this name, or None.
 fn meter_in<'m, 'a>(name: &str, meters: &'m [FiledMeter<'a>]) -> Option<&'m FiledMeter<'a>>
     ensures { option_copied result ≡ find (joins.is_meter name.now) meters.now }
 {
     meters.iter().find(|meter| is_meter(name, *meter))
 }
 
-/// Returns whether both have the same counter, timestamp and scale factor.
+/// Returns whether both have the same counter value, timestamp and scale factor.
 fn is_same(last: &Last, other: &Last) -> bool
     ensures { result ≡ joins.is_same last.now other.now }
 {
     last.at == other.at && last.raw == other.raw && last.sf == other.sf
 }
 
-/// Returns how much of the energy limit is left after a meter, if it has the name. None if the
-/// meter exceeds the limit.
+/// Returns how much of the energy limit is left after a meter. A meter of another name uses none.
+/// None if the meter exceeds the limit.
 fn left_after(most: u64, name: &str, meter: &FiledMeter<'_>) -> Option<u64>
     ensures { result ≡ joins.left_after most name.now meter.now }
 {
@@ -55,7 +55,7 @@ fn left_after(most: u64, name: &str, meter: &FiledMeter<'_>) -> Option<u64>
     }
 }
 
-/// Returns whether the meters of a name together have at most the energy `most`.
+/// Returns whether all meters of a name together have at most the energy `most`.
 fn stay_within(most: u64, name: &str, meters: &[FiledMeter<'_>]) -> bool
     ensures { result ≡ joins.stay_within most name.now meters.now }
 {
@@ -69,8 +69,8 @@ fn stay_within(most: u64, name: &str, meters: &[FiledMeter<'_>]) -> bool
     true
 }
 
-/// Returns whether a meter of the next file and its earlier files together have at most the energy
-/// of one meter.
+/// Returns whether a meter of the next file, with its earlier files, has at most the energy of one
+/// meter.
 fn is_within(known: &[FiledMeter<'_>], new: &FiledMeter<'_>) -> bool
     ensures { result ≡ joins.is_within known.now new.now }
 {
@@ -80,7 +80,7 @@ fn is_within(known: &[FiledMeter<'_>], new: &FiledMeter<'_>) -> bool
     }
 }
 
-/// Returns why a meter does not continue the meter of the earlier file.
+/// Returns why a meter does not continue the meter of the earlier file, or None if it does.
 fn fault_between(within: bool, old: &FiledMeter<'_>, new: &FiledMeter<'_>) -> Option<JoinFault>
     ensures { result ≡ joins.fault_between within old.now new.now }
 {
@@ -105,7 +105,8 @@ fn fault_between(within: bool, old: &FiledMeter<'_>, new: &FiledMeter<'_>) -> Op
     None
 }
 
-/// Returns whether a meter begins before the last entry of another meter at its register.
+/// Returns whether a meter begins before the last entry of another meter at its accounting
+/// register.
 fn is_beyond(new: &FiledMeter<'_>, old: &FiledMeter<'_>) -> bool
     ensures { result ≡ joins.is_beyond new.now old.now }
 {
@@ -113,8 +114,8 @@ fn is_beyond(new: &FiledMeter<'_>, old: &FiledMeter<'_>) -> bool
         && new.installed.opening.at < old.standing.last.at
 }
 
-/// Returns the first of these meters with a last entry at the same register after the meter's
-/// opening.
+/// Returns the first of these meters that has a later last entry at the same accounting register
+/// than the meter's opening.
 fn overlapped<'m, 'a>(
     new: &FiledMeter<'_>,
     known: &'m [FiledMeter<'a>],
@@ -133,7 +134,8 @@ fn keep(lines: &mut Vec<Vec<u8>>, line: Vec<u8>) -> Result<(), AllocError>
     Ok(())
 }
 
-/// Reports why a meter of the next file does not continue the earlier meter of its name.
+/// Reports why a meter of the next file does not continue the earlier meter of its name, if it does
+/// not.
 fn tell_fault(
     alloc: Global,
     lines: &mut Vec<Vec<u8>>,
@@ -153,7 +155,8 @@ fn tell_fault(
     }
 }
 
-/// Reports a new meter that begins before the last entry of another meter at its register.
+/// Reports a new meter that begins before the last entry of another meter at its accounting
+/// register.
 fn tell_overlap(
     alloc: Global,
     lines: &mut Vec<Vec<u8>>,
@@ -172,7 +175,7 @@ fn tell_overlap(
     }
 }
 
-/// Reports the difference of a meter of the next file, if there is one.
+/// Reports how a meter of the next file differs from the earlier files, if it does.
 fn tell_meter(
     alloc: Global,
     lines: &mut Vec<Vec<u8>>,
@@ -194,7 +197,7 @@ fn tell_meter(
     }
 }
 
-/// Reports the differences of the meters of the next file.
+/// Reports how the meters of the next file differ from the earlier files.
 fn tell_meters(
     alloc: Global,
     lines: &mut Vec<Vec<u8>>,
@@ -210,14 +213,14 @@ fn tell_meters(
     Ok(())
 }
 
-/// Returns whether a meter is open in the earlier file, and not in the next.
+/// Returns whether a meter is open in the earlier file, and not in the next file.
 fn is_missing(next: &[FiledMeter<'_>], old: &FiledMeter<'_>) -> bool
     ensures { result ≡ joins.is_missing next.now old.now }
 {
     !old.standing.is_ended && !has_meter(&old.meter, next)
 }
 
-/// Reports an open meter that is not in the next file.
+/// Reports a meter that is open in the earlier file and not in the next file.
 fn tell_missing(
     alloc: Global,
     lines: &mut Vec<Vec<u8>>,
@@ -234,7 +237,7 @@ fn tell_missing(
     keep(lines, line)
 }
 
-/// Reports each open meter that is not in the next file.
+/// Reports each meter that is open in the earlier file and not in the next file.
 fn tell_each_missing(
     alloc: Global,
     lines: &mut Vec<Vec<u8>>,
@@ -251,7 +254,7 @@ fn tell_each_missing(
     Ok(())
 }
 
-/// Reports that the next file has another time zone.
+/// Reports that the next file has another time zone, if it has.
 fn tell_zone(
     alloc: Global,
     lines: &mut Vec<Vec<u8>>,

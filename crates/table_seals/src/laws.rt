@@ -2,19 +2,19 @@
 //! Each function's contract is the theorem.
 ghost use Rattle.table_seals.specs.Laws.{FirstEntriesStay, VoidsStay, PollsStay};
 
-/// Theorem: the entries of a journal stay its first entries, with the same text, for all lines that
-/// follow. So an office keeps the entries that were sealed.
+/// Theorem: the entries of a journal stay its first entries, with the same text, after any later
+/// lines. So an office keeps the entries that were sealed.
 pub fn first_entries_stay()
     ensures { FirstEntriesStay }
 {}
 
-/// Theorem: voided entries stay voided, for all lines that follow.
+/// Theorem: an entry that is voided stays voided, after any later lines of the journal.
 pub fn voids_stay()
     ensures { VoidsStay }
 {}
 
-/// Theorem: the text of the sealed polls stays the same, for all later polls and later outcomes of
-/// pending polls.
+/// Theorem: after later polls, and outcomes of pending polls, the text that the sealed polls had
+/// can still be computed.
 pub fn polls_stay()
     ensures { PollsStay }
 {}

@@ -1,6 +1,6 @@
-//! Seals of the tables of a file: signed-off digests. A check of a seal shows whether the same file
-//! years later, or another file, still has what was sealed. The crate also checks whether the next
-//! file continues an earlier one.
+//! Seals of the tables of a file: signed-off digests. A check of a seal shows whether a file,
+//! possibly years later, still has what was sealed. The crate also checks whether the next file of
+//! an office continues an earlier one.
 #![tactic(auto)]
 
 mod checking;

@@ -14,7 +14,7 @@ use crate::seals::{MeterSeal, PollSeal, Seal};
 use crate::texts::put_seal;
 use std::alloc::{AllocError, Global};
 
-/// Why a text is not read as a seal.
+/// Why a text can't be parsed as a seal.
 #[derive(Clone, Copy, Debug, PartialEq, Eq)]
 pub enum NoSeal {
     /// The text is not the text of a seal.
@@ -22,7 +22,7 @@ pub enum NoSeal {
     Memory,
 }
 
-/// The values in the line of a meter.
+/// The values in the line of a sealed meter.
 #[derive(Clone, Copy)]
 struct MeterLine<'a> {
     meter: &'a str,
@@ -33,14 +33,14 @@ struct MeterLine<'a> {
     digest: [u8; 32],
 }
 
-/// The values in the line of polls.
+/// The values in the line of the sealed polls.
 #[derive(Clone, Copy)]
 struct PollsLine {
     count: u64,
     digest: [u8; 32],
 }
 
-/// Parses a word after the prefix `before`. Returns the word, and the text after the character
+/// Parses a word after the prefix `before`. Returns the word, and the text after the next character
 /// `end`.
 fn field<'a>(text: &'a str, before: &str, end: char) -> Option<(&'a str, &'a str)>
     requires { end ≤ 32 }
@@ -99,7 +99,7 @@ fn digest<'a>(text: &'a str, before: &str, end: char, bytes: &mut [u8]) -> Optio
     }
 }
 
-/// Parses the line of a meter. Returns its values, and the text after the line.
+/// Parses the line of a sealed meter. Returns its values, and the text after the line.
 fn meter_line<'a>(text: &'a str) -> Option<(MeterLine<'a>, &'a str)>
     ensures reads { (seal : Sealed) (rest : List ℕ) → IsSealable seal
         → text.now ≡ say.meter_line seal ++ rest
@@ -185,7 +185,7 @@ fn seal_in(alloc: Global, line: &MeterLine<'_>, voids: Vec<u64>) -> Result<Meter
     })
 }
 
-/// Parses the seals of meters. Returns them, and the text after them.
+/// Parses the seals of meters. Returns them, and the text after the last of them.
 fn meters<'a>(alloc: Global, text: &'a str) -> Result<Option<(Vec<MeterSeal>, &'a str)>, AllocError>
     ensures reads { (seals : List Sealed) (rest : List ℕ) → AreMeters seals rest text.now
         → IfOk result (λ found. IsSomeAnd found (λ read.
@@ -206,7 +206,7 @@ fn meters<'a>(alloc: Global, text: &'a str) -> Result<Option<(Vec<MeterSeal>, &'
     Ok(Some((seals, rest)))
 }
 
-/// Parses the line of polls. Returns its values, and the text after the line.
+/// Parses the line of the sealed polls. Returns its values, and the text after the line.
 fn polls_line<'a>(text: &'a str) -> Option<(PollsLine, &'a str)>
     ensures reads { (seal : SealedPolls) (rest : List ℕ) → ArePollsSealable seal
         → text.now ≡ say.polls_line seal ++ rest
@@ -261,7 +261,7 @@ fn polls(alloc: Global, text: &str) -> Result<Option<PollSeal>, AllocError>
     }))
 }
 
-/// Parses the seals of meters, and then that of polls.
+/// Parses the seals of meters, and then the seal of polls.
 fn tables(alloc: Global, text: &str) -> Result<Option<Seal>, AllocError>
     ensures { (seal : SealedTables) (rest : List ℕ) → AreTables seal rest text.now
         → IfOk result (λ found. IsSomeAnd found (λ read. sealed_tables_of read ≡ seal)) }

@@ -1,4 +1,4 @@
-//! Sealing the polls of the tables, and checking them against a seal.
+//! Sealing the polls of the tables, and checking the polls against a seal.
 ghost use Rattle.std.specs.Prelude.{◌≡◌, ◌↔◌, ◌<◌, ◌≤◌, ◌+◌, ◌^◌, false, IfOk, IfErr, IfSome};
 ghost use Rattle.sha2.specs.Hashers.{Holds256};
 ghost use Rattle.store_tables.specs.Failing.{want_of_memory};
@@ -48,7 +48,7 @@ fn add_run(
     Ok(found)
 }
 
-/// Queries the rows of a run, and adds them as `add_run` does.
+/// Queries the rows of a run, and adds the text of its polls as `add_run` does.
 fn look_run<S: Alter>(
     alloc: Global,
     conn: &mut Connection<S>,
@@ -116,7 +116,7 @@ fn digest_runs<S: Alter>(
     }))
 }
 
-/// Digests all polls in the same way.
+/// Digests all polls of the tables as `digest_runs` does.
 fn digest_polls<S: Alter>(
     alloc: Global,
     conn: &mut Connection<S>,
@@ -145,7 +145,7 @@ pub(crate) fn seal_polls<S: Alter>(
     digest_polls(alloc, conn, GREATEST_PLACE, &[])
 }
 
-/// Returns whether polls that were read differ from a seal.
+/// Returns whether the polls that were read differ from a seal. None means that they can't be read.
 fn differ(found: &Option<PollSeal>, seal: &PollSeal) -> bool
     ensures { (result ≡ false) ↔ said.AreAsSealed found.now (sealed_polls_of seal.now) }
 {

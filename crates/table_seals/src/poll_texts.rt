@@ -1,4 +1,4 @@
-//! The text of polls whose digest a seal has.
+//! The text of polls whose digest is in a seal.
 ghost use Rattle.std.specs.Prelude.{◌≡◌, ◌≤◌, ◌++◌, ◌+◌, true, OnOk, IfOk, IfSome};
 ghost use Rattle.store_tables.specs.Limits.{greatest_place};
 ghost use Rattle.table_audit.specs.Reading as values;
@@ -79,7 +79,7 @@ fn put_then(
     put_ending(text, is_named(hidden, poll.number), ending)
 }
 
-/// Appends the number of a poll without an outcome.
+/// Appends the number of a poll, if the poll has no outcome.
 fn keep_pending(
     pending: &mut Vec<u64>,
     number: u64,
@@ -123,7 +123,8 @@ fn put_poll(
     Ok(true)
 }
 
-/// Returns the rows after an outcome, if there was one.
+/// Returns the rows without the first, if that row was the outcome of a poll. Otherwise returns all
+/// rows.
 fn rows_after<'a>(ending: Option<Ending>, rows: &'a [Row]) -> &'a [Row]
     ensures { result.now ≡ reading.rows_after ending rows.now }
 {

@@ -70,7 +70,7 @@ pub(crate) fn outcome(row: &Row) -> Result<Ending, RowFault>
     })
 }
 
-/// Returns whether the bytes are a word: all are greater than 32, so none is a space or the end of
+/// Returns whether the bytes are a word: each is greater than 32, so none is a space or the end of
 /// a line.
 fn are_word(bytes: &[u8]) -> bool
     ensures { result ≡ tables.is_word bytes.now }
@@ -78,7 +78,7 @@ fn are_word(bytes: &[u8]) -> bool
     bytes.iter().all(|&byte| byte > 32)
 }
 
-/// Reads a column as a word.
+/// Reads the column at index `at` as a word. Returns None if it is not a word.
 pub(crate) fn word<'a>(row: &'a Row, at: usize) -> Option<&'a [u8]>
     ensures { reading.IsWordIn (column row.now at) result }
 {
@@ -88,7 +88,7 @@ pub(crate) fn word<'a>(row: &'a Row, at: usize) -> Option<&'a [u8]>
     }
 }
 
-/// Reads the outcome in the first row, if it is of the poll with this number.
+/// Reads the outcome in the first row. Returns None if it is not that of the poll with this number.
 pub(crate) fn ending_at(number: u64, rows: &[Row]) -> Option<Ending>
     ensures { result ≡ reading.ending_at number rows.now }
 {

@@ -1,7 +1,7 @@
 //! The seals of meters, of polls, and of a file.
 
-/// The seal of a meter: its name, its register and its terms, the number and the digest of its
-/// entries, and the indices of the voided entries.
+/// The seal of a meter: its name, its accounting register and its terms, the number and the digest
+/// of its entries, and the indices of its voided entries.
 #[derive(Debug, Drop)]
 pub struct MeterSeal {
     pub meter: String,
@@ -22,7 +22,7 @@ pub struct PollSeal {
     pub pending: Vec<u64>,
 }
 
-/// The seal of a file: the seals of its meters in order of index, and that of its polls.
+/// The seal of a file: the seals of its meters in order of index, and the seal of its polls.
 #[derive(Debug, Drop)]
 pub struct Seal {
     pub meters: Vec<MeterSeal>,

@@ -12,7 +12,7 @@ use std::alloc::{AllocError, Global};
 use store_tables::whole;
 use table_audit::{MeterRows, entries, places, range};
 
-/// The terms of a meter that an installation has.
+/// The terms of a meter: its name, its accounting register and its ceiling.
 #[derive(Drop, PartialEq, Eq, PartialOrd, Ord)]
 pub(crate) struct Terms {
     pub(crate) meter: String,
@@ -20,7 +20,7 @@ pub(crate) struct Terms {
     pub(crate) ceiling: u64,
 }
 
-/// The values of a meter's other rows.
+/// The values of a meter's other rows: range, voids and entries.
 #[derive(Drop)]
 pub(crate) struct ReadRows {
     pub(crate) range: u64,
@@ -28,7 +28,7 @@ pub(crate) struct ReadRows {
     pub(crate) entries: Vec<TableRow>,
 }
 
-/// Reads a column as a text, if it is one.
+/// Reads the column at index `at` as a text. Returns None if it is not a text.
 pub(crate) fn text(row: &Row, at: usize) -> Result<Option<String>, AllocError>
     ensures { IfOk result (IsTextIn (column row.now at)) }
 {
@@ -39,8 +39,8 @@ pub(crate) fn text(row: &Row, at: usize) -> Result<Option<String>, AllocError>
     }
 }
 
-/// Reads the meter, the register and the ceiling of an installation. None if one of them can't be
-/// read.
+/// Reads the name, the accounting register and the ceiling of an installed meter. None if one of
+/// them can't be read.
 pub(crate) fn terms_of(row: &Row) -> Result<Option<Terms>, AllocError>
     ensures { IfOk result (TermsAreRead row.now) }
 {

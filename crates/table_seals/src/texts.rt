@@ -1,4 +1,4 @@
-//! The text of entries whose digest a seal has, and the text of a seal.
+//! The text of entries whose digest is in a seal, and the text of a seal.
 ghost use Rattle.std.specs.Prelude.{◌≡◌, ◌++◌, OnOk, IfOk, flat_map, decimal};
 ghost use Rattle.std.specs.Fmt.{signed_decimal};
 ghost use Rattle.hex.specs.Hex.{encode_lower};
@@ -95,7 +95,7 @@ fn put_entries(text: &mut Vec<u8>, entries: &[TableRow]) -> Result<(), AllocErro
     Ok(())
 }
 
-/// Returns the SHA-256 digest of entries.
+/// Returns the SHA-256 digest of the text of these entries.
 pub(crate) fn digest_of(alloc: Global, entries: &[TableRow]) -> Result<[u8; 32], AllocError>
     ensures { IfOk result (λ digest. digest ≡ sha256 (say.entries_text entries.now)) }
 {

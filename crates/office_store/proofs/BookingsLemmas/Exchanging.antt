@@ -65,7 +65,7 @@ pub starts_below_without : (bound : ℕ) (shares rows : List Share) → AllByRec
 starts_below_without bound [] rows h = h
 starts_below_without bound (share ∷ shares) rows h = starts_below_without bound shares (journal.without_share share rows) (starts_below_less bound share rows h)
 
--- The same for shares that are added.
+-- If the share and all rows start below a bound, all rows with the share added start below it.
 below_with : (bound : ℕ) (share : Share) (rows : List Share) → share.start < bound → AllByRecursion (λ (row : Share). row.start < bound) rows → AllByRecursion (λ (row : Share). row.start < bound) (journal.with_share share rows)
 below_with bound share [] low h = (low, tt)
 below_with bound share (row ∷ rows) low h = elim (cases_Bool (row.start == share.start)) [

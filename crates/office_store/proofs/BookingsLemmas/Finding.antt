@@ -76,7 +76,8 @@ module _ (meter : List ℕ) where
   standing_later : (standing : Standing) (content mid after : Content) → after ≡ mid → IsStanding meter standing content mid → IsStanding meter standing content after
   standing_later standing content mid after same is = record { same = same ∙ is.same; following = is.following; last = is.last; range = is.range }
 
-  -- The same with the state of the meter.
+  -- An entry with its neighbours was found, and also the state of its meter and the time of its
+  -- opening.
   pub around : (place : ℕ) (found : Surroundings) (before : Content) (mid : Content) (late : Content) (after : Content) → IsStanding meter found.standing before mid → OpenedAt meter found.opened mid late
       → AreNear meter place found.near late after → IsAround meter place found before after
   around place found before mid late after standing opened near = record {

@@ -37,7 +37,7 @@ stands_if : (b : Bool) (row next : EntryRow) → row.stands ≡ b → (let o : O
 stands_if true row next is h = (is, same_Some row next h)
 stands_if false row next is h = absurd (let e = h in cc)
 
--- The same with one more row.
+-- The next row that is not voided, in a list with one more row.
 past : (place : ℕ) (row : EntryRow) (rows : List EntryRow) (o : Option EntryRow) (next : EntryRow) → AreNumbered (row ∷ rows) → place ≤ length rows + 1
     → ((n : EntryRow) → o ≡ Some n → IsNextThere place n rows) → option_or o (if_standing row) ≡ Some next → IsNextThere place next (row ∷ rows)
 past place row rows (Some m) next numbered low before whole =

@@ -18,32 +18,32 @@ use Rattle.office_store.specs.declared.bookings.corrections.Rejoined.{Rejoined}
 use Rattle.office_store.specs.declared.bookings.surroundings.Surroundings.{Surroundings}
 use Rattle.office_store.specs.Bookings.MeterState.{counter_of, stands_at}
 
--- The entry is a reading with this step.
+-- The row is that of a reading, and `e` is its entry in the journal.
 pub record IsReadingOf (row : EntryRow) (e : Entry) : Type 0 where
   pub kind : row.kind ≡ kind.Reading
   pub step : e ≡ entry.Step row.moment row.raw row.rolls
 
--- A step with shares that the table allows.
+-- The tables allow a step and its shares: its time, its length and its energy are in their ranges.
 pub record CanBeShared (step : Step) : Type 0 where
   pub forward : step.from < step.till
   pub intervals : intervals_touched step.from step.till ≤ MAX_INTERVALS
   pub energy : step.mwh ≤ greatest_total
   pub till : step.till ≤ latest_moment
 
--- Steps and an index that the tables allow.
+-- The tables allow the steps and the index of a rejoined entry.
 pub record CanBeRejoined (joined : Rejoined) : Type 0 where
   pub place : joined.rollover.place ≤ greatest_place
   pub out : CanBeShared joined.out
   pub put : CanBeShared joined.put
 
--- Changes that the tables allow.
+-- The tables allow all changes of a correction.
 pub record CanBeBooked (made : Correction) : Type 0 where
   pub out : CanBeShared made.out
   pub next : IfSome made.next CanBeRejoined
   pub last : IsSoundLast made.last
   pub from : made.from ≤ latest_moment
 
--- The next entry is joined to the counter's state before the voided entry.
+-- `joined` joins the next entry to the counter's state before the voided entry.
 pub record Rejoins (range : ℕ) (before voided : Last) (next : EntryRow) (joined : Rejoined) : Type 0
   where
     pub entry : Entry
@@ -53,34 +53,37 @@ pub record Rejoins (range : ℕ) (before voided : Last) (next : EntryRow) (joine
     pub out : joined.out ≡ step_to range voided entry
     pub put : joined.put ≡ step_to range before (with_rolls before entry)
 
--- The same, if there is a next entry.
+-- `joined` joins the next entry, if there is one. It is None without a next entry.
 abbrev pub RejoinsNext : (range : ℕ) → (before voided : Last) → Option EntryRow → Option Rejoined
     → Type 0
 RejoinsNext range before voided None joined = joined ≡ None
 RejoinsNext range before voided (Some next) None = ⊥
 RejoinsNext range before voided (Some next) (Some joined) = Rejoins range before voided next joined
 
--- The energy of the removed steps.
+-- The energy of the steps that a void removes, in mWh: to the voided entry, and from it to the next
+-- entry.
 abbrev pub energy_out : Step → Option Rejoined → ℕ
 energy_out out None = out.mwh
 energy_out out (Some joined) = joined.out.mwh + out.mwh
 
--- The energy of the new step.
+-- The energy of the step that replaces the removed steps, in mWh. 0 if there is no next entry.
 abbrev pub energy_put : Option Rejoined → ℕ
 energy_put None = 0
 energy_put (Some joined) = joined.put.mwh
 
--- The meter's new last entry and total energy.
+-- `last` is the meter's new last entry with the total energy. If the voided entry was the last,
+-- this is the entry before it.
 abbrev pub StandsAt : Surroundings → (before : Last) → (total : ℕ) → (is_last : Bool) → LastRow
     → Type 0
 StandsAt found before total is_last last =
     last ≡ stands_at (if is_last then before else counter_of found.standing.last) total
 
--- The start from which interval rows are deleted: 0 if the last entry is the opening.
+-- The start from which a void deletes interval rows: the time of the last entry, or 0 if that entry
+-- is the opening.
 abbrev pub gone_from : (opened last : ℕ) → ℕ
 gone_from opened last = if last == opened then 0 else last
 
--- The changes that a void makes.
+-- `made` has the changes that voiding an entry makes, given the entries around it.
 pub record Corrects (found : Surroundings) (made : Correction) : Type 0 where
   pub entry : Entry
   pub reading : IsReadingOf found.near.entry entry

@@ -11,36 +11,37 @@ use Rattle.store_tables.specs.Limits.{greatest_place}
 use Rattle.store_tables.specs.declared.meters.rows.LastRow.{LastRow}
 use Rattle.store_tables.specs.Meters.Rows.{Installed}
 
--- The next index, unless this is the greatest.
+-- The index after this one. The greatest index has none, which is damage.
 abbrev pub one_on : ℕ → Result ℕ RowFault
 one_on place = if nat_le greatest_place place then Err Damaged else Ok (place + 1)
 
--- The index after that of a row.
+-- The index after that in the first column of a row. An index out of range is damage.
 abbrev pub following_place : Row → Result ℕ RowFault
 following_place row = and_then (or_damaged (whole_in 1 greatest_place (column row 0))) one_on
 
--- The index after that of a row, or 1 without a row.
+-- The index after that of the row, or 1 if there is no row.
 abbrev pub place_after : Option Row → Result ℕ RowFault
 place_after None = Ok 1
 place_after (Some row) = following_place row
 
--- The index after that of the first row, or 1 without rows.
+-- The index after that of the first row, or 1 if there are no rows.
 abbrev pub next_in : List Row → Result ℕ RowFault
 next_in rows = place_after (slice_get rows 0)
 
--- At Ok, the relation between the old and the new tables depends on the answer.
+-- At Ok, `Makes` with the answer relates the old and the new tables. An error says nothing about
+-- them.
 abbrev pub Answered : {X E : Type 0} → Result X E → (X → Content → Content → Type 0) → Content
     → Content → Type 0
 Answered (Ok x) Makes = Makes x
 Answered (Err e) Makes = λ content after. ⊤
 
--- The answer is what the query shows of a row that passes, and nothing changed.
+-- The answer is what the query shows of one row that passes the test, and nothing changed.
 pub record IsSeenIn {X A : Type 0} (tree : ℕ) (columns : X → Row) (passes : X → Bool)
     (IsSeen : X → A → Type 0) (answer : A) (content after : Content) : Type 0 where
   pub same : after ≡ content
   pub seen : (rows : List X) → HasRows tree columns rows content
       → IsFound passes IsSeen rows (Some answer)
 
--- The last entry of an installation.
+-- The value read is the last entry of the installation.
 abbrev pub StandsThere : Installed → LastRow → Type 0
 StandsThere i last = last ≡ i.row.last

@@ -1,4 +1,4 @@
--- What the tables say about an entry of a meter and the entries around it.
+-- An entry of a meter and the entries around it, in the tables.
 use Rattle.std.specs.Prelude.{◌≡◌, ℕ, List, Option, Some}
 use Rattle.store_tables.specs.Answer.{IsFound}
 use Rattle.store_tables.specs.Content.{Content, HasRows}
@@ -10,19 +10,19 @@ use Rattle.office_store.specs.declared.bookings.surroundings.Neighbours.{Neighbo
 use Rattle.office_store.specs.declared.bookings.surroundings.Surroundings.{Surroundings}
 use Rattle.office_store.specs.Bookings.MeterState.{IsStanding}
 
--- The entry of the meter at an index, if there is one.
+-- `found` is the meter's entry at index `place`, or None if there is none.
 abbrev pub HasEntry : (meter : List ℕ) → (place : ℕ) → Option EntryRow → Content → Type 0
 HasEntry meter place found content =
     (rows : List Entered) → HasRows entries entry_columns rows content
     → IsFound (is_entry meter place) IsRow rows found
 
--- The index of the last entry before `place` that is not voided.
+-- `before` is the index of the last entry before `place` that is not voided.
 abbrev pub StandsBefore : (meter : List ℕ) → (place before : ℕ) → Content → Type 0
 StandsBefore meter place before content =
     (rows : List Voided) → HasRows voids voided_columns rows content
     → IsBefore meter place rows before
 
--- The next index after `place` that has no void.
+-- `next` is the first index after `place` that has no void.
 abbrev pub StandsAfter : (meter : List ℕ) → (place next : ℕ) → Content → Type 0
 StandsAfter meter place next content =
     (rows : List Voided) → HasRows voids voided_columns rows content
@@ -30,13 +30,13 @@ StandsAfter meter place next content =
 
 -- ---- answers of queries that change nothing
 
--- The entry at an index was found.
+-- A query found the meter's entry at index `place`, and changed nothing.
 pub record FindsEntry (meter : List ℕ) (place : ℕ) (entry : EntryRow)
     (content after : Content) : Type 0 where
   pub same : after ≡ content
   pub there : HasEntry meter place (Some entry) content
 
--- The last entry before `place` that is not voided was found.
+-- Queries found the last entry before `place` that is not voided, and changed nothing.
 pub record FindsBefore (meter : List ℕ) (place : ℕ) (entry : EntryRow)
     (content after : Content) : Type 0 where
   pub same : after ≡ content
@@ -44,7 +44,7 @@ pub record FindsBefore (meter : List ℕ) (place : ℕ) (entry : EntryRow)
   pub stands : StandsBefore meter place at content
   pub there : HasEntry meter at (Some entry) content
 
--- The next entry after `place` that is not voided was found, or there is none.
+-- Queries found the next entry after `place` that is not voided, or None, and changed nothing.
 pub record FindsAfter (meter : List ℕ) (place : ℕ) (found : Option EntryRow)
     (content after : Content) : Type 0 where
   pub same : after ≡ content
@@ -52,20 +52,20 @@ pub record FindsAfter (meter : List ℕ) (place : ℕ) (found : Option EntryRow)
   pub stands : StandsAfter meter place at content
   pub there : HasEntry meter at found content
 
--- An entry and its neighbours were found.
+-- Queries found an entry and the nearest entries that are not voided, and changed nothing.
 pub record AreNear (meter : List ℕ) (place : ℕ) (near : Neighbours)
     (content after : Content) : Type 0 where
   pub entry : FindsEntry meter place near.entry content after
   pub before : FindsBefore meter place near.before content after
   pub next : FindsAfter meter place near.next content after
 
--- The time of the meter's opening was found.
+-- A query found the time of the meter's opening, and changed nothing.
 pub record OpenedAt (meter : List ℕ) (opened : ℕ) (content after : Content) : Type 0 where
   pub opening : EntryRow
   pub moment : opened ≡ opening.moment
   pub finds : FindsEntry meter 1 opening content after
 
--- An entry with its neighbours and the state of its meter were found.
+-- Queries found an entry, its neighbours, and the state of its meter, and changed nothing.
 pub record IsAround (meter : List ℕ) (place : ℕ) (found : Surroundings)
     (content after : Content) : Type 0 where
   pub standing : IsStanding meter found.standing content after

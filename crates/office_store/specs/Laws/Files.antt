@@ -1,4 +1,4 @@
--- The records of a file that was created or opened.
+-- Theorems about the records of files that were created or opened.
 use Rattle.std.specs.Prelude.{◌≡◌, ◌≢◌, ◌↔◌, ◌^◌, ⊤, ℕ, List, [], All}
 use Rattle.sqlite.specs.Effect.{Database, IsDatabase}
 use Rattle.office_events.specs.declared.facts.Opening.{Opening}
@@ -14,25 +14,25 @@ use Rattle.store_files.specs.Upgrade.{IsFile, IsBrought}
 use Rattle.store_facts.specs.Tables.{AreOf}
 use Rattle.store_facts.specs.Holding.{HasFacts}
 
--- The tables of a new file have no records.
+-- Theorem: the tables of a new file have no records.
 abbrev pub NewFilesHaveNone : Type 0
 NewFilesHaveNone = (zone : List ℕ) (content : Content) → IsNew zone content → AreOf zone [] content
 
 -- ---- the records of a file of any version
 
--- The counter turns over at 2^32.
+-- The opening's counter rolls over at 2^32.
 abbrev pub HasFullRange : Opening → Type 0
 HasFullRange opening = opening.range ≡ 2 ^ 32
 
--- The records need no table that the layout lacks. Without `ranges` each counter turns over at
--- 2^32. Without `voids` no entry is voided.
+-- The records need no table that the layout lacks. Without the table `ranges`, each counter rolls
+-- over at 2^32. Without the table `voids`, no entry is voided.
 abbrev pub FitIn : Layout → List Fact → Type 0
 FitIn First facts = All HasFullRange (openings_in facts) × (voids_in facts ≡ [])
 FitIn Second facts = voids_in facts ≡ []
 FitIn Third facts = ⊤
 
--- A file of this layout has these records. Each of its tables but `meta` has the rows that version
--- 3 has for the records.
+-- A file of this layout has these records. Each of its tables except `meta` has the rows that
+-- version 3 has for the records.
 pub record HasFactsIn (layout : Layout) (zone : List ℕ) (facts : List Fact)
     (db : Database) : Type 0
   where
@@ -43,18 +43,19 @@ pub record HasFactsIn (layout : Layout) (zone : List ℕ) (facts : List Fact)
     pub same : (t : ℕ) → HasTree (schema_of layout).tables t → t ≢ meta → content t ≡ newest t
     pub fit : FitIn layout facts
 
--- The tables after an opening have the records of the file.
+-- Theorem: after a file was opened and upgraded, its tables have the same records.
 abbrev pub OpenedFilesKeepTheirs : Type 0
 OpenedFilesKeepTheirs = (layout : Layout) (zone : List ℕ) (facts : List Fact) (db : Database)
     → (it : HasFactsIn layout zone facts db) (after : Content)
     → IsBrought layout zone it.content after → AreOf zone facts after
 
--- A file of version 3 has records if and only if its tables are those of the records.
+-- Theorem: a file of version 3 has records if and only if its tables are those of the records.
 abbrev pub NewestFilesHaveTheirs : Type 0
 NewestFilesHaveTheirs = (zone : List ℕ) (facts : List Fact) (db : Database)
     → (HasFactsIn Third zone facts db) ↔ (HasFacts zone facts db)
 
--- The next open of a file finds its records, since the trees of a database determine the schema.
+-- Theorem: a database that an open finds with the same trees has the same records, because the
+-- trees of a database determine its schema.
 abbrev pub FoundFilesKeepTheirs : Type 0
 FoundFilesKeepTheirs = (layout : Layout) (zone : List ℕ) (facts : List Fact) (db found : Database)
     → HasFactsIn layout zone facts db → IsDatabase found → found.trees ≡ db.trees

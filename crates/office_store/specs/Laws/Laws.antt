@@ -1,4 +1,5 @@
--- The records that tables determine, and the records that are found after a crash.
+-- Theorems about the records that tables determine, and about the records that are found after a
+-- crash.
 use Rattle.std.specs.Prelude.{◌≡◌, ℕ, List}
 use Rattle.sqlite.specs.Tree.{Trees}
 use Rattle.sqlite.specs.Effect.{Database, IsDatabase}
@@ -8,20 +9,22 @@ use Rattle.store_tables.specs.Content.{Content}
 use Rattle.store_facts.specs.Tables.{AreOf}
 use Rattle.store_facts.specs.Holding.{HasFacts, IsLeft}
 
--- All records with the same tables are equal up to order, and have the same time zone.
+-- Theorem: two lists of records with the same tables are equal up to order, and have the same time
+-- zone.
 abbrev pub TablesTellTheirFacts : Type 0
 TablesTellTheirFacts = (zone others_zone : List ℕ) (facts others : List Fact) (content : Content)
     → AreOf zone facts content → AreOf others_zone others content
     → AreSame facts others × (zone ≡ others_zone)
 
--- The same for all records of a database.
+-- Theorem: two lists of records in the same database are equal up to order, and have the same time
+-- zone.
 abbrev pub DatabasesTellTheirFacts : Type 0
 DatabasesTellTheirFacts = (zone others_zone : List ℕ) (facts others : List Fact) (db : Database)
     → HasFacts zone facts db → HasFacts others_zone others db
     → AreSame facts others × (zone ≡ others_zone)
 
--- The next open after a crash finds the records that the crash left, since the trees of a database
--- determine the schema.
+-- Theorem: the next open after a crash finds the records that the crash left, because the trees of
+-- a database determine its schema.
 abbrev pub LeftFactsAreFound : Type 0
 LeftFactsAreFound = (zone : List ℕ) (left : List (List Fact)) (trees : Trees) (db : Database)
     → (it : IsLeft zone left trees) → IsDatabase db → db.trees ≡ trees → HasFacts zone it.facts db

@@ -1,4 +1,4 @@
--- The files of a connection after a crash.
+-- The files of a database after a crash.
 use Rattle.std.specs.Prelude.{◌≡◌, ℕ, List, IsTrue}
 use Rattle.sqlite_disk.specs.declared.Disk.{Ghosts}
 use Rattle.sqlite_wal.specs.Recovery.{Image}
@@ -12,31 +12,32 @@ use Rattle.sqlite.specs.Start.{FindsIn}
 use Rattle.office_events.specs.declared.facts.Fact.{Fact}
 use Rattle.store_facts.specs.Holding.{HasFacts, IsLeft, IsOneOf}
 
--- A database has the records of one of these lists.
+-- A database has the records of one of the lists in `left`.
 pub record HasOneOf (zone : List ℕ) (left : List (List Fact)) (db : Database) : Type 0 where
   pub facts : List Fact
   pub one : IsOneOf left facts
   pub has : HasFacts zone facts db
 
--- The database that an open finds in two files.
+-- `db` is the database that an open finds in these files: a database file and its write-ahead log.
 pub record IsFoundIn (image : Image) (db : Database) : Type 0 where
   pub sound : IsDatabase db
   pub holds : (trees : Trees) → HoldsDatabase image trees → db.trees ≡ trees
 
 module _ {D : Type 0} (g : Ghosts D) where
-  -- After a crash of the files, the next open finds the records of one of these lists.
+  -- After a crash that these files allow, the next open finds the records of one of the lists in
+  -- `left`.
   abbrev pub LeaveInFiles : List ℕ → List (List Fact) → FileStore D g → Type 0
   LeaveInFiles zone left it = (image : Image) (db : Database) → (store_state it).may_leave image
       → IsFoundIn image db → ∥ HasOneOf zone left db ∥₁
 
-  -- The next open finds one of these lists if every database that the store may recover has one of
-  -- them.
+  -- Theorem: suppose that each database that the store may recover has the records of one of some
+  -- lists. Then the next open finds the records of one of these lists.
   abbrev pub StopsLeaveFacts : Type 0
   StopsLeaveFacts = (zone : List ℕ) (left : List (List Fact)) (it : FileStore D g)
       → IsTrue (view it).is_numbered
       → ((trees : Trees) → recovers it trees → IsLeft zone left trees) → LeaveInFiles zone left it
 
-  -- An open finds in the files what a connection to them has committed.
+  -- Theorem: an open of files finds what a connection to them has committed.
   abbrev pub OpenedFilesAreFound : Type 0
   OpenedFilesAreFound = (image : Image) (h : Held (FileStore D g)) → IsOpened h
       → FindsIn image (file_state h) → IsFoundIn image (file_state h).committed

@@ -1,4 +1,4 @@
-//! Records that are stored in one transaction.
+//! Writing several records in one transaction.
 ghost use Rattle.std.specs.Prelude.{◌≡◌, ℕ, List, false};
 ghost use Rattle.sqlite.specs.Held.{state};
 ghost use Rattle.store_tables.specs.Steps.{IsSameBorrow};
@@ -18,7 +18,7 @@ use sqlite::{Alter, Connection, Transaction};
 use std::alloc::Global;
 use store_tables::{RowFault, check_open};
 
-/// Writes a record.
+/// Writes one record to the tables.
 fn enter_fact<S: Alter>(
     alloc: Global,
     tx: &mut Transaction<'_, S>,
@@ -42,7 +42,7 @@ fn enter_fact<S: Alter>(
     }
 }
 
-/// Writes records, one after another.
+/// Writes records to the tables, one after another.
 fn enter_facts<S: Alter>(
     alloc: Global,
     tx: &mut Transaction<'_, S>,
@@ -75,8 +75,8 @@ fn commit_facts<S: Alter>(
     Ok(())
 }
 
-/// Stores records that may follow the known records: all of them or none, even after a crash. The
-/// commit is the last call of the database. Storing no records makes no call.
+/// Stores records, if they may follow the known records: all of them or none, even after a crash.
+/// The commit is the last call of the database. Without records there is no call.
 pub fn book_facts<S: Alter>(
     alloc: Global,
     conn: &mut Connection<S>,

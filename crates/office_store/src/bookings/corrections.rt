@@ -16,15 +16,15 @@ use energy_core::{Entry, Last, MAX_TOTAL, Ranged, Step, Terms};
 use store_facts::{counter_after, is_scale, last_row};
 use store_tables::{EntryKind, EntryRow, GREATEST_PLACE, LATEST_MOMENT, LastRow, RowFault};
 
-/// How often the counter rolled over before the entry at index `place`.
+/// The rollovers of a counter between the entry at index `place` and the entry before it.
 #[derive(Clone, Copy, Debug, PartialEq, Eq)]
 pub struct Rollover {
     pub place: u64,
     pub rolls: u8,
 }
 
-/// The next entry that is not voided, with its new rollovers: the step `out` to remove, and the
-/// step `put` that replaces it.
+/// The next entry that is not voided, joined to the entry before the voided one. It has new
+/// rollovers, the step `out` to remove, and the step `put` that replaces it.
 #[derive(Clone, Copy, Debug, PartialEq, Eq)]
 pub struct Rejoined {
     pub rollover: Rollover,
@@ -32,9 +32,9 @@ pub struct Rejoined {
     pub put: Step,
 }
 
-/// The changes that a void makes. The step `out` to the voided entry is removed, and the next entry
-/// is joined to the entry before. The meter's last entry becomes `last`, and interval rows with
-/// starts of at least `from` are deleted.
+/// The changes that a void makes. The step `out` to the voided entry is removed. The entry in
+/// `next` is joined to the entry before the voided one. The meter's last entry becomes `last`.
+/// Interval rows with starts of at least `from` are deleted.
 #[derive(Clone, Copy, Debug, PartialEq, Eq)]
 pub struct Correction {
     pub out: Step,
@@ -43,8 +43,8 @@ pub struct Correction {
     pub from: u64,
 }
 
-/// Returns the step of a reading. Any other kind is damage: both a voided entry and the next entry
-/// after it are readings.
+/// Returns the journal entry of a reading. Any other kind is damage: a voided entry and the next
+/// entry after it are readings.
 fn reading(entry: &EntryRow) -> Result<Entry, RowFault>
     ensures { IfOk result (IsReadingOf entry.now) }
 {
@@ -62,8 +62,8 @@ fn reading(entry: &EntryRow) -> Result<Entry, RowFault>
     }
 }
 
-/// Computes the step from a state of the counter to an entry. An entry that may not follow is
-/// damage.
+/// Computes the step from a state of the counter to an entry. An entry that may not follow this
+/// state is damage.
 fn step_from(range: u64, last: &Last, entry: &Entry) -> Result<Step, RowFault>
     ensures step { IfOk result (λ step. step ≡ step_to range last.now entry.now) }
     ensures shared { IfOk result CanBeShared }
@@ -87,7 +87,7 @@ fn step_from(range: u64, last: &Last, entry: &Entry) -> Result<Step, RowFault>
     Ok(step)
 }
 
-/// Returns a reading with the rollovers that follow from the counter's earlier state.
+/// Returns a reading with the rollovers that follow from this state of the counter.
 fn rolled(last: &Last, entry: &Entry) -> Entry
     ensures { result ≡ with_rolls last.now entry.now }
 {
@@ -101,7 +101,7 @@ fn rolled(last: &Last, entry: &Entry) -> Entry
     }
 }
 
-/// Returns how often the counter rolled over before an entry.
+/// Returns how often the counter rolled over before an entry: 0 for a change.
 fn rolls(entry: &Entry) -> u8
     ensures { result ≡ rolls_of entry.now }
 {
@@ -130,7 +130,8 @@ fn rejoin(range: u64, before: &Last, voided: &Last, next: &EntryRow) -> Result<R
     Ok(Rejoined { rollover, out, put })
 }
 
-/// Joins the next entry, if there is one.
+/// Joins the next entry to the counter's state before the voided entry. None if there is no next
+/// entry.
 fn rejoin_next(
     range: u64,
     before: &Last,
@@ -146,8 +147,8 @@ fn rejoin_next(
     }
 }
 
-/// Computes the energy of a meter without the removed steps and with the step that replaces them. A
-/// negative energy, or more than a meter's greatest total, is damage.
+/// Computes the total energy of a meter, without the removed steps and with the step that replaces
+/// them. A negative energy, or more than a meter's greatest total, is damage.
 fn total_after(total: u64, out: &Step, next: &Option<Rejoined>) -> Result<u64, RowFault>
     requires total { total ≤ greatest_total }
     requires out { CanBeShared out.now }
@@ -168,7 +169,7 @@ fn total_after(total: u64, out: &Step, next: &Option<Rejoined>) -> Result<u64, R
 }
 
 /// Returns the new last entry of a meter. If the voided entry was the last, this is the entry
-/// before it. Otherwise the last entry stays.
+/// before it. Otherwise the last entry is unchanged.
 fn stands_then(
     found: &Surroundings,
     before: Last,
@@ -195,8 +196,8 @@ fn stands_then(
     Ok(last_row(last, total))
 }
 
-/// Returns the start from which interval rows are deleted: 0 if the meter's last entry is its
-/// opening.
+/// Returns the start from which interval rows are deleted: the time of the meter's last entry, or 0
+/// if it is the opening.
 fn end_of_rows(opened: u64, last: &LastRow) -> u64
     requires { last.now.moment ≤ latest_moment }
     ensures end { result ≡ gone_from opened last.now.moment }
@@ -209,8 +210,8 @@ fn end_of_rows(opened: u64, last: &LastRow) -> u64
     }
 }
 
-/// Computes the changes that a void makes. An entry that may not be voided, or steps that may not
-/// follow one another, are damage.
+/// Computes the changes that a void makes, from the entries around the voided entry. An entry that
+/// may not be voided, or steps that may not follow one another, are damage.
 pub fn correct(found: &Surroundings) -> Result<Correction, RowFault>
     requires { found.now.standing.last.total ≤ greatest_total }
     ensures corrects { IfOk result (Corrects found.now) }

@@ -25,8 +25,8 @@ use store_tables::{
     EntryRow, LATEST_MOMENT, LastRow, RowFault, end_installation, insert_entry, update_last,
 };
 
-/// The last entry of a meter after one more entry, with the total energy, and the step to that
-/// entry.
+/// The last entry of a meter after one more entry was added, with the total energy, and the step to
+/// that entry.
 #[derive(Clone, Copy, Debug, PartialEq, Eq)]
 pub struct Advance {
     pub last: LastRow,
@@ -50,7 +50,7 @@ fn is_in_time(entry: &Entry) -> bool
     }
 }
 
-/// Computes a meter's state after an entry. An entry that may not follow is damage.
+/// Computes a meter's state after one more entry. An entry that may not follow is damage.
 fn go_on(standing: &Standing, entry: &Entry) -> Result<Advance, RowFault>
     requires { IsSoundLast standing.now.last }
     ensures advances { IfOk result (Advances standing.now entry.now) }
@@ -111,7 +111,7 @@ pub fn settle<S: Alter>(
     Ok(())
 }
 
-/// Writes an entry, the energy of its step, and its meter's new state.
+/// Writes the row of an entry, the energy of its step, and its meter's new state.
 fn book_entry<S: Alter>(
     tx: &mut Transaction<'_, S>,
     meter: &str,

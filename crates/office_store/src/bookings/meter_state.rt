@@ -16,8 +16,8 @@ use store_tables::{
     LastRow, RowFault, installation_rows, range_rows, read_installation, read_range,
 };
 
-/// The index of a meter's next entry, its last entry with the total energy, and the range of its
-/// counter.
+/// The state of a meter: the index of its next entry, its last entry with the total energy, and the
+/// range of its counter.
 #[derive(Clone, Copy, Debug, PartialEq, Eq)]
 pub struct Standing {
     pub place: u64,
@@ -25,7 +25,7 @@ pub struct Standing {
     pub range: u64,
 }
 
-/// Returns the last entry of a meter, with its total energy.
+/// Returns the last entry of a meter, with its total energy. A missing meter is damage.
 fn last_of<S: Alter>(tx: &mut Transaction<'_, S>, meter: &str) -> Result<LastRow, RowFault>
     ensures same_reference { IsSameBorrow tx.old.conn tx.new.conn }
     ensures sound { IfOk result IsSoundLast }
@@ -43,7 +43,7 @@ fn last_of<S: Alter>(tx: &mut Transaction<'_, S>, meter: &str) -> Result<LastRow
     }
 }
 
-/// Returns how many values the counter of a meter has.
+/// Returns how many values the counter of a meter has. A missing range is damage.
 pub fn range_of<S: Alter>(tx: &mut Transaction<'_, S>, meter: &str) -> Result<u64, RowFault>
     ensures same_reference { IsSameBorrow tx.old.conn tx.new.conn }
     ensures sound { IfOk result IsRange }

@@ -12,7 +12,8 @@ use sqlite::{Alter, Transaction};
 use store_facts::{begun_row, is_sound_opening, opening_row, text};
 use store_tables::{RowFault, insert_entry, insert_installation, insert_range};
 
-/// Writes a meter that was installed, at the index after the last.
+/// Writes the opening of a meter: its installation at the index after the last, its range, and its
+/// first entry.
 pub fn enter_opening<S: Alter>(
     tx: &mut Transaction<'_, S>,
     opening: &Opening,

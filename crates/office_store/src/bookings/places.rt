@@ -1,4 +1,4 @@
-//! The index after the last row of a table.
+//! The index of the next row of a table.
 ghost use Rattle.std.specs.Prelude.{◌≡◌, IfOk};
 ghost use Rattle.sqlite.specs.Held.{state};
 ghost use Rattle.store_tables.specs.Answer.{every};
@@ -21,7 +21,7 @@ use sqlite::{Alter, Row, Transaction};
 use store_devices::{last_device_rows, last_hold_rows, last_register_rows};
 use store_tables::{GREATEST_PLACE, RowFault, last_entry_rows, last_installation_rows, whole};
 
-/// Returns the index after that of a row. An index past the greatest is damage.
+/// Returns the index after that in a row. An index past the greatest is damage.
 fn following(row: &Row) -> Result<u64, RowFault>
     ensures next { result ≡ following_place row.now }
     ensures sound { IfOk result IsPlace }
@@ -67,7 +67,7 @@ pub fn next_hold<S: Alter>(tx: &mut Transaction<'_, S>) -> Result<u64, RowFault>
     next_place(&rows)
 }
 
-/// Returns the index of the next register.
+/// Returns the index of the next accounting register.
 pub fn next_register<S: Alter>(tx: &mut Transaction<'_, S>) -> Result<u64, RowFault>
     ensures same_reference { IsSameBorrow tx.old.conn tx.new.conn }
     ensures sound { IfOk result IsPlace }

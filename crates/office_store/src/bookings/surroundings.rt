@@ -14,7 +14,7 @@ use sqlite::{Alter, Transaction};
 use store_facts::{entry_at, place_after, place_before};
 use store_tables::{EntryRow, RowFault};
 
-/// An entry of a meter and its neighbours that are not voided. `before` may be the opening.
+/// An entry of a meter and the nearest entries that are not voided. `before` may be the opening.
 #[derive(Clone, Copy, Debug, PartialEq, Eq)]
 pub struct Neighbours {
     pub entry: EntryRow,
@@ -22,7 +22,8 @@ pub struct Neighbours {
     pub next: Option<EntryRow>,
 }
 
-/// An entry of a meter and its neighbours, with the meter's state and the time of its opening.
+/// An entry of a meter and its neighbours, with the meter's state and the time of the meter's
+/// opening.
 #[derive(Clone, Copy, Debug, PartialEq, Eq)]
 pub struct Surroundings {
     pub standing: Standing,
@@ -30,7 +31,7 @@ pub struct Surroundings {
     pub near: Neighbours,
 }
 
-/// Returns the entry of a meter at an index. A missing entry is damage.
+/// Returns the entry of a meter at index `place`. A missing entry is damage.
 fn entry_there<S: Alter>(
     tx: &mut Transaction<'_, S>,
     meter: &str,
@@ -47,7 +48,7 @@ fn entry_there<S: Alter>(
     }
 }
 
-/// Returns the last entry before an index that is not voided, or else the opening.
+/// Returns the last entry before index `place` that is not voided. This may be the opening.
 fn entry_before<S: Alter>(
     tx: &mut Transaction<'_, S>,
     meter: &str,
@@ -63,7 +64,7 @@ fn entry_before<S: Alter>(
     entry_there(tx, meter, before)
 }
 
-/// Returns the next entry after an index that is not voided.
+/// Returns the next entry after index `place` that is not voided, or None.
 fn entry_after<S: Alter>(
     tx: &mut Transaction<'_, S>,
     meter: &str,
@@ -78,7 +79,7 @@ fn entry_after<S: Alter>(
     entry_at(tx, meter, next)
 }
 
-/// Returns the entry of a meter at an index, and its neighbours.
+/// Returns the entry of a meter at index `place`, and its neighbours.
 fn neighbours_of<S: Alter>(
     tx: &mut Transaction<'_, S>,
     meter: &str,

@@ -22,7 +22,7 @@ use sqlite::{Alter, Transaction};
 use store_facts::{book_step, drop_rows_from, take_step, text};
 use store_tables::{GREATEST_PLACE, LATEST_MOMENT, RowFault, insert_void, set_rolls};
 
-/// Sets the rollovers of the next entry.
+/// Sets the rollovers of the next entry to those of the rejoined entry, if there is a next entry.
 fn roll_next<S: Alter>(
     tx: &mut Transaction<'_, S>,
     meter: &str,
@@ -40,7 +40,8 @@ fn roll_next<S: Alter>(
     Ok(())
 }
 
-/// Removes the energy of the step to the next entry.
+/// Subtracts the energy of the step to the next entry from the interval rows, if there is a next
+/// entry.
 fn take_next<S: Alter>(
     tx: &mut Transaction<'_, S>,
     meter: &str,
@@ -58,7 +59,8 @@ fn take_next<S: Alter>(
     Ok(())
 }
 
-/// Adds the energy of the new step to the next entry.
+/// Adds the energy of the new step to the next entry to the interval rows, if there is a next
+/// entry.
 fn put_next<S: Alter>(
     tx: &mut Transaction<'_, S>,
     meter: &str,
@@ -76,7 +78,8 @@ fn put_next<S: Alter>(
     Ok(())
 }
 
-/// Removes the energy of the steps to the next entry and to the voided entry.
+/// Subtracts the energy of two steps from the interval rows: the step to the next entry, and the
+/// step to the voided entry.
 fn take_steps<S: Alter>(
     tx: &mut Transaction<'_, S>,
     meter: &str,
@@ -111,7 +114,7 @@ fn exchange_rows<S: Alter>(
     Ok(())
 }
 
-/// Writes a void, and the new rollovers of the next entry.
+/// Writes the row of a void, and the new rollovers of the next entry.
 fn mark_void<S: Alter>(
     tx: &mut Transaction<'_, S>,
     meter: &str,
@@ -130,7 +133,7 @@ fn mark_void<S: Alter>(
     roll_next(tx, meter, next)
 }
 
-/// Writes a void, and the changes that it makes to its meter.
+/// Writes the row of a void, and the changes that the void makes to its meter.
 fn book_void<S: Alter>(
     tx: &mut Transaction<'_, S>,
     meter: &str,

@@ -1,4 +1,4 @@
-//! Theorems about the tables.
+//! Theorems about the tables of an office's store.
 ghost use Rattle.office_store.specs.Laws.Files.{NewFilesHaveNone, OpenedFilesKeepTheirs};
 ghost use Rattle.office_store.specs.Laws.Files.{NewestFilesHaveTheirs, FoundFilesKeepTheirs};
 ghost use Rattle.office_store.specs.Laws.Laws.{DatabasesTellTheirFacts, LeftFactsAreFound, TablesTellTheirFacts};
@@ -15,14 +15,15 @@ pub fn tables_tell_their_facts()
     lists_are_planned_once();
 }
 
-/// Theorem: a database determines its records in the same way.
+/// Theorem: a database determines its records. Two lists of records in one database are equal up to
+/// order, and have the same time zone.
 pub fn databases_tell_their_facts()
     ensures { DatabasesTellTheirFacts }
 {
     tables_tell_their_facts();
 }
 
-/// Theorem: the next open finds the records that a crash left.
+/// Theorem: the next open after a crash finds the records that the crash left.
 pub fn left_facts_are_found()
     ensures { LeftFactsAreFound }
 {}
@@ -32,12 +33,12 @@ pub fn new_files_have_none()
     ensures { NewFilesHaveNone }
 {}
 
-/// Theorem: an opening keeps the records of a file of any version.
+/// Theorem: opening a file of any version keeps the file's records.
 pub fn opened_files_keep_theirs()
     ensures { OpenedFilesKeepTheirs }
 {}
 
-/// Theorem: a file of the newest version has exactly the records that its tables encode.
+/// Theorem: a file of version 3 has records if and only if its tables are those of the records.
 pub fn newest_files_have_theirs()
     ensures { NewestFilesHaveTheirs }
 {

@@ -1,4 +1,4 @@
-//! The end of a connection.
+//! Closing a connection to files.
 ghost use Rattle.std.specs.Prelude.{ℕ, List};
 ghost use Rattle.sqlite.specs.Files.{over_files};
 ghost use Rattle.sqlite_store.specs.FileStore.{view};

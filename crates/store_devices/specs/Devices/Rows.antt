@@ -22,18 +22,18 @@ use Rattle.store_devices.specs.declared.devices.rows.RegisterScale.TheVariants a
 
 -- ---- devices
 
--- A device with its name.
+-- A device of the office, with its name.
 pub record Added : Type 0 where
   pub name : List ℕ
   pub row : DeviceRow
 
--- The columns of a device.
+-- The columns of a device in the table `devices`.
 abbrev pub device_columns : Added → Row
 device_columns d =
     Int (pos d.row.place) ∷ Null ∷ Text d.name ∷ Int (pos d.row.unit) ∷ Int (pos d.row.timeout)
     ∷ Int (pos d.row.window) ∷ []
 
--- The columns that the queries show of a device.
+-- The result row that shows a device, in queries of `devices`.
 abbrev pub device_shown : Added → Row
 device_shown d =
     Int (pos d.row.place) ∷ Text d.name ∷ Int (pos d.row.unit) ∷ Int (pos d.row.timeout)
@@ -43,7 +43,7 @@ device_shown d =
 abbrev pub device_place : Added → ℕ
 device_place d = d.row.place
 
--- The column that the query for the last device shows: its index.
+-- The result row of the query for the last device: the device's index.
 abbrev pub device_place_shown : Added → Row
 device_place_shown d = Int (pos d.row.place) ∷ []
 
@@ -64,7 +64,7 @@ pub record IsDevice (d : Added) (a : Device) : Type 0 where
   pub name : string_bytes a.name ≡ d.name
   pub row : a.row ≡ d.row
 
--- The numbers of the device that a row shows, or damage.
+-- The numbers of the device that a result row shows, or `Damaged` if one is out of its range.
 abbrev pub device_in : Row → Result DeviceRow RowFault
 device_in row =
     and_then (or_damaged (whole_in 1 greatest_place (column row 0))) (λ place.
@@ -87,20 +87,20 @@ abbrev pub listed_as : (device name kind scale : List ℕ) → PointRow → List
 listed_as device name kind scale row =
     record { device = device; name = name; kind = kind; scale = scale; row = row }
 
--- The columns of a point.
+-- The columns of a point in the table `points`.
 abbrev pub point_columns : Listed → Row
 point_columns p =
     Text p.device ∷ Int (pos p.row.place) ∷ Text p.name ∷ Int (pos (code_of p.row.function))
     ∷ Int (pos p.row.area)
     ∷ Int (pos p.row.address) ∷ Text p.kind ∷ Text p.scale ∷ []
 
--- The columns that the queries show of a point.
+-- The result row that shows a point, in queries of `points`.
 abbrev pub point_shown : Listed → Row
 point_shown p =
     Int (pos p.row.place) ∷ Text p.name ∷ Int (pos (code_of p.row.function)) ∷ Int (pos p.row.area)
     ∷ Int (pos p.row.address) ∷ Text p.kind ∷ Text p.scale ∷ []
 
--- The point is of this device's list.
+-- Whether the point is in the list of this device.
 abbrev pub is_point_of : (device : List ℕ) → Listed → Bool
 is_point_of device p = bytes_eq p.device device
 
@@ -128,20 +128,20 @@ pub record IsPoint (p : Listed) (a : Point) : Type 0 where
   pub scale : string_bytes a.scale ≡ p.scale
   pub row : a.row ≡ p.row
 
--- A point in the list of a device.
+-- The row of a point in the list of this device.
 abbrev pub listed_at : (device : List ℕ) → Point → Listed
 listed_at device p =
     listed_as device (string_bytes p.name) (string_bytes p.kind) (string_bytes p.scale) p.row
 
--- The rows after points of a device were added.
+-- The rows of `points` after these points of a device were added.
 abbrev pub with_points : (device : List ℕ) → List Point → List Listed → List Listed
 with_points device ps rows = map (listed_at device) ps ++ rows
 
--- The rows after the list of a device was replaced.
+-- The rows of `points` after a device's list was replaced by these points.
 abbrev pub with_list : (device : List ℕ) → List Point → List Listed → List Listed
 with_list device ps rows = with_points device ps (without_where (is_point_of device) rows)
 
--- The numbers of the point that a row shows, or damage.
+-- The numbers of the point that a result row shows, or `Damaged` if one is out of its range.
 abbrev pub point_in : Row → Result PointRow RowFault
 point_in row =
     and_then (or_damaged (whole_in 1 greatest_place (column row 0))) (λ place.
@@ -152,32 +152,32 @@ point_in row =
 
 -- ---- registers
 
--- The number in the table of a scale's kind: 0 for a factor, 1 for an address.
+-- The number of a scale's kind in the table: 0 for a fixed factor, 1 for the address of a factor.
 abbrev pub scale_kind : RegisterScale → ℕ
 scale_kind (scale.Fixed sf) = 0
 scale_kind (scale.At address) = 1
 
--- The number in the table of a scale: its factor, or its address.
+-- The number of a scale in the table: its fixed factor, or the address of its factor.
 abbrev pub scale_number : RegisterScale → ℤ
 scale_number (scale.Fixed sf) = sf
 scale_number (scale.At address) = pos address
 
--- A scale factor from -3 to 3, or an address of a Modbus register.
+-- A scale is sound: its fixed factor is from -3 to 3, or its address is that of a Modbus register.
 abbrev pub IsSoundScale : RegisterScale → Type 0
 IsSoundScale (scale.Fixed sf) = IsTrue (is_within 3 sf)
 IsSoundScale (scale.At address) = address ≤ LAST_ADDRESS
 
--- How many registers a read needs for a counter and its scale, from the first to the last. The
--- counter has two registers.
+-- How many Modbus registers a read needs to cover a counter and its scale. The counter has two
+-- Modbus registers.
 abbrev pub registers_spanned : (address : ℕ) → RegisterScale → ℕ
 registers_spanned address (scale.Fixed sf) = 2
 registers_spanned address (scale.At at) = max (address + 2) (at + 1) - min address at
 
--- One read of at most 125 registers covers the counter and its scale.
+-- Whether one read of at most 125 Modbus registers covers the counter and its scale.
 abbrev pub fits_a_read : (address : ℕ) → RegisterScale → Bool
 fits_a_read address scale = nat_le (registers_spanned address scale) MAX_READ_REGISTERS
 
--- A register of a device, with its name.
+-- An accounting register: a named counter of a device, at which meters are installed.
 pub record Registered : Type 0 where
   pub name : List ℕ
   pub device : List ℕ
@@ -186,50 +186,51 @@ pub record Registered : Type 0 where
 abbrev pub registered_as : (name device : List ℕ) → RegisterRow → Registered
 registered_as name device row = record { name = name; device = device; row = row }
 
--- The columns of a register.
+-- The columns of an accounting register in the table `registers`.
 abbrev pub register_columns : Registered → Row
 register_columns r =
     Int (pos r.row.place) ∷ Null ∷ Text r.name ∷ Text r.device ∷ Int (pos (code_of r.row.function))
     ∷ Int (pos r.row.address)
     ∷ Int (pos (scale_kind r.row.scale)) ∷ Int (scale_number r.row.scale) ∷ []
 
--- The columns that the queries show of a register.
+-- The result row that shows an accounting register, in queries of `registers`.
 abbrev pub register_shown : Registered → Row
 register_shown r =
     Int (pos r.row.place) ∷ Text r.name ∷ Text r.device ∷ Int (pos (code_of r.row.function))
     ∷ Int (pos r.row.address)
     ∷ Int (pos (scale_kind r.row.scale)) ∷ Int (scale_number r.row.scale) ∷ []
 
--- The index of a register.
+-- The index of an accounting register.
 abbrev pub register_place : Registered → ℕ
 register_place r = r.row.place
 
--- The column that the query for the last register shows: its index.
+-- The result row of the query for the last accounting register: the register's index.
 abbrev pub register_place_shown : Registered → Row
 register_place_shown r = Int (pos r.row.place) ∷ []
 
--- The register has this name.
+-- Whether the accounting register has this name.
 abbrev pub is_register : (name : List ℕ) → Registered → Bool
 is_register name r = bytes_eq r.name name
 
--- The register is of this device.
+-- Whether the accounting register is a counter of this device.
 abbrev pub is_register_of : (device : List ℕ) → Registered → Bool
 is_register_of device r = bytes_eq r.device device
 
--- Every number of a register is in its range, and one read covers its counter and its scale.
+-- Every number of an accounting register is in its range, and one read covers its counter and its
+-- scale.
 pub record IsSoundRegister (r : RegisterRow) : Type 0 where
   pub place : IsPlace r.place
   pub address : r.address ≤ LAST_COUNTER
   pub scale : IsSoundScale r.scale
   pub span : fits_a_read r.address r.scale ≡ true
 
--- The row of a register is sound, and its names are UTF-8.
+-- The row of an accounting register is sound, and its names are UTF-8.
 pub record IsSoundRegistered (r : Registered) : Type 0 where
   pub row : IsSoundRegister r.row
   pub name : IsUtf8 r.name
   pub device : IsUtf8 r.device
 
--- The value read has the names and the numbers of the register.
+-- The value read has the names and the numbers of the accounting register.
 pub record IsRegister (r : Registered) (a : Register) : Type 0 where
   pub name : string_bytes a.name ≡ r.name
   pub device : string_bytes a.device ≡ r.device
@@ -247,12 +248,13 @@ at_by (Some address) = Some (scale.At address)
 abbrev pub scale_of : (kind : ℕ) → Value → Option RegisterScale
 scale_of kind v = if kind == 0 then fixed_by (within 3 v) else at_by (whole_in 0 LAST_ADDRESS v)
 
--- The scale, if one read covers it with the counter.
+-- The scale, if one read covers the scale and the counter at `address`.
 abbrev pub reached_from : (address : ℕ) → Option RegisterScale → Option RegisterScale
 reached_from address None = None
 reached_from address (Some scale) = if fits_a_read address scale then Some scale else None
 
--- The numbers of the register that a row shows, or damage.
+-- The numbers of the accounting register that a result row shows, or `Damaged` if one is out of its
+-- range.
 abbrev pub register_in : Row → Result RegisterRow RowFault
 register_in row =
     and_then (or_damaged (whole_in 1 greatest_place (column row 0))) (λ place.
@@ -262,6 +264,6 @@ register_in row =
     and_then (or_damaged (reached_from address (scale_of kind (column row 6)))) (λ scale.
     Ok (record { place = place; function = function; address = address; scale = scale }))))))
 
--- The number of registers of a device.
+-- How many accounting registers a device has.
 abbrev pub IsRegisterCount : (device : List ℕ) → List Registered → ℕ → Type 0
 IsRegisterCount device rows count = count ≡ length (filter (is_register_of device) rows)

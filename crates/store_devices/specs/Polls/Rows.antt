@@ -27,26 +27,26 @@ use Rattle.store_devices.specs.declared.polls.rows.Repeat.TheVariants.{Same, Oth
 
 -- ---- polls
 
--- A poll of a device.
+-- A poll of a device: one Modbus read that was started.
 pub record Started : Type 0 where
   pub device : List ℕ
   pub row : PollRow
 
--- The columns of a poll.
+-- The columns of a poll in the table `polls`.
 abbrev pub poll_columns : Started → Row
 poll_columns p =
     Int (pos p.row.number) ∷ Null ∷ Text p.device ∷ Int (pos p.row.unit) ∷ Int (pos p.row.started)
     ∷ Int (pos p.row.id)
     ∷ Int (pos (code_of p.row.function)) ∷ Int (pos p.row.address) ∷ Int (pos p.row.count) ∷ []
 
--- The columns that the queries show of a poll.
+-- The result row that shows a poll, in queries of `polls`.
 abbrev pub poll_shown : Started → Row
 poll_shown p =
     Int (pos p.row.number) ∷ Text p.device ∷ Int (pos p.row.unit) ∷ Int (pos p.row.started)
     ∷ Int (pos p.row.id)
     ∷ Int (pos (code_of p.row.function)) ∷ Int (pos p.row.address) ∷ Int (pos p.row.count) ∷ []
 
--- The column that the query for the last poll shows: its number.
+-- The result row of the query for the last poll: the poll's number.
 abbrev pub number_shown : Started → Row
 number_shown p = Int (pos p.row.number) ∷ []
 
@@ -54,11 +54,11 @@ number_shown p = Int (pos p.row.number) ∷ []
 abbrev pub poll_number : Started → ℕ
 poll_number p = p.row.number
 
--- The poll has this number.
+-- Whether the poll has this number.
 abbrev pub is_poll : (number : ℕ) → Started → Bool
 is_poll number p = p.row.number == number
 
--- The greatest count of a read from an address.
+-- The greatest count of Modbus registers in a read from this address.
 abbrev pub greatest_count : (address : ℕ) → ℕ
 greatest_count address = min 125 (65536 - address)
 
@@ -86,7 +86,7 @@ pub record IsStarted (p : Started) (a : Poll) : Type 0 where
 abbrev pub HasNumber : Started → ℕ → Type 0
 HasNumber p number = number ≡ p.row.number
 
--- The numbers of the poll that a row shows, or damage.
+-- The numbers of the poll that a result row shows, or `Damaged` if one is out of its range.
 abbrev pub poll_in : Row → Result PollRow RowFault
 poll_in row =
     and_then (or_damaged (whole_in 1 greatest_place (column row 0))) (λ number.
@@ -108,27 +108,27 @@ poll_in row =
 
 -- ---- outcomes
 
--- The columns of an outcome.
+-- The columns of an outcome in the table `outcomes`.
 abbrev pub outcome_columns : OutcomeRow → Row
 outcome_columns o =
     Int (pos o.poll) ∷ Null ∷ Int (pos o.moment) ∷ Int (pos (outcome_number o.outcome))
     ∷ Int (pos (outcome_code o.outcome)) ∷ []
 
--- The columns that the queries show of an outcome.
+-- The result row that shows an outcome, in queries of `outcomes`.
 abbrev pub outcome_shown : OutcomeRow → Row
 outcome_shown o =
     Int (pos o.poll) ∷ Int (pos o.moment) ∷ Int (pos (outcome_number o.outcome))
     ∷ Int (pos (outcome_code o.outcome)) ∷ []
 
--- The outcome is of this poll.
+-- Whether the outcome is that of this poll.
 abbrev pub is_outcome_of : (poll : ℕ) → OutcomeRow → Bool
 is_outcome_of poll o = o.poll == poll
 
--- The value read is the outcome.
+-- The value read is equal to the outcome.
 abbrev pub IsOutcome : OutcomeRow → OutcomeRow → Type 0
 IsOutcome o a = a ≡ o
 
--- The code of an outcome has eight bits.
+-- The code of an outcome is less than 256.
 abbrev pub HasCode : Outcome → Type 0
 HasCode outcome = outcome_code outcome ≤ 255
 
@@ -138,7 +138,7 @@ pub record IsSoundOutcome (o : OutcomeRow) : Type 0 where
   pub moment : o.moment ≤ latest_moment
   pub code : HasCode o.outcome
 
--- The malformation with a number.
+-- The malformation that has this number in the store, if there is one.
 abbrev pub malformation_of : ℕ → Option Malformation
 malformation_of n =
     if n == 1 then Some malformation.WrongFunction else
@@ -147,7 +147,7 @@ malformation_of n =
     if n == 4 then Some malformation.WrongEcho else
     if n == 5 then Some malformation.WrongUnit else None
 
--- The cause of a lost poll with a number.
+-- The cause of a lost poll that has this number in the store, if there is one.
 abbrev pub lost_of : ℕ → Option LostCause
 lost_of n =
     if n == 1 then Some lost.Gone else
@@ -163,7 +163,7 @@ abbrev pub lost_by : Option LostCause → Option Outcome
 lost_by None = None
 lost_by (Some why) = Some (Lost why)
 
--- The outcome with a number and a code, if they encode one.
+-- The outcome that a number and a code encode, if they encode one.
 abbrev pub outcome_of : (number code : ℕ) → Option Outcome
 outcome_of number code =
     if number == 1 then (if code == 0 then Some Answered else None) else
@@ -172,7 +172,7 @@ outcome_of number code =
     if number == 4 then malformed_of (malformation_of code) else
     if number == 5 then lost_by (lost_of code) else None
 
--- The outcome that a row shows, or damage.
+-- The outcome that a result row shows, or `Damaged` if a column is out of its range.
 abbrev pub outcome_in : Row → Result OutcomeRow RowFault
 outcome_in row =
     and_then (or_damaged (whole_in 1 greatest_place (column row 0))) (λ poll.
@@ -184,19 +184,19 @@ outcome_in row =
 
 -- ---- rejected readings
 
--- A rejected reading of a meter.
+-- A rejected reading of a meter, with the meter's name.
 pub record Held : Type 0 where
   pub meter : List ℕ
   pub row : HoldRow
 
--- The columns of a rejected reading.
+-- The columns of a rejected reading in the table `holds`.
 abbrev pub hold_columns : Held → Row
 hold_columns h =
     Int (pos h.row.place) ∷ Null ∷ Text h.meter ∷ Int (pos h.row.poll) ∷ Int (pos h.row.moment)
     ∷ Int (pos h.row.raw)
     ∷ Int h.row.sf ∷ Int (pos (cause_number h.row.cause)) ∷ []
 
--- The parameters of the INSERT of a rejected reading.
+-- The parameters of the INSERT statement of a rejected reading.
 abbrev pub hold_shown : Held → Row
 hold_shown h =
     Int (pos h.row.place) ∷ Text h.meter ∷ Int (pos h.row.poll) ∷ Int (pos h.row.moment)
@@ -207,11 +207,11 @@ hold_shown h =
 abbrev pub hold_place : Held → ℕ
 hold_place h = h.row.place
 
--- The column that the query for the last rejected reading shows: its index.
+-- The result row of the query for the last rejected reading: the reading's index.
 abbrev pub hold_place_shown : Held → Row
 hold_place_shown h = Int (pos h.row.place) ∷ []
 
--- Every value of a rejected reading is in its range.
+-- Every value of a rejected reading is in its range. The meter's name is not considered.
 pub record IsSoundHold (h : HoldRow) : Type 0 where
   pub place : IsPlace h.place
   pub poll : IsPlace h.poll
@@ -223,7 +223,7 @@ IsSoundHeld h = IsSoundHold h.row
 
 -- ---- kept requests
 
--- The word of a command kind in the table.
+-- The word in the table `replies` that names a kind of command.
 abbrev pub kind_word : CommandKind → List ℕ
 kind_word kind.Device = codes "device"
 kind_word kind.List = codes "list"
@@ -237,7 +237,7 @@ kind_word kind.Close = codes "close"
 kind_word kind.Void = codes "void"
 kind_word kind.Start = codes "start"
 
--- The command kind with a word, if there is one.
+-- The kind of command that a word in the table `replies` names, if it names one.
 abbrev pub kind_of : List ℕ → Option CommandKind
 kind_of word =
     if bytes_eq word (codes "device") then Some kind.Device else
@@ -252,8 +252,8 @@ kind_of word =
     if bytes_eq word (codes "void") then Some kind.Void else
     if bytes_eq word (codes "start") then Some kind.Start else None
 
--- A kept request under its idempotency key, with the kind of its command and the time of its
--- response.
+-- An accepted request that is kept under its idempotency key, with the kind of its command and the
+-- time of its response.
 pub record Kept : Type 0 where
   pub caller : List ℕ
   pub number : ℕ
@@ -266,30 +266,31 @@ abbrev pub kept_under : (caller : List ℕ) → (number : ℕ) → (request : Li
 kept_under caller number request kind moment =
     record { caller = caller; number = number; request = request; kind = kind; moment = moment }
 
--- The columns of a kept request.
+-- The columns of a kept request in the table `replies`.
 abbrev pub reply_columns : Kept → Row
 reply_columns k =
     Text k.caller ∷ Int (pos k.number) ∷ Blob k.request ∷ Text (kind_word k.kind)
     ∷ Int (pos k.moment)
     ∷ []
 
--- The columns that the query shows of a kept request: its bytes, and the word of its command.
+-- The result row that shows a kept request: its bytes, and the word of its command.
 abbrev pub reply_shown : Kept → Row
 reply_shown k = Blob k.request ∷ Text (kind_word k.kind) ∷ []
 
--- The request is kept under this idempotency key.
+-- Whether the request is kept under this idempotency key: its caller and its number.
 abbrev pub is_reply : (caller : List ℕ) → (number : ℕ) → Kept → Bool
 is_reply caller number k = bytes_eq k.caller caller && (k.number == number)
 
--- The number of a request is less than 2 ^ 63.
+-- The number in an idempotency key is less than 2^63.
 abbrev pub IsCallNumber : ℕ → Type 0
 IsCallNumber number = number < 2 ^ 63
 
--- A request with the same bytes as the kept request is a retry.
+-- A request with the bytes of the kept request is a retry of its kind of command.
 abbrev pub repeat_as : CommandKind → (same : Bool) → Repeat
 repeat_as kind same = if same then Same kind else Other
 
--- The request compared with the kept request.
+-- `Same` with the kind of command if the request has the bytes of the kept request, otherwise
+-- `Other`.
 abbrev pub IsRepeat : (request : List ℕ) → Kept → Repeat → Type 0
 IsRepeat request k a = a ≡ repeat_as k.kind (bytes_eq k.request request)
 
@@ -297,7 +298,7 @@ IsRepeat request k a = a ≡ repeat_as k.kind (bytes_eq k.request request)
 abbrev pub IsSoundKept : Kept → Type 0
 IsSoundKept k = k.moment ≤ latest_moment
 
--- The kind of command that a value encodes.
+-- The kind of command whose word a value has, if there is one.
 abbrev pub kind_in : Value → Option CommandKind
 kind_in (Text word) = kind_of word
 kind_in (Int n) = None
@@ -305,7 +306,7 @@ kind_in Null = None
 kind_in (Real x) = None
 kind_in (Blob b) = None
 
--- Whether a column has these bytes.
+-- Whether a column has these bytes, or None if the column is not a blob.
 abbrev pub same_bytes : List ℕ → Value → Option Bool
 same_bytes bytes (Blob b) = Some (bytes_eq b bytes)
 same_bytes bytes (Text word) = None
@@ -313,7 +314,8 @@ same_bytes bytes (Int n) = None
 same_bytes bytes Null = None
 same_bytes bytes (Real x) = None
 
--- The request compared with the kept request of a row, or damage.
+-- The comparison of a request with the kept request that a result row shows, or `Damaged` if a
+-- column is invalid.
 abbrev pub repeat_in : (request : List ℕ) → Row → Result Repeat RowFault
 repeat_in request row =
     and_then (or_damaged (same_bytes request (column row 0))) (λ same.
@@ -322,11 +324,11 @@ repeat_in request row =
 
 -- ---- timestamps
 
--- The start of a poll.
+-- The start of a poll, in seconds since 1970-01-01 UTC.
 abbrev pub start_of : Started → ℕ
 start_of p = p.row.started
 
--- The column that the query shows of a poll: its start.
+-- The result row of the query for the latest start: the poll's start.
 abbrev pub start_shown : Started → Row
 start_shown p = Int (pos p.row.started) ∷ []
 
@@ -334,11 +336,11 @@ start_shown p = Int (pos p.row.started) ∷ []
 abbrev pub HasStart : Started → ℕ → Type 0
 HasStart p moment = moment ≡ p.row.started
 
--- The time of an outcome.
+-- The time of an outcome, in seconds since 1970-01-01 UTC.
 abbrev pub outcome_moment : OutcomeRow → ℕ
 outcome_moment o = o.moment
 
--- The column that the query shows of an outcome: its time.
+-- The result row of the query for the latest outcome: the outcome's time.
 abbrev pub outcome_moment_shown : OutcomeRow → Row
 outcome_moment_shown o = Int (pos o.moment) ∷ []
 
@@ -346,11 +348,11 @@ outcome_moment_shown o = Int (pos o.moment) ∷ []
 abbrev pub HasOutcomeMoment : OutcomeRow → ℕ → Type 0
 HasOutcomeMoment o moment = moment ≡ o.moment
 
--- The timestamp of a rejected reading.
+-- The timestamp of a rejected reading, in seconds since 1970-01-01 UTC.
 abbrev pub hold_moment : Held → ℕ
 hold_moment h = h.row.moment
 
--- The column that the query shows of a rejected reading: its timestamp.
+-- The result row of the query for the latest rejected reading: the reading's timestamp.
 abbrev pub hold_moment_shown : Held → Row
 hold_moment_shown h = Int (pos h.row.moment) ∷ []
 
@@ -358,11 +360,11 @@ hold_moment_shown h = Int (pos h.row.moment) ∷ []
 abbrev pub HasHoldMoment : Held → ℕ → Type 0
 HasHoldMoment h moment = moment ≡ h.row.moment
 
--- The time of a kept request.
+-- The time of a kept request, in seconds since 1970-01-01 UTC.
 abbrev pub reply_moment : Kept → ℕ
 reply_moment k = k.moment
 
--- The column that the query shows of a kept request: its time.
+-- The result row of the query for the latest kept request: the request's time.
 abbrev pub reply_moment_shown : Kept → Row
 reply_moment_shown k = Int (pos k.moment) ∷ []
 

@@ -18,7 +18,7 @@ use poll_core::{MAX_TIMEOUT, MAX_WINDOW};
 use sqlite::Row;
 use store_tables::{GREATEST_PLACE, RowFault, function, scale, text, whole};
 
-/// Reads all columns of a device but its name.
+/// Reads all columns of a device except its name.
 fn device(row: &Row) -> Result<DeviceRow, RowFault>
     ensures { result ≡ device_in row.now }
 {
@@ -77,7 +77,8 @@ pub fn read_point(row: &Row) -> Result<Point, RowFault>
     })
 }
 
-/// Reads a scale of kind `kind` from the column `at`: a scale factor, or the address of the scale.
+/// Reads a scale of kind `kind` from the column at index `at`: a fixed factor, or the address of
+/// the factor.
 fn scale_at(row: &Row, kind: u64, at: usize) -> Result<RegisterScale, RowFault>
     ensures { result ≡ or_damaged (scale_of kind (column row.now at)) }
 {
@@ -88,7 +89,7 @@ fn scale_at(row: &Row, kind: u64, at: usize) -> Result<RegisterScale, RowFault>
     }
 }
 
-/// Returns whether one Modbus read of at most 125 registers covers a counter and its scale.
+/// Returns whether one Modbus read of at most 125 Modbus registers covers a counter and its scale.
 pub fn fits_a_read(address: u16, scale: RegisterScale) -> bool
     ensures { result ≡ rows.fits_a_read address scale }
 {
@@ -115,7 +116,7 @@ fn reached_scale(row: &Row, address: u16, kind: u64) -> Result<RegisterScale, Ro
     }
 }
 
-/// Reads all columns of a register but its names.
+/// Reads all columns of an accounting register except its names.
 fn register(row: &Row) -> Result<RegisterRow, RowFault>
     ensures { result ≡ register_in row.now }
 {
@@ -132,7 +133,7 @@ fn register(row: &Row) -> Result<RegisterRow, RowFault>
     })
 }
 
-/// Reads a register from a row of `register_rows`.
+/// Reads an accounting register from a row of `register_rows`.
 pub fn read_register(row: &Row) -> Result<Register, RowFault>
     ensures read { ReadsRow row.now register_shown IsRegister IsSoundRegistered result }
     ensures sound { IfOk result (λ a. IsSoundRegister a.row) }

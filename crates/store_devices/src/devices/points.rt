@@ -13,7 +13,7 @@ use crate::devices::rows::{Point, PointRow};
 use sqlite::{Alter, Connection, Error, Row, Transaction, params};
 use store_tables::number;
 
-/// Inserts a point of a device's list. The type and the scale are texts, as in the CSV list.
+/// Inserts a point into a device's list. The type and the scale are texts, as in the CSV list.
 fn insert_point<'a, S: Alter>(
     tx: &mut Transaction<'_, S>,
     device: &'a str,
@@ -44,7 +44,7 @@ fn insert_point<'a, S: Alter>(
     )
 }
 
-/// Deletes the points of a device's list.
+/// Deletes all points of a device's list.
 fn drop_points<S: Alter>(tx: &mut Transaction<'_, S>, device: &str) -> Result<usize, Error>
     ensures same_reference { IsSameBorrow tx.old.conn tx.new.conn }
     ensures does { Steps (state S.Store tx.old.conn.now) (state S.Store tx.new.conn.now) result

@@ -20,7 +20,7 @@ use sqlite::types::Value;
 use sqlite::{Alter, Connection, Error, Row, Transaction, params};
 use store_tables::{RowFault, number, signed};
 
-/// Returns the number of a scale's kind in the table.
+/// Returns the number of a scale's kind in the table: 0 for a fixed factor, 1 for an address.
 fn kind(scale: RegisterScale) -> u32
     ensures { result ≡ scale_kind scale }
 {
@@ -30,7 +30,7 @@ fn kind(scale: RegisterScale) -> u32
     }
 }
 
-/// Returns the value of a scale in the table: its factor, or its address.
+/// Returns the value of a scale in the table: its fixed factor, or the address of its factor.
 fn value(scale: RegisterScale) -> Value
     ensures { result ≡ Int (scale_number scale) }
 {
@@ -40,7 +40,7 @@ fn value(scale: RegisterScale) -> Value
     }
 }
 
-/// Inserts a register of a device.
+/// Inserts an accounting register of a device.
 pub fn insert_register<S: Alter>(
     tx: &mut Transaction<'_, S>,
     name: &str,
@@ -68,7 +68,7 @@ pub fn insert_register<S: Alter>(
     )
 }
 
-/// Queries the row of a register.
+/// Queries the row of the accounting register with this name.
 fn rows_of<S: Alter>(conn: &mut Connection<S>, name: &str) -> Result<Vec<Row>, Error>
     ensures asks { Asks S.Store conn.old conn.new }
     ensures shows { TellsRows S.Store conn.old conn.new registers register_columns result
@@ -80,7 +80,7 @@ fn rows_of<S: Alter>(conn: &mut Connection<S>, name: &str) -> Result<Vec<Row>, E
     )
 }
 
-/// Returns the register with a name.
+/// Returns the accounting register with this name, or None if there is none.
 pub fn register_of<S: Alter>(
     conn: &mut Connection<S>,
     name: &str,
@@ -97,8 +97,8 @@ pub fn register_of<S: Alter>(
     }
 }
 
-/// Queries the registers of a device in the order in which they were added. `read_register` reads
-/// each row.
+/// Queries the accounting registers of a device in the order in which they were added.
+/// `read_register` reads each row.
 pub fn register_rows<S: Alter>(conn: &mut Connection<S>, device: &str) -> Result<Vec<Row>, Error>
     ensures asks { Asks S.Store conn.old conn.new }
     ensures shows { TellsRows S.Store conn.old conn.new registers register_columns result
@@ -110,7 +110,7 @@ pub fn register_rows<S: Alter>(conn: &mut Connection<S>, device: &str) -> Result
     )
 }
 
-/// Queries the indices of the registers of a device.
+/// Queries the indices of a device's accounting registers.
 fn places_of<S: Alter>(conn: &mut Connection<S>, device: &str) -> Result<Vec<Row>, Error>
     ensures asks { Asks S.Store conn.old conn.new }
     ensures shows { TellsRows S.Store conn.old conn.new registers register_columns result
@@ -122,7 +122,7 @@ fn places_of<S: Alter>(conn: &mut Connection<S>, device: &str) -> Result<Vec<Row
     )
 }
 
-/// Returns the number of registers of a device.
+/// Returns the number of accounting registers of a device.
 pub fn register_count<S: Alter>(conn: &mut Connection<S>, device: &str) -> Result<usize, Error>
     ensures asks { Asks S.Store conn.old conn.new }
     ensures counts { TellsAnswer S.Store conn.old conn.new registers register_columns result
@@ -132,7 +132,8 @@ pub fn register_count<S: Alter>(conn: &mut Connection<S>, device: &str) -> Resul
     Ok(rows.len())
 }
 
-/// Queries, inside a transaction, the index of the last register. The first column has the index.
+/// Queries, inside a transaction, the index of the last accounting register. The first column has
+/// the index.
 pub fn last_register_rows<S: Alter>(tx: &mut Transaction<'_, S>) -> Result<Vec<Row>, Error>
     ensures same_reference { IsSameBorrow tx.old.conn tx.new.conn }
     ensures asks { AsksInside S.Store tx.old.conn.now tx.new.conn.now result }

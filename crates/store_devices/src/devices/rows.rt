@@ -1,8 +1,8 @@
-//! Devices, points and registers as the tables have them.
+//! Devices, points and accounting registers as the tables have them.
 
 use mb_wire::ReadFunction;
 
-/// A device without its name.
+/// A device of the office, without its name.
 #[derive(Clone, Copy, Debug, PartialEq, Eq)]
 pub struct DeviceRow {
     /// The index of the device, from 1.
@@ -15,21 +15,21 @@ pub struct DeviceRow {
     pub window: u8,
 }
 
-/// A device.
+/// A device of the office, with its name.
 #[derive(Debug, Drop)]
 pub struct Device {
     pub name: String,
     pub row: DeviceRow,
 }
 
-/// A point without its texts.
+/// A point of a device's list, without its texts.
 #[derive(Clone, Copy, Debug, PartialEq, Eq)]
 pub struct PointRow {
     /// The index of the point in its list, from 1.
     pub place: u64,
     pub function: ReadFunction,
     pub area: u8,
-    /// The address of its first Modbus register.
+    /// The address of the point's first Modbus register.
     pub address: u16,
 }
 
@@ -42,7 +42,7 @@ pub struct Point {
     pub row: PointRow,
 }
 
-/// Where the scale factor of a register comes from.
+/// Where the scale factor of an accounting register comes from.
 #[derive(Clone, Copy, Debug, PartialEq, Eq)]
 pub enum RegisterScale {
     /// A fixed scale factor, -3 to 3.
@@ -51,10 +51,10 @@ pub enum RegisterScale {
     At(u16),
 }
 
-/// A register without its names.
+/// An accounting register without its names.
 #[derive(Clone, Copy, Debug, PartialEq, Eq)]
 pub struct RegisterRow {
-    /// The index of the register, from 1.
+    /// The index of the accounting register, from 1.
     pub place: u64,
     pub function: ReadFunction,
     /// The address of the counter's high word, 0 to 65534.
@@ -62,7 +62,7 @@ pub struct RegisterRow {
     pub scale: RegisterScale,
 }
 
-/// A register of a device.
+/// An accounting register: a named counter of a device, at which meters are installed.
 #[derive(Debug, Drop)]
 pub struct Register {
     pub name: String,

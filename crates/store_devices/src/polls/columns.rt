@@ -15,7 +15,8 @@ use sqlite::Row;
 use sqlite::types::ValueRef;
 use store_tables::{GREATEST_PLACE, LATEST_MOMENT, RowFault, function, text, whole};
 
-/// Returns the greatest count of a read from `address`: at most 125 registers, none past 65535.
+/// Returns the greatest count of a read from `address`: at most 125 Modbus registers, none past
+/// address 65535.
 fn room(address: u16) -> u64
     ensures { result ≡ greatest_count address }
 {
@@ -23,7 +24,7 @@ fn room(address: u16) -> u64
     if left < 125 { left } else { 125 }
 }
 
-/// Reads all columns of a poll but its device.
+/// Reads all columns of a poll except its device.
 fn numbers(row: &Row) -> Result<PollRow, RowFault>
     ensures { result ≡ poll_in row.now }
 {
@@ -58,7 +59,7 @@ pub fn read_poll(row: &Row) -> Result<Poll, RowFault>
     })
 }
 
-/// Returns the malformation with a number.
+/// Returns the malformation that has this number in the store, or None.
 fn malformation(number: u64) -> Option<Malformation>
     ensures { result ≡ malformation_of number }
 {
@@ -72,7 +73,7 @@ fn malformation(number: u64) -> Option<Malformation>
     }
 }
 
-/// Returns the cause of a lost poll with a number.
+/// Returns the cause of a lost poll that has this number in the store, or None.
 fn loss(number: u64) -> Option<LostCause>
     ensures { result ≡ lost_of number }
 {
@@ -85,7 +86,7 @@ fn loss(number: u64) -> Option<LostCause>
     }
 }
 
-/// Returns the outcome with a number and a code.
+/// Returns the outcome that a number and a code encode, or None if they encode none.
 fn ended(number: u64, code: u8) -> Option<Outcome>
     ensures { result ≡ outcome_of number code }
 {
@@ -117,7 +118,7 @@ fn ended(number: u64, code: u8) -> Option<Outcome>
     }
 }
 
-/// Reads an outcome.
+/// Reads an outcome from a row of `outcomes`.
 pub(crate) fn outcome(row: &Row) -> Result<OutcomeRow, RowFault>
     ensures { result ≡ outcome_in row.now }
 {
@@ -135,7 +136,7 @@ pub(crate) fn outcome(row: &Row) -> Result<OutcomeRow, RowFault>
     }
 }
 
-/// Reads the kind of a kept request's command.
+/// Reads the kind of a kept request's command from the column at index `at`.
 fn kind(row: &Row, at: usize) -> Result<CommandKind, RowFault>
     ensures { result ≡ or_damaged (kind_in (column row.now at)) }
 {
@@ -148,7 +149,7 @@ fn kind(row: &Row, at: usize) -> Result<CommandKind, RowFault>
     }
 }
 
-/// Returns whether a column has these bytes.
+/// Returns whether the column at index `at` has these bytes.
 fn has_bytes(row: &Row, at: usize, bytes: &[u8]) -> Result<bool, RowFault>
     ensures { result ≡ or_damaged (same_bytes bytes.now (column row.now at)) }
 {
@@ -158,7 +159,7 @@ fn has_bytes(row: &Row, at: usize, bytes: &[u8]) -> Result<bool, RowFault>
     }
 }
 
-/// Compares a request with the kept request of a row.
+/// Compares a request with the kept request that a row shows.
 pub(crate) fn repeat(row: &Row, request: &[u8]) -> Result<Repeat, RowFault>
     ensures { result ≡ repeat_in request.now row.now }
 {

@@ -1,10 +1,10 @@
-//! The words of command kinds in the table `replies`.
+//! The words that name kinds of commands in the table `replies`.
 ghost use Rattle.std.specs.Prelude.{◌≡◌};
 ghost use Rattle.store_devices.specs.Polls.Rows.{kind_word, kind_of};
 
 use office_events::CommandKind;
 
-/// Returns the kind with a word.
+/// Returns the kind of command that a word names, or None.
 pub(crate) fn kind_spelled(word: &[u8]) -> Option<CommandKind>
     ensures { result ≡ kind_of word.now }
 {
@@ -35,7 +35,7 @@ pub(crate) fn kind_spelled(word: &[u8]) -> Option<CommandKind>
     }
 }
 
-/// Returns the word of the kind in the table.
+/// Returns the word that names a kind of command in the table `replies`.
 pub(crate) fn word_of(kind: CommandKind) -> &'static str
     ensures { result.now ≡ kind_word kind }
 {

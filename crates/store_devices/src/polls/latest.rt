@@ -1,5 +1,5 @@
 //! The latest timestamps of `polls`, `outcomes`, `holds` and `replies`, in seconds since 1970-01-01
-//! UTC. Each query scans its complete table. An opening of an office runs them.
+//! UTC. Each query scans its complete table. They run once, when an office is opened.
 ghost use Rattle.std.specs.Prelude.{◌≤◌, IfOk, IfSome};
 ghost use Rattle.store_tables.specs.Limits.{latest_moment};
 ghost use Rattle.store_tables.specs.Answer.{IsLast, LastFirst, every};
@@ -27,7 +27,7 @@ fn start_rows<S: Alter>(conn: &mut Connection<S>) -> Result<Vec<Row>, Error>
     )
 }
 
-/// Returns the latest start of a poll.
+/// Returns the latest start of a poll, or None without polls.
 pub fn latest_start<S: Alter>(conn: &mut Connection<S>) -> Result<Option<u64>, RowFault>
     ensures finds { LooksUp S.Store conn.old conn.new polls poll_columns IsSoundStarted result
         (IsLast every HasStart start_of) }
@@ -49,7 +49,7 @@ fn outcome_rows<S: Alter>(conn: &mut Connection<S>) -> Result<Vec<Row>, Error>
     )
 }
 
-/// Returns the latest timestamp of an outcome.
+/// Returns the latest timestamp of an outcome, or None without outcomes.
 pub fn latest_outcome<S: Alter>(conn: &mut Connection<S>) -> Result<Option<u64>, RowFault>
     ensures finds { LooksUp S.Store conn.old conn.new outcomes outcome_columns IsSoundOutcome result
         (IsLast every HasOutcomeMoment outcome_moment) }
@@ -68,7 +68,7 @@ fn hold_rows<S: Alter>(conn: &mut Connection<S>) -> Result<Vec<Row>, Error>
     conn.query_all("SELECT moment FROM holds ORDER BY moment DESC LIMIT 1", &[])
 }
 
-/// Returns the latest timestamp of a rejected reading.
+/// Returns the latest timestamp of a rejected reading, or None if no reading was rejected.
 pub fn latest_hold<S: Alter>(conn: &mut Connection<S>) -> Result<Option<u64>, RowFault>
     ensures finds { LooksUp S.Store conn.old conn.new holds hold_columns IsSoundHeld result
         (IsLast every HasHoldMoment hold_moment) }
@@ -90,7 +90,7 @@ fn reply_rows<S: Alter>(conn: &mut Connection<S>) -> Result<Vec<Row>, Error>
     )
 }
 
-/// Returns the latest timestamp of a kept request.
+/// Returns the latest timestamp of a kept request, or None if no request is kept.
 pub fn latest_reply<S: Alter>(conn: &mut Connection<S>) -> Result<Option<u64>, RowFault>
     ensures finds { LooksUp S.Store conn.old conn.new replies reply_columns IsSoundKept result
         (IsLast every HasReplyMoment reply_moment) }

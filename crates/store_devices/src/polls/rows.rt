@@ -1,4 +1,4 @@
-//! Polls, outcomes, rejected readings and retries as the tables have them.
+//! Polls, outcomes, rejected readings and kept requests as the tables have them.
 ghost use Rattle.std.specs.Prelude.{◌≡◌};
 
 use energy_core::Cause;
@@ -6,7 +6,7 @@ use mb_wire::ReadFunction;
 use office_events::CommandKind;
 use poll_core::Outcome;
 
-/// A poll without its device.
+/// A poll without the name of its device.
 #[derive(Clone, Copy, Debug, PartialEq, Eq)]
 pub struct PollRow {
     /// The number of the poll, from 1.
@@ -18,13 +18,13 @@ pub struct PollRow {
     /// The transaction identifier of the request.
     pub id: u16,
     pub function: ReadFunction,
-    /// The address of the first register that the poll reads.
+    /// The address of the first Modbus register that the poll reads.
     pub address: u16,
-    /// How many registers the poll reads, 1 to 125, none past 65535.
+    /// How many Modbus registers the poll reads, 1 to 125, none past address 65535.
     pub count: u16,
 }
 
-/// A poll of a device.
+/// A poll of a device: one Modbus read that was started.
 #[derive(Debug, Drop)]
 pub struct Poll {
     pub device: String,
@@ -41,7 +41,7 @@ pub struct OutcomeRow {
     pub outcome: Outcome,
 }
 
-/// A rejected reading.
+/// A rejected reading, without the name of its meter.
 #[derive(Clone, Copy, Debug, PartialEq, Eq)]
 pub struct HoldRow {
     /// The index of the rejected reading, from 1.
@@ -62,6 +62,6 @@ pub struct HoldRow {
 pub enum Repeat {
     /// The same bytes: a retry of a request with this kind of command.
     Same(CommandKind),
-    /// Other bytes.
+    /// The request has other bytes than the kept request.
     Other,
 }

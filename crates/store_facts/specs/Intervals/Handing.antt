@@ -1,4 +1,4 @@
--- The rows of `intervals` that a stream gives, and their order.
+-- Which rows of `intervals` a stream gives, in which order.
 use Rattle.std.specs.Prelude.{◌≡◌, ◌<◌, ◌≤◌, ◌⊎◌, ℕ, nat_le, nat_lt, Bool, bytes_eq, ◌&&◌, List, map}
 use Rattle.std.specs.List.{AllByRecursion}
 use Rattle.sqlite_keyed.specs.Lists.{pairs}
@@ -12,11 +12,11 @@ use Rattle.store_facts.specs.Intervals.Rows.{Interval, interval_columns, is_of, 
 
 -- ---- the rows of a meter, by their starts
 
--- The rows of `intervals`.
+-- The table `intervals` has these rows.
 abbrev pub HaveIntervals : List Interval → Content → Type 0
 HaveIntervals = HasRows intervals interval_columns
 
--- The energy of a meter by quarter hours, in order of their starts.
+-- `all` is the energy of a meter by quarter hours, in order of their starts.
 abbrev pub AreSharesOfMeter : (meter : List ℕ) → List Interval → List Share → Type 0
 AreSharesOfMeter meter rows all =
     (found : List Interval) × AreFound (is_of meter) (FirstFirst start_of) rows found
@@ -26,29 +26,31 @@ AreSharesOfMeter meter rows all =
 abbrev pub AreSoundIntervals : List Interval → Type 0
 AreSoundIntervals = AllByRecursion IsSoundInterval
 
--- ---- the rows of a register: meter after meter in order of index, each in order of starts
+-- ---- the rows of an accounting register: its meters in order of index, each in order of starts
 
--- The rows of `installations` and of `intervals`.
+-- Rows of `installations` and rows of `intervals`.
 pub record Lying : Type 0 where
   pub installed : List Installed
   pub rows : List Interval
 
--- The tables have these rows.
+-- The tables `installations` and `intervals` have these rows.
 pub record HaveLying (lying : Lying) (content : Content) : Type 0 where
   pub installed : HasRows installations installed_columns lying.installed content
   pub rows : HasRows intervals interval_columns lying.rows content
 
--- The interval row is of a meter that was installed at the register.
+-- Whether the interval row is of a meter that was installed at this accounting register.
 abbrev pub lies_at : (register : List ℕ) → Installed × Interval → Bool
 lies_at register p = bytes_eq p.1.meter p.0.meter && is_at register p.0
 
--- First the index of the installation decides the order, then the start of the quarter hour.
+-- The order of interval rows: first by the index of their meter's installation, then by the start
+-- of the quarter hour.
 abbrev pub ComesAfter : Installed × Interval → Installed × Interval → Type 0
 ComesAfter p q =
     (installed_place p.0 < installed_place q.0)
     ⊎ ((installed_place p.0 ≡ installed_place q.0) × (start_of p.1 ≤ start_of q.1))
 
--- The energy of a register by quarter hours, meter after meter.
+-- `all` is the energy of an accounting register by quarter hours: one meter after another, in the
+-- order of installation.
 abbrev pub AreSharesAt : (register : List ℕ) → Lying → List Share → Type 0
 AreSharesAt register lying all =
     (found : List (Installed × Interval))
@@ -61,12 +63,12 @@ AreSoundLying lying = AreSoundIntervals lying.rows
 
 -- ---- the rows of either with starts in a range
 
--- The start of the row is at least `from` and less than `till`.
+-- Whether the start of the quarter hour is at least `from` and less than `till`.
 abbrev pub is_between : (from till : ℕ) → Interval → Bool
 is_between from till i = nat_le from (start_of i) && nat_lt (start_of i) till
 
--- The same energy of a meter, from the quarter hours whose starts are at least `from` and less than
--- `till`.
+-- `all` is the energy of a meter in the quarter hours that start at `from` or later and before
+-- `till`, in order of their starts.
 abbrev pub AreSharesOfMeterBetween : (meter : List ℕ) → (from till : ℕ) → List Interval
     → List Share → Type 0
 AreSharesOfMeterBetween meter from till rows all =
@@ -74,8 +76,8 @@ AreSharesOfMeterBetween meter from till rows all =
     × AreFound (λ i. is_of meter i && is_between from till i) (FirstFirst start_of) rows found
     × (all ≡ map (λ i. i.share) found)
 
--- The same energy of a register, from the quarter hours whose starts are at least `from` and less
--- than `till`.
+-- `all` is the energy of an accounting register in the quarter hours that start at `from` or later
+-- and before `till`. The order is that of `AreSharesAt`.
 abbrev pub AreSharesAtBetween : (register : List ℕ) → (from till : ℕ) → Lying → List Share → Type 0
 AreSharesAtBetween register from till lying all =
     (found : List (Installed × Interval))

@@ -8,32 +8,32 @@ use Rattle.store_tables.specs.Limits.{latest_moment}
 use Rattle.store_tables.specs.Meters.Rows.{greatest_total}
 use Rattle.store_tables.specs.Columns.{whole_in, or_damaged, and_then}
 
--- The energy of a meter in a quarter hour.
+-- The energy of a meter in a quarter hour, with the meter's name.
 pub record Interval : Type 0 where
   pub meter : List ℕ
   pub share : Share
 
--- The columns of an interval row.
+-- The columns of an interval row in the table `intervals`.
 abbrev pub interval_columns : Interval → Row
 interval_columns i = Text i.meter ∷ Int (pos i.share.start) ∷ Int (pos i.share.mwh) ∷ []
 
--- The columns that the queries show of an interval row.
+-- The result row that shows the energy of a quarter hour, in queries of `intervals`.
 abbrev pub share_shown : Interval → Row
 share_shown i = Int (pos i.share.start) ∷ Int (pos i.share.mwh) ∷ []
 
--- The row is of this meter.
+-- Whether the interval row is of this meter.
 abbrev pub is_of : (meter : List ℕ) → Interval → Bool
 is_of meter i = bytes_eq i.meter meter
 
--- The row is of this meter and of the quarter hour with this start.
+-- Whether the interval row is of this meter and of the quarter hour that begins at `start`.
 abbrev pub is_at : (meter : List ℕ) → (start : ℕ) → Interval → Bool
 is_at meter start i = bytes_eq i.meter meter && (i.share.start == start)
 
--- The start of the quarter hour.
+-- The start of the interval row's quarter hour, in seconds since 1970-01-01 UTC.
 abbrev pub start_of : Interval → ℕ
 start_of i = i.share.start
 
--- Every value of an interval row is in its range.
+-- Every value of a quarter hour's energy is in its range.
 pub record IsSoundShare (share : Share) : Type 0 where
   pub start : share.start ≤ latest_moment
   pub mwh : share.mwh ≤ greatest_total
@@ -42,7 +42,8 @@ pub record IsSoundShare (share : Share) : Type 0 where
 abbrev pub IsSoundInterval : Interval → Type 0
 IsSoundInterval i = IsSoundShare i.share
 
--- The energy of the quarter hour that a row shows, or damage.
+-- The energy of the quarter hour that a result row shows, or `Damaged` if a column is out of its
+-- range.
 abbrev pub share_in : Row → Result Share RowFault
 share_in row =
     and_then (or_damaged (whole_in 0 latest_moment (column row 0))) (λ start.

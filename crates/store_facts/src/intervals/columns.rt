@@ -8,7 +8,7 @@ use interval_core::Share;
 use sqlite::Row;
 use store_tables::{LATEST_MOMENT, RowFault, whole};
 
-/// Reads the energy of one quarter hour from a row.
+/// Reads the energy of one quarter hour from a row of `intervals`.
 fn read_share(row: &Row) -> Result<Share, RowFault>
     ensures { result ≡ share_in row.now }
 {
@@ -17,7 +17,7 @@ fn read_share(row: &Row) -> Result<Share, RowFault>
     Ok(Share { start, mwh })
 }
 
-/// Reads the rows of `intervals`.
+/// A reader of the rows of `intervals`.
 #[derive(Drop)]
 pub(crate) struct Shares;
 

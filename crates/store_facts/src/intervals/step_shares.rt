@@ -14,7 +14,7 @@ use interval_core::{Share, Shares, shares_add_up};
 use sqlite::{Alter, Error, Transaction, params};
 use store_tables::number;
 
-/// Adds a share to its meter's row of the quarter hour, or inserts that row.
+/// Adds a meter's share of a quarter hour to the row of that quarter hour, or inserts this row.
 fn add_share<S: Alter>(
     tx: &mut Transaction<'_, S>,
     meter: &str,
@@ -33,8 +33,8 @@ fn add_share<S: Alter>(
     )
 }
 
-/// Adds the energy of a step: one share for each quarter hour that the step touches, also shares of
-/// 0 mWh.
+/// Adds the energy of a step to the interval rows of a meter: one share for each quarter hour that
+/// the step touches, also shares of 0 mWh.
 pub fn book_step<S: Alter>(
     tx: &mut Transaction<'_, S>,
     meter: &str,

@@ -13,7 +13,7 @@ use office_books::RowSink;
 use sqlite::{Alter, Connection, params};
 use store_tables::{RowFault, number};
 
-/// Streams the energy of a meter by quarter hours, in order of their starts.
+/// Streams the energy of a meter by quarter hours to `sink`, in order of their starts.
 pub fn meter_intervals<S: Alter, K: RowSink<Share>>(
     conn: &mut Connection<S>,
     meter: &str,
@@ -31,8 +31,8 @@ pub fn meter_intervals<S: Alter, K: RowSink<Share>>(
     )
 }
 
-/// Streams the energy of a register by quarter hours: meter after meter, in the order in which the
-/// meters were installed.
+/// Streams the energy of an accounting register by quarter hours to `sink`: one meter after
+/// another, in the order in which they were installed.
 pub fn register_intervals<S: Alter, K: RowSink<Share>>(
     conn: &mut Connection<S>,
     register: &str,
@@ -50,8 +50,8 @@ pub fn register_intervals<S: Alter, K: RowSink<Share>>(
     )
 }
 
-/// Streams the energy of a meter by the quarter hours whose starts are at least `from` and less
-/// than `till`, in order of their starts. Reads no other row.
+/// Streams the energy of a meter to `sink`, by the quarter hours that start at `from` or later and
+/// before `till`, in order of their starts. No other row reaches the sink.
 pub fn meter_intervals_between<S: Alter, K: RowSink<Share>>(
     conn: &mut Connection<S>,
     meter: &str,
@@ -75,8 +75,8 @@ pub fn meter_intervals_between<S: Alter, K: RowSink<Share>>(
     )
 }
 
-/// Streams the energy of a register by the quarter hours whose starts are at least `from` and less
-/// than `till`. The order is meter after meter, as they were installed.
+/// Streams the energy of an accounting register to `sink`, by the quarter hours that start at
+/// `from` or later and before `till`. The order is one meter after another, as they were installed.
 pub fn register_intervals_between<S: Alter, K: RowSink<Share>>(
     conn: &mut Connection<S>,
     register: &str,

@@ -12,8 +12,8 @@ use crate::voids::entries::is_voided;
 use sqlite::{Alter, Transaction};
 use store_tables::{GREATEST_PLACE, RowFault};
 
-/// Returns the index of the last entry before `place` that is not voided. Queries each index down
-/// to the result.
+/// Returns the index of the last entry before `place` that is not voided. Queries one index after
+/// another, downward from `place`.
 pub fn place_before<S: Alter>(
     tx: &mut Transaction<'_, S>,
     meter: &str,
@@ -35,7 +35,8 @@ pub fn place_before<S: Alter>(
     Ok(1)
 }
 
-/// Returns the next index after `place` that has no void. Queries each index up to the result.
+/// Returns the first index after `place` that has no void. Queries one index after another, upward
+/// from `place`.
 pub fn place_after<S: Alter>(
     tx: &mut Transaction<'_, S>,
     meter: &str,

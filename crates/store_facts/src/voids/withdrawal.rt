@@ -1,4 +1,4 @@
-//! Removing energy from the interval rows of a meter.
+//! Subtracting energy from the interval rows of a meter.
 ghost use Rattle.std.specs.Prelude.{◌<◌, ◌≤◌, ◌^◌, [], ◌∷◌};
 ghost use Rattle.sqlite.specs.Held.{state};
 ghost use Rattle.energy_core.specs.Account.{intervals_touched};
@@ -14,7 +14,7 @@ use interval_core::{Share, Shares, shares_add_up};
 use sqlite::{Alter, Error, Transaction, params};
 use store_tables::number;
 
-/// Subtracts a share from its meter's row of the quarter hour.
+/// Subtracts a meter's share of a quarter hour from the row of that quarter hour.
 fn take_share<S: Alter>(
     tx: &mut Transaction<'_, S>,
     meter: &str,
@@ -33,8 +33,8 @@ fn take_share<S: Alter>(
     )
 }
 
-/// Subtracts the energy of a step: one share for each quarter hour that the step touches. A row
-/// whose energy becomes 0 stays.
+/// Subtracts the energy of a step from the interval rows of a meter: one share for each quarter
+/// hour that the step touches. A row whose energy becomes 0 remains.
 pub fn take_step<S: Alter>(
     tx: &mut Transaction<'_, S>,
     meter: &str,
@@ -56,7 +56,7 @@ pub fn take_step<S: Alter>(
     Ok(())
 }
 
-/// Deletes the rows of a meter whose starts are at least `from`.
+/// Deletes the interval rows of a meter that start at `from` or later.
 pub fn drop_rows_from<S: Alter>(
     tx: &mut Transaction<'_, S>,
     meter: &str,

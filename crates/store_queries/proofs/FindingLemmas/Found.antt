@@ -29,7 +29,7 @@ module _ {S : Type 0} (g : Ghosts S) (old new : Held S) where
   pub become : {A : Type 0} (o a : A) (P : List Fact → A → Type 0) (s : List Fact → Type 0) → o ≡ a → Finds g old new (Ok o) P s → Finds g old new (Ok a) P s
   become o a P s is one = subst (λ x. Finds g old new (Ok x) P s) is one
 
-  -- A weaker promise about damage.
+  -- A look-up with a stronger postcondition about damage also has a weaker one.
   pub less_told : {A : Type 0} (r : Result A RowFault) (P : List Fact → A → Type 0) (s t : List Fact → Type 0) → ((facts : List Fact) → t facts → s facts) → Finds g old new r P s → Finds g old new r P t
   less_told r P s t weaker one = record {
     answer = one.answer;

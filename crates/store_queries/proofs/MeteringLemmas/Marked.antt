@@ -17,7 +17,7 @@ next_of f (x ∷ xs) (suc n) y lt is =
     let e : suc n + 1 ≡ suc (n + 1) = omega arith in
     record { at = rest.at; seen = rest.seen; more = ap (λ k. take k (x ∷ xs)) e ∙ ap (λ l. x ∷ l) rest.more }
 
--- The same for a list of shown rows.
+-- `next_of` for a list `ys` that is equal to the shown rows.
 pub next_shown : {X Y : Type 0} (f : X → Y) (xs : List X) (ys : List Y) (n : ℕ) (y : Y) → ys ≡ map f xs → n < length ys → y ≡ get_or ys n y → IsNext f xs n y
 next_shown f xs ys n y shown lt is =
     let long = ap length shown in

@@ -1,7 +1,7 @@
 -- Two lists, compared element by element.
 use Rattle.std.specs.Prelude.{List, [], ◌∷◌}
 
--- The lists have the same length, and each element is in the relation to the other of its index.
+-- The lists have the same length, and `Is` relates the elements at each index.
 abbrev pub AreEach : {X A : Type 0} → (Is : X → A → Type 0) → List X → List A → Type 0
 AreEach Is [] [] = Unit {0}
 AreEach Is [] (v ∷ vs) = ⊥

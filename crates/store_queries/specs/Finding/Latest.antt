@@ -1,4 +1,5 @@
--- The latest timestamps of the records of each kind.
+-- The latest timestamps of the records of each kind, in seconds since 1970-01-01 UTC. Each is 0
+-- without such records.
 use Rattle.std.specs.Prelude.{ℕ, max, List, [], ◌∷◌, map}
 use Rattle.std.specs.List.{AllByRecursion}
 use Rattle.energy_core.specs.Account.{moment_of}
@@ -14,39 +15,39 @@ abbrev pub greatest : {X : Type 0} → (moment : X → ℕ) → List X → ℕ
 greatest moment [] = 0
 greatest moment (x ∷ xs) = max (moment x) (greatest moment xs)
 
--- The latest timestamp of openings and entries.
+-- The latest timestamp of all openings and entries.
 abbrev pub latest_entered : List Fact → ℕ
 latest_entered facts =
     max (greatest (λ o. o.at) (openings_in facts))
     (greatest (λ b. moment_of b.entry) (entries_in facts))
 
--- The latest timestamp of voids.
+-- The latest timestamp of all voids.
 abbrev pub latest_voided : List Fact → ℕ
 latest_voided facts = greatest (λ v. v.at) (voids_in facts)
 
--- The latest timestamp of rejected readings.
+-- The latest timestamp of all rejected readings.
 abbrev pub latest_held : List Fact → ℕ
 latest_held facts = greatest (λ h. h.at) (holds_in facts)
 
--- The latest start of a poll.
+-- The latest start of all polls.
 abbrev pub latest_started : List Fact → ℕ
 latest_started facts = greatest (λ p. p.at) (polls_in facts)
 
--- The latest timestamp of outcomes.
+-- The latest timestamp of all outcomes.
 abbrev pub latest_ended : List Fact → ℕ
 latest_ended facts = greatest (λ e. e.at) (ended_in facts)
 
--- The latest timestamp of kept requests.
+-- The latest timestamp of all kept requests.
 abbrev pub latest_replied : List Fact → ℕ
 latest_replied facts = greatest (λ r. r.at) (replies_in facts)
 
--- The latest timestamp of polls, rejected readings and kept requests.
+-- The latest timestamp of all polls, outcomes, rejected readings and kept requests.
 abbrev pub latest_asked : List Fact → ℕ
 latest_asked facts =
     max (max (latest_started facts) (latest_ended facts))
     (max (latest_held facts) (latest_replied facts))
 
--- Every row with a timestamp has values that its table can have.
+-- Every row that has a timestamp can be read: its values are in the ranges of its table.
 pub record HasReadableMoments (facts : List Fact) : Type 0 where
   pub entries : (meter : List ℕ) → AllByRecursion IsSoundEntered (entries_of facts meter)
   pub voids : AllByRecursion IsTimelyVoid (map voided (voids_in facts))

@@ -1,4 +1,4 @@
--- The points that rows of `points` encode.
+-- The listed points that rows of the table `points` encode.
 use Rattle.std.specs.Prelude.{◌≡◌, ℕ, true, List, Option, Some, None, Result, Ok, Err}
 use Rattle.std.specs.List.{AllByRecursion}
 use Rattle.point_list.specs.declared.point.ListedPoint.{ListedPoint}
@@ -15,7 +15,7 @@ use Rattle.store_devices.specs.declared.devices.rows.PointRow.{PointRow}
 use Rattle.store_devices.specs.Devices.Rows.{Listed, IsSoundListed}
 use Rattle.store_facts.specs.Rows.{placed_on, listed, points_of}
 
--- The point with these texts and numbers, or damage.
+-- The point with these texts and numbers, or `Damaged` if a text can't be parsed.
 abbrev pub point_with : (name kind scale : List ℕ) → PointRow → Result ListedPoint RowFault
 point_with named typed scaled row =
     and_then (or_damaged (name_spelled named)) (λ name.
@@ -30,24 +30,24 @@ point_with named typed scaled row =
       scale = scale;
     }))))
 
--- The texts of the point's type and scale spell that type and that scale.
+-- The texts of the point's type and scale parse as this type and this scale.
 pub record IsSpelled (p : ListedPoint) : Type 0 where
   pub kind : type_of (type_text p.kind) ≡ Some p.kind
   pub scale : scale_spelled (scale_text p.scale) ≡ Some p.scale
 
--- Among points that their texts spell, the row can encode this point alone.
+-- Among the points that `IsSpelled` includes, the row encodes only this one.
 abbrev pub IsPointOf : Listed → ListedPoint → Type 0
 IsPointOf row point = (device : List ℕ) (place : ℕ) (p : ListedPoint) → IsSpelled p
     → row ≡ listed device place p → point ≡ p
 
--- The texts of the row spell a name, a type and a scale.
+-- The row of a point is sound, and its texts parse as a name, a type and a scale.
 pub record IsReadablePoint (p : Listed) : Type 0 where
   pub row : IsSoundListed p
   pub name : is_name p.name ≡ true
   pub kind : (k : PointType) × (type_of p.kind ≡ Some k)
   pub scale : (s : PointScale) × (scale_spelled p.scale ≡ Some s)
 
--- The rows of a device's points can be read.
+-- Every row of a device's points can be read.
 abbrev pub HasReadablePoints : List Fact → (device : List ℕ) → Type 0
 HasReadablePoints facts device =
     AllByRecursion IsReadablePoint (placed_on (listed device) 0 (points_of facts device))

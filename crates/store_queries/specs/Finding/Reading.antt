@@ -1,4 +1,4 @@
--- The devices, registers and polls that rows encode.
+-- The devices, accounting registers and polls that rows of the tables encode.
 use Rattle.std.specs.Prelude.{◌≡◌, ℕ, nat_le, ◌&&◌, if◌then◌else◌, List, Option, Some, None, Result, Ok, Err, string_bytes}
 use Rattle.poll_core.specs.declared.limits.TheConstants.{MAX_TIMEOUT, MAX_WINDOW}
 use Rattle.office_events.specs.Names.{named}
@@ -26,7 +26,7 @@ use Rattle.store_facts.specs.Rows.{added, registered, started, outcome_row}
 
 -- ---- devices
 
--- The device with this name and these numbers, or damage.
+-- The device with this name and these numbers, or `Damaged` if they are not those of a device.
 abbrev pub device_with : (name : List ℕ) → DeviceRow → Result Device RowFault
 device_with text row =
     and_then (or_damaged (named text)) (λ name.
@@ -38,18 +38,19 @@ device_with text row =
     (λ window.
     Ok (record { name = name; unit = row.unit; timeout = timeout; window = window }))))
 
--- The row can encode this device alone.
+-- The row encodes this device and no other.
 abbrev pub IsDeviceOf : Added → Device → Type 0
 IsDeviceOf row device = (place : ℕ) (d : Device) → row ≡ added place d → device ≡ d
 
 -- ---- registers
 
--- The scale that a column's scale means.
+-- Where the scale factor comes from, by the columns of an accounting register's scale.
 abbrev pub source_from : RegisterScale → ScaleSource
 source_from (scale.Fixed sf) = source.Fixed sf
 source_from (scale.At address) = source.Register address
 
--- The register with these names and these numbers, or damage.
+-- The accounting register with these names and numbers, or `Damaged` if they are not those of a
+-- register.
 abbrev pub register_with : (name device : List ℕ) → RegisterRow → Result Register RowFault
 register_with text of row =
     and_then (or_damaged (named text)) (λ name.
@@ -62,13 +63,13 @@ register_with text of row =
       scale = source_from row.scale;
     })))
 
--- The row can encode this register alone.
+-- The row encodes this accounting register and no other.
 abbrev pub IsRegisterOf : Registered → Register → Type 0
 IsRegisterOf row register = (place : ℕ) (r : Register) → row ≡ registered place r → register ≡ r
 
 -- ---- polls
 
--- The poll has the device and the numbers of the row.
+-- The poll has this device name and the numbers of the row.
 pub record HasNumbers (name : List ℕ) (row : PollRow) (poll : Poll) : Type 0 where
   pub number : poll.number ≡ row.number
   pub device : poll.device ≡ name
@@ -79,17 +80,17 @@ pub record HasNumbers (name : List ℕ) (row : PollRow) (poll : Poll) : Type 0 w
   pub address : poll.span.address ≡ row.address
   pub count : poll.span.count ≡ row.count
 
--- The row can encode this poll alone.
+-- The row encodes this poll and no other.
 abbrev pub IsPollOf : Started → Poll → Type 0
 IsPollOf row poll = (p : Poll) → row ≡ started p → poll ≡ p
 
--- The outcome of a poll from its row.
+-- The ended poll that a row of `outcomes` encodes.
 abbrev pub ended_from : OutcomeRow → EndedPoll
 ended_from row = record { poll = row.poll; at = row.moment; outcome = row.outcome }
 
 -- ---- kept requests
 
--- The result of comparing a request with the kept one.
+-- How a request compares with the kept request, in the words of the office.
 abbrev pub repeat_from : kept.Repeat → Repeat
 repeat_from (kept_as.Same kind) = Same kind
 repeat_from kept_as.Other = Other

@@ -1,4 +1,4 @@
--- What queries show of the records.
+-- Which rows a query shows for given records.
 use Rattle.std.specs.Prelude.{◌≡◌, ℕ, List, map, filter, reverse, Option, Vec}
 use Rattle.sqlite.specs.Order.{Row}
 use Rattle.office_events.specs.declared.facts.Fact.{Fact}
@@ -11,37 +11,38 @@ use Rattle.store_devices.specs.declared.polls.rows.Repeat.{Repeat}
 use Rattle.store_devices.specs.Polls.Rows.{poll_shown, is_poll, IsStarted, is_reply, IsRepeat}
 use Rattle.store_facts.specs.Rows.{placed, placed_on, added, listed, points_of, registered, started, kept}
 
--- The devices, in the order in which they were added.
+-- The query shows all devices, in the order in which they were added.
 abbrev pub ShowsDevices : {Z : Type 0} → List Fact → Vec Row Z → Type 0
 ShowsDevices facts rows = rows.items ≡ map device_shown (reverse (placed added (devices_in facts)))
 
--- The points of a device, in the order of its list.
+-- The query shows the points of a device, in the order of its list.
 abbrev pub ShowsPoints : {Z : Type 0} → (device : List ℕ) → List Fact → Vec Row Z → Type 0
 ShowsPoints device facts rows =
     rows.items ≡ map point_shown (placed_on (listed device) 0 (points_of facts device))
 
--- The registers of a device, in the order in which they were added.
+-- The query shows the accounting registers of a device, in the order in which they were added.
 abbrev pub ShowsRegisters : {Z : Type 0} → (device : List ℕ) → List Fact → Vec Row Z → Type 0
 ShowsRegisters device facts rows =
     rows.items ≡ map register_shown
     (reverse (filter (is_register_of device) (placed registered (registers_in facts))))
 
--- The pending polls, in the order in which they were started.
+-- The query shows the pending polls, in the order in which they were started.
 abbrev pub ShowsPendingPolls : {Z : Type 0} → List Fact → Vec Row Z → Type 0
 ShowsPendingPolls facts rows = rows.items ≡ map poll_shown (map started (pending_in facts))
 
 -- ---- a row, if there is one
 
--- The register with this name, if there is one.
+-- The answer is the accounting register with this name, or None if there is none.
 abbrev pub FindsRegister : (name : List ℕ) → List Fact → Option Register → Type 0
 FindsRegister name facts =
     IsFound (is_register name) IsRegister (placed registered (registers_in facts))
 
--- The poll with this number, if there is one.
+-- The answer is the poll with this number, or None if there is none.
 abbrev pub FindsPoll : (number : ℕ) → List Fact → Option Poll → Type 0
 FindsPoll number facts = IsFound (is_poll number) IsStarted (map started (polls_in facts))
 
--- The request compared with the request that is kept under its idempotency key.
+-- The answer compares the request with the request that is kept under its idempotency key. It is
+-- None if no request is kept there.
 abbrev pub FindsRepeat : (caller : List ℕ) → (number : ℕ) → (request : List ℕ) → List Fact
     → Option Repeat → Type 0
 FindsRepeat caller number request facts =

@@ -1,4 +1,4 @@
--- Rows with values that the tables and the office can have.
+-- Rows that can be read: their values are those that the tables and the office can have.
 use Rattle.std.specs.Prelude.{◌≡◌, ℕ, List, map, true, string_bytes}
 use Rattle.std.specs.List.{AllByRecursion}
 use Rattle.office_events.specs.declared.facts.Fact.{Fact}
@@ -8,39 +8,39 @@ use Rattle.store_devices.specs.Devices.Rows.{Added, Registered, IsSoundAdded, Is
 use Rattle.store_devices.specs.Polls.Rows.{Started, IsSoundStarted, IsSoundOutcome, IsSoundKept}
 use Rattle.store_facts.specs.Rows.{placed, added, registered, started, outcome_row, kept}
 
--- The row of a device is sound, and its text is a name.
+-- The row of a device is sound, and its text is a valid name.
 pub record IsReadableDevice (d : Added) : Type 0 where
   pub row : IsSoundAdded d
   pub name : is_name d.name ≡ true
 
--- The row of a register is sound, and its texts are names.
+-- The row of an accounting register is sound, and its texts are valid names.
 pub record IsReadableRegister (r : Registered) : Type 0 where
   pub row : IsSoundRegistered r
   pub name : is_name r.name ≡ true
   pub device : is_name r.device ≡ true
 
--- The row of a poll is sound, and its text is a name.
+-- The row of a poll is sound, and its text is a valid name.
 pub record IsReadablePoll (p : Started) : Type 0 where
   pub row : IsSoundStarted p
   pub device : is_name p.device ≡ true
 
--- The rows of the records can be read.
+-- Every row of a device can be read.
 abbrev pub HasReadableDevices : List Fact → Type 0
 HasReadableDevices facts = AllByRecursion IsReadableDevice (placed added (devices_in facts))
 
--- The rows of registers can be read.
+-- Every row of an accounting register can be read.
 abbrev pub HasReadableRegisters : List Fact → Type 0
 HasReadableRegisters facts =
     AllByRecursion IsReadableRegister (placed registered (registers_in facts))
 
--- The rows of polls can be read.
+-- Every row of a poll can be read.
 abbrev pub HasReadablePolls : List Fact → Type 0
 HasReadablePolls facts = AllByRecursion IsReadablePoll (map started (polls_in facts))
 
--- The rows of outcomes can be read.
+-- Every row of an outcome can be read.
 abbrev pub HasReadableOutcomes : List Fact → Type 0
 HasReadableOutcomes facts = AllByRecursion IsSoundOutcome (map outcome_row (ended_in facts))
 
--- The rows of kept requests can be read.
+-- Every row of a kept request can be read.
 abbrev pub HasReadableReplies : List Fact → Type 0
 HasReadableReplies facts = AllByRecursion IsSoundKept (map kept (replies_in facts))

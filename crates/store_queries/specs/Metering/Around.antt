@@ -1,4 +1,4 @@
--- The rows around an entry of a meter, and what they say about the entry.
+-- An entry of a meter, built from its row and the rows of the nearest entries that are not voided.
 use Rattle.std.specs.Prelude.{◌≡◌, ◌⊎◌, ℕ, ◌<◌, ◌≤◌, Bool, true, false, not, List, map, Option, Some, None, IfSome}
 use Rattle.std.specs.List.{list_any}
 use Rattle.std.specs.List.Sorted.{IsPermutation}
@@ -22,37 +22,38 @@ use Rattle.store_queries.specs.declared.metering.around.Around.{Around}
 
 -- ---- the indices around an entry, by the voids of the meter
 
--- Each entry between two indices is voided.
+-- Each entry with an index between `low` and `high` has one of these voids.
 abbrev pub AreVoided : List Voided → (low high : ℕ) → Type 0
 AreVoided voids low high =
     (place : ℕ) → low < place → place < high → list_any (names place) voids ≡ true
 
--- The index of the last entry before `place` that is not voided, or 1 for the opening.
+-- `before` is the index of the last entry before `place` that is not voided, or 1 for the opening.
 pub record IsBefore (voids : List Voided) (place before : ℕ) : Type 0 where
   pub lower : before < place
   pub between : AreVoided voids before place
   pub stands : (before ≡ 1) ⊎ (list_any (names before) voids ≡ false)
 
--- The next index after `place` that has no void.
+-- `after` is the first index after `place` that has no void.
 pub record IsAfter (voids : List Voided) (place after : ℕ) : Type 0 where
   pub higher : place < after
   pub small : after ≤ greatest_place
   pub between : AreVoided voids place after
   pub stands : list_any (names after) voids ≡ false
 
--- The indices on both sides of an entry, and whether the entry is not voided.
+-- `sides` has the indices of the nearest entries that are not voided, and whether the entry at
+-- `place` itself is not voided.
 pub record AreSides (voids : List Voided) (place : ℕ) (sides : Sides) : Type 0 where
   pub before : IsBefore voids place sides.before
   pub after : IsAfter voids place sides.after
   pub stands : sides.stands ≡ not (list_any (names place) voids)
 
--- The property applies to the voids that these rows show.
+-- The voids that these rows show have the property `Is`.
 abbrev pub ByVoids : (List Voided → Type 0) → (rows : List Row) → Type 0
 ByVoids Is rows = (voids : List Voided) → rows ≡ map voided_shown voids → Is voids
 
 -- ---- the rows at these indices
 
--- The row of a meter's entry at an index, as the table has it, if there is one.
+-- `found` is the row of a meter's entry at index `place`, or None if there is none.
 pub record FindsAt (meter : List ℕ) (place : ℕ) (facts : List Fact) (found : Option EntryRow) :
     Type 0 where
   pub lawful : AreLawful facts
@@ -60,7 +61,8 @@ pub record FindsAt (meter : List ℕ) (place : ℕ) (facts : List Fact) (found :
   pub each : (m : List ℕ) → IsPermutation (filter (is_of m) table) (entries_of facts m)
   pub is : IsFound (is_entry meter place) IsRow table found
 
--- The rows of an entry and of the indices around it.
+-- `around` has the row of the entry at `place`, the row before it at `low`, and the next row at
+-- `high`, if there is one.
 pub record FindsAround (meter : List ℕ) (place low high : ℕ) (facts : List Fact)
     (around : Around) : Type 0 where
   pub entry : FindsAt meter place facts (Some around.entry)
@@ -69,29 +71,31 @@ pub record FindsAround (meter : List ℕ) (place low high : ℕ) (facts : List F
 
 -- ---- the entry that these rows give
 
--- The journal row of the next entry, which is not voided.
+-- The journal row of the next entry, which is not voided. None if there is no next entry.
 abbrev pub next_from : Option EntryRow → Option journal.EntryRow
 next_from None = None
 next_from (Some next) = row_from next true
 
--- The installation with the counter after the earlier entry, and with its total energy.
+-- The installation with the counter's state after the earlier entry. Its total energy is that of
+-- the whole meter.
 abbrev pub stood : Installation → EntryRow → Installation
 stood whole before = record whole { last = counter_after before }
 
--- The entry is built from the rows around it.
+-- `seen` is the entry that is built from the rows `around`.
 pub record IsSeen (whole : Installation) (around : Around) (stands : Bool) (seen : EntryPlace) :
     Type 0 where
   pub before : seen.before ≡ stood whole around.before
   pub row : Some seen.row ≡ row_from around.entry stands
   pub next : seen.next ≡ next_from around.next
 
--- The answer about the entry of this meter is right.
+-- The answer is the right one for the meter's entry at index `place`, if `whole` is the meter's
+-- installation.
 abbrev pub TellsOf : (meter : List ℕ) → (place : ℕ) → Installation → List Fact
     → Option EntryPlace → Type 0
 TellsOf meter place whole facts found =
     Some whole ≡ meter_of facts meter → TellsNear facts meter place found
 
--- If there is an answer, it is right.
+-- If an entry was built, it is the meter's entry at index `place`. The records are lawful.
 pub record TellsRightly (meter : List ℕ) (place : ℕ) (whole : Installation) (facts : List Fact)
     (found : Option EntryPlace) : Type 0 where
   pub lawful : AreLawful facts

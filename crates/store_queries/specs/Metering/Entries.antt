@@ -1,4 +1,4 @@
--- The rows of a meter's journal from the rows of `entries` and `voids`.
+-- The journal rows of a meter that the rows of `entries` and `voids` encode.
 use Rattle.std.specs.Prelude.{◌≡◌, ℕ, ◌==◌, Bool, not, List, map, reverse, Option, Some, None}
 use Rattle.std.specs.List.{list_any, filter_map, AllByRecursion}
 use Rattle.std.specs.List.Sorted.{IsPermutation}
@@ -26,12 +26,12 @@ use Rattle.store_tables.specs.Entries.Rows.{Entered, Voided, entry_shown, voided
 use Rattle.store_facts.specs.Rows.{entered_rows, voided}
 use Rattle.store_queries.specs.Metering.Sound.{HasReadableMeters, HasReadableJournals}
 
--- The journal row of a step.
+-- The journal row of a reading, a reading by hand, or a closing.
 abbrev pub step_row : journal_kind.EntryKind → EntryRow → (stands : Bool) → journal.EntryRow
 step_row k e stands =
     record { place = e.place; kind = k; entry = entry.Step e.moment e.raw e.rolls; stands = stands }
 
--- The journal row of a change.
+-- The journal row of a reset or a rescale.
 abbrev pub change_row : journal_kind.EntryKind → EntryRow → (stands : Bool) → journal.EntryRow
 change_row k e stands =
     record {
@@ -41,7 +41,7 @@ change_row k e stands =
       stands = stands;
     }
 
--- The journal row of an entry. An opening has none.
+-- The journal row of an entry of this kind. None for an opening, which a journal keeps apart.
 abbrev pub row_by : EntryKind → EntryRow → (stands : Bool) → Option journal.EntryRow
 row_by kind.Opening e stands = None
 row_by kind.Reading e stands = Some (step_row from.Reading e stands)
@@ -50,24 +50,25 @@ row_by kind.Closing e stands = Some (step_row from.Closing e stands)
 row_by kind.Reset e stands = Some (change_row from.Reset e stands)
 row_by kind.Rescale e stands = Some (change_row from.Rescale e stands)
 
--- The journal row of an entry, by its own kind.
+-- The journal row of an entry, or None for an opening.
 abbrev pub row_from : EntryRow → (stands : Bool) → Option journal.EntryRow
 row_from e stands = row_by e.kind e stands
 
--- The void is of the entry at this index.
+-- Whether the void is that of the entry at index `place`.
 abbrev pub names : (place : ℕ) → Voided → Bool
 names place v = place == v.place
 
--- Whether one of the voids that these rows show is of the entry at this index.
+-- The answer is whether one of the voids that these rows show is that of the entry at index
+-- `place`.
 abbrev pub TellsVoided : (voids : List Row) → (place : ℕ) → Bool → Type 0
 TellsVoided voids place is =
     (vs : List Voided) → voids ≡ map voided_shown vs → is ≡ list_any (names place) vs
 
--- The journal row of an entry: not voided if none of these voids is of the entry.
+-- The journal row of an entry, marked as voided if one of these voids is that of the entry.
 abbrev pub row_among : List Voided → Entered → Option journal.EntryRow
 row_among vs e = row_from e.entry (not (list_any (names e.entry.place) vs))
 
--- The query shows the entries of a meter in order.
+-- The rows show all entries of a meter, in order.
 pub record ShowsEntries (meter : List ℕ) (facts : List Fact) (rows : List Row) : Type 0 where
   pub entries : List Entered
   pub shown : rows ≡ map entry_shown entries
@@ -75,7 +76,7 @@ pub record ShowsEntries (meter : List ℕ) (facts : List Fact) (rows : List Row)
       → entries ≡ reverse (entered_rows opening (rows_of facts opening))
   pub sound : HasReadableMeters facts → AllByRecursion IsSoundEntered entries
 
--- The query shows the voids of a meter's entries.
+-- The rows show all voids of a meter's entries, in any order.
 pub record ShowsVoids (meter : List ℕ) (facts : List Fact) (rows : List Row) : Type 0 where
   pub lawful : AreLawful facts
   pub voids : List Voided
@@ -83,32 +84,33 @@ pub record ShowsVoids (meter : List ℕ) (facts : List Fact) (rows : List Row) :
   pub all : IsPermutation (filter (is_void_of meter) (map voided (voids_in facts))) voids
   pub sound : HasReadableJournals facts → AllByRecursion IsSoundVoided voids
 
--- The journal rows are those of these entries and voids, in the order of the entries.
+-- `rows` are the journal rows of these entries and voids, in the order of the entries.
 abbrev pub AreJournal : (entries voids : List Row) → List journal.EntryRow → Type 0
 AreJournal entries voids rows = (es : List Entered) (vs : List Voided)
     → entries ≡ map entry_shown es
     → voids ≡ map voided_shown vs → rows ≡ filter_map (row_among vs) es
 
--- Why rows of voids can't be read.
+-- Why rows of voids can't be read: out of memory, or `Damaged` if a void is not sound.
 abbrev pub IsFaultOfVoids : (voids : List Row) → RowFault → Type 0
 IsFaultOfVoids voids e = (vs : List Voided) → voids ≡ map voided_shown vs
     → IsRowFault (AllByRecursion IsSoundVoided vs) e
 
--- Why rows of entries and voids can't be read.
+-- Why rows of entries and voids can't be read: out of memory, or `Damaged` if an entry or a void is
+-- not sound.
 abbrev pub IsFaultOfJournal : (entries voids : List Row) → RowFault → Type 0
 IsFaultOfJournal entries voids e = (es : List Entered) (vs : List Voided)
     → entries ≡ map entry_shown es
     → voids ≡ map voided_shown vs
     → IsRowFault (AllByRecursion IsSoundEntered es × AllByRecursion IsSoundVoided vs) e
 
--- The journal rows of a meter, the oldest first.
+-- `rows` are the journal rows of a meter, the oldest first.
 abbrev pub FindsJournal : (meter : List ℕ) → List Fact → List journal.EntryRow → Type 0
 FindsJournal meter facts rows =
     (opening : Opening) → opening_of facts meter ≡ Some opening
     → latest_first rows ≡ rows_of facts opening
 
--- When the entry at an index can be found: the opening's numbers are in their ranges, each row has
--- its index, and the earlier entries that are not voided have an account.
+-- When the entry at index `place` can be found. The opening's numbers are in their ranges, and each
+-- row has its own index. The entries before it that are not voided may follow one another.
 pub record CanBePlaced (opening : Opening) (rows : List journal.EntryRow) (place : ℕ) : Type 0 where
   pub numbers : HasNumbers opening
   pub places : AreNumbered (latest_first rows)

@@ -1,4 +1,4 @@
--- The rows of the installations at a register.
+-- The rows of the installations at an accounting register.
 use Rattle.std.specs.Prelude.{◌≡◌, ℕ, List, map, filter, reverse, Vec}
 use Rattle.sqlite.specs.Order.{Row}
 use Rattle.office_events.specs.declared.facts.Opening.{Opening}
@@ -10,15 +10,16 @@ use Rattle.store_facts.specs.Rows.{placed, installed_row}
 use Rattle.store_queries.specs.Finding.Each.{AreEach}
 use Rattle.store_queries.specs.Metering.Meters.{IsRowOf}
 
--- The rows of the installations at a register, in the order in which they were installed.
+-- The rows of the installations at an accounting register, in the order in which they were
+-- installed.
 abbrev pub rows_at : (register : List ℕ) → List Fact → List Installed
 rows_at register facts =
     reverse (filter (is_at register) (placed (installed_row facts) (openings_in facts)))
 
--- The query shows these rows.
+-- The query shows the rows of all installations at an accounting register, in this order.
 abbrev pub ShowsMetersAt : {Z : Type 0} → (register : List ℕ) → List Fact → Vec Row Z → Type 0
 ShowsMetersAt register facts rows = rows.items ≡ map installed_shown (rows_at register facts)
 
--- The rows are those of the openings, in the same order.
+-- Each row found is that of the opening at the same index.
 abbrev pub AreRowsOf : List Fact → List Opening → List stored.Installation → Type 0
 AreRowsOf facts openings rows = AreEach (IsRowOf facts) openings rows

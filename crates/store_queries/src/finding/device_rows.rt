@@ -38,7 +38,7 @@ fn window(polls: u8) -> Result<Window, RowFault>
     }
 }
 
-/// Converts a row to a device.
+/// Converts a device's row to the device.
 fn device_from(row: &store_devices::Device) -> Result<Device, RowFault>
     ensures { result ≡ device_with (string_bytes row.now.name) row.now.row }
 {
@@ -53,7 +53,7 @@ fn device_from(row: &store_devices::Device) -> Result<Device, RowFault>
     })
 }
 
-/// Reads a device from a row of the query.
+/// Reads a device from a row of the query for devices.
 fn device_in(row: &Row) -> Result<Device, RowFault>
     ensures { ReadsRow row.now device_shown IsDeviceOf IsReadableDevice result }
 {
@@ -61,7 +61,7 @@ fn device_in(row: &Row) -> Result<Device, RowFault>
     device_from(&found)
 }
 
-/// Reads devices from the rows of the query.
+/// Reads devices from the rows of the query for devices.
 fn devices_in(rows: &Vec<Row>) -> Result<Vec<Device>, RowFault>
     ensures { ReadsAll rows.now.items device_shown IsDeviceOf IsReadableDevice
         (λ v. v.items) result }

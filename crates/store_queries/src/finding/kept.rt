@@ -22,7 +22,7 @@ fn told(repeat: store_devices::Repeat) -> Repeat
     }
 }
 
-/// Compares a request with the kept request of the table.
+/// Compares a request with the request that the table keeps under its idempotency key.
 fn row_of<S: Alter>(
     conn: &mut Connection<S>,
     caller: &str,

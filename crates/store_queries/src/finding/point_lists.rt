@@ -1,4 +1,4 @@
-//! Queries for point lists and their plans.
+//! Queries for point lists and their plans. A plan is the fewest reads that cover a point list.
 ghost use Rattle.std.specs.Prelude.{◌≡◌, false, Some, IfOk, IfErr, IsUtf8};
 ghost use Rattle.office_rules.specs.Facts.{list_of};
 ghost use Rattle.read_plan.specs.PlannedLists.{IsPlanned};
@@ -87,7 +87,7 @@ pub fn read_count<S: Alter>(
     }
 }
 
-/// Returns the registers of a plan's reads from index `from`, at most `most` of them.
+/// Returns the Modbus registers of a plan's reads: from index `from`, at most `most` reads.
 fn spans_of(
     alloc: Global,
     list: &PlannedList,
@@ -103,7 +103,8 @@ fn spans_of(
     }
 }
 
-/// Returns the registers of the reads in a device's plan from index `from`, at most `most` of them.
+/// Returns the Modbus registers of the reads in a device's plan: from index `from`, at most `most`
+/// reads.
 pub fn reads<S: Alter>(
     alloc: Global,
     conn: &mut Connection<S>,

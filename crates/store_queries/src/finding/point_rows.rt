@@ -47,7 +47,7 @@ fn scale(text: String) -> Result<PointScale, RowFault>
     }
 }
 
-/// Converts a row to a point.
+/// Converts a point's row to the listed point.
 fn point_from(row: store_devices::Point) -> Result<ListedPoint, RowFault>
     ensures { result ≡ point_with (string_bytes row.name) (string_bytes row.kind)
         (string_bytes row.scale) row.row }
@@ -65,7 +65,7 @@ fn point_from(row: store_devices::Point) -> Result<ListedPoint, RowFault>
     })
 }
 
-/// Reads a point from a row of the query.
+/// Reads a point from a row of the query for points.
 fn point_in(row: &Row) -> Result<ListedPoint, RowFault>
     ensures { ReadsRow row.now point_shown IsPointOf IsReadablePoint result }
 {
@@ -73,7 +73,7 @@ fn point_in(row: &Row) -> Result<ListedPoint, RowFault>
     point_from(found)
 }
 
-/// Reads points from the rows of the query.
+/// Reads points from the rows of the query for points.
 pub(crate) fn points_in(rows: &Vec<Row>) -> Result<Vec<ListedPoint>, RowFault>
     ensures { ReadsAll rows.now.items point_shown IsPointOf IsReadablePoint
         (λ v. v.items) result }

@@ -21,7 +21,7 @@ use store_devices::{OutcomeRow, last_poll, outcome_of, pending_rows, poll_at, re
 use store_facts::name;
 use store_tables::{GREATEST_PLACE, RowFault, check_open};
 
-/// Returns the registers that a poll reads.
+/// Returns the Modbus registers that a poll reads.
 fn span_from(row: store_devices::PollRow) -> ReadSpan
     requires { IsSoundPoll row }
     ensures function { result.function ≡ row.function }
@@ -35,7 +35,7 @@ fn span_from(row: store_devices::PollRow) -> ReadSpan
     }
 }
 
-/// Converts a row to a poll.
+/// Converts a poll's row to the poll.
 fn poll_from(row: &store_devices::Poll) -> Result<Poll, RowFault>
     requires { IsSoundPoll row.now.row }
     ensures numbers { IfOk result (HasNumbers (string_bytes row.now.device) row.now.row) }
@@ -53,7 +53,7 @@ fn poll_from(row: &store_devices::Poll) -> Result<Poll, RowFault>
     })
 }
 
-/// Reads a poll from a row of the query.
+/// Reads a poll from a row of the query for polls.
 fn poll_in(row: &Row) -> Result<Poll, RowFault>
     ensures { ReadsRow row.now poll_shown IsPollOf IsReadablePoll result }
 {
@@ -61,7 +61,7 @@ fn poll_in(row: &Row) -> Result<Poll, RowFault>
     poll_from(&found)
 }
 
-/// Reads polls from the rows of the query.
+/// Reads polls from the rows of the query for polls.
 fn polls_in(rows: &Vec<Row>) -> Result<Vec<Poll>, RowFault>
     ensures { ReadsAll rows.now.items poll_shown IsPollOf IsReadablePoll (λ v. v.items) result }
 {
@@ -88,7 +88,7 @@ fn row_at<S: Alter>(
     poll_at(conn, number)
 }
 
-/// Returns the poll with a number.
+/// Returns the poll with this number, or None if there is none.
 fn poll_of<S: Alter>(conn: &mut Connection<S>, number: u64) -> Result<Option<Poll>, RowFault>
     requires idle { conn.old.in_transaction ≡ false }
     requires place { number ≤ greatest_place }
@@ -125,7 +125,7 @@ fn end_of<S: Alter>(conn: &mut Connection<S>, number: u64) -> Result<Option<Ende
     }
 }
 
-/// Returns the poll with a number, and its outcome.
+/// Returns the poll with this number and its outcome, or None if there is no such poll.
 pub fn poll<S: Alter>(conn: &mut Connection<S>, number: u64) -> Result<Option<PollRow>, RowFault>
     requires { conn.old.in_transaction ≡ false }
     ensures { Finds S.Store conn.old conn.new result

@@ -1,4 +1,4 @@
-//! Queries for registers.
+//! Queries for accounting registers.
 ghost use Rattle.std.specs.Prelude.{◌≡◌, false, length, string_bytes, IsUtf8};
 ghost use Rattle.std.specs.List.{filter};
 ghost use Rattle.office_rules.specs.Facts as facts_of;
@@ -28,7 +28,7 @@ fn source(scale: RegisterScale) -> ScaleSource
     }
 }
 
-/// Converts a row to a register.
+/// Converts the row of an accounting register.
 fn register_from(row: &store_devices::Register) -> Result<Register, RowFault>
     ensures { result ≡
         register_with (string_bytes row.now.name) (string_bytes row.now.device) row.now.row }
@@ -44,7 +44,7 @@ fn register_from(row: &store_devices::Register) -> Result<Register, RowFault>
     })
 }
 
-/// Reads a register from a row of the query.
+/// Reads an accounting register from a row of the query for registers.
 fn register_in(row: &Row) -> Result<Register, RowFault>
     ensures { ReadsRow row.now register_shown IsRegisterOf IsReadableRegister result }
 {
@@ -52,7 +52,7 @@ fn register_in(row: &Row) -> Result<Register, RowFault>
     register_from(&found)
 }
 
-/// Reads registers from the rows of the query.
+/// Reads accounting registers from the rows of the query for registers.
 fn registers_in(rows: &Vec<Row>) -> Result<Vec<Register>, RowFault>
     ensures { ReadsAll rows.now.items register_shown IsRegisterOf IsReadableRegister
         (λ v. v.items) result }
@@ -65,7 +65,7 @@ fn registers_in(rows: &Vec<Row>) -> Result<Vec<Register>, RowFault>
     Ok(registers)
 }
 
-/// Queries the row of a register.
+/// Queries the row of the accounting register with this name.
 fn row_of<S: Alter>(
     conn: &mut Connection<S>,
     name: &str,
@@ -78,7 +78,7 @@ fn row_of<S: Alter>(
     register_of(conn, name)
 }
 
-/// Returns the register with a name.
+/// Returns the accounting register with this name, or None if there is none.
 pub fn register<S: Alter>(
     conn: &mut Connection<S>,
     name: &Name,
@@ -95,7 +95,7 @@ pub fn register<S: Alter>(
     }
 }
 
-/// Queries the rows of a device's registers, in the order in which they were added.
+/// Queries the rows of a device's accounting registers, in the order in which they were added.
 fn rows_of<S: Alter>(conn: &mut Connection<S>, device: &str) -> Result<Vec<Row>, RowFault>
     requires { conn.old.in_transaction ≡ false }
     ensures { Finds S.Store conn.old conn.new result
@@ -105,7 +105,7 @@ fn rows_of<S: Alter>(conn: &mut Connection<S>, device: &str) -> Result<Vec<Row>,
     Ok(register_rows(conn, device)?)
 }
 
-/// Returns the registers of a device, in the order in which they were added.
+/// Returns the accounting registers of a device, in the order in which they were added.
 pub fn registers<S: Alter>(
     conn: &mut Connection<S>,
     device: &Name,
@@ -120,8 +120,8 @@ pub fn registers<S: Alter>(
     registers_in(&rows)
 }
 
-/// Returns the registers of a device for which a read of `span` gives a reading. Reads all
-/// registers of the device from the table.
+/// Returns the accounting registers of a device that get a reading from a Modbus read of `span`.
+/// Reads all accounting registers of the device from the table.
 pub fn registers_read<S: Alter>(
     conn: &mut Connection<S>,
     device: &Name,
@@ -137,7 +137,7 @@ pub fn registers_read<S: Alter>(
     Ok(found)
 }
 
-/// Returns how many registers a device has.
+/// Returns how many accounting registers a device has.
 pub fn register_count<S: Alter>(conn: &mut Connection<S>, device: &Name) -> Result<usize, RowFault>
     requires { conn.old.in_transaction ≡ false }
     ensures { Finds S.Store conn.old conn.new result

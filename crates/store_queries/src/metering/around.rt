@@ -1,4 +1,4 @@
-//! An entry of a meter from the rows around it.
+//! An entry of a meter, built from the rows around it.
 ghost use Rattle.std.specs.Prelude.{◌≡◌, ◌≤◌, false, IfOk, IfSome, IsUtf8};
 ghost use Rattle.office_rules.specs.Lawful.{AreLawful};
 ghost use Rattle.office_rules.specs.Ranges.{IsSound};
@@ -32,8 +32,8 @@ pub(crate) struct Sides {
     pub stands: bool,
 }
 
-/// The row of an entry, and the rows of its neighbours that are not voided. `before` may be the
-/// opening.
+/// The row of an entry, and the rows of the nearest entries that are not voided. `before` may be
+/// the opening.
 #[derive(Clone, Copy, Debug, PartialEq, Eq)]
 pub(crate) struct Around {
     pub entry: EntryRow,
@@ -41,7 +41,8 @@ pub(crate) struct Around {
     pub next: Option<EntryRow>,
 }
 
-/// Returns whether one of these voids is of the entry at `place`. None if a void can't be read.
+/// Returns whether one of these voids is that of the entry at `place`. None if a void can't be
+/// read.
 fn is_named(voids: &[Row], place: u64) -> Option<bool>
     ensures { IfSome result (TellsVoided voids.now place) }
 {
@@ -67,8 +68,8 @@ fn place_before(voids: &[Row], place: u64) -> Option<u64>
     Some(1)
 }
 
-/// Returns the next index after `place` that has none of these voids. None if a void can't be read,
-/// or no such index exists.
+/// Returns the first index after `place` that has none of these voids. None if a void can't be
+/// read, or no such index exists.
 fn place_after(voids: &[Row], place: u64) -> Option<u64>
     requires place { place ≤ greatest_place }
     ensures after { IfSome result (λ n. ByVoids (λ vs. IsAfter vs place n) voids.now) }
@@ -104,7 +105,7 @@ fn sides_of(voids: &[Row], place: u64) -> Option<Sides>
     })
 }
 
-/// Queries the row of a meter's entry at an index.
+/// Queries the row of a meter's entry at index `place`.
 fn row_there<S: Alter>(
     conn: &mut Connection<S>,
     meter: &str,
@@ -119,8 +120,8 @@ fn row_there<S: Alter>(
     entry_at(conn, meter, place)
 }
 
-/// Queries the rows of an entry and of the indices around it. None if the entry or the earlier row
-/// is missing.
+/// Queries the rows of an entry and of the indices around it. None if the row of the entry, or of
+/// the entry before it, is missing.
 fn rows_around<S: Alter>(
     conn: &mut Connection<S>,
     meter: &str,
@@ -149,7 +150,7 @@ fn rows_around<S: Alter>(
     }))
 }
 
-/// Converts the row of the next entry.
+/// Converts the row of the next entry, which is not voided, to a journal row.
 fn next_row(next: &Option<EntryRow>) -> Option<meter_journal::EntryRow>
     ensures { result ≡ next_from next.now }
 {
@@ -159,7 +160,8 @@ fn next_row(next: &Option<EntryRow>) -> Option<meter_journal::EntryRow>
     }
 }
 
-/// Returns the installation with the counter after an earlier entry, and with its total energy.
+/// Returns the installation with the counter's state after an earlier entry. Its total energy is
+/// that of the whole meter.
 fn stood_after(whole: &Installation, before: &EntryRow) -> Installation
     ensures { result ≡ stood whole.now before.now }
 {
@@ -186,7 +188,7 @@ fn seen(whole: &Installation, around: &Around, stands: bool) -> Option<EntryPlac
 }
 
 /// Returns the entry of a meter at an index from the rows around it. None if these rows don't
-/// suffice.
+/// determine the entry.
 fn told_around<S: Alter>(
     conn: &mut Connection<S>,
     meter: &str,
@@ -236,9 +238,10 @@ fn told_by_all<S: Alter>(
     }
 }
 
-/// Returns the entry of a meter at an index from 2, with the meter's total energy instead of the
-/// energy before the entry. Reads the meter's voids and the rows around the entry. Reads all
-/// entries only if these rows don't suffice, as without such an entry.
+/// Returns the entry of a meter at an index of at least 2. The energy given is the meter's total
+/// energy, not that before the entry. Reads the meter's voids and the rows around the entry. If
+/// these rows don't determine the entry, for example because it doesn't exist, it reads all
+/// entries.
 pub fn entry_near<S: Alter>(
     alloc: Global,
     conn: &mut Connection<S>,

@@ -59,8 +59,8 @@ pub(crate) fn rows<S: Alter>(
     journal_rows(alloc, &entries, &voids)
 }
 
-/// Returns the entry of a meter at an index from 2: the meter's state before the entry, and the
-/// next entry that is not voided. Reads all entries of the meter.
+/// Returns the entry of a meter at an index of at least 2: the meter's state before the entry, and
+/// the next entry that is not voided. Reads all entries of the meter.
 pub fn entry<S: Alter>(
     alloc: Global,
     conn: &mut Connection<S>,

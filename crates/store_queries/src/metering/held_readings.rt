@@ -12,8 +12,8 @@ use sqlite::{Alter, Connection};
 use store_facts::{holds as tables, text};
 use store_tables::{RowFault, check_open};
 
-/// Streams the rejected readings of a meter with timestamps in `span`, in the order in which they
-/// were recorded. Keeps no row in memory.
+/// Streams the rejected readings of a meter with timestamps in `span` to a sink, in the order in
+/// which they were recorded. Keeps no row in memory.
 pub fn holds<S: Alter, K: RowSink<HeldReading>>(
     conn: &mut Connection<S>,
     meter: &Name,

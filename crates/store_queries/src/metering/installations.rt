@@ -16,7 +16,7 @@ use sqlite::{Alter, Connection};
 use store_facts::name;
 use store_tables::{EntryRow, InstallationRow, RowFault};
 
-/// Builds the opening of a meter.
+/// Builds the opening of a meter from the rows of three tables.
 fn opening(
     row: &store_tables::Installation,
     range: u64,
@@ -38,7 +38,8 @@ fn opening(
     })
 }
 
-/// Builds an installation. Numbers out of their ranges are damage.
+/// Builds an installation from its opening and the numbers of its row. Numbers out of their ranges
+/// are damage.
 fn installed(opening: Opening, row: InstallationRow) -> Result<Installation, RowFault>
     ensures stands { IfOk result (λ found. found ≡ standing_from opening row) }
     ensures sound { IfOk result IsSound }
@@ -62,7 +63,7 @@ fn installed(opening: Opening, row: InstallationRow) -> Result<Installation, Row
     }
 }
 
-/// Returns the installation of a row.
+/// Returns the installation that a row and the meter's rows in other tables encode.
 pub(crate) fn standing<S: Alter>(
     conn: &mut Connection<S>,
     row: &store_tables::Installation,

@@ -13,7 +13,7 @@ use sqlite::{Error, ErrorCode, Row};
 use std::alloc::Global;
 use store_tables::{EntryKind, RowFault, read_entry, read_void};
 
-/// Returns the journal row of a step.
+/// Returns the journal row of a reading, a reading by hand, or a closing.
 fn step(kind: meter_journal::EntryKind, row: store_tables::EntryRow, stands: bool) -> EntryRow
     ensures { result ≡ step_row kind row stands }
 {
@@ -29,7 +29,7 @@ fn step(kind: meter_journal::EntryKind, row: store_tables::EntryRow, stands: boo
     }
 }
 
-/// Returns the journal row of a change.
+/// Returns the journal row of a reset or a rescale.
 fn change(kind: meter_journal::EntryKind, row: store_tables::EntryRow, stands: bool) -> EntryRow
     ensures { result ≡ change_row kind row stands }
 {
@@ -46,7 +46,7 @@ fn change(kind: meter_journal::EntryKind, row: store_tables::EntryRow, stands: b
     }
 }
 
-/// Returns the journal row of an entry. The opening has none.
+/// Returns the journal row of an entry. None for the opening, which a journal keeps apart.
 pub(crate) fn entry_row(row: store_tables::EntryRow, stands: bool) -> Option<EntryRow>
     ensures { result ≡ row_from row stands }
 {
@@ -60,7 +60,7 @@ pub(crate) fn entry_row(row: store_tables::EntryRow, stands: bool) -> Option<Ent
     }
 }
 
-/// Returns whether one of these voids is of the entry at `place`.
+/// Returns whether one of these voids is that of the entry at `place`.
 pub(crate) fn is_voided(voids: &[Row], place: u64) -> Result<bool, RowFault>
     ensures told { IfOk result (TellsVoided voids.now place) }
     ensures fault { IfErr result (IsFaultOfVoids voids.now) }
@@ -94,7 +94,7 @@ fn add(rows: &mut Vec<EntryRow>, row: Option<EntryRow>) -> Result<(), RowFault>
     }
 }
 
-/// Builds the journal rows after the opening, the oldest first.
+/// Builds the journal rows of a meter after its opening, the oldest first.
 pub fn journal_rows(
     alloc: Global,
     entries: &[Row],

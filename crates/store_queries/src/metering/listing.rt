@@ -19,8 +19,8 @@ use std::alloc::Global;
 use store_facts::text;
 use store_tables::RowFault;
 
-/// Lists the opening and the rows of a meter from index `from`, the oldest first, at most `most` of
-/// them.
+/// Lists the opening and the rows of a meter, the oldest first: from index `from`, at most `most`
+/// of them.
 fn listed(
     alloc: Global,
     opening: &Opening,
@@ -38,7 +38,7 @@ fn listed(
     }
 }
 
-/// Returns the entries of a meter from index `from` in order, also voided ones, at most `most` of
+/// Returns the entries of a meter in order, also voided ones: from index `from`, at most `most` of
 /// them. Reads all entries of the meter.
 pub fn meter_entries<S: Alter>(
     alloc: Global,

@@ -1,4 +1,4 @@
-//! Queries for installations by meter and by register.
+//! Queries for installations by meter and by accounting register.
 ghost use Rattle.std.specs.Prelude.{◌≡◌, false, length, IfOk, IfSome, IsUtf8};
 ghost use Rattle.office_rules.specs.Ranges.{IsSound};
 ghost use Rattle.office_rules.specs.Facts.{openings_in};
@@ -14,7 +14,7 @@ use sqlite::{Alter, Connection};
 use store_facts::text;
 use store_tables::{RowFault, check_open, last_installation};
 
-/// Returns the current installation of a meter.
+/// Returns the installation of a meter, or None if there is no such meter.
 pub fn meter<S: Alter>(
     conn: &mut Connection<S>,
     name: &Name,
@@ -32,7 +32,8 @@ pub fn meter<S: Alter>(
     }
 }
 
-/// Returns the latest installation at a register.
+/// Returns the latest installation at an accounting register, or None if no meter was installed
+/// there.
 pub fn installation<S: Alter>(
     conn: &mut Connection<S>,
     register: &Name,

@@ -31,8 +31,8 @@ fn first(rows: &[EntryRow], count: usize) -> &[EntryRow]
     }
 }
 
-/// Returns the state of the counter and the energy after these rows. Rows without an account are
-/// damage.
+/// Returns the state of the counter and the energy after these rows. Rows that may not follow one
+/// another are damage.
 pub fn tally(meter: &Installed, rows: &[EntryRow]) -> Result<Tally, RowFault>
     requires range_low { MIN_RANGE ≤ meter.now.range }
     requires range_high { meter.now.range ≤ MAX_RANGE }
@@ -48,7 +48,7 @@ pub fn tally(meter: &Installed, rows: &[EntryRow]) -> Result<Tally, RowFault>
     }
 }
 
-/// Returns the installation after these rows. Rows without an account are damage.
+/// Returns the installation after these rows. Rows that may not follow one another are damage.
 fn stood_after(whole: &Installation, rows: &[EntryRow]) -> Result<Installation, RowFault>
     ensures stands { let es = entries_in (lists.latest_first rows.now) in
         IfOk result (λ row. row ≡ meters.standing whole.now.opening es whole.now.ended) }

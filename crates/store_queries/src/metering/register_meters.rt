@@ -1,4 +1,4 @@
-//! Queries for all installations at a register.
+//! Queries for all installations at an accounting register.
 ghost use Rattle.std.specs.Prelude.{◌≡◌, false, List, map, IsUtf8};
 ghost use Rattle.office_books.specs.Entries.{installations_of};
 ghost use Rattle.office_events.specs.declared.facts.Opening.{Opening as RecordedOpening};
@@ -17,7 +17,8 @@ use std::alloc::Global;
 use store_facts::{register_meter_rows, text};
 use store_tables::{RowFault, check_open, read_installation};
 
-/// Queries the rows of the installations at a register, in the order in which they were installed.
+/// Queries the rows of the installations at an accounting register, in the order in which they were
+/// installed.
 fn rows_at<S: Alter>(conn: &mut Connection<S>, register: &str) -> Result<Vec<Row>, RowFault>
     requires { conn.old.in_transaction ≡ false }
     ensures { Finds S.Store conn.old conn.new result
@@ -27,7 +28,7 @@ fn rows_at<S: Alter>(conn: &mut Connection<S>, register: &str) -> Result<Vec<Row
     Ok(register_meter_rows(conn, register)?)
 }
 
-/// Reads installations from the rows of the query.
+/// Reads installations from the rows of the query for installations.
 fn installed_in(rows: &Vec<Row>) -> Result<Vec<store_tables::Installation>, RowFault>
     ensures { ReadsAll rows.now.items installed_shown IsInstalled IsSoundInstalled
         (λ v. v.items) result }
@@ -40,7 +41,7 @@ fn installed_in(rows: &Vec<Row>) -> Result<Vec<store_tables::Installation>, RowF
     Ok(installed)
 }
 
-/// Reads the rows of the installations at a register.
+/// Reads the rows of the installations at an accounting register.
 fn installed_at<S: Alter>(
     conn: &mut Connection<S>,
     register: &str,
@@ -54,7 +55,7 @@ fn installed_at<S: Alter>(
     installed_in(&rows)
 }
 
-/// Returns the installations of these rows.
+/// Returns the installations that these rows encode.
 fn standing_all<S: Alter>(
     alloc: Global,
     conn: &mut Connection<S>,
@@ -75,8 +76,8 @@ fn standing_all<S: Alter>(
     Ok(found)
 }
 
-/// Returns all installations at a register, also closed ones, in the order in which they were
-/// installed.
+/// Returns all installations at an accounting register, also closed ones, in the order in which
+/// they were installed.
 pub fn meters_at<S: Alter>(
     alloc: Global,
     conn: &mut Connection<S>,

@@ -12,7 +12,7 @@ use store_tables::{
     range_of,
 };
 
-/// Queries the row of a meter.
+/// Queries the row of a meter's installation.
 pub(crate) fn row_of<S: Alter>(
     conn: &mut Connection<S>,
     meter: &str,
@@ -25,7 +25,7 @@ pub(crate) fn row_of<S: Alter>(
     installation_of(conn, meter)
 }
 
-/// Queries the row of the latest installation at a register.
+/// Queries the row of the latest installation at an accounting register.
 pub(crate) fn row_at<S: Alter>(
     conn: &mut Connection<S>,
     register: &str,

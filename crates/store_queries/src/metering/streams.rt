@@ -15,14 +15,14 @@ use sqlite::{Alter, Connection};
 use store_facts::{intervals as tables, text};
 use store_tables::{LATEST_MOMENT, RowFault, check_open};
 
-/// Limits a bound of a span to one second after the latest timestamp.
+/// Limits a bound of a time span to one second after the latest timestamp of the store.
 pub(super) fn bound(moment: u64) -> u64
     ensures { result ≡ min moment (latest_moment + 1) }
 {
     moment.min(LATEST_MOMENT + 1)
 }
 
-/// Streams the energy of a meter by the quarter hours with starts in `span`, in order of their
+/// Streams the energy of a meter by the quarter hours that start in `span`, in order of their
 /// starts. Reads no other row.
 pub fn intervals<S: Alter, K: RowSink<Share>>(
     conn: &mut Connection<S>,
@@ -47,8 +47,8 @@ pub fn intervals<S: Alter, K: RowSink<Share>>(
     }
 }
 
-/// Streams the energy of a register by the quarter hours with starts in `span`: meter after meter,
-/// in the order in which the meters were installed.
+/// Streams the energy of an accounting register by the quarter hours that start in `span`: one
+/// meter after another, in the order in which they were installed.
 pub fn register_intervals<S: Alter, K: RowSink<Share>>(
     conn: &mut Connection<S>,
     register: &Name,

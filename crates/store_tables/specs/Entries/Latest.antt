@@ -5,11 +5,11 @@ use Rattle.sqlite.specs.Order.{Row}
 use Rattle.store_tables.specs.Limits.{latest_moment}
 use Rattle.store_tables.specs.Entries.Rows.{Entered, Voided}
 
--- The timestamp of an entry.
+-- The timestamp of an entry, in seconds since 1970-01-01 UTC.
 abbrev pub entry_moment : Entered → ℕ
 entry_moment e = e.entry.moment
 
--- The column that the query shows of an entry: its timestamp.
+-- The result row of the query for the latest entry: the entry's timestamp.
 abbrev pub entry_moment_shown : Entered → Row
 entry_moment_shown e = Int (pos e.entry.moment) ∷ []
 
@@ -17,11 +17,11 @@ entry_moment_shown e = Int (pos e.entry.moment) ∷ []
 abbrev pub HasEntryMoment : Entered → ℕ → Type 0
 HasEntryMoment e moment = moment ≡ e.entry.moment
 
--- The time of a void.
+-- The time at which an entry was voided, in seconds since 1970-01-01 UTC.
 abbrev pub void_moment : Voided → ℕ
 void_moment v = v.moment
 
--- The column that the query shows of a void: its time.
+-- The result row of the query for the latest void: the void's time.
 abbrev pub void_moment_shown : Voided → Row
 void_moment_shown v = Int (pos v.moment) ∷ []
 

@@ -12,7 +12,7 @@ use Rattle.store_tables.specs.declared.entries.rows.EntryKind.{EntryKind}
 use Rattle.store_tables.specs.declared.entries.rows.EntryKind.TheVariants.{Opening, Reading, Manual, Closing, Reset, Rescale}
 use Rattle.store_tables.specs.Limits.{greatest_place, latest_moment, IsPlace}
 
--- The number of an entry's kind in the table.
+-- The number of an entry's kind in the column `kind`.
 abbrev pub kind_number : EntryKind → ℕ
 kind_number Opening = 1
 kind_number Reading = 2
@@ -21,7 +21,7 @@ kind_number Closing = 4
 kind_number Reset = 5
 kind_number Rescale = 6
 
--- The kind with a number in the table.
+-- The kind that has this number in the column `kind`, if there is one.
 abbrev pub kind_of : ℕ → Option EntryKind
 kind_of n =
     if n == 1 then Some Opening else
@@ -31,12 +31,12 @@ kind_of n =
     if n == 5 then Some Reset else
     if n == 6 then Some Rescale else None
 
--- An entry of a meter.
+-- An entry of a meter, with the meter's name.
 pub record Entered : Type 0 where
   pub meter : List ℕ
   pub entry : EntryRow
 
--- The columns of an entry.
+-- The columns of an entry in the table `entries`.
 abbrev pub entry_columns : Entered → Row
 entry_columns e =
     Text e.meter ∷ Int (pos e.entry.place) ∷ Int (pos (kind_number e.entry.kind))
@@ -44,15 +44,15 @@ entry_columns e =
     ∷ Int (pos e.entry.raw) ∷ Int (pos e.entry.rolls) ∷ Int (pos e.entry.after) ∷ Int e.entry.sf
     ∷ []
 
--- The entry is the one of this meter at this index.
+-- Whether the entry is that of meter `meter` at index `place`.
 abbrev pub is_entry : (meter : List ℕ) → (place : ℕ) → Entered → Bool
 is_entry meter place e = bytes_eq e.meter meter && (e.entry.place == place)
 
--- The entry is of this meter.
+-- Whether the entry is an entry of this meter.
 abbrev pub is_of : (meter : List ℕ) → Entered → Bool
 is_of meter e = bytes_eq e.meter meter
 
--- The entry with another count of rollovers.
+-- The entry with the number of rollovers before it set to `rolls`.
 abbrev pub rolled : (rolls : ℕ) → Entered → Entered
 rolled rolls e = record e { entry = record e.entry { rolls = rolls } }
 
@@ -65,7 +65,7 @@ pub record IsSoundEntry (e : EntryRow) : Type 0 where
   pub after : e.after ≤ MAX_SHOWN
   pub sf : IsTrue (is_within 3 e.sf)
 
--- The columns that the queries show of an entry.
+-- The result row that shows an entry, in queries of `entries`.
 abbrev pub entry_shown : Entered → Row
 entry_shown e =
     Int (pos e.entry.place) ∷ Int (pos (kind_number e.entry.kind)) ∷ Int (pos e.entry.moment)
@@ -76,19 +76,19 @@ entry_shown e =
 abbrev pub IsRow : Entered → EntryRow → Type 0
 IsRow e row = row ≡ e.entry
 
--- The same for an entry with its meter.
+-- Every value of the entry is in its range.
 abbrev pub IsSoundEntered : Entered → Type 0
 IsSoundEntered e = IsSoundEntry e.entry
 
--- The column that the query for the last entry shows: its index.
+-- The result row of the query for a meter's last entry: the entry's index.
 abbrev pub place_shown : Entered → Row
 place_shown e = Int (pos e.entry.place) ∷ []
 
--- The kind that a value encodes.
+-- The kind whose number a value has, if there is one.
 abbrev pub kind_in : Value → Option EntryKind
 kind_in v = option_and_then kind_of (whole_in 1 6 v)
 
--- The entry that a row shows, or damage.
+-- The entry that a result row shows, or `Damaged` if a column is out of its range.
 abbrev pub entry_in : Row → Result EntryRow RowFault
 entry_in row =
     and_then (or_damaged (whole_in 1 greatest_place (column row 0))) (λ place.
@@ -114,7 +114,7 @@ entry_place e = e.entry.place
 
 -- ---- voids
 
--- A void: the entry of a meter at an index was voided at a time.
+-- A void: a record that a meter's entry at index `place` was false.
 pub record Voided : Type 0 where
   pub meter : List ℕ
   pub place : ℕ
@@ -123,15 +123,15 @@ pub record Voided : Type 0 where
 abbrev pub voided_at : (meter : List ℕ) → (place moment : ℕ) → Voided
 voided_at meter place moment = record { meter = meter; place = place; moment = moment }
 
--- The columns of a void.
+-- The columns of a void in the table `voids`.
 abbrev pub voided_columns : Voided → Row
 voided_columns v = Text v.meter ∷ Int (pos v.place) ∷ Int (pos v.moment) ∷ []
 
--- The column that the query shows of a void: the index of its entry.
+-- The result row that shows a void: the index of the voided entry.
 abbrev pub voided_shown : Voided → Row
 voided_shown v = Int (pos v.place) ∷ []
 
--- The void is of an entry of this meter.
+-- Whether the void is of an entry of this meter.
 abbrev pub is_void_of : (meter : List ℕ) → Voided → Bool
 is_void_of meter v = bytes_eq v.meter meter
 

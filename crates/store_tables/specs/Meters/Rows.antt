@@ -12,7 +12,8 @@ use Rattle.store_tables.specs.declared.meters.rows.InstallationRow.{Installation
 use Rattle.store_tables.specs.declared.meters.rows.Installation.{Installation}
 use Rattle.store_tables.specs.Limits.{greatest_place, latest_moment}
 
--- The greatest ceiling of a meter, in W.
+-- The greatest ceiling of a meter, in W. The ceiling is the greatest power that can flow through
+-- the meter.
 abbrev pub greatest_ceiling : ℕ
 greatest_ceiling = MAX_CEILING
 
@@ -20,12 +21,12 @@ greatest_ceiling = MAX_CEILING
 abbrev pub greatest_total : ℕ
 greatest_total = MAX_TOTAL
 
--- The number in the table of whether a meter was closed.
+-- The number in the column `ended`: 1 if the meter was closed, otherwise 0.
 abbrev pub ended_number : Bool → ℕ
 ended_number false = 0
 ended_number true = 1
 
--- A meter that is installed at a register.
+-- An installation: a meter with the accounting register at which it is installed.
 pub record Installed : Type 0 where
   pub meter : List ℕ
   pub register : List ℕ
@@ -34,7 +35,7 @@ pub record Installed : Type 0 where
 abbrev pub meter_at : (meter register : List ℕ) → InstallationRow → Installed
 meter_at meter register row = record { meter = meter; register = register; row = row }
 
--- The columns of an installation.
+-- The columns of an installation in the table `installations`.
 abbrev pub installed_columns : Installed → Row
 installed_columns i =
     Int (pos i.row.place) ∷ Null ∷ Text i.meter ∷ Text i.register ∷ Int (pos i.row.ceiling)
@@ -42,7 +43,7 @@ installed_columns i =
     ∷ Int (pos i.row.last.raw)
     ∷ Int i.row.last.sf ∷ Int (pos i.row.last.total) ∷ []
 
--- The columns that the queries show of an installation.
+-- The result row that shows an installation, in queries of `installations`.
 abbrev pub installed_shown : Installed → Row
 installed_shown i =
     Int (pos i.row.place) ∷ Text i.meter ∷ Text i.register ∷ Int (pos i.row.ceiling)
@@ -50,11 +51,11 @@ installed_shown i =
     ∷ Int (pos i.row.last.raw)
     ∷ Int i.row.last.sf ∷ Int (pos i.row.last.total) ∷ []
 
--- The installation is of this meter.
+-- Whether the installation is that of this meter.
 abbrev pub is_meter : (meter : List ℕ) → Installed → Bool
 is_meter meter i = bytes_eq i.meter meter
 
--- The installation is at this register.
+-- Whether the installation is at this accounting register.
 abbrev pub is_at : (register : List ℕ) → Installed → Bool
 is_at register i = bytes_eq i.register register
 
@@ -62,22 +63,22 @@ is_at register i = bytes_eq i.register register
 abbrev pub installed_place : Installed → ℕ
 installed_place i = i.row.place
 
--- The installation with another last entry and total energy.
+-- The installation with this last entry and total energy.
 abbrev pub moved : LastRow → Installed → Installed
 moved last i = record i { row = record i.row { last = last } }
 
--- The installation after its meter was closed.
+-- The installation, marked as closed.
 abbrev pub ended : Installed → Installed
 ended i = record i { row = record i.row { is_ended = true } }
 
--- Every value of a last entry is in its range.
+-- Every value of a meter's last entry, and its total energy, is in its range.
 pub record IsSoundLast (last : LastRow) : Type 0 where
   pub moment : last.moment ≤ latest_moment
   pub raw : last.raw ≤ MAX_SHOWN
   pub sf : IsTrue (is_within 3 last.sf)
   pub total : last.total ≤ greatest_total
 
--- Every number of an installation is in its range.
+-- Every number of an installation is in its range. Its names are not considered.
 pub record IsSoundInstallation (row : InstallationRow) : Type 0 where
   pub place : (1 ≤ row.place) × (row.place ≤ greatest_place)
   pub ceiling : (1 ≤ row.ceiling) × (row.ceiling ≤ greatest_ceiling)
@@ -95,15 +96,16 @@ pub record IsInstalled (i : Installed) (a : Installation) : Type 0 where
   pub register : string_bytes a.register ≡ i.register
   pub row : a.row ≡ i.row
 
--- A flag is 0 or 1.
+-- The Boolean of a flag: 0 is false and 1 is true. Any other number has none.
 abbrev pub flag_of : ℕ → Option Bool
 flag_of n = if n == 0 then Some false else if n == 1 then Some true else None
 
--- The flag that a value encodes.
+-- The Boolean of the flag that a value has, if the flag is 0 or 1.
 abbrev pub flag_in : Value → Option Bool
 flag_in v = option_and_then flag_of (whole_in 0 1 v)
 
--- The last entry and the total energy that a row shows, or damage.
+-- The last entry and the total energy that a result row shows, or `Damaged` if one is out of its
+-- range.
 abbrev pub last_in : Row → Result LastRow RowFault
 last_in row =
     and_then (or_damaged (whole_in 0 latest_moment (column row 5))) (λ moment.
@@ -112,7 +114,7 @@ last_in row =
     and_then (or_damaged (whole_in 0 greatest_total (column row 8))) (λ total.
     Ok (record { moment = moment; raw = raw; sf = sf; total = total })))))
 
--- The numbers of an installation that a row shows, or damage.
+-- The numbers of the installation that a result row shows, or `Damaged` if one is out of its range.
 abbrev pub installation_in : Row → Result InstallationRow RowFault
 installation_in row =
     and_then (or_damaged (whole_in 1 greatest_place (column row 0))) (λ place.
@@ -121,7 +123,7 @@ installation_in row =
     and_then (last_in row) (λ last.
     Ok (record { place = place; ceiling = ceiling; is_ended = is_ended; last = last })))))
 
--- The column that the query for the last installation shows: its index.
+-- The result row of the query for the last installation: the installation's index.
 abbrev pub installed_place_shown : Installed → Row
 installed_place_shown i = Int (pos i.row.place) ∷ []
 
@@ -131,28 +133,28 @@ HasInstalledPlace i place = place ≡ i.row.place
 
 -- ---- ranges
 
--- The range of a meter's counter: how many values it has.
+-- The range of a meter's counter: how many values it has before it rolls over.
 pub record Ranged : Type 0 where
   pub meter : List ℕ
   pub range : ℕ
 
--- The columns of a range.
+-- The columns of a counter's range in the table `ranges`.
 abbrev pub ranged_columns : Ranged → Row
 ranged_columns r = Text r.meter ∷ Int (pos r.range) ∷ []
 
--- The column that the query shows: the range.
+-- The result row of the query for a counter's range: the range.
 abbrev pub range_shown : Ranged → Row
 range_shown r = Int (pos r.range) ∷ []
 
--- The range is of this meter.
+-- Whether the range is that of this meter's counter.
 abbrev pub is_range_of : (meter : List ℕ) → Ranged → Bool
 is_range_of meter r = bytes_eq r.meter meter
 
--- A range that the store accepts.
+-- The store accepts counters with `range` values: from `MIN_RANGE` to `MAX_RANGE`.
 abbrev pub IsRange : ℕ → Type 0
 IsRange range = (MIN_RANGE ≤ range) × (range ≤ MAX_RANGE)
 
--- The store accepts the range of the row.
+-- The store accepts the range in this row.
 abbrev pub IsSoundRanged : Ranged → Type 0
 IsSoundRanged r = IsRange r.range
 

@@ -17,7 +17,7 @@ use crate::entries::rows::EntryRow;
 use crate::{RowFault, number, signed};
 use sqlite::{Alter, Connection, Error, Row, Transaction, params};
 
-/// Selects the entries of a meter in ascending order of their indices.
+/// The query for the entries of a meter, in ascending order of their indices.
 const OF_METER: &str =
     "SELECT place, kind, moment, raw, rolls, \"after\", sf FROM entries WHERE meter = ?1 ORDER BY place";
 
@@ -50,7 +50,8 @@ pub fn insert_entry<S: Alter>(
     )
 }
 
-/// Sets how often the counter rolled over before an entry.
+/// Sets how often the counter rolled over between the entry at index `place` and the entry before
+/// it.
 pub fn set_rolls<S: Alter>(
     tx: &mut Transaction<'_, S>,
     meter: &str,
@@ -69,7 +70,7 @@ pub fn set_rolls<S: Alter>(
     )
 }
 
-/// Queries the row of an entry.
+/// Queries the row of a meter's entry at index `place`.
 fn rows_at<S: Alter>(conn: &mut Connection<S>, meter: &str, place: u64) -> Result<Vec<Row>, Error>
     requires place { place ≤ greatest_place }
     ensures asks { Asks S.Store conn.old conn.new }
@@ -83,7 +84,7 @@ fn rows_at<S: Alter>(conn: &mut Connection<S>, meter: &str, place: u64) -> Resul
     )
 }
 
-/// Returns the entry of a meter at an index.
+/// Returns the entry of a meter at index `place`, or None if there is none.
 pub fn entry_at<S: Alter>(
     conn: &mut Connection<S>,
     meter: &str,

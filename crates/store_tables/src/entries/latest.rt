@@ -1,5 +1,6 @@
 //! The latest timestamps of `entries` and `voids`, in seconds since 1970-01-01 UTC. Each query
-//! scans its complete table, which has no index on timestamps. An opening of an office runs them.
+//! scans its complete table, which has no index on timestamps. They run once, when an office is
+//! opened.
 ghost use Rattle.std.specs.Prelude.{◌≤◌, IfOk, IfSome};
 ghost use Rattle.store_tables.specs.Limits.{latest_moment};
 ghost use Rattle.store_tables.specs.Answer.{IsLast, LastFirst, every};
@@ -25,7 +26,8 @@ fn entry_moments<S: Alter>(conn: &mut Connection<S>) -> Result<Vec<Row>, Error>
     )
 }
 
-/// Returns the latest timestamp of all entries of all meters. A meter's opening is an entry too.
+/// Returns the latest timestamp of all entries of all meters, or None without entries. A meter's
+/// opening is an entry too.
 pub fn latest_entry<S: Alter>(conn: &mut Connection<S>) -> Result<Option<u64>, RowFault>
     ensures finds { LooksUp S.Store conn.old conn.new entries entry_columns IsSoundEntered result
         (IsLast every HasEntryMoment entry_moment) }
@@ -44,7 +46,7 @@ fn void_moments<S: Alter>(conn: &mut Connection<S>) -> Result<Vec<Row>, Error>
     conn.query_all("SELECT moment FROM voids ORDER BY moment DESC LIMIT 1", &[])
 }
 
-/// Returns the latest time at which an entry was voided.
+/// Returns the latest time at which an entry was voided, or None without voids.
 pub fn latest_void<S: Alter>(conn: &mut Connection<S>) -> Result<Option<u64>, RowFault>
     ensures finds { LooksUp S.Store conn.old conn.new voids voided_columns IsTimelyVoid result
         (IsLast every HasVoidMoment void_moment) }

@@ -2,12 +2,13 @@
 ghost use Rattle.std.specs.Prelude.{◌≡◌};
 ghost use Rattle.store_tables.specs.Entries.Rows.{kind_number, kind_of};
 
-/// The kind of an entry.
+/// The kind of an entry. An entry is a reading or a change of a meter's counter that the store has
+/// accepted.
 #[derive(Clone, Copy, Debug, PartialEq, Eq)]
 pub enum EntryKind {
-    /// The counter's value when the meter was installed.
+    /// The first entry of a meter: the counter's value when the meter was installed.
     Opening,
-    /// An accepted reading.
+    /// A reading that the device reported and the rules accepted.
     Reading,
     /// A reading that a person entered.
     Manual,
@@ -20,7 +21,7 @@ pub enum EntryKind {
 }
 
 impl EntryKind {
-    /// Returns the kind with a number.
+    /// Returns the kind with a number from 1 to 6, or None for any other number.
     pub(crate) fn of(number: u64) -> Option<EntryKind>
         ensures { result ≡ kind_of number }
     {
@@ -61,7 +62,7 @@ pub struct EntryRow {
     pub raw: u32,
     /// How often the counter rolled over since the previous entry.
     pub rolls: u8,
-    /// The value that the counter was set to. 0 for all kinds but a reset and a rescale.
+    /// The value that the counter was set to. 0 for all kinds except a reset and a rescale.
     pub after: u32,
     /// The scale factor after the entry.
     pub sf: i16,

@@ -13,7 +13,7 @@ ghost use Rattle.store_tables.specs.Entries.Trees.{voids};
 use crate::number;
 use sqlite::{Alter, Connection, Error, Row, Transaction, params};
 
-/// Selects the indices of a meter's voided entries in ascending order.
+/// The query for the indices of a meter's voided entries, in ascending order.
 const OF_METER: &str = "SELECT place FROM voids WHERE meter = ?1 ORDER BY place";
 
 /// Records that the entry of a meter at index `place` was voided at `moment`.

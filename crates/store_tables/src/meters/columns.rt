@@ -22,7 +22,7 @@ fn flag(row: &Row, at: usize) -> Result<bool, RowFault>
     }
 }
 
-/// Reads the last entry of a meter, and its total energy.
+/// Reads a meter's last entry and total energy.
 fn last(row: &Row) -> Result<LastRow, RowFault>
     ensures { result ≡ last_in row.now }
 {
@@ -38,7 +38,7 @@ fn last(row: &Row) -> Result<LastRow, RowFault>
     })
 }
 
-/// Reads all columns of an installation but its texts.
+/// Reads all columns of an installation except its texts.
 fn numbers(row: &Row) -> Result<InstallationRow, RowFault>
     ensures { result ≡ installation_in row.now }
 {

@@ -18,11 +18,11 @@ use crate::meters::rows::{Installation, InstallationRow, LastRow};
 use crate::{GREATEST_PLACE, RowFault, first_whole, number, signed};
 use sqlite::{Alter, Connection, Error, Row, Transaction, params};
 
-/// Selects the row of a meter.
+/// The query for the installation of a meter.
 const OF_METER: &str =
     "SELECT place, meter, register, ceiling, ended, last_moment, last_raw, last_sf, total FROM installations WHERE meter = ?1 LIMIT 1";
 
-/// Selects the greatest index of an installation.
+/// The query for the greatest index of an installation.
 const LAST: &str = "SELECT place FROM installations ORDER BY place DESC LIMIT 1";
 
 fn flag(is: bool) -> u32
@@ -31,7 +31,7 @@ fn flag(is: bool) -> u32
     if is { 1 } else { 0 }
 }
 
-/// Inserts a meter that is installed at a register.
+/// Inserts an installation: a meter at an accounting register.
 pub fn insert_installation<S: Alter>(
     tx: &mut Transaction<'_, S>,
     meter: &str,
@@ -65,7 +65,7 @@ pub fn insert_installation<S: Alter>(
     )
 }
 
-/// Updates the last entry of a meter, and its total energy.
+/// Updates the last entry and the total energy of a meter.
 pub fn update_last<S: Alter>(
     tx: &mut Transaction<'_, S>,
     meter: &str,
@@ -97,7 +97,7 @@ pub fn end_installation<S: Alter>(tx: &mut Transaction<'_, S>, meter: &str) -> R
     )
 }
 
-/// Queries the row of a meter.
+/// Queries the installation of a meter.
 fn rows_of<S: Alter>(conn: &mut Connection<S>, meter: &str) -> Result<Vec<Row>, Error>
     ensures asks { Asks S.Store conn.old conn.new }
     ensures shows { TellsRows S.Store conn.old conn.new installations installed_columns result
@@ -106,7 +106,7 @@ fn rows_of<S: Alter>(conn: &mut Connection<S>, meter: &str) -> Result<Vec<Row>, 
     conn.query_all(OF_METER, params![meter])
 }
 
-/// Returns the installation of a meter.
+/// Returns the installation of a meter, or None if there is no such meter.
 pub fn installation_of<S: Alter>(
     conn: &mut Connection<S>,
     meter: &str,
@@ -123,7 +123,7 @@ pub fn installation_of<S: Alter>(
     }
 }
 
-/// Queries the row of the latest installation at a register.
+/// Queries the latest installation at an accounting register.
 fn rows_at<S: Alter>(conn: &mut Connection<S>, register: &str) -> Result<Vec<Row>, Error>
     ensures asks { Asks S.Store conn.old conn.new }
     ensures shows { TellsRows S.Store conn.old conn.new installations installed_columns result
@@ -135,7 +135,8 @@ fn rows_at<S: Alter>(conn: &mut Connection<S>, register: &str) -> Result<Vec<Row
     )
 }
 
-/// Returns the latest installation at a register.
+/// Returns the latest installation at an accounting register, or None if no meter was installed
+/// there.
 pub fn installation_at<S: Alter>(
     conn: &mut Connection<S>,
     register: &str,
@@ -152,7 +153,7 @@ pub fn installation_at<S: Alter>(
     }
 }
 
-/// Queries the index of the last installation.
+/// Queries the greatest index of an installation.
 fn last_rows<S: Alter>(conn: &mut Connection<S>) -> Result<Vec<Row>, Error>
     ensures asks { Asks S.Store conn.old conn.new }
     ensures shows { TellsRows S.Store conn.old conn.new installations installed_columns result
@@ -161,8 +162,8 @@ fn last_rows<S: Alter>(conn: &mut Connection<S>) -> Result<Vec<Row>, Error>
     conn.query_all(LAST, &[])
 }
 
-/// Returns the greatest index of an installation. Indices begin at 1 without gaps, so the greatest
-/// index is their number.
+/// Returns the greatest index of an installation, or None without installations. Indices begin at 1
+/// without gaps, so the greatest index is the number of installations.
 pub fn last_installation<S: Alter>(conn: &mut Connection<S>) -> Result<Option<u64>, RowFault>
     ensures finds { LooksUp S.Store conn.old conn.new
         installations installed_columns IsSoundInstalled result
@@ -173,7 +174,7 @@ pub fn last_installation<S: Alter>(conn: &mut Connection<S>) -> Result<Option<u6
     first_whole(&rows, 1, GREATEST_PLACE)
 }
 
-/// Queries the row of a meter inside a transaction. `read_installation` reads the row.
+/// Queries the installation of a meter inside a transaction. `read_installation` reads the row.
 pub fn installation_rows<S: Alter>(
     tx: &mut Transaction<'_, S>,
     meter: &str,

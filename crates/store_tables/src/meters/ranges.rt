@@ -13,7 +13,7 @@ use crate::{RowFault, first_whole, number};
 use energy_core::{MAX_RANGE, MIN_RANGE};
 use sqlite::{Alter, Connection, Error, Row, Transaction, params};
 
-/// Selects the range of a meter's counter.
+/// The query for the range of a meter's counter.
 const OF_METER: &str = "SELECT \"range\" FROM ranges WHERE meter = ?1 LIMIT 1";
 
 /// Inserts the range of a meter's counter: how many values the counter has.
@@ -34,7 +34,7 @@ pub fn insert_range<S: Alter>(
     )
 }
 
-/// Queries the row of a meter.
+/// Queries the range of a meter's counter.
 fn rows_of<S: Alter>(conn: &mut Connection<S>, meter: &str) -> Result<Vec<Row>, Error>
     ensures asks { Asks S.Store conn.old conn.new }
     ensures shows { TellsRows S.Store conn.old conn.new ranges ranged_columns result
@@ -43,7 +43,8 @@ fn rows_of<S: Alter>(conn: &mut Connection<S>, meter: &str) -> Result<Vec<Row>, 
     conn.query_all(OF_METER, params![meter])
 }
 
-/// Returns the range of a meter's counter: how many values the counter has.
+/// Returns the range of a meter's counter: how many values the counter has. Returns None if the
+/// meter has no range.
 pub fn range_of<S: Alter>(conn: &mut Connection<S>, meter: &str) -> Result<Option<u64>, RowFault>
     ensures finds { LooksUp S.Store conn.old conn.new ranges ranged_columns IsSoundRanged result
         (IsFound (is_range_of meter.now) HasRange) }
@@ -53,7 +54,7 @@ pub fn range_of<S: Alter>(conn: &mut Connection<S>, meter: &str) -> Result<Optio
     first_whole(&rows, MIN_RANGE, MAX_RANGE)
 }
 
-/// Queries the row of a meter inside a transaction. `read_range` reads the row.
+/// Queries the range of a meter's counter inside a transaction. `read_range` reads the row.
 pub fn range_rows<S: Alter>(tx: &mut Transaction<'_, S>, meter: &str) -> Result<Vec<Row>, Error>
     ensures same_reference { IsSameBorrow tx.old.conn tx.new.conn }
     ensures asks { AsksInside S.Store tx.old.conn.now tx.new.conn.now result }

@@ -21,7 +21,7 @@ pub struct InstallationRow {
     pub last: LastRow,
 }
 
-/// A meter that is installed at a register.
+/// An installation: a meter with the accounting register at which it is installed.
 #[derive(Debug, Drop)]
 pub struct Installation {
     pub meter: String,

@@ -1,6 +1,6 @@
-//! The requests that follow the script: an exchange of the meter, or a void of its reading.
+//! The requests that follow the script: one exchanges the meter, and one voids its reading.
 
-/// A request.
+/// A request to the office after the script.
 #[derive(Clone, Copy, Debug)]
 pub(crate) enum Asked {
     Exchange,
@@ -19,11 +19,11 @@ const VOID: &[u8] =
 const VOID_DONE: &[u8] =
     b"HTTP/1.1 200 OK\r\nContent-Type: application/json\r\nContent-Length: 15\r\nConnection: close\r\n\r\n{\"done\":\"void\"}";
 
-/// The response if the store failed.
+/// The HTTP response if the store failed.
 pub(crate) const UNAVAILABLE: &[u8] =
     b"HTTP/1.1 503 Service Unavailable\r\nContent-Type: application/json\r\nContent-Length: 14\r\nConnection: close\r\n\r\n{\"refused\":13}";
 
-/// Returns the bytes of a request.
+/// Returns the bytes of a request to the office.
 pub(crate) fn request_of(asked: Asked) -> &'static [u8] {
     match asked {
         Asked::Exchange => EXCHANGE,
@@ -31,7 +31,7 @@ pub(crate) fn request_of(asked: Asked) -> &'static [u8] {
     }
 }
 
-/// Returns the response to a request that is carried out.
+/// Returns the HTTP response if the office carried the request out.
 pub(crate) fn reply_of(asked: Asked) -> &'static [u8] {
     match asked {
         Asked::Exchange => EXCHANGE_DONE,

@@ -7,8 +7,8 @@ use sqlite_disk::{Fuse, Memory};
 use std::alloc::Global;
 use std::process::Abort;
 
-/// An act and its number of steps. A crash comes after each of these counts of acknowledged steps,
-/// and at more than so many calls of the log.
+/// An act and its number of steps. `after` has counts of acknowledged steps: some crash must come
+/// after each of these counts. The act makes more than `calls` calls of the log.
 struct Case {
     act: Act,
     steps: usize,
@@ -16,8 +16,8 @@ struct Case {
     calls: usize,
 }
 
-// The office's first step makes the tables. The step after the first four connects the device, and
-// records nothing.
+// The acts with crashes. In the office's act, the first step creates the tables. The fifth step
+// connects the device, and records nothing.
 static CASES: [Case; 3] = [
     Case {
         act: Act::Bring,
@@ -39,7 +39,7 @@ static CASES: [Case; 3] = [
     },
 ];
 
-/// Returns the files with which an act begins.
+/// Returns the files as they are when an act begins.
 fn given(rt: &impl Abort, alloc: Global, act: Act) -> Files<Fuse<Memory>> {
     let empty = empty_files(rt, alloc);
     match act {
@@ -51,7 +51,7 @@ fn given(rt: &impl Abort, alloc: Global, act: Act) -> Files<Fuse<Memory>> {
     }
 }
 
-/// Crashes during the act, and asserts what the files hold afterwards. Returns how many steps were
+/// Crashes during an act, and asserts what the files hold afterwards. Returns how many steps were
 /// acknowledged.
 fn stopped(
     rt: &impl Abort,
@@ -70,8 +70,8 @@ fn stopped(
     steps
 }
 
-/// Crashes at each call of a file, until the act makes no further call. Returns how many steps each
-/// crash left acknowledged.
+/// Repeats an act with a crash at each call of a file, until the act makes no further call. Returns
+/// how many steps were acknowledged before each crash.
 fn stop_each(
     rt: &impl Abort,
     alloc: Global,
@@ -96,7 +96,7 @@ fn stop_each(
     panic!(rt; "it stops each time")
 }
 
-/// Whether a crash came after each of these counts of acknowledged steps.
+/// Returns whether some crash came after each of these counts of acknowledged steps.
 fn each_came_up(after: &[usize], stops: &[usize]) -> bool {
     for steps in after {
         if !stops.contains(steps) {
@@ -106,7 +106,8 @@ fn each_came_up(after: &[usize], stops: &[usize]) -> bool {
     true
 }
 
-/// Crashes at each call of each file. What was not synced is lost, or is in the file.
+/// Repeats an act with a crash at each call of each file. Data that was not synced is lost, or is
+/// in the file.
 fn stop_all(rt: &impl Abort, alloc: Global, case: &Case) {
     for is_lost in [true, false] {
         let of_log = stop_each(rt, alloc, case, Stopping::Log, is_lost);
@@ -116,7 +117,8 @@ fn stop_all(rt: &impl Abort, alloc: Global, case: &Case) {
     }
 }
 
-// A crash leaves the old file or the new one. What was acknowledged is there.
+// A crash leaves the file before the change in flight, or the file after it. Every acknowledged
+// change is in the file.
 #[test]
 fn what_was_acknowledged_stands(rt: HostRuntime) {
     for case in &CASES {

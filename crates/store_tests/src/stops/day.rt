@@ -1,6 +1,6 @@
-//! The file of a meter with a reading each quarter of an hour for a day.
+//! The file of a meter that was read every quarter of an hour for a day.
 
-/// The rows of a meter with one reading.
+/// SQL statements that insert the rows of a meter with one reading.
 pub(crate) const READ: &str = "INSERT INTO devices VALUES (1, 'inv', 1, 5, 1);
 INSERT INTO registers VALUES (1, 'main', 'inv', 3, 40094, 1, 40096);
 INSERT INTO installations VALUES (1, 'm1', 'main', 100000, 0, 1900, 5200, 0, 200000);
@@ -9,8 +9,9 @@ INSERT INTO polls VALUES (1, 'inv', 1, 1898, 0, 3, 40094, 3);
 INSERT INTO outcomes VALUES (1, 1900, 1, 0);
 INSERT INTO intervals VALUES ('m1', 900, 177777), ('m1', 1800, 22223)";
 
-/// A hundred Wh more each quarter of an hour for a day: 88,888 mWh in the interval of the last
-/// reading, and 11,112 in the next.
+/// SQL statements that insert readings of 100 Wh more for each quarter of an hour of a day. The
+/// step to each reading has 88,888 mWh in the quarter hour of the last reading, and 11,112 mWh in
+/// the next.
 pub(crate) const DAY: &str =
     "UPDATE installations SET last_moment = 88300, last_raw = 14800, total = 9800000;
 UPDATE intervals SET mwh = 111111 WHERE start = 1800;
@@ -20,10 +21,10 @@ INSERT INTO entries SELECT 'm1', 1 + poll, 2, started + 2, 5100 + 100 * poll, 0,
 INSERT INTO intervals SELECT 'm1', started - 98, 100000 FROM polls WHERE 1 < poll AND poll < 97;
 INSERT INTO intervals VALUES ('m1', 88200, 11112)";
 
-/// Turns the file into one of version 1.
+/// SQL statements that turn the file into one of version 1.
 pub(crate) const FIRST: &str = "DROP TABLE voids; DROP TABLE ranges; UPDATE meta SET version = 1";
 
-/// What queries show of the rows, in each version.
+/// Queries about the rows of the file in any version, and the number that each shows.
 pub(crate) static ROWS: [(&str, i64); 12] = [
     (
         "SELECT count(*) FROM meta WHERE id = 1 AND zone = 'UTC0'",
@@ -45,7 +46,7 @@ pub(crate) static ROWS: [(&str, i64); 12] = [
     ),
 ];
 
-/// What queries show of the file in version 1.
+/// Queries about the file in version 1, and the number that each shows.
 pub(crate) static OLD: [(&str, i64); 2] = [
     ("SELECT version FROM meta", 1),
     (
@@ -54,7 +55,7 @@ pub(crate) static OLD: [(&str, i64); 2] = [
     ),
 ];
 
-/// What queries show of the file in version 3.
+/// Queries about the file in version 3, and the number that each shows.
 pub(crate) static NEW: [(&str, i64); 5] = [
     ("SELECT version FROM meta", 3),
     (

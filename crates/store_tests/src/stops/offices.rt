@@ -1,4 +1,4 @@
-//! An office over a database, the events of a script, and a request.
+//! An office over a database that handles the events of a script and then a request.
 use crate::stops::asked::{Asked, UNAVAILABLE, reply_of, request_of};
 use mb_wire::MemoryLink;
 use office_books::Books;
@@ -11,7 +11,8 @@ use sqlite::{Alter, Connection};
 use std::alloc::Global;
 use std::process::Abort;
 
-/// A device, its register and its meter. A poll of the counter shows 5200 at the scale 0.
+/// A script with a device, its accounting register and its meter. The response to a poll shows 5200
+/// at the scale factor 0.
 const READ: &str = "1000 device inv 1 5 1
 1000 register main inv 3 40094 @40096
 1000 install main m1 5000 0 100000
@@ -19,8 +20,8 @@ const READ: &str = "1000 device inv 1 5 1
 1898 start inv 3 40094 3
 1900 bytes inv 000000000009010306000014500000";
 
-/// Plays all steps but the first over a new store: opens an office, feeds it the script, and sends
-/// a request.
+/// Plays all steps except the first over a new store: opens an office, feeds it the script, and
+/// sends a request.
 fn play_over<B: Books>(rt: &impl Abort, alloc: Global, books: B, asked: Asked) -> (usize, B) {
     let mut office = match Office::open(alloc, books, 0) {
         Ok(office) => office,
@@ -30,7 +31,7 @@ fn play_over<B: Books>(rt: &impl Abort, alloc: Global, books: B, asked: Asked) -
     (steps, office.into_books())
 }
 
-/// Plays all steps over a new database. The first step makes the tables. Returns how many steps
+/// Plays all steps over a new database. The first step creates the tables. Returns how many steps
 /// were acknowledged before the store refused one.
 pub(crate) fn play<S: Alter + Drop>(
     rt: &impl Abort,
@@ -53,7 +54,7 @@ fn start_of(rt: &impl Abort, given: &GivenStart) -> Command {
     })
 }
 
-/// Returns the event of a line, and its time.
+/// Returns the event of a script line, and its time.
 fn event_of(rt: &impl Abort, alloc: Global, line: &str) -> (u64, Event) {
     match ScriptLine::read(alloc, line.as_bytes()).expect(rt, "no line") {
         ScriptLine::Event { at, event } => (at, event),
@@ -62,7 +63,8 @@ fn event_of(rt: &impl Abort, alloc: Global, line: &str) -> (u64, Event) {
     }
 }
 
-/// Whether the office accepts the event of a line. Only the store may refuse it.
+/// Returns whether the office accepts the event of a script line. Only the store may cause a
+/// refusal.
 pub(crate) fn accepts<B: Books>(
     rt: &impl Abort,
     alloc: Global,
@@ -77,8 +79,8 @@ pub(crate) fn accepts<B: Books>(
     }
 }
 
-/// Whether the office acknowledges a request at a time. Any other response says that the store
-/// failed.
+/// Returns whether the office acknowledges a request at this time. Any other response must say that
+/// the store failed.
 pub(crate) fn acknowledges<B: Books>(
     rt: &impl Abort,
     alloc: Global,
@@ -99,8 +101,8 @@ pub(crate) fn acknowledges<B: Books>(
     panic!(rt; "another reply")
 }
 
-/// Returns how many steps are acknowledged before the store refuses one. The first step is done.
-/// The events of the script follow, and then the request.
+/// Returns how many steps are acknowledged before the store refuses one. The first step is already
+/// done. The events of the script follow, and then the request.
 fn steps<B: Books>(rt: &impl Abort, alloc: Global, office: &mut Office<B>, asked: Asked) -> usize {
     let mut steps = 1usize;
     for line in READ.lines() {

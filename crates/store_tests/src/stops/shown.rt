@@ -1,10 +1,10 @@
-//! What queries show of a file.
+//! The results of queries of a database file.
 use interval_core::Zone;
 use sqlite::{Alter, Connection};
 use std::process::Abort;
 use store_files::OpenFault;
 
-/// Returns the number of the fault, or 0.
+/// Returns the number of the fault, or 0 if there is none.
 pub(crate) fn fault(answer: Result<Zone, OpenFault>) -> u8 {
     match answer {
         Ok(_) => 0,

@@ -1,4 +1,4 @@
-//! What an office holds after a crash.
+//! What the file of an office holds after a crash.
 use crate::made::{found, made, opened};
 use crate::stops::asked::Asked;
 use crate::stops::offices::acknowledges;
@@ -9,10 +9,11 @@ use sqlite::{Alter, Connection};
 use std::alloc::Global;
 use std::process::Abort;
 
-/// Queries of an office that was opened at 5000, and what each shows in these states: no tables,
-/// new tables, after each of the six events of the script, after the exchange, and after the void.
+/// Queries, and the number that each shows in each state of the file. The office was opened again
+/// at time 5000. The states are: no tables, new tables, after each of the six events of the script,
+/// after the exchange, and after the void.
 ///
-/// The opening loses the poll that was pending.
+/// When the office is opened, the poll that was pending is lost.
 static STATES: [(&str, &[i64]); 17] = [
     (
         "SELECT count(*) FROM meta WHERE id = 1 AND version = 3 AND zone = 'UTC0'",
@@ -84,7 +85,8 @@ static STATES: [(&str, &[i64]); 17] = [
     ),
 ];
 
-/// What queries show after a retry of the exchange, whenever it was recorded.
+/// Queries, and the number that each shows after a retry of the exchange, whenever the exchange was
+/// recorded.
 static EXCHANGED_ROWS: [(&str, i64); 5] = [
     ("SELECT count(*) FROM installations", 2),
     (
@@ -99,7 +101,7 @@ static EXCHANGED_ROWS: [(&str, i64); 5] = [
     ("SELECT count(*) FROM replies", 1),
 ];
 
-/// What queries show after a retry of the void.
+/// Queries, and the number that each shows after a retry of the void.
 static VOIDED_ROWS: [(&str, i64); 5] = [
     ("SELECT count(*) FROM voids", 1),
     (
@@ -114,7 +116,7 @@ static VOIDED_ROWS: [(&str, i64); 5] = [
     ("SELECT count(*) FROM replies", 1),
 ];
 
-/// Whether each query shows the number of a state.
+/// Returns whether each query shows the number of this state.
 fn is_in_state<S: Alter>(rt: &impl Abort, connection: &mut Connection<S>, state: usize) -> bool {
     for (query, numbers) in &STATES {
         let is_shown = match numbers.get(state) {
@@ -128,7 +130,7 @@ fn is_in_state<S: Alter>(rt: &impl Abort, connection: &mut Connection<S>, state:
     true
 }
 
-/// Whether the store has so many steps that were acknowledged, or also the one in flight. The last
+/// Returns whether the store has the acknowledged steps, and possibly the step in flight. The last
 /// step is the request.
 fn may_stand<S: Alter>(
     rt: &impl Abort,
@@ -149,7 +151,7 @@ fn may_stand<S: Alter>(
     is_acknowledged || is_in_state(rt, connection, next)
 }
 
-/// Asserts that a request is recorded once.
+/// Asserts that the request was recorded exactly once.
 fn stands_once<S: Alter>(rt: &impl Abort, connection: &mut Connection<S>, asked: Asked) {
     match asked {
         Asked::Exchange => shows(rt, connection, &EXCHANGED_ROWS),
@@ -157,8 +159,8 @@ fn stands_once<S: Alter>(rt: &impl Abort, connection: &mut Connection<S>, asked:
     }
 }
 
-/// Opens an office at 5000. Sends it a request again, if there is one, and asserts that it is
-/// acknowledged. Returns the store.
+/// Opens an office at time 5000. Sends it a request again, if there is one, and asserts that the
+/// request is acknowledged. Returns the store.
 fn reopened<B: Books>(rt: &impl Abort, alloc: Global, books: B, again: Option<Asked>) -> B {
     let mut office = opened(rt, alloc, books, 5000);
     if let Some(asked) = again {
@@ -167,7 +169,7 @@ fn reopened<B: Books>(rt: &impl Abort, alloc: Global, books: B, again: Option<As
     office.into_books()
 }
 
-/// Sends a request again. Asserts that it is recorded once, and returns the store.
+/// Sends a request again, and asserts that it was recorded exactly once. Returns the store.
 fn retried<S: Alter + Drop>(
     rt: &impl Abort,
     alloc: Global,
@@ -180,7 +182,7 @@ fn retried<S: Alter + Drop>(
     connection.into_store()
 }
 
-/// Asserts that the database is empty, and that the tables can be made in it. Returns the store.
+/// Asserts that the database is empty, and that the tables can be created in it. Returns the store.
 fn remade<S: Alter + Drop>(rt: &impl Abort, alloc: Global, mut connection: Connection<S>) -> S {
     assert!(rt; number(rt, &mut connection, "SELECT count(*) FROM sqlite_schema") == 0);
     let books = made(rt, alloc, connection, "UTC0");
@@ -189,8 +191,8 @@ fn remade<S: Alter + Drop>(rt: &impl Abort, alloc: Global, mut connection: Conne
     connection.into_store()
 }
 
-/// Asserts that the steps are recorded, or one more. Where none was acknowledged, there may be no
-/// tables. Returns the store.
+/// Asserts that the acknowledged steps are recorded, or these and one more. If no step was
+/// acknowledged, there may be no tables. Returns the store.
 pub(crate) fn stands<S: Alter + Drop>(
     rt: &impl Abort,
     alloc: Global,

@@ -5,7 +5,7 @@ use sqlite::{Alter, Connection};
 use std::process::Abort;
 use store_files::{create, open};
 
-/// Makes a file of version 1 in an empty database. Returns one step, and the store.
+/// Creates a file of version 1 in an empty database. Returns the count of one step, and the store.
 pub(crate) fn prepare<S: Alter + Drop>(rt: &impl Abort, mut conn: Connection<S>) -> (usize, S) {
     if create(&mut conn, "UTC0").is_err() {
         panic!(rt; "not made");
@@ -16,8 +16,8 @@ pub(crate) fn prepare<S: Alter + Drop>(rt: &impl Abort, mut conn: Connection<S>)
     (1, conn.into_store())
 }
 
-/// Opens a file, which brings it to today's version. Returns 1 if this was acknowledged and 0 if
-/// the store failed, and the store.
+/// Opens a file of version 1, which upgrades it to version 3. Returns 1 if the opening was
+/// acknowledged or 0 if the store failed, and the store.
 pub(crate) fn bring<S: Alter + Drop>(rt: &impl Abort, mut conn: Connection<S>) -> (usize, S) {
     let fault = fault(open(&mut conn));
     assert!(rt; fault == 0 || fault == 3, "{fault}");
@@ -25,8 +25,8 @@ pub(crate) fn bring<S: Alter + Drop>(rt: &impl Abort, mut conn: Connection<S>) -
     (steps, conn.into_store())
 }
 
-/// Asserts that the file is of version 1, if it was not acknowledged, or of version 3. It has every
-/// row, and opens. Returns the store.
+/// Asserts that the file has version 3 if its opening was acknowledged, and otherwise version 1 or
+/// 3. The file has every row, and can be opened. Returns the store.
 pub(crate) fn is_brought<S: Alter + Drop>(
     rt: &impl Abort,
     mut conn: Connection<S>,

@@ -7,7 +7,8 @@ use Rattle.stored_files.specs.declared.ends.ending.Ending.TheVariants.{Fine, Ref
 use Rattle.stored_files.specs.declared.ends.failure.Failure.{Failure}
 use Rattle.stored_files.specs.declared.ends.failure.Failure.TheVariants.{Streams}
 
--- 0 fine, 1 refused, 2 wrong arguments, 3 a fault of a file, stream or socket, or out of memory.
+-- The exit status of an ending: 0 fine, 1 refused, 2 wrong arguments. 3 is a fault of a file, a
+-- stream or a socket, or out of memory.
 abbrev pub ending_number : Ending → ℕ
 ending_number Fine = 0
 ending_number Refused = 1
@@ -20,11 +21,11 @@ ending_number (NoSeal file) = 2
 ending_number (Twice file) = 2
 ending_number (Failed failure) = 3
 
--- The endings that standard error reports: all but fine and refused.
+-- The endings about which standard error has a message: all except fine and refused.
 abbrev pub IsTold : Ending → Type 0
 IsTold ending = 1 < ending_number ending
 
--- The ending of a command that reads standard input and prints.
+-- The ending of a command that reads standard input and prints, by its exit status.
 abbrev pub ending_of : ExitStatus → Ending
 ending_of status.Fine = Fine
 ending_of status.Refused = Refused

@@ -1,4 +1,4 @@
--- Connections to files that were blank.
+-- Connections to database files that were blank: without any bytes.
 use Rattle.std.specs.Prelude.{◌≡◌, false}
 use Rattle.sqlite_disk.specs.declared.Disk.{Ghosts}
 use Rattle.sqlite_wal.specs.Recovery.{Image}

@@ -1,4 +1,4 @@
--- Why a file is not opened.
+-- Why a database file is not opened.
 use Rattle.std.specs.Prelude.{ℕ}
 use Rattle.sqlite.specs.declared.error.ErrorCode.TheVariants.{DatabaseBusy, NotADatabase, DatabaseCorrupt, OutOfMemory}
 use Rattle.sqlite.specs.declared.error.Error.{Error}
@@ -16,7 +16,7 @@ file_fault_number Memory = 5
 file_fault_number Irregular = 6
 file_fault_number (Log fault) = 7
 
--- The fault that an error of opening a database means.
+-- The fault of a file, if opening its database failed with this error.
 abbrev pub fault_of : Error → FileFault
 fault_of (SqliteFailure DatabaseBusy) = Busy
 fault_of (SqliteFailure NotADatabase) = NoDatabase

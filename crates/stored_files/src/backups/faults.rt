@@ -1,4 +1,4 @@
-//! Why a file is not copied.
+//! Why a copy of a database file fails.
 ghost use Rattle.std.specs.Prelude.{◌≡◌};
 ghost use Rattle.stored_files.specs.Backups.Faults.{close_fault_of, copy_fault_of};
 
@@ -7,7 +7,7 @@ use sqlite::{Error, ErrorCode};
 use std::fmt;
 use std::fmt::{Display, Formatter};
 
-/// Why a file is not copied.
+/// Why a copy of a database file fails.
 #[derive(Clone, Copy, Debug, PartialEq, Eq)]
 pub enum CopyFault {
     /// A file with the name of the copy, or of its log, exists already.
@@ -18,7 +18,7 @@ pub enum CopyFault {
     Reserved,
     /// The copy can't be written.
     Unwritable,
-    /// At each try, the log was moved into the file while it was copied.
+    /// At each attempt, another process moved the log into the file while the file was copied.
     Changing,
     /// The copy is not a database, or a damaged one.
     Torn,
@@ -27,7 +27,7 @@ pub enum CopyFault {
     Memory,
 }
 
-// What was wrong and what to do, after the name of the file.
+// Writes what was wrong and what to do. The message follows the name of the file.
 impl Display for CopyFault {
     fn fmt<W: fmt::Write>(&self, f: &mut Formatter<W>) -> fmt::Result {
         f.write_str(match self {
@@ -48,8 +48,8 @@ impl Display for CopyFault {
     }
 }
 
-/// Maps a fault of the copy's opening. The log of the original was checked first. So if the log of
-/// the copy is damaged, a commit was written meanwhile.
+/// Maps a fault of opening the copy. The log of the original was checked first. So if the log of
+/// the copy is damaged, a commit was written while the files were copied.
 pub(crate) fn copy_fault_of(fault: FileFault) -> CopyFault
     ensures { result ≡ copy_fault_of fault }
 {
@@ -63,7 +63,7 @@ pub(crate) fn copy_fault_of(fault: FileFault) -> CopyFault
     }
 }
 
-/// Maps an error of moving the copy's log.
+/// Maps an error of moving the copy's log into its file.
 pub(crate) fn close_fault_of(error: Error) -> CopyFault
     ensures { result ≡ close_fault_of error }
 {

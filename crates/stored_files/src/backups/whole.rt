@@ -1,4 +1,4 @@
-//! Files that hold an office alone.
+//! Database files that hold an office without a log.
 ghost use Rattle.std.specs.Prelude.{◌≡◌, Err, IfOk};
 ghost use Rattle.sqlite_wal.specs.Files.{image_at};
 ghost use Rattle.sqlite_wal.specs.Reads.{AreClean};
@@ -48,9 +48,9 @@ pub fn whole_files<D: Disk + Drop>(
     }
 }
 
-/// Does the same with the files at a path, even if their log has lost commits: the result has what
-/// recovery finds. No other program may have the files open, since its writes would be missed. `S`
-/// has what the files held.
+/// Returns what `whole_files` returns, for the files at a path, even if their log has lost commits.
+/// The result has what recovery finds. No other program may have the files open, because its writes
+/// would be missed. `S` has what the files held.
 pub fn recovered_file<S: Start>(
     rt: &HostRuntime,
     path: &str,
@@ -66,7 +66,7 @@ pub fn recovered_file<S: Start>(
     }
 }
 
-/// Does the same if the log has lost no commits.
+/// Returns what `whole_files` returns, for the files at a path, if their log has lost no commits.
 pub fn whole_file<S: Start>(
     rt: &HostRuntime,
     path: &str,

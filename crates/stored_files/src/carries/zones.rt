@@ -1,4 +1,4 @@
-//! The time zone of an office's file, as its table `meta` has it.
+//! The time zone of an office's file, which its table `meta` has.
 ghost use Rattle.std.specs.Prelude.{◌≡◌, ◌∷◌, [], ℕ, List, false, Err, IfOk, string_bytes};
 ghost use Rattle.sqlite.specs.Held.{state};
 ghost use Rattle.sqlite.specs.State.{HasCleanDisk, IsUnchanged};
@@ -13,7 +13,7 @@ use sqlite::{Alter, Connection, Error, ErrorCode, Row};
 use store_files::{OpenFault, layout_of};
 use store_tables::{RowFault, check_open, text};
 
-// Maps an error of the query to a fault.
+// Maps an error of the query for the zone to a fault.
 fn fault_of(error: Error) -> OpenFault {
     match error {
         Error::SqliteFailure(ErrorCode::OutOfMemory) => OpenFault::Memory,
@@ -34,7 +34,7 @@ fn zone_rows<S: Alter>(connection: &mut Connection<S>) -> Result<Vec<Row>, Error
     connection.query_all("SELECT zone FROM meta", &[])
 }
 
-// Reads the text of a row.
+// Reads the text of the zone from a row.
 fn zone_of(row: &Row) -> Result<String, OpenFault>
     ensures { (m : Meta) → row.now ≡ zone_shown m
         → IfOk result (λ zone. string_bytes zone ≡ m.zone) }
@@ -46,7 +46,7 @@ fn zone_of(row: &Row) -> Result<String, OpenFault>
     }
 }
 
-// Reads the text of the only row.
+// Reads the text of the zone from the only row. Another number of rows is a fault.
 fn zone_in(rows: &[Row]) -> Result<String, OpenFault>
     ensures { (m : Meta) → rows.now ≡ zone_shown m ∷ []
         → IfOk result (λ zone. string_bytes zone ≡ m.zone) }
@@ -57,7 +57,7 @@ fn zone_in(rows: &[Row]) -> Result<String, OpenFault>
     }
 }
 
-// Reads the zone of an open file.
+// Reads the text of the zone of a file that is open.
 fn zone_of_open<S: Alter>(connection: &mut Connection<S>) -> Result<String, OpenFault>
     ensures clean { HasCleanDisk (state S.Store connection.new)
         → HasCleanDisk (state S.Store connection.old) }
@@ -74,7 +74,7 @@ fn zone_of_open<S: Alter>(connection: &mut Connection<S>) -> Result<String, Open
     }
 }
 
-// Reads the zone of a file, after the check that the database is open.
+// Reads the text of the zone of a file, after the check that the database is open.
 fn zone_of_file<S: Alter>(connection: &mut Connection<S>) -> Result<String, OpenFault>
     requires { connection.old.in_transaction ≡ false }
     ensures clean { HasCleanDisk (state S.Store connection.new)

@@ -11,21 +11,21 @@ use std::io::Write;
 #[derive(Drop)]
 pub enum Ending<'a> {
     Fine,
-    /// The input is wrong, or was refused. The output says which.
+    /// The input is wrong, or the office refused it. The output says which.
     Refused,
-    /// The arguments are wrong, as the text says.
+    /// The arguments are wrong. The text says why.
     Wrong(String),
-    /// The arguments are not in UTF-8.
+    /// The arguments are not valid UTF-8.
     NoText,
-    /// The text for the option is not a time zone.
+    /// The value of the option is not a time zone.
     NoZone(&'a str),
-    /// The text for the option is not a day.
+    /// The value of the option is not a day.
     NoDay { option: &'a str, word: &'a str },
     /// The range of days ends before it begins.
     Backward,
-    /// The file for the option has no seal.
+    /// The file that the option names has no seal.
     NoSeal(&'a str),
-    /// The file for the option was given twice.
+    /// The file that the option names was given twice.
     Twice(&'a str),
     Failed(Failure<'a>),
 }

@@ -34,33 +34,33 @@ pub enum Failure<'a> {
         path: &'a str,
         fault: OpenFault,
     },
-    /// A file has no tables, but is not empty. A new office is created in an empty file only.
+    /// The file has no tables, but it is not empty. A new office is created only in an empty file.
     Occupied {
         path: &'a str,
     },
-    /// A file has no office that could be opened.
+    /// The file has no office that can be opened.
     Unopened {
         path: &'a str,
         fault: OpenFault,
     },
-    /// A file has no tables, so those of an office may be in its log.
+    /// The file has no tables, so the tables of an office may be in its log.
     Bare {
         path: &'a str,
     },
-    /// A file is missing or empty, but its log is not.
+    /// The file is missing or empty, but its log is not.
     LogAlone {
         path: &'a str,
     },
-    /// The log of a file has lost no commits, so there is nothing to recover.
+    /// The log of the file has lost no commits, so there is nothing to recover.
     Undamaged {
         path: &'a str,
     },
-    /// A file was not copied.
+    /// The file was not copied.
     Uncopied {
         path: &'a str,
         fault: CopyFault,
     },
-    /// A file was not audited.
+    /// The file was not audited.
     Unaudited {
         path: &'a str,
         fault: AuditFault,
@@ -81,7 +81,7 @@ pub enum Failure<'a> {
         host: &'a str,
         port: u16,
     },
-    /// A round had the greatest number of turns.
+    /// A round reached the greatest number of turns.
     Endless {
         host: &'a str,
         port: u16,
@@ -199,7 +199,7 @@ impl<'a> Display for Failure<'a> {
 
 impl<'a> Error for Failure<'a> {}
 
-// Why the tables of an office were not created, and what to do.
+// Returns why the tables of an office were not created, and what to do.
 fn why_unmade(fault: OpenFault) -> &'static str {
     match fault {
         OpenFault::NotOurs => "already has tables: skip create, or choose another file",
@@ -210,7 +210,7 @@ fn why_unmade(fault: OpenFault) -> &'static str {
     }
 }
 
-// Why an office was not opened, and what to do.
+// Returns why an office was not opened, and what to do.
 fn why_unopened(fault: OpenFault) -> &'static str {
     match fault {
         OpenFault::NotOurs =>
@@ -222,7 +222,7 @@ fn why_unopened(fault: OpenFault) -> &'static str {
     }
 }
 
-// Why an office was not audited, and what to do.
+// Returns why an office was not audited, and what to do.
 fn why_unaudited(fault: AuditFault) -> &'static str {
     match fault {
         AuditFault::NotOurs =>

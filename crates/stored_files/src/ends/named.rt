@@ -2,7 +2,7 @@
 use std::fmt;
 use std::fmt::{Display, Formatter};
 
-/// A name that is written on one line: a line feed in it is written as `\x0a`.
+/// The name of a file in a message, on one line. A line feed in the name is written as `\x0a`.
 #[derive(Clone, Copy, Debug)]
 pub struct Named<'a>(pub &'a str);
 

@@ -1,4 +1,5 @@
-//! The check of the log beside a database file, before the two are opened. It writes nothing.
+//! The check of the write-ahead log beside a database file, before the two are opened. It writes
+//! nothing.
 ghost use Rattle.std.specs.Prelude.{◌≢◌, IfErr};
 ghost use Rattle.sqlite_wal.specs.PageSize.{Names, size_in_file};
 
@@ -9,8 +10,8 @@ use sqlite_wal::PageSize;
 use std::fs::{self, File};
 use std::io::{self, ErrorKind, Read};
 
-/// The most bytes of a log that are read: 1 GiB, many times the size to which the writer lets a log
-/// grow.
+/// The greatest number of bytes that are read of a log: 1 GiB. This is many times the size to which
+/// the writer lets a log grow.
 const MOST_LOG: u64 = 1_073_741_824;
 
 /// The length of a database file's header.
@@ -29,7 +30,8 @@ fn read_fault(error: io::Error) -> FileFault
     }
 }
 
-/// Refuses a path that exists and is not a regular file: reading it might wait, or never end.
+/// Refuses a path that exists and is not a regular file, because reading it might block or never
+/// end.
 pub fn check_regular(rt: &HostRuntime, path: &str) -> Result<(), FileFault>
     ensures { IfErr result (λ fault. fault ≢ FileFault.Missing) }
 {
@@ -64,14 +66,14 @@ pub(crate) fn read_log(rt: &HostRuntime, path: &str) -> Result<Vec<u8>, FileFaul
     read_up_to(rt, path, MOST_LOG)
 }
 
-/// Reads the header of a database file, or the part of it that the file has.
+/// Reads the header of a database file. A shorter file has only a part of it.
 pub(crate) fn read_front(rt: &HostRuntime, path: &str) -> Result<Vec<u8>, FileFault>
     ensures { IfErr result (λ fault. fault ≢ FileFault.Missing) }
 {
     read_up_to(rt, path, HEADER)
 }
 
-/// Returns the page size in the header of a database file.
+/// Returns the page size in the header of a database file, or None if the header has none.
 pub(crate) fn page_size_in(db: &[u8]) -> Option<PageSize>
     ensures { Names result (size_in_file db.now) }
 {
@@ -82,7 +84,7 @@ pub(crate) fn page_size_in(db: &[u8]) -> Option<PageSize>
     PageSize::new(if named == 1 { 65536 } else { named })
 }
 
-// Checks the log of a database file with pages of this size.
+// Checks the log of a database file whose pages have this size.
 fn check_log_for(rt: &HostRuntime, path: &str, log: &[u8], size: PageSize) -> Result<(), FileFault>
     ensures { IfErr result (λ fault. fault ≢ FileFault.Missing) }
 {
@@ -99,8 +101,8 @@ fn check_log_for(rt: &HostRuntime, path: &str, log: &[u8], size: PageSize) -> Re
     }
 }
 
-// Checks the log of the file at a path. A file without a page size is not a database, which its
-// opening reports.
+// Checks the log of the file at a path once. A file without a page size is not a database, which
+// its opening reports.
 fn check_once(rt: &HostRuntime, path: &str) -> Result<(), FileFault>
     ensures { IfErr result (λ fault. fault ≢ FileFault.Missing) }
 {
@@ -116,9 +118,9 @@ fn check_once(rt: &HostRuntime, path: &str) -> Result<(), FileFault>
 }
 
 /// Checks that opening the file at a path loses no commit of the log beside it. Another process may
-/// write to both files meanwhile. So a log counts as damaged only if a second look finds the same
-/// damage. By then, everything written before the first look is there. Other damage is reported as
-/// `Busy`.
+/// write to both files during the check. So a log counts as damaged only if a second look finds the
+/// same damage. By then, everything written before the first look is there. Other damage is
+/// reported as `Busy`.
 pub fn check_beside(rt: &HostRuntime, path: &str) -> Result<(), FileFault>
     ensures { IfErr result (λ fault. fault ≢ FileFault.Missing) }
 {

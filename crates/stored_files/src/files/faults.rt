@@ -1,4 +1,4 @@
-//! Why a file is not opened.
+//! Why a database file is not opened.
 ghost use Rattle.std.specs.Prelude.{◌≡◌};
 ghost use Rattle.stored_files.specs.Files.Faults.{file_fault_number, fault_of};
 
@@ -7,7 +7,7 @@ use sqlite::{Error, ErrorCode};
 use std::fmt;
 use std::fmt::{Display, Formatter};
 
-/// Why a file is not opened.
+/// Why a database file is not opened.
 #[derive(Clone, Copy, Debug, PartialEq, Eq)]
 pub enum FileFault {
     /// The file does not exist.
@@ -42,7 +42,7 @@ impl FileFault {
     }
 }
 
-// What was wrong and what to do, after the file's name.
+// Writes what was wrong and what to do. The message follows the name of the file.
 impl Display for FileFault {
     fn fmt<W: fmt::Write>(&self, f: &mut Formatter<W>) -> fmt::Result {
         f.write_str(match self {

@@ -1,4 +1,4 @@
-//! Mending the header of a log in a copy.
+//! Repairing the header of a write-ahead log in a copy of the files.
 use crate::files::beside::{page_size_in, read_front, read_log};
 use crate::files::faults::FileFault;
 use crate::files::paths::log_of;
@@ -6,18 +6,18 @@ use crate::logs::{FRAME_HEADER_LEN, HEADER_LEN, is_header, mended_header};
 use std::fs::OpenOptions;
 use std::io::{self, Write};
 
-/// The header of a log after it was mended.
+/// The result of repairing the header of a log.
 #[derive(Clone, Copy, Debug, PartialEq, Eq)]
 pub enum LogHeader {
     /// The header was not damaged.
     Sound,
-    /// One byte of the header was changed, and is restored.
+    /// One byte of the header was changed, and was repaired.
     Mended,
-    /// More of the header was changed, so the log can't be read.
+    /// More than one byte of the header was changed, so the log can't be read.
     Lost,
 }
 
-// The header of a log that is long enough for frames.
+// Returns the header of a log, or None if the log is too short for frames.
 fn header_of(log: &[u8]) -> Option<[u8; 32]> {
     if log.len() < HEADER_LEN + FRAME_HEADER_LEN {
         return None;
@@ -36,8 +36,8 @@ fn write_header(rt: &HostRuntime, path: &str, header: &[u8; 32]) -> io::Result<(
     log.sync_all()
 }
 
-/// Mends the header of the log beside the file at a path, if one byte of it was changed. Both files
-/// must be copies.
+/// Repairs the header of the log beside the file at a path, if one byte of the header was changed.
+/// Both files must be copies.
 pub fn mend_beside(rt: &HostRuntime, path: &str) -> Result<LogHeader, FileFault> {
     let Ok(log_path) = log_of(rt, path) else {
         return Err(FileFault::Memory);

@@ -1,4 +1,4 @@
-//! Whose tables a database has.
+//! Whether a database has the tables of an office.
 ghost use Rattle.std.specs.Prelude.{◌↔◌, ◌≡◌, false, IsTrue};
 ghost use Rattle.store_files.specs.declared.layouts.Layout.{Layout as TheLayout};
 ghost use Rattle.store_files.specs.Layouts.{no_schema, IsNamedAs};

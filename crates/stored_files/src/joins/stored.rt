@@ -19,27 +19,27 @@ use office_store::{OpenFault, SqlBooks};
 use sqlite::{Alter, Connection};
 use std::alloc::Global;
 
-/// Why an office in a database was not joined to the earlier offices.
+/// Why an office in a database was not added to the earlier offices of a merged report.
 #[derive(Clone, Copy, Debug, PartialEq, Eq)]
 pub enum JoinFault {
     /// The database has no office that could be opened.
     Unopened(OpenFault),
     /// The office has another time zone.
     OtherZone,
-    /// The register or a meter at it does not continue in the office.
+    /// The accounting register, or a meter at it, does not continue from the earlier offices.
     Unjoined(Unjoined),
     /// The office's store failed, or memory ran out.
     Books(Refusal),
 }
 
-/// What was kept of the offices that join, and the text of their time zone.
+/// What is kept of the offices that were added to a merged report, and the text of their time zone.
 #[derive(Drop)]
 pub struct JoinedOffice<K> {
     pub zone: String,
     pub kept: K,
 }
 
-// Whether an office with this time zone may be next.
+// Returns whether an office with this time zone may follow the earlier offices.
 fn is_of_zone<K>(zone: &str, before: &Option<JoinedOffice<K>>) -> bool
     ensures { IsTrue result ↔ IsOfZone zone.now before.now }
 {
@@ -49,7 +49,7 @@ fn is_of_zone<K>(zone: &str, before: &Option<JoinedOffice<K>>) -> bool
     }
 }
 
-// What is kept before the next file.
+// Returns what is kept before the next office: that of the earlier offices, or an empty report.
 fn kept_before<K: Keeping>(
     alloc: Global,
     zone: &str,
@@ -71,7 +71,7 @@ fn kept_before<K: Keeping>(
     }
 }
 
-// Adds what a store reports to what was kept.
+// Adds the report on a store to what is kept.
 fn join_books<B: Books, K: Keeping>(
     books: B,
     kept: K,
@@ -95,7 +95,7 @@ fn join_books<B: Books, K: Keeping>(
     }
 }
 
-// Opens an office, and adds what it reports.
+// Opens an office, and adds the report on it to what is kept.
 fn join_opened<S: Alter + Drop, K: Keeping>(
     alloc: Global,
     connection: Connection<S>,
@@ -142,7 +142,7 @@ fn join_in_zone<S: Alter + Drop, K: Keeping>(
     }
 }
 
-// Drops what was kept, and returns the fault.
+// Drops what was kept of the earlier offices, and returns the fault.
 fn refused<K: Keeping>(
     before: Option<JoinedOffice<K>>,
     why: JoinFault,
@@ -153,8 +153,8 @@ fn refused<K: Keeping>(
     Err(why)
 }
 
-/// Adds what an office in a database reports of a register on a range of days to what was kept of
-/// the earlier offices. Writes nothing to the database.
+/// Adds the report on an office in a database to what is kept of the earlier offices. The report is
+/// about an accounting register on a range of days. Writes nothing to the database.
 pub fn join_stored<S: Alter + Drop, K: Keeping>(
     alloc: Global,
     connection: Connection<S>,

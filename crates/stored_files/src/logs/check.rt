@@ -1,4 +1,4 @@
-//! Whether a log has lost commits that were on the disk.
+//! Whether a write-ahead log has lost commits that were on the disk.
 ghost use Rattle.std.specs.Prelude.{◌≡◌, ◌⊎◌, ◌+◌, ◌*◌, ◌<◌, ◌≤◌, ◌↔◌, ℕ, length, Err, IsNone, IfSome, IfOk, IfErr, OnOk, IsTrue};
 ghost use Rattle.sqlite_disk.specs.Memory.{memory_bytes, memory_is_usable};
 ghost use Rattle.sqlite_wal.specs.Format.{count_page, page_number};
@@ -19,13 +19,13 @@ use std::io;
 /// The offset of the first salt byte in a log's header.
 const SALT: usize = 16;
 
-/// The offset of the first salt byte in a frame: the frame's gate.
+/// The offset of the first salt byte in a frame, which is called the frame's gate.
 const GATE: usize = 8;
 
 /// The page number of a frame that counts what the frames up to the commit lack.
 const COUNT_PAGE: u32 = 0xff00_0000;
 
-/// Why a log is refused.
+/// Why a write-ahead log is refused.
 #[derive(Clone, Copy, Debug, PartialEq, Eq)]
 pub enum LogFault {
     /// The header is damaged, or is for another page size.
@@ -37,7 +37,7 @@ pub enum LogFault {
     Memory,
 }
 
-// What is wrong, after the log's name.
+// Writes what is wrong with the log. The message follows the name of the log.
 impl Display for LogFault {
     fn fmt<W: fmt::Write>(&self, f: &mut Formatter<W>) -> fmt::Result {
         match self {
@@ -49,8 +49,8 @@ impl Display for LogFault {
     }
 }
 
-// Whether the transaction after the frames that recovery takes was complete when the transaction at
-// frame `i` began.
+// Returns whether the transaction at the first frame that recovery drops was complete when the one
+// at frame `i` began.
 fn was_complete(log: &[u8], page_size: usize, taken: usize, i: usize) -> bool
     requires behind { taken < i }
     requires size { page_size ≤ 65536 }
@@ -71,7 +71,8 @@ fn is_cut_off(log: &[u8], page_size: usize, taken: usize, i: usize) -> bool
     begins(log, page_size, i) && was_complete(log, page_size, taken, i)
 }
 
-// Finds the first transaction that recovery would drop although the one before it was complete.
+// Returns the first frame that begins a transaction after a complete transaction that recovery
+// would drop.
 fn find_cut_off(log: &[u8], page_size: usize, taken: usize) -> Option<usize>
     requires room { 32 ≤ length log.now }
     requires size { page_size ≤ 65536 }
@@ -88,7 +89,7 @@ fn find_cut_off(log: &[u8], page_size: usize, taken: usize) -> Option<usize>
     None
 }
 
-// A file in memory with these bytes.
+// Returns a file in memory with these bytes.
 fn file_of(alloc: Global, bytes: &[u8]) -> io::Result<Memory>
     ensures usable { IfOk result (λ file. IsTrue (memory_is_usable file)) }
     ensures bytes { IfOk result (λ file. memory_bytes file ≡ bytes.now) }

@@ -1,5 +1,5 @@
-//! Logs that a checkpoint was emptying: their first byte is shut, and the database file has their
-//! pages.
+//! Logs that a checkpoint was emptying. Their first byte was changed, and the database file has
+//! their pages.
 ghost use Rattle.std.specs.Prelude.{◌≡◌, ◌⊎◌, ◌+◌, ◌-◌, ◌*◌, ◌<◌, ◌≤◌, ◌↔◌, length, IfOk, IfErr, OnOk, IsTrue};
 ghost use Rattle.sqlite_wal.specs.PageSize.{bytes_of};
 ghost use Rattle.sqlite_wal.specs.Recovery.{AreFramesOf, file_page, page_after};
@@ -13,14 +13,15 @@ use std::alloc::{AllocError, Global};
 /// The first byte of a log that is in use.
 const OPEN: u8 = 0x37;
 
-/// Returns whether a log is shut. A log that is too short for frames is not.
+/// Returns whether the first byte of a log was changed. A log that is too short for frames counts
+/// as unchanged.
 pub(crate) fn is_shut(log: &[u8]) -> bool
     ensures { IsTrue result ↔ (HasRoom log.now × IsShut log.now) }
 {
     log.len() >= 56 && log[0] != OPEN
 }
 
-// Page `number` of a database file, from 1.
+// Returns page `number` of a database file, from 1.
 fn page_in(db: &[u8], page_size: usize, number: usize) -> &[u8]
     requires first { 0 < number }
     requires size { page_size ≤ 65536 }
@@ -31,7 +32,8 @@ fn page_in(db: &[u8], page_size: usize, number: usize) -> &[u8]
     &db[at..at + page_size]
 }
 
-// Whether the file has a page with the content that the frames leave.
+// Returns whether page `number` of the database file has the content that the frames of the log
+// leave.
 fn has_page(log: &[u8], db: &[u8], page_size: usize, pages: &[u32], number: usize) -> bool
     requires first { 0 < number }
     requires size { page_size ≤ 65536 }
@@ -50,7 +52,7 @@ fn has_page(log: &[u8], db: &[u8], page_size: usize, pages: &[u32], number: usiz
     page == page_in(db, page_size, number)
 }
 
-/// Returns whether the file has each page with the content that the frames leave.
+/// Returns whether each page of the database file has the content that the frames of the log leave.
 fn has_all_pages(log: &[u8], db: &[u8], page_size: usize, pages: &[u32]) -> bool
     requires some { 0 < page_size }
     requires size { page_size ≤ 65536 }
@@ -73,7 +75,7 @@ fn has_all_pages(log: &[u8], db: &[u8], page_size: usize, pages: &[u32]) -> bool
     true
 }
 
-// The log with the first byte that it had before it was shut.
+// Returns the log with the first byte that it had before the checkpoint changed it.
 fn opened_log(alloc: Global, log: &[u8]) -> Result<Vec<u8>, AllocError>
     requires { 0 < length log.now }
     ensures { IfOk result (λ it. it.items ≡ opened log.now) }
@@ -104,7 +106,7 @@ fn check_kept(alloc: Global, log: &[u8], db: &[u8], size: PageSize) -> Result<()
     }
 }
 
-/// Checks that ignoring a log that is shut loses nothing.
+/// Checks that ignoring a log whose first byte was changed loses nothing.
 pub(crate) fn check_emptied(
     alloc: Global,
     log: &[u8],

@@ -1,4 +1,4 @@
-//! The bytes of a log (SQLite's file format, section 4).
+//! The bytes of a write-ahead log (SQLite's file format, section 4).
 ghost use Rattle.std.specs.Prelude.{◌≡◌, ◌≢◌, ◌+◌, ◌*◌, ◌-◌, ◌^◌, ◌<◌, ◌≤◌, ◌↔◌, length, IsTrue};
 ghost use Rattle.sqlite_wal.specs.Format.{be32, commit_size, content, stored_sum, IsSigned, IsHeader, IsFrame};
 ghost use Rattle.sqlite_wal.specs.Recovery.{frame, frame_at, header};
@@ -6,16 +6,16 @@ ghost use Rattle.stored_files.specs.Logs.Damage.{Begins};
 
 use sqlite_wal::checksum_of;
 
-/// The length of the log's header.
+/// The length of the log's header in bytes.
 pub(crate) const HEADER_LEN: usize = 32;
 
-/// The length of a frame's header.
+/// The length of a frame's header in bytes.
 pub(crate) const FRAME_HEADER_LEN: usize = 24;
 
 /// The only version of the format.
 const VERSION: u32 = 3007000;
 
-/// Reads a four-byte number, highest byte first.
+/// Reads a four-byte big-endian number at offset `at`.
 pub(crate) fn get_be32(bytes: &[u8], at: usize) -> u32
     requires { at + 4 ≤ length bytes.now }
     ensures { result ≡ be32 bytes.now at }
@@ -73,7 +73,8 @@ pub(crate) fn frame_offset(page_size: usize, i: usize) -> usize
     HEADER_LEN + i * (FRAME_HEADER_LEN + page_size)
 }
 
-/// Returns whether a frame passes SQLite's test, with this header and after this checksum.
+/// Returns whether a frame passes SQLite's test: it has the salt of this header, and continues the
+/// checksum `before`.
 fn is_frame(head: &[u8], before: (u32, u32), frame: &[u8]) -> bool
     requires head { length head.now ≡ 32 }
     requires frame { 24 ≤ length frame.now }

@@ -1,4 +1,4 @@
-//! Headers with one changed byte.
+//! Valid headers that differ from a damaged header in one byte.
 ghost use Rattle.std.specs.Prelude.{◌≡◌, ◌≢◌, ◌+◌, ◌*◌, ◌<◌, ◌≤◌, ℕ, length, slice_set, IsNone, IfSome};
 ghost use Rattle.sqlite_wal.specs.Format.{IsHeader};
 ghost use Rattle.sqlite_wal.specs.PageSize.{bytes_of};
@@ -7,7 +7,7 @@ ghost use Rattle.stored_files.specs.Logs.Damage.{IsMended};
 use crate::logs::format::{HEADER_LEN, is_header};
 use sqlite_wal::PageSize;
 
-// The header with another byte.
+// Returns the header with another byte at offset `at`.
 fn with_byte(head: &[u8; 32], at: usize, byte: u8) -> [u8; 32]
     requires { at < 32 }
     ensures { result ≡ slice_set head.now at byte }
@@ -17,7 +17,7 @@ fn with_byte(head: &[u8; 32], at: usize, byte: u8) -> [u8; 32]
     other
 }
 
-// The valid header that differs at this offset alone, if there is one.
+// Returns the valid header that differs only at offset `at`, if there is one.
 fn mended_at(head: &[u8; 32], at: usize, page_size: usize) -> Option<[u8; 32]>
     requires { at < 32 }
     ensures found { IfSome result (IsMended page_size head.now) }

@@ -1,4 +1,4 @@
--- The ends of a task after which more is reported.
+-- When more messages follow the end of a task.
 use Rattle.std.specs.Prelude.{Bool, true, false, Result, Ok, Err}
 use Rattle.command_io.specs.declared.status.ExitStatus.{ExitStatus}
 use Rattle.command_io.specs.declared.status.ExitStatus.TheVariants as status
@@ -11,26 +11,25 @@ use Rattle.office_rounds.specs.declared.fault.RoundFault.TheVariants.{Refused}
 use Rattle.stored_office.specs.declared.tasks.tasks.Done.{Done}
 use Rattle.stored_office.specs.declared.tasks.tasks.Done.TheVariants as task
 
--- The round was completed or refused.
+-- Whether a round was completed, or the office refused to continue it.
 abbrev pub is_finished : Result (Unit {0}) RoundFault → Bool
 is_finished (Ok x) = true
 is_finished (Err (Refused why)) = true
 is_finished (Err _) = false
 
--- The office refused.
+-- Whether the exit status says that the office refused.
 abbrev pub is_refusal : ExitStatus → Bool
 is_refusal status.Refused = true
 is_refusal _ = false
 
--- The round was completed, or the office refused it. After a failure, only the failure itself is
--- reported.
+-- Whether messages follow a round: if it was completed, or the office refused it. After any other
+-- failure, only the failure is reported.
 abbrev pub is_told : PollEnd → Bool
 is_told (Polled done) = is_finished done
 is_told (Unopened why) = is_refusal why
 is_told Unconnected = false
 
--- A task that serves, enters lines or polls a device first opens the office, which may refuse to
--- open.
+-- Whether the office of a serving task refused to open.
 abbrev pub is_refused_serving : ServeEnd → Bool
 is_refused_serving serving.Served = false
 is_refused_serving (serving.Unopened why) = is_refusal why
@@ -42,7 +41,8 @@ is_refused_polling (Polled done) = false
 is_refused_polling (Unopened why) = is_refusal why
 is_refused_polling Unconnected = false
 
--- The office may have refused to open because its latest record is later than the clock.
+-- Whether a task may have ended because the office refused to open. The cause may be that the
+-- office's latest record is later than the clock.
 abbrev pub may_be_ahead : Done → Bool
 may_be_ahead (task.Reported status) = false
 may_be_ahead (task.Served end) = is_refused_serving end

@@ -1,4 +1,4 @@
--- The messages on what a device lacks.
+-- The messages about what a device lacks in the store before it can be polled.
 use Rattle.std.specs.Prelude.{◌≡◌, ℕ, List, [], ◌∷◌, Option, Result, OnOk}
 use Rattle.office_events.specs.declared.facts.Fact.{Fact}
 use Rattle.office_books.specs.Ledgers.{Ledger}
@@ -6,12 +6,13 @@ use Rattle.run_status.specs.Advice.Lacks.{lacks_of}
 use Rattle.run_status.specs.Advice.Sentences.{with_lack}
 use Rattle.run_status.specs.declared.advice.lacks.DeviceLack.{DeviceLack}
 
--- A line for each lack, in order.
+-- The text with a line for each thing that a device lacks, in order.
 abbrev pub with_lacks : List DeviceLack → List ℕ → List ℕ
 with_lacks [] text = text
 with_lacks (lack ∷ lacks) text = with_lacks lacks (with_lack lack text)
 
--- The text has what the device lacks, by the records of the store.
+-- At Ok, the text has a line for each thing that the device lacks by the records of the store. This
+-- needs a database that gave back what was written to it.
 abbrev pub PutsLacks : {T E : Type 0} → (old new : Ledger) → (device : Option (List ℕ))
     → (before after : List ℕ) → Result T E → Type 0
 PutsLacks old new device before after result = (known : List Fact) → old.holds known

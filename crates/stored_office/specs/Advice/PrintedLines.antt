@@ -6,12 +6,13 @@ use Rattle.stored_office.specs.Advice.Remarks.{Says, remark_of}
 use Rattle.stored_office.specs.declared.advice.remarks.Remark.{Remark}
 use Rattle.stored_office.specs.declared.advice.remarks.Remark.TheVariants.{Refused, Held}
 
--- Refusal 1, for an unknown device or list, is reported as a lack instead.
+-- Whether a remark is explained here. Refusal 1, for an unknown device or list, is not: `say_lacks`
+-- reports it.
 abbrev pub is_left : Remark → Bool
 is_left (Refused number) = not (number == 1)
 is_left (Held meter number) = true
 
--- The explanation of a remark is appended, unless it is reported as a lack.
+-- The explanation of a remark is appended, unless `say_lacks` reports it.
 abbrev pub SaysIf : (left : Bool) → (device : Option (List ℕ)) → Remark → (old new : List ℕ)
     → Type 0
 SaysIf true device remark old new = Says device remark old new
@@ -26,7 +27,7 @@ abbrev pub ExplainsLine : (device : Option (List ℕ)) → (line old new : List 
 ExplainsLine device line old new =
     SaysLeft device (remark_of (words_of line)) old new
 
--- The explanations of several lines, one after another.
+-- The explanations of several printed lines are appended, one after another.
 abbrev pub Explains : (device : Option (List ℕ)) → List Line → (old new : List ℕ) → Type 0
 Explains device [] old new = new ≡ old
 Explains device (line ∷ lines) old new =

@@ -1,4 +1,5 @@
--- Printed lines of a round that need an explanation, and their explanations.
+-- Printed lines of a round that need an explanation, and the explanations. A round is one poll for
+-- each read of a device's plan.
 use Rattle.std.specs.Prelude.{◌≡◌, ℕ, nat_lt, Bool, true, false, List, [], ◌∷◌, Option, Some, None, codes, if◌then◌else◌}
 use Rattle.std.specs.Str.{bytes_eq}
 use Rattle.printed_numbers.specs.Numbers.{has_number}
@@ -9,16 +10,16 @@ use Rattle.script_lines.specs.LineWords.Fields.{AnyName, Number, first_value, no
 use Rattle.stored_office.specs.declared.advice.remarks.Remark.{Remark}
 use Rattle.stored_office.specs.declared.advice.remarks.Remark.TheVariants.{Refused, Held}
 
--- A 32-bit number.
+-- The number, if it is less than 2^32.
 abbrev pub small : ℕ → Option ℕ
 small number = if nat_lt number 4294967296 then Some number else None
 
--- The words after this word.
+-- The words after the first, if the first word is `wanted`.
 abbrev pub exactly : (wanted : List ℕ) → List (List ℕ) → Option (List (List ℕ))
 exactly wanted [] = None
 exactly wanted (word ∷ words) = if bytes_eq word wanted then Some words else None
 
--- The words `refused N`.
+-- The refusal in the words `refused N`. None for other words.
 abbrev pub refusal_of : (words : List (List ℕ)) → Option Remark
 refusal_of words =
     exactly (codes "refused") words >>= λ rest.
@@ -27,7 +28,7 @@ refusal_of words =
     small number.0 >>= λ n.
     Some (Refused n)
 
--- The words `held METER RAW cause N`.
+-- The rejected reading in the words `held METER RAW cause N`. None for other words.
 abbrev pub hold_of : (words : List (List ℕ)) → Option Remark
 hold_of words =
     exactly (codes "held") words >>= λ rest.
@@ -44,25 +45,26 @@ abbrev pub or_hold : Option Remark → Option Remark → Option Remark
 or_hold (Some remark) held = Some remark
 or_hold None held = held
 
--- The refusal or the rejected reading of a printed line.
+-- The refusal or the rejected reading in the words of a printed line. None for any other line.
 abbrev pub remark_of : (words : List (List ℕ)) → Option Remark
 remark_of words = or_hold (refusal_of words) (hold_of words)
 
--- A line says what the number means, and what to do. Nothing is appended if the kind does not have
--- the number.
+-- If `known`, a line is appended that says what the number means and what to do. Otherwise nothing
+-- is appended.
 abbrev pub MeansIf : (known : Bool) → (subject : Option (List ℕ)) → Kind → (before : List ℕ)
     → (number : ℕ) → (old new : List ℕ) → Type 0
 MeansIf true subject k before number old new =
     MeansAfter k number before (with_subject subject old) new
 MeansIf false subject k before number old new = new ≡ old
 
--- The explanation of a number is appended, if its kind has the number.
+-- The explanation of a number is appended, if numbers of this kind include it.
 abbrev pub MayMean : (subject : Option (List ℕ)) → Kind → (before : List ℕ) → (number : ℕ)
     → (old new : List ℕ) → Type 0
 MayMean subject k before number old new =
     MeansIf (has_number k number) subject k before number old new
 
--- The explanation of a refusal has the device as its subject, that of a rejected reading its meter.
+-- The explanation of a remark is appended. It names the device of a refusal, or the meter of a
+-- rejected reading.
 abbrev pub Says : (device : Option (List ℕ)) → Remark → (old new : List ℕ) → Type 0
 Says device (Refused number) old new = MayMean device kind.Refused (codes ": ") number old new
 Says device (Held meter number) old new =

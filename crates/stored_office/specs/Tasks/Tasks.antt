@@ -1,4 +1,4 @@
--- The effect of a task over a store, or over the store of a database, and how the task ends.
+-- What a task does to a store, or to the store of a database, and how the task ends.
 use Rattle.std.specs.Prelude.{ℕ, List, Option}
 use Rattle.sqlite.specs.Store.{Ghosts}
 use Rattle.office_rules.specs.History.{History}
@@ -21,7 +21,7 @@ use Rattle.stored_office.specs.declared.tasks.tasks.Task.TheVariants as task
 use Rattle.stored_office.specs.declared.tasks.tasks.Done.{Done}
 use Rattle.stored_office.specs.declared.tasks.tasks.Done.TheVariants.{Reported, Served, Entered, Checked, Polled, Ran}
 
--- The end of a task is of the task's kind.
+-- The end `Done` is possible for this kind of task.
 abbrev pub IsOf : Task → Done → Type 0
 IsOf (task.Report register) (Reported end) = Unit {0}
 IsOf (task.ReportRange register form) (Reported end) = Unit {0}
@@ -34,7 +34,7 @@ IsOf (task.Run settings sites) (Ran end) = Unit {0}
 IsOf _ _ = ⊥
 
 module _ {B : Type 0} (ledger : B → Ledger) where
-  -- A round ran over a store. Then a look-up may have found what the device lacks.
+  -- A round ran over a store, and then possibly a look-up for what the device lacks.
   abbrev pub PollsAndLooks : (past : History) → (device : List ℕ)
       → (moments later : Option (List ℕ)) → (found left : B) → (had holds : Option (List ℕ))
       → PollEnd → Type 0
@@ -43,8 +43,8 @@ module _ {B : Type 0} (ledger : B → Ledger) where
       × LooksUp (ledger polled) (ledger left)
 
 module _ {B : Type 0} (ledger : B → Ledger) (tells : Telling) (past : History) where
-  -- The requested task ran over the store that was found, left another store, and ended so. `tells`
-  -- has the files and counters that a text names.
+  -- The task ran over the store that was found, left the store `left`, and ended with `Done`.
+  -- `tells` has the files and counters that a text names.
   unfoldable pub Does : (moments later had holds : Option (List ℕ))
       → (found left : B) → Task → Done → Type 0
   Does moments later had holds found left (task.Report register) (Reported end) =
@@ -66,7 +66,7 @@ module _ {B : Type 0} (ledger : B → Ledger) (tells : Telling) (past : History)
       BooksRun (texts settings.now.host_names.now) moments later (ledger left) past
   Does moments later had holds found left _ _ = ⊥
 
--- The task ran over the store that the database was found to have.
+-- The task ran over the store that was found in the database.
 abbrev pub DoesOver : {S : Type 0} → Ghosts S → Telling → (past : History)
     → (moments later had holds : Option (List ℕ)) → Task → Done → Type 0
 DoesOver g tells past moments later had holds asked end = OverBooks g past (λ found left.

@@ -1,4 +1,4 @@
-//! The ends of a task after which more is reported.
+//! When more messages follow the end of a task.
 ghost use Rattle.std.specs.Prelude.{◌≡◌};
 ghost use Rattle.stored_office.specs.Advice.Ends as ends;
 
@@ -7,8 +7,8 @@ use command_io::ExitStatus;
 use office_program::{PollEnd, ServeEnd};
 use office_rounds::RoundFault;
 
-/// Returns whether messages follow a round: if it was completed or refused. After a failure, only
-/// the failure itself is reported.
+/// Returns whether messages follow a round: if it was completed or refused. After any other
+/// failure, only the failure is reported.
 pub(crate) fn is_told(end: PollEnd) -> bool
     ensures { result ≡ ends.is_told end }
 {
@@ -35,7 +35,7 @@ fn is_refusal(status: ExitStatus) -> bool
     }
 }
 
-// Whether the office of a serving task refused to open.
+// Returns whether the office of a serving task refused to open.
 fn is_refused_serving(end: ServeEnd) -> bool
     ensures { result ≡ ends.is_refused_serving end }
 {
@@ -47,7 +47,7 @@ fn is_refused_serving(end: ServeEnd) -> bool
     }
 }
 
-// Whether the office of a polling task refused to open.
+// Returns whether the office of a polling task refused to open.
 fn is_refused_polling(end: PollEnd) -> bool
     ensures { result ≡ ends.is_refused_polling end }
 {
@@ -58,7 +58,7 @@ fn is_refused_polling(end: PollEnd) -> bool
     }
 }
 
-/// Returns whether the office may have refused to open because its latest record is later than the
+/// Returns whether a task may have ended because the office's latest record is later than the
 /// clock. These tasks print only the number of the refusal. A run itself reports what the number
 /// means.
 pub fn may_be_ahead(done: Done) -> bool

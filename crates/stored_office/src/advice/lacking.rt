@@ -1,4 +1,4 @@
-//! What the device of a round lacks.
+//! The messages about what the device of a round lacks in the store.
 ghost use Rattle.std.specs.Prelude.{◌≡◌, OnOk, false};
 ghost use Rattle.run_status.specs.Advice.Lacks.{LooksUp};
 ghost use Rattle.stored_office.specs.Advice.Ends.{is_told};
@@ -12,7 +12,7 @@ use run_status::{DeviceLack, add_lacks, put_lack};
 use std::alloc::{AllocError, Global};
 use std::io::Write;
 
-// Appends a line for each lack.
+// Appends a line for each thing that a device lacks.
 fn put_lacks(text: &mut Vec<u8>, lacks: &[DeviceLack]) -> Result<(), AllocError>
     ensures { OnOk result (text.new.items ≡ with_lacks lacks.now text.old.items) }
 {

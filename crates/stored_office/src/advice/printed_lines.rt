@@ -1,4 +1,4 @@
-//! The printed lines of a round.
+//! The explanations of a round's printed lines.
 ghost use Rattle.std.specs.Prelude.{◌≡◌, OnOk, false};
 ghost use Rattle.command_io.specs.Lines.{speaking_lines};
 ghost use Rattle.stored_office.specs.Advice.Ends.{is_told};
@@ -13,7 +13,8 @@ use office_program::PollEnd;
 use std::alloc::{AllocError, Global};
 use std::io::Write;
 
-// Refusal 1, for an unknown device or list, has a line of `say_lacks` already.
+// Returns whether a remark is explained here. Refusal 1, for an unknown device or list, is not:
+// `say_lacks` reports it.
 fn is_left(remark: &Remark) -> bool
     ensures { result ≡ printing.is_left remark.now }
 {
@@ -23,7 +24,7 @@ fn is_left(remark: &Remark) -> bool
     }
 }
 
-// Appends the explanation of a line, if it has one.
+// Appends the explanation of a printed line, if it has one.
 fn put_line(text: &mut Vec<u8>, device: &Option<Name>, line: &[u8]) -> Result<(), AllocError>
     ensures { OnOk result (ExplainsLine device.now line.now text.old.items text.new.items) }
 {

@@ -1,4 +1,5 @@
-//! Printed lines of a round that need an explanation.
+//! Printed lines of a round that need an explanation. A round is one poll for each read of a
+//! device's plan.
 ghost use Rattle.std.specs.Prelude.{◌≡◌, OnOk, option_map};
 ghost use Rattle.script_lines.specs.LineWords.Words.{words_of};
 ghost use Rattle.run_status.specs.Advice.Sentences.{with_meaning, with_subject};
@@ -14,9 +15,9 @@ use std::alloc::AllocError;
 /// A printed line of a round that needs an explanation.
 #[derive(Clone, Copy, Debug, PartialEq, Eq)]
 pub(crate) enum Remark {
-    /// `refused N`.
+    /// The line `refused N`: a refusal of the office, with its number.
     Refused(u32),
-    /// `held METER RAW cause N`.
+    /// The line `held METER RAW cause N`: a reading of a meter was rejected.
     Held(Name, u32),
 }
 
@@ -30,7 +31,7 @@ fn small(number: u64) -> Option<u32>
     }
 }
 
-// Reads the next word, which must be this word.
+// Reads the next word, which must be `wanted`. Returns None for another word.
 fn next_exactly(words: &mut Words<'_>, wanted: &[u8]) -> Option<()>
     ensures { option_map (λ none. words.new) result ≡ remarks.exactly wanted.now words.old }
 {
@@ -41,7 +42,7 @@ fn next_exactly(words: &mut Words<'_>, wanted: &[u8]) -> Option<()>
     }
 }
 
-// `refused N`.
+// Returns the refusal in a line `refused N`. None for any other line.
 fn refusal_in(line: &[u8]) -> Option<Remark>
     ensures { result ≡ remarks.refusal_of (words_of line.now) }
 {
@@ -53,7 +54,7 @@ fn refusal_in(line: &[u8]) -> Option<Remark>
     Some(Remark::Refused(number))
 }
 
-// `held METER RAW cause N`.
+// Returns the rejected reading in a line `held METER RAW cause N`. None for any other line.
 fn hold_in(line: &[u8]) -> Option<Remark>
     ensures { result ≡ remarks.hold_of (words_of line.now) }
 {
@@ -79,7 +80,7 @@ pub(crate) fn remark_in(line: &[u8]) -> Option<Remark>
     }
 }
 
-// Appends the subject of a line.
+// Appends the name of the device or meter that a line is about, if there is one.
 fn put_subject(text: &mut Vec<u8>, name: &Option<Name>) -> Result<(), AllocError>
     ensures { OnOk result (text.new.items ≡ with_subject name.now text.old.items) }
 {
@@ -90,7 +91,7 @@ fn put_subject(text: &mut Vec<u8>, name: &Option<Name>) -> Result<(), AllocError
     }
 }
 
-// Appends what a number means, and what to do.
+// Appends what a number means and what to do, after the text `before`.
 fn put_meaning(text: &mut Vec<u8>, before: &[u8], meaning: &Meaning) -> Result<(), AllocError>
     ensures { OnOk result (text.new.items ≡ with_meaning before.now meaning.now text.old.items) }
 {
@@ -101,7 +102,8 @@ fn put_meaning(text: &mut Vec<u8>, before: &[u8], meaning: &Meaning) -> Result<(
     put(text, b"\n")
 }
 
-// Appends what a number means. Appends nothing if the kind does not have the number.
+// Appends what a number means and what to do. Appends nothing if numbers of this kind don't include
+// it.
 fn put_number_of(
     text: &mut Vec<u8>,
     subject: &Option<Name>,

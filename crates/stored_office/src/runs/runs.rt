@@ -12,9 +12,9 @@ use office_store::SqlBooks;
 use sqlite::{Alter, Connection};
 use std::alloc::Global;
 
-/// Runs events over a store in a database. The headline holds for the run on two premises. The
-/// store has the records of a history of accepted events, and a crash leaves nothing else. The
-/// database gave back what was written to it.
+/// Runs events over a store in a database. The main theorem about an office applies to the run on
+/// two premises. The store has the records of a history of accepted events, and a crash leaves
+/// exactly these. The database gave back what was written to it.
 pub fn run_stored<S: Alter + Drop>(
     alloc: Global,
     books: SqlBooks<S>,
@@ -32,8 +32,9 @@ pub fn run_stored<S: Alter + Drop>(
     run(alloc, books, opened, events)
 }
 
-/// Runs events over a new store, for the days of a time zone. The only premise is that the database
-/// gave back what was written to it. None if the store was not created, or the office not opened.
+/// Runs events over a new store, with civil days in a time zone. The only premise is that the
+/// database gave back what was written to it. None if the store was not created, or if the office
+/// was not opened.
 pub fn run_anew<S: Alter + Drop>(
     alloc: Global,
     connection: Connection<S>,

@@ -26,44 +26,46 @@ use std::io::Write;
 use std::net::Net;
 use std::rt::Files;
 
-/// A task over the store of an office.
+/// A task that a command carries out over the store of an office.
 #[derive(Clone, Copy)]
 pub enum Task<'a> {
-    /// Reports a register, as `report_books` does.
+    /// Reports the energy of an accounting register, as `report_books` does.
     Report {
         register: &'a str,
     },
-    /// Reports a register on a range of days, in a form, as `report_range_books` does.
+    /// Reports the energy of an accounting register on a range of days, in this form, as
+    /// `report_range_books` does.
     ReportRange {
         register: &'a str,
         form: &'a ReportForm,
     },
-    /// Prints the statements of the meters at a register on a range of days, as `statement_books`
-    /// does.
+    /// Prints the statements of the meters at an accounting register on a range of days, as
+    /// `statement_books` does.
     Statement {
         register: &'a str,
         form: &'a StatementForm,
     },
-    /// Serves HTTP for `connections` connections on a port of a host, under these host names too,
-    /// as `serve_books` does.
+    /// Serves HTTP on a port of a host for `connections` connections, as `serve_books` does.
+    /// `names` are further names of the host.
     Serve {
         host: &'a str,
         port: u16,
         names: &'a [&'a str],
         connections: u32,
     },
-    /// Requests what the lines of a text say, under a caller, as `enter_books` does.
+    /// Requests what the lines of a text say, with `caller` in the idempotency keys, as
+    /// `enter_books` does.
     Enter {
         caller: &'a str,
         text: &'a [u8],
     },
-    /// Only checks the lines of a text, as `check_books` does.
+    /// Checks the lines of a text without requests, as `check_books` does.
     Check {
         caller: &'a str,
         text: &'a [u8],
     },
-    /// Polls a device at a port of a host, as `poll_books` does. Then reports what the device
-    /// lacks, as `say_lacks` does.
+    /// Polls the device at a port of a host once, as `poll_books` does. Then reports what the
+    /// device lacks, as `say_lacks` does.
     Round {
         device: &'a str,
         host: &'a str,
@@ -87,7 +89,7 @@ pub enum Done {
     Ran(Result<(), RunFault>),
 }
 
-/// Executes a task over a store. `files` reads the files that a text names, and counters.
+/// Carries out a task over a store. `files` reads the files and counters that a text names.
 fn carry_out<
     R: Net + std::rt::Clock + Files,
     B: Books,
@@ -180,8 +182,8 @@ fn carry_out<
     }
 }
 
-/// Opens the store of a database, and executes a task over it. Prints nothing if the store is not
-/// opened. `files` reads the files that a text names, and counters.
+/// Opens the store of a database, and carries out a task over it. Prints nothing if the store is
+/// not opened. `files` reads the files and counters that a text names.
 pub fn carry_out_stored<
     R: Net + std::rt::Clock + Files,
     S: Alter + Drop,
