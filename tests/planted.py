@@ -57,7 +57,7 @@ BREAKS = [
     Break("audit", "audit", breaking("audit", '"$TRUE" "$@" > /dev/null\necho "fine: 1 meters, 2 entries, 1 intervals, 1 polls"\n')),
     Break("backup", "backup", breaking("backup", BACKUP)),
     Break("carry", "carry", breaking("carry", CARRY)),
-    Break("help_text", "words", breaking("help", printing("s/which it only reads/which it reads/"))),
+    Break("help_text", "words", breaking("help", printing("s/device; it only reads/device; it reads/"))),
     Break("report_digit", "report", breaking("report", printing("s/^\\([12][0-9-]*  *[0-9]*  *\\)[1-8]/\\19/"))),
 ]
 
