@@ -24,6 +24,7 @@ import re
 import subprocess
 import sys
 import tempfile
+import textwrap
 import threading
 import time
 
@@ -34,6 +35,11 @@ from watch import Watch
 PARTS = ("proof", "tests", "edits")
 # The most seconds between two commands of one crate's part; a later command is of another run.
 APART = 60
+COLUMNS = (
+    "The columns are processor seconds of each part, and the most memory of one of its processes, in GB. A shared"
+    " processor counts up to twice. A blank was not measured. The number of mutants is in brackets; their seconds"
+    " include the crate's proof."
+)
 PAGE = """# What the gate costs
 
 `rt ci` proves everything from nothing. CI ends a run after three hours, so a new capability must
@@ -71,10 +77,7 @@ simulates the gate's schedule over this page, and prints the minutes on so many 
 
 ## By crate
 
-{machine}, {wall} minutes by the clock from the first process to the last. The columns are processor
-seconds of each part, and the most memory of one of its processes, in GB. A shared processor counts
-up to twice. A blank was not measured. The number of mutants is in brackets; their seconds include
-the crate's proof.
+{measured}
 
 {table}
 """
@@ -241,7 +244,8 @@ def main(asked):
     seconds, memory = parts_of(log, names)
     rows = "\n".join(table(root, names, seconds, memory))
     wall = round((max(it["t1"] for it in log) - min(it["t0"] for it in log)) / 60) if log else 0
-    print(PAGE.format(machine=machine(log), wall=wall, table=rows).rstrip("\n") if asked.page else rows)
+    measured = textwrap.fill(f"{machine(log)}, {wall} minutes by the clock from the first process to the last. {COLUMNS}", 100)
+    print(PAGE.format(measured=measured, table=rows).rstrip("\n") if asked.page else rows)
     if not asked.page:
         print(f"\n{machine(log)}: {sum(seconds.values()) / 60:.0f} processor minutes")
     return status
