@@ -20,7 +20,6 @@ import ctypes
 import fcntl
 import os
 import re
-import shutil
 import signal
 import socket
 import struct

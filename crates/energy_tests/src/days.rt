@@ -143,7 +143,7 @@ fn days_follow_the_clocks_of_a_zone(rt: HostRuntime) {
     }
 }
 
-/// Rows by quarter hour. The one that begins at 2700 has two rows.
+/// Rows by quarter hour. The quarter hour from 2700 has two rows.
 static ROWS: [Share; 5] = [
     share!(900, 177_777),
     share!(1800, 111_111),

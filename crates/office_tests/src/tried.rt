@@ -12,7 +12,7 @@ use std::process::Abort;
 /// A trial: a test that can run over any store.
 #[derive(Clone, Copy)]
 pub(crate) enum Trial {
-    /// A script, of which each line may fail.
+    /// A script whose lines may fail.
     Script,
     /// A round whose store refuses a call.
     RefusedRound,

@@ -35,7 +35,7 @@ pub(crate) fn play<'r>(
     Ok(printed)
 }
 
-// Runs a text, and appends its output. The exit status must be the one that the output implies.
+// Runs a text, and appends its output. The exit status must follow from the output.
 fn play_text<'r>(
     rt: &'r HostRuntime,
     loopback: &mut Loopback<'r, HostRuntime>,

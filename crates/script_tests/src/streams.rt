@@ -1,4 +1,4 @@
-//! Readers and writers of which one call fails.
+//! Readers and writers with one failing call.
 use std::alloc::Global;
 use std::io::{self, ErrorKind, Read, Write};
 use std::process::Abort;

@@ -44,7 +44,7 @@ pub enum Difference {
     Entry { place: u64, fault: RowFault },
     /// A void is of no entry after the opening, or of an entry that has another void.
     Void { place: u64 },
-    /// The energy of a quarter hour is not the one that the entries give.
+    /// The energy of a quarter hour differs from that of the entries.
     Interval(IntervalFault),
     /// The installation has another last entry than the one that follows from the entries.
     Last { has: Last, wanted: Last },

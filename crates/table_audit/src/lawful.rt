@@ -19,7 +19,7 @@ use meter_journal::Installed;
 use std::alloc::{AllocError, Global};
 use store_tables::InstallationRow;
 
-/// Checks the entries after an opening, up to the first one that the rules refuse.
+/// Checks the entries after an opening, up to the first entry that the rules refuse.
 fn go_over(
     meter: &Installed,
     progress: &mut Progress,
@@ -44,7 +44,7 @@ fn go_over(
     Ok(None)
 }
 
-/// Reports the first entry that the rules refuse, and each later one that they refuse.
+/// Reports each entry that the rules refuse, from the first on.
 fn tell_refused(
     meter: &Installed,
     progress: &mut Progress,

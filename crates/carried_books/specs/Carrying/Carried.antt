@@ -46,9 +46,9 @@ pub record WaitsFor {N : Type 0} (old new : Ledger) (until : Option ℕ) (before
   pub none : after ≡ before
   pub are : OfOld old new (λ known. IsNotYet known until (open_meters known) meter)
 
--- The result of a rollover: the number of installed meters; a command that the new office refused;
--- an open meter without an entry; or a failure of the old store or memory, after which no command
--- was given.
+-- The result of a rollover. A success has the number of installed meters. A fault is a command that
+-- the new office refused, or an open meter without an entry. It may also be a failure of the old
+-- store or memory; then the new office got no command.
 abbrev pub Carries : {N : Type 0} → (old new : Ledger) → (until : Option ℕ) → (N → Ledger)
     → (before after : Office N) → Result ℕ CarryFault → Type 0
 Carries old new until ledger before after (Ok meters) =

@@ -32,6 +32,6 @@ EndsPoll ended before after =
     → after ≡ slice_set before (ended.poll - 1)
     (row_with_end ended (slice_index_or before (ended.poll - 1) d))
 
--- The polls without the one that has this number.
+-- The polls without the poll of this number.
 abbrev pub polls_but : ℕ → List Poll → List Poll
 polls_but number polls = filter (λ poll. not (number == poll.number)) polls

@@ -29,7 +29,7 @@ use Rattle.office_http.specs.Wants.Wanting.{AsksNothing, AsksOffice}
 in_bad_head : (table : Table) (bytes : List ℕ) → IsBadHead bytes → AsksNothing table bytes
 in_bad_head table bytes bad asked asks = bad.none asks.holds.len asks.holds.head asks.holds.begins
 
--- If the bytes hold a request for a command, its head is the one that parsing finds.
+-- If the bytes hold a request for a command, its head is what parsing finds.
 start_is : (table : Table) (bytes : List ℕ) (at : Head) (asked : Asked) → IsWhole table bytes at → (asks : AsksOffice table bytes asked) → asks.start ≡ start_at bytes at
 start_is table bytes at asked whole asks = (one_request table bytes asks.start (start_at bytes at) asks.body (body_of table bytes at) asks.holds (request_of_whole table bytes at whole)).one_start
 

@@ -30,7 +30,7 @@ are_of_same a b = (topic_number a.topic == topic_number b.topic) && is_same_name
 abbrev pub place_of : ToldNumber → List ToldNumber → Option ℕ
 place_of told numbers = position (λ one. are_of_same one told) numbers
 
--- This number differs from the last one that was reported. False without an entry at the index.
+-- This number differs from the last reported number. False without an entry at the index.
 abbrev pub is_other : Option ToldNumber → (number : ℕ) → Bool
 is_other None number = false
 is_other (Some before) number = if before.number == number then false else true
