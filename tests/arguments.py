@@ -18,7 +18,7 @@ MOST_BYTES = 4_194_304
 counts = {"passed": 0, "failed": 0}
 
 HELP_OF_PROGRAM = """\
-Polls SunSpec meters over Modbus TCP and books their energy by quarter hour and day
+Polls SunSpec meters over Modbus TCP; books energy by quarter hour and day
 
 Usage: sunreg [COMMAND]
 
@@ -47,7 +47,7 @@ Options:
   -h, --help     Print help
   -V, --version  Print version
 
-Exit status: 0 success, 1 refused, 2 invalid arguments, 3 a file, stream or socket failed
+Exit status: 0 success, 1 refused, 2 invalid arguments, 3 input or output failed
 """
 HELP_OF_SERVE = """\
 Serves HTTP on 127.0.0.1, one connection at a time
@@ -256,7 +256,7 @@ def check_help():
     for line, text in HELPS:
         same(line, run(line), (0, text, ""))
     help_lines = run("--help")[1].splitlines()
-    same("help fits one screen", (len(help_lines) <= 30, [it for it in help_lines if len(it) > 89]), (True, []))
+    same("help fits one screen", (len(help_lines) <= 30, [it for it in help_lines if len(it) > 80]), (True, []))
     listed = [it.split()[0] for it in help_lines if it.startswith("  ") and it[2] not in " -"]
     same("the commands in their order", listed, [*COMMANDS, "help"])
     version = run("--version")

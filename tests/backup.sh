@@ -1,8 +1,8 @@
 #!/bin/bash
 # backup.sh [PROGRAM]: loses, mixes up and backs up the files of offices, also beside an office that
-# writes, with curl and sqlite3. PROGRAM is out/sunreg by default, which `./sunreg-build` makes.
-# BACKUPS is the number of backups beside the writing office, 40 by default. The script ends with
-# 'N passed, M failed'.
+# writes, with curl and sqlite3. It also runs the nightly copy, deploy/backup. PROGRAM is out/sunreg
+# by default, which `./sunreg-build` makes. BACKUPS is the number of backups beside the writing
+# office, 40 by default. The script ends with 'N passed, M failed'.
 set -u
 here=$(dirname "$(readlink -f "$0")")
 program=${1:-${SUNREG:-$here/../out/sunreg}}
@@ -243,6 +243,103 @@ kill -9 "$child"
 wait "$child" 2> /dev/null
 run backup --db office.db --to killed.db
 same 'the backup of an office that was killed' "$status $(dump killed.db | sha256sum)" "0 $(dump office.db | sha256sum)"
+
+# The nightly copies of deploy/backup, at fake dates.
+mkdir bin night
+printf '#!/bin/sh\ncat "%s/today"\n' "$room" > bin/date
+printf '#!/bin/sh\nexec "%s" "$@"\n' "$program" > sunreg
+cp sunreg bin/sunreg
+chmod 755 bin/date bin/sunreg
+
+# nightly DAY [NAME=VALUE..]: runs the script on a day of 2026, and keeps its output
+nightly() {
+    echo "2026-$1T021500Z" > today
+    shift
+    env PATH="$room/bin:$PATH" DB=meters.db MORE= BACKUPS="$room/night" KEEP_DAYS=3 KEEP_MONTHS=2 "$@" sh "$here/../deploy/backup" > out 2> err < /dev/null
+    status=$?
+}
+
+# copies: prints the names of the copies, and of what else is in their folder
+copies() {
+    ls night | grep -v '^lock$' | sed 's/T021500Z\.db$//' | paste -s -d ' '
+}
+
+# fails_at_night WHAT TEXT [NAME=VALUE..]: the script has status 1 and a sentence that begins so,
+# and leaves all copies, although these options would remove one
+fails_at_night() {
+    local what=$1 text="sunreg-backup: $2" before
+    shift 2
+    before=$(sums night/*.db)
+    nightly 02-01 KEEP_DAYS=1 KEEP_MONTHS=0 "$@"
+    same "$what" "$status $(cat out)$(head -c ${#text} err)" "1 $text"
+    same "$what: all copies stay, and no other" "$(copies) $(sums night/*.db)" "2026-01-30 2026-01-31 $before"
+}
+
+run create --db meters.db --zone UTC0
+printf '1 device inv 1 5 1\n2 register main inv 3 40094 @40096\n3 install main m1 5000 0 100000\n' | "$program" enter --db meters.db --caller desk > out
+same 'a meter' "$(paste -s -d ' ' out)" 'ok ok ok'
+nightly 01-30
+same 'a nightly copy' "$status $(cat out err)" "0 sunreg-backup: meters.db is copied to $room/night/2026-01-30T021500Z.db, audit fine: 1 meters, 1 entries, 0 intervals, 0 polls"
+same 'it is its owner'\''s alone, and no other file is left' "$(stat -c %a night/2026*) $(copies)" '600 2026-01-30'
+same 'its rows' "$(dump night/2026-01-30T021500Z.db)" "$(dump meters.db)"
+mkdir night/new
+: > night/new/copy.db.part
+nightly 01-31
+same 'a copy after one that was killed' "$status $(copies)" '0 2026-01-30 2026-01-31'
+
+fails_at_night 'a missing source' "can't copy none.db, so no old copy was removed: sunreg: none.db: file not found" DB=none.db
+fails_at_night 'a torn source' "can't copy torn.db, so no old copy was removed: sunreg: torn.db: not an SQLite database, or damaged" DB=torn.db
+run backup --db meters.db --to changed.db
+sqlite3 changed.db 'UPDATE installations SET total = total + 1'
+fails_at_night 'a copy with a difference' "the copy of changed.db failed its audit, so no old copy was removed: " DB=changed.db
+same 'the difference is printed' "$(grep -c 'meter m1 total has 1, entries give 0' err)" 1
+# (a limit on the size of files, as a full disk)
+printf '#!/bin/bash\ntrap "" XFSZ\nulimit -f 64\nexec "%s" "$@"\n' "$program" > bin/sunreg
+fails_at_night 'a full disk' "can't copy meters.db, so no old copy was removed: sunreg: $room/night/new/copy.db: can't write it"
+cp sunreg bin/sunreg
+fails_at_night 'a missing folder' "can't write in none: type install -d" BACKUPS=none
+fails_at_night 'a folder that is not set' 'BACKUPS is not set' BACKUPS=
+fails_at_night 'no days' 'KEEP_DAYS is 0: set a number' KEEP_DAYS=0
+fails_at_night 'months that are no number' 'KEEP_MONTHS is -1: set a number' KEEP_MONTHS=-1
+exec 8> night/lock
+flock 8
+fails_at_night 'a second script' "another backup to $room/night is running"
+exec 8>&-
+
+# Monthly files: the last one is copied each night, and an earlier one when it has changed.
+run backup --db meters.db --to meters-2026-01.db
+run backup --db meters.db --to meters-2026-02.db
+run backup --db meters.db --to meters-2026-01-25.db
+: > meters-2026-03.db
+month='--earlier 12 --carry month'
+nightly 02-01
+same 'without --carry' "$status $(cut -d ' ' -f 2 out)" '0 meters.db'
+nightly 02-02 MORE="$month"
+same 'with --carry' "$status $(cut -d ' ' -f 2 out | paste -s -d ' ')" '0 meters-2026-02.db meters.db meters-2026-01.db'
+nightly 02-03 MORE="$month"
+same 'with --carry, again' "$status $(cut -d ' ' -f 2 out)" '0 meters-2026-02.db'
+touch -d 'now + 1 minute' meters-2026-01.db
+nightly 02-03 MORE="$month"
+same 'an earlier file that has changed' "$status $(cut -d ' ' -f 2 out | paste -s -d ' ')" '0 meters-2026-02.db meters-2026-01.db'
+same 'the copies of earlier files stay' "$(copies)" '2026-01-31 2026-02-01 2026-02-02 2026-02-03 meters-2026-01.db meters.db'
+
+# The rotation. For speed a script copies, and accepts each copy.
+printf '#!/bin/sh\n[ "$1" = audit ] || cp "$3" "$5"\n' > bin/sunreg
+rm -r night/*
+echo mine > night/2026-01-01.db
+for day in 01-30 01-31 $(seq -f 02-%02g 28) $(seq -f 03-%02g 5); do
+    nightly "$day"
+    [ "$status" = 0 ] || echo "$day: $(cat err)"
+done
+same 'the newest of three days and of two months' "$(copies)" '2026-01-01.db 2026-02-28 2026-03-03 2026-03-04 2026-03-05'
+nightly 06-10
+same 'nights without a copy do not count' "$(copies)" '2026-01-01.db 2026-03-04 2026-03-05 2026-06-10'
+: > night/2036-01-01T021500Z.db
+nightly 06-11 KEEP_DAYS=1 KEEP_MONTHS=0
+same 'the new copy stays, also under a clock that was ahead' "$(copies)" '2026-01-01.db 2026-06-11 2036-01-01'
+: > night/2026-06-12T011500Z.db
+nightly 06-12
+same 'of a day the newest copy stays' "$(ls night | grep -c 2026-06-12) $(copies)" '1 2026-01-01.db 2026-06-11 2026-06-12 2036-01-01'
 
 echo "$passed passed, $failed failed"
 [ "$failed" = 0 ]

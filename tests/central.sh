@@ -2,6 +2,8 @@
 # central.sh [PROGRAM]: copies the energy of many offices into ClickHouse with central/collect.
 # PROGRAM is out/sunreg by default. Two servers of ClickHouse are the shards, on ports of 127.0.0.1.
 # CENTRAL_PARTS chooses the parts, all by default:
+# - `hostile`: sites that redirect, never end, or send too much, and the memory of collect. This
+#   part needs no ClickHouse
 # - `copies`: the copies after events at mock offices, reported faults, and the same rows in
 #   PostgreSQL
 # - `failures`: each request to ClickHouse fails in turn
@@ -11,8 +13,9 @@
 #   two. Each office has 30 meters with a month each
 #
 # As root the script installs missing tools by apt (not with PEERS_INSTALL=no). It names tools that
-# it can't install, and skips their parts. It takes some 15 minutes (12 were seen beside proofs,
-# before the program's offices had fifty meters) and 1 GB, and ends with 'N passed, M failed'.
+# it can't install, and skips their parts. It takes some 18 minutes (12 were seen beside proofs,
+# before the program's offices had fifty meters and without `hostile`, which took 3) and 1 GB. It
+# ends with 'N passed, M failed'.
 set -u
 here=$(dirname "$(readlink -f "$0")")
 program=$(readlink -f "${1:-${SUNREG:-$here/../out/sunreg}}")
@@ -22,5 +25,12 @@ trap 'rm -rf "$room"' EXIT
 . "$here/peers/install.sh"
 
 install python3 curl sqlite3 openssl clickhouse-server clickhouse-client postgresql
+export PYTHONDONTWRITEBYTECODE=1 CENTRAL_PARTS="${CENTRAL_PARTS:-hostile copies failures kills measures}"
+status=0
+case " $CENTRAL_PARTS " in
+    *" hostile "*) python3 "$here/central/hostile.py" "$room" || status=1 ;;
+esac
+[ "$CENTRAL_PARTS" != hostile ] || exit $status
 [ -z "$(lacking clickhouse-server clickhouse-client)" ] || exit 2
-PYTHONDONTWRITEBYTECODE=1 python3 "$here/central/central.py" "$room" "$program" "$(postgres_folder)"
+python3 "$here/central/central.py" "$room" "$program" "$(postgres_folder)" || status=1
+exit $status

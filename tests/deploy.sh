@@ -1,15 +1,16 @@
 #!/bin/sh
 # deploy.sh [PROGRAM]: tests the files of deploy/. PROGRAM is out/sunreg by default, which
 # `./sunreg-build` makes.
-# - the unit, with systemd-analyze
+# - the units, with systemd-analyze
 # - the configuration of nginx, with Debian's nginx and curl. Behind nginx is
 #   tests/deploy/office.py, which records its requests, and then the program, if it is built
 # - the files of Prometheus, with promtool and a Prometheus that sends its requests through nginx
 # - the dashboard's queries
 #
 # As root the script installs missing tools by apt (not with PEERS_INSTALL=no). It names tools that
-# it can't install, and skips their checks. It uses only this machine's loopback, takes a minute and
-# a half, and ends with 'N passed, M failed'.
+# it can't install, and skips their checks. It uses only this machine's loopback, and takes a minute
+# and a half. It ends with 'N passed, M failed', and with ', K skipped' if checks were skipped.
+# CHECKS is the number of all checks. Change it where you add a check, or a route to docs/HTTP.md.
 set -u
 here=$(dirname "$(readlink -f "$0")")
 deploy=$here/../deploy
@@ -22,11 +23,12 @@ trap 'for it in $children; do kill -9 "$it" 2> /dev/null; done; [ ! -s "$room/ng
 # (nginx and prometheus may be in folders that only root searches)
 PATH=$PATH:/usr/sbin:/sbin
 
-install python3 curl openssl systemd-analyze nginx promtool
+install python3 curl openssl systemd-analyze nginx promtool prometheus-server
 chmod 755 "$room"
 cd "$room" || exit 2
 passed=0
 failed=0
+CHECKS=145
 port=${DEPLOY_PORT:-18700}
 tls=$((port + 1))
 prometheus=$((port + 2))
@@ -58,10 +60,12 @@ waits() {
     return 1
 }
 
-# ---- the unit
+# ---- the units
 
-# sunreg need not be installed here, so the unit runs another program
+# sunreg need not be installed here, so the units run another program
 sed "s|^ExecStart=/usr/local/bin/sunreg |ExecStart=/bin/true |" "$deploy/sunreg.service" > sunreg.service
+sed "s|^ExecStart=/usr/local/bin/sunreg-backup$|ExecStart=/bin/true|" "$deploy/sunreg-backup.service" > sunreg-backup.service
+cp "$deploy/sunreg-backup.timer" .
 if has systemd-analyze; then
     systemd-analyze verify ./sunreg.service > said 2>&1
     same 'the unit: systemd-analyze verify' "$? $(grep sunreg said)" '0 '
@@ -73,10 +77,17 @@ if has systemd-analyze; then
         systemd-analyze security --offline=yes --threshold=12 less/sunreg.service > said 2>&1
         same "the unit: its exposure without $word is seen" "$?" 1
     done
+    systemd-analyze verify ./sunreg-backup.service ./sunreg-backup.timer > said 2>&1
+    same 'the backup: systemd-analyze verify' "$? $(grep sunreg said)" '0 '
+    # of 100: 5 when this was written
+    fine 'the backup: its exposure' systemd-analyze security --offline=yes --threshold=6 ./sunreg-backup.service
+    fine 'the backup: its time' systemd-analyze calendar "$(sed -n 's/^OnCalendar=//p' sunreg-backup.timer)"
     same 'the unit: a word that systemd does not know is seen' "$(echo 'ProtectAll=yes' >> less/sunreg.service; systemd-analyze verify less/sunreg.service 2>&1 | grep -c ProtectAll)" 1
 fi
-same 'the words of its file are those of its command' "$(sed -n 's/^\([A-Z]*\)=.*/\1/p' "$deploy/sunreg.env" | sort)" \
-    "$(grep '^ExecStart=' "$deploy/sunreg.service" | grep -o '\$[{A-Z}]*' | tr -d '${}' | sort)"
+same 'the settings are those of the command and of the backup' "$(sed -n 's/^\([A-Z_]*\)=.*/\1/p' "$deploy/sunreg.env" | sort)" \
+    "$({ grep '^ExecStart=' "$deploy/sunreg.service" | grep -o '\$[{A-Z}]*' | tr -d '${}'; sed -n 's/^for it in \([A-Z_ ]*\); do$/\1/p' "$deploy/backup" | tr ' ' '\n'; } | sort -u)"
+same 'the backup may write its folder' "$(sed -n 's/^ReadWritePaths=-//p' "$deploy/sunreg-backup.service")" "$(sed -n 's/^BACKUPS=//p' "$deploy/sunreg.env")"
+fine 'the backup: its syntax' sh -n "$deploy/backup"
 same 'each option of its command is one of run' "$(for it in $(grep '^ExecStart=' "$deploy/sunreg.service" | grep -o ' --[a-z]*'); do
     grep -q "^ *${it} <" "$here/arguments.py" || echo "$it"; done)" ''
 
@@ -247,6 +258,10 @@ import json, sys
 board = json.load(open(sys.argv[1]))
 panels = board["panels"]
 assert len({it["id"] for it in panels}) == len(panels) and all(it["targets"] for it in panels)
+# (several offices are on one panel)
+legends = [target["legendFormat"] for it in panels for target in it["targets"]]
+assert all("{{instance}}" in it for it in legends), legends
+assert all(it["title"] and it["description"] for it in panels)
 places = [(x, y) for it in panels for at in [it["gridPos"]] for x in range(at["x"], at["x"] + at["w"]) for y in range(at["y"], at["y"] + at["h"])]
 assert len(set(places)) == len(places) and max(x for x, _ in places) < 24
 queries = [target["expr"].replace("$__rate_interval", "4m") for it in panels for target in it["targets"]]
@@ -255,14 +270,14 @@ json.dump({"groups": [{"name": "queries", "rules": rules}]}, sys.stdout)
 END
 same 'grafana.json: JSON, whose panels have queries and places of their own' "$?$(tail -n 1 said)" 0
 if has promtool; then
-    cp "$deploy/alerts.yml" "$here/deploy/alerts.test.yml" .
+    cp "$deploy/alerts.yml" "$here/deploy/alerts.test.yml" "$here/deploy/alerts.days.test.yml" .
     fine 'the dashboard'"'"'s queries' promtool check rules queries.yml
     fine 'the alerts' promtool check rules alerts.yml
-    fine 'the alerts, over made-up series' promtool test rules alerts.test.yml
+    fine 'the alerts, over made-up series' promtool test rules alerts.test.yml alerts.days.test.yml
     # Each alert is tested: without it, the tests fail.
     for it in $(sed -n 's/.*- alert: //p' "$deploy/alerts.yml"); do
         sed "s/- alert: $it\$/- alert: Other/" "$deploy/alerts.yml" > alerts.yml
-        promtool test rules alerts.test.yml > said 2>&1
+        promtool test rules $(grep -l "alertname: $it\$" alerts.test.yml alerts.days.test.yml) > said 2>&1
         same "the cases fail without $it" "$?" 1
     done
     cp "$deploy/alerts.yml" alerts.yml
@@ -289,7 +304,7 @@ if has promtool && has prometheus-server && has nginx && has openssl; then
     waits has_found 'up{job="sunreg"}' 1
     same 'Prometheus asks through nginx' "$?$([ $? = 0 ] || cat prometheus.log)" 0
     fine 'and finds what the office counts' waits has_found 'sunreg_polls_total{outcome="answered"}' 2
-    fine 'and goes by the alerts' waits has_found 'ALERTS{alertname="SunregNoReading", device="inv", alertstate="pending"}' 1
+    fine 'and goes by the alerts' waits has_found 'ALERTS{alertname="SunregNoReading", device="grid", alertstate="pending"}' 1
 fi
 
 # ---- without an office, and the program
@@ -314,9 +329,17 @@ if has nginx && has openssl; then
         same 'the program: SIGTERM ends it' "$?" 143
         same 'where it has ended' "$(status_of "$(asks eye /status)")" 502
     else
-        echo "$0: $program is not built: stand-ins are tried alone"
+        echo "$0: $program is not built"
+        lacks="$lacks sunreg"
     fi
 fi
 
-echo "$passed passed, $failed failed"
+skipped=$((CHECKS - passed - failed))
+if [ -n "$lacks" ]; then
+    echo "$0: skipped $skipped checks, which need" $lacks
+    echo "$passed passed, $failed failed, $skipped skipped"
+else
+    same 'the number of checks' "$((passed + failed))" "$CHECKS"
+    echo "$passed passed, $failed failed"
+fi
 [ "$failed" = 0 ]

@@ -175,7 +175,7 @@ is 'a place that is none' "${came%% *} $(head -n 1 err | grep -c "'live'")" '2 1
 beside "$(bank 50880 '1 cut 5')" "$live"
 is 'a connection that is cut' "$came" "1 ok;ok;ok;unread / sunreg: live-wh: can't read port $port of 127.0.0.1: the device closed the connection"
 beside "$(bank 50880 '1 garble')" "$live"
-is 'a stream that is garbled' "$came" "1 ok;ok;ok;unread / sunreg: live-wh: can't read port $port of 127.0.0.1: the device sent what is no Modbus"
+is 'a stream that is garbled' "$came" "1 ok;ok;ok;unread / sunreg: live-wh: can't read port $port of 127.0.0.1: the device sent bytes that are not Modbus"
 beside "$(bank 50880 '1 drop' '2 drop')" "$live"
 is 'a device that is silent' "$came" "1 ok;ok;ok;unread / sunreg: live-wh: port $port of 127.0.0.1 $untold"
 enter "$live" -n --devices "live=127.0.0.1:$port"

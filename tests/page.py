@@ -29,6 +29,8 @@ ROOM = tempfile.mkdtemp()
 SHORT = "{const wait = window.setTimeout; window.setTimeout = (f, ms) => wait(f, ms >= 10000 ? ms / 60 : ms);}"
 TROUBLE = "document.getElementById('trouble')"
 passed = failed = 0
+# The number of all checks: over a mock office, and over a program. Change it where you add a check.
+CHECKS_OF_MOCK, CHECKS_OF_PROGRAM = 296, 75
 ENDS = [lambda: shutil.rmtree(ROOM, ignore_errors=True)]
 atexit.register(lambda: [end() for end in reversed(ENDS)])
 
@@ -865,11 +867,18 @@ def exchanged(tab, origin):
 
 see_words()
 program = browser.found()
+checks = CHECKS_OF_PROGRAM if sys.argv[1:] else CHECKS_OF_MOCK
+skipped = ""
 if program is None:
-    print("page.sh: no chromium is here: only the words were tried")
+    count = checks - passed - failed
+    print(f"page.sh: skipped {count} checks, which need chromium")
+    skipped = f", {count} skipped"
 elif sys.argv[1:]:
     see_program(os.path.abspath(sys.argv[1]), program)
 else:
     see_mock(program)
-print(f"{passed} passed, {failed} failed")
+if program is not None and passed + failed != checks:
+    print(f"the number of checks: {passed + failed}, and not {checks}")
+    failed += 1
+print(f"{passed} passed, {failed} failed{skipped}")
 sys.exit(1 if failed else 0)

@@ -3,7 +3,8 @@
 # PROGRAM the page is over a mock office, whose data are made up but exact. With PROGRAM the built
 # program serves it, over a small site. As root the script installs a missing chromium by apt (not
 # with PEERS_INSTALL=no); without chromium it tests only the page's words. PAGE_PICTURES=FOLDER
-# keeps pictures there. The script takes half a minute, and ends with 'N passed, M failed'.
+# keeps pictures there. The script takes half a minute, and ends with 'N passed, M failed', and with
+# ', K skipped' if checks were skipped.
 set -u
 here=$(dirname "$(readlink -f "$0")")
 room=$(mktemp -d) || exit 2

@@ -6,7 +6,8 @@ each check runs in a separate network namespace, so no two checks use the same p
 once as there are processors, four at most, the longest first. A check fails if its exit status is
 not 0, if it counts fewer passed things than its least count, or if it exceeds its limit. The limit
 ends its whole process group. The log of a failed check is printed. A check whose tool is missing is
-reported as skipped: tests/install-tools.sh installs the tools.
+reported as skipped, and so is a check whose last line counts skipped things: tests/install-tools.sh
+installs the tools.
 
 --list prints the table of checks. --only runs the checks of these names. --long runs the long
 checks instead, one at a time. --slow multiplies every limit, for a slow build or machine. The last
@@ -51,7 +52,7 @@ CHECKS = [
     Check("report", "report.sh", 423, 480, "sqlite3 tzdata"),
     Check("commands", "commands.py PROGRAM", 92, 240, "faketime sqlite3"),
     Check("audit", "SEED=1 CHANGES=200 JOINS=40 audit.sh", 420, 240, "sqlite3"),
-    Check("backup", "backup.sh", 47, 240, "curl sqlite3"),
+    Check("backup", "backup.sh", 80, 240, "curl sqlite3"),
     Check("carry", "carry.sh", 71, 600, "curl sqlite3"),
     Check("sqlite3", "sqlite3.sh", 41, 120, "curl sqlite3"),
     Check("http_cases", "http_cases.sh PROGRAM", 48, 180, "faketime"),
@@ -72,9 +73,9 @@ LONG = [
     Check("soak", "soak.sh", 10, 1800, "sqlite3"),
     Check("torn_writes", "torn_writes.sh PROGRAM", 300, 1800, "sqlite3"),
     Check("central", "central.sh", 100, 3600, "clickhouse-server clickhouse-client"),
-    Check("deploy", "deploy.sh", 15, 600, ""),
+    Check("deploy", "deploy.sh", 145, 900, ""),
     Check("install", "install.sh", 15, 900, "root"),
-    Check("unbuilt", "unbuilt.sh", 40, 1800, "rt"),
+    Check("unbuilt", "unbuilt.sh", 120, 1800, "rt"),
     Check("built", "built.sh", 25, 3600, "rt"),
     Check("files_as_one", "files_as_one.sh", 900, 1800, "sqlite3 tzdata"),
     Check("peers", "peers.sh", 15, 600, "curl sqlite3"),
@@ -84,7 +85,7 @@ LONG = [
     Check("refused_allocations", "refused_allocations.sh PROGRAM", 10, 1800, "cc"),
 ]
 MOST_AT_ONCE = 4
-COUNTS = re.compile(r"^(\d+) passed(?:, (\d+) failed)?\b", re.M)
+COUNTS = re.compile(r"^(\d+) passed(?:, (\d+) failed)?(?:, (\d+) skipped)?\b", re.M)
 LINES_OF_LOG = 200
 
 
@@ -122,19 +123,21 @@ class Runner:
                 log = it.read()
         if self.is_stopped:
             return
-        passed, failed = count_passed(log)
+        passed, failed, skipped = count_things(log)
         if not why and failed:
             why = f"{failed} failed"
-        if not why and passed < check.least:
+        if not why and passed + skipped < check.least:
             why = f"it must count {check.least}"
         seconds = time.monotonic() - began
         took = f"{passed} passed, {seconds:.0f} s"
-        self.ends[check.name] = "failed" if why else "passed", passed, seconds
+        self.ends[check.name] = "failed" if why else "skipped" if skipped else "passed", passed, seconds
         if why:
             lines = log.splitlines()
             cut = [f"  (the last {LINES_OF_LOG} of {len(lines)} lines)"] if len(lines) > LINES_OF_LOG else []
             self.print_lines(f"{check.name}: its log:", *cut, *(f"  {it}" for it in lines[-LINES_OF_LOG:]),
                              f"{check.name}: FAILED: {why} ({took})")
+        elif skipped:
+            self.print_lines(f"{check.name}: skipped: {skipped} of its things ({took})", *re.findall(r"^.*: skipped .*$", log, re.M))
         else:
             self.print_lines(f"{check.name}: {took}")
 
@@ -182,11 +185,11 @@ def end_group(child):
     child.wait()
 
 
-def count_passed(log):
-    """Returns how many things a log counts as passed and as failed, by the last line that
+def count_things(log):
+    """Returns how many things a log counts as passed, failed and skipped, by the last line that
     counts."""
     found = COUNTS.findall(log)
-    return (int(found[-1][0]), int(found[-1][1] or 0)) if found else (0, 0)
+    return [int(it or 0) for it in found[-1]] if found else [0, 0, 0]
 
 
 def leave_network():

@@ -78,7 +78,7 @@ done
 scan "$(bank '2 cut 5')" --timeout 1
 is 'a connection that is cut' "$status $out $(tail -n 1 "$room/err")" "3  sunreg: can't scan port $port of 127.0.0.1: the device closed the connection"
 scan "$(bank '2 garble')" --timeout 1
-is 'a stream that is garbled' "$status $out $(tail -n 1 "$room/err")" "3  sunreg: can't scan port $port of 127.0.0.1: the device sent what is no Modbus"
+is 'a stream that is garbled' "$status $out $(tail -n 1 "$room/err")" "3  sunreg: can't scan port $port of 127.0.0.1: the device sent bytes that are not Modbus"
 scan 'area holding 0 1'
 is 'a device without a mark' "$status $out" '1 fault 1'
 

@@ -1,17 +1,19 @@
 "use strict";
-// The page of a running office. It sends requests only to the office that serves it, and shows the
-// responses as text alone. Energies are whole mWh, as BigInt.
+// Renders the web page of `sunreg run`.
+// Requests go only to the server of the page, and responses are inserted as text, never as HTML.
+// Energies are milliwatt-hours (mWh), of type BigInt.
 
 const MINUTE = 60000;
-const RETRY = 10000; // delay of the next request after a failure
-const PATIENCE = 30000; // timeout of a request
-const KEPT = 10 * MINUTE; // how long the rows of an unchanged register are kept
-const LATELY = 300; // a device is online if its last reading is at most so many seconds old,
-const LONG_AGO = 1200; // and offline if it is more than so many seconds old
-const QUARTER = 900; // seconds
+const RETRY = 10000; // Delay in milliseconds between a failed refresh and the next one.
+const PATIENCE = 30000; // Timeout of a request, in milliseconds.
+const KEPT = 10 * MINUTE; // Maximum age of a cached response, in milliseconds.
+// Age of a device's last reading, in seconds: online up to the first, offline above the second.
+const LATELY = 300;
+const LONG_AGO = 1200;
+const QUARTER = 900; // Seconds.
 const HALF_DAY = 43200;
 
-// What numbers mean, what usually causes them, and what to do: the words of `sunreg explain`.
+// Reasons for rejected readings, in the words of `sunreg explain`.
 const HELD = {
   not_accumulated: [1, "the device reports 0: not accumulated",
     "a device that doesn't count this energy, or that has just started",
@@ -69,19 +71,19 @@ const POLLS = {
 const WEEKDAYS = ["Sun", "Mon", "Tue", "Wed", "Thu", "Fri", "Sat"];
 const MONTHS = ["Jan", "Feb", "Mar", "Apr", "May", "Jun", "Jul", "Aug", "Sep", "Oct", "Nov", "Dec"];
 
-// What was answered last.
+// The last responses to `/site` and `/status`, or null before the first responses.
 let site = null;
 let status = null;
-const answers = new Map(); // texts of rows, by path
-const used = new Set(); // the paths that were wanted when it asked last
+const answers = new Map(); // Cached responses by request path: parsed rows or an error message.
+const used = new Set(); // Request paths of the rows that the latest refresh needed.
 let trouble = "";
 let answeredAt = 0;
-// What is looked at: a register, and a day, a month or a year of it.
+// The selected register and its day, month or year, or null.
 let place = null;
 
-// ---- asking
+// ---- Requests to the server.
 
-// A fault that is told in words.
+// An error with a message that the page shows to the user.
 class Fault extends Error {}
 class NoAnswer extends Fault {}
 
@@ -112,12 +114,12 @@ async function askJson(path, member) {
     const value = JSON.parse(text);
     if (Array.isArray(value[member])) return value;
   } catch {
-    // told below
   }
   throw new Fault(`The response to ${path} was incomplete or invalid.`);
 }
 
-// The rows of a text that is whole: its last line is `end N`, of N rows, each of the form.
+// Fetches a text response and returns the match of each row with the regular expression `form`.
+// Throws an error if a row doesn't match, or if the last line is not `end N` after N rows.
 async function askRows(path, form) {
   const lines = (await ask(path)).split("\n");
   const end = lines.length > 1 && lines.pop() === "" && /^end (\d+)$/.exec(lines.pop());
@@ -138,7 +140,6 @@ async function askQuarters(path) {
   return rows.map((row) => ({ start: Number(row[1]), mwh: BigInt(row[2]) }));
 }
 
-// The meters of a register, in the order in which they were installed.
 async function askMeters(path) {
   const rows = await askRows(path, /^([\w-]+) (\d+) (\d+) (\d+) (-?\d+) (\d+) (open|ended)$/);
   return rows.map(([, name, opened, at, last, sf, total, state]) => ({
@@ -149,23 +150,20 @@ async function askMeters(path) {
 const pathOf = (...words) => words.map((word) => `/${encodeURIComponent(word)}`).join("");
 const daysPath = (name, first, end) => pathOf("registers", name, "days", first, end);
 
-// The first day of the year in which it is now, and that of the year after. By the office's zone it
-// may be another day, up to two before or after the one here, so these may be two years.
+// Returns the first day of the current year and the first day of the next year.
 function boundsOfNow() {
   const now = dayAt(dateOf(site.at));
   const [first, last] = [later(now, -2), later(now, 2)].map((day) => day.slice(0, YEAR));
   return [firstOf(first), firstOf(later(last, 1))];
 }
 
-// Where the days of this year are asked, by which a register's figures go,
 const yearPath = (name) => daysPath(name, ...boundsOfNow());
-// where its months, which tell how far back it goes,
 const monthsPath = (name) => pathOf("registers", name, "months");
 
-// where its meters,
 const metersPath = (name) => pathOf("registers", name, "meters");
 
-// where the days of the year that is looked at, or of the month,
+// Returns the request path of the daily energy in the selected year or month.
+// All periods in the current year use one path, so that they share a cached response.
 function spanPath({ register, period }) {
   const span = period.slice(0, period.length === YEAR ? YEAR : MONTH);
   const first = firstOf(later(span, 0));
@@ -173,18 +171,18 @@ function spanPath({ register, period }) {
   return daysPath(register, first, firstOf(later(span, 1)));
 }
 
-// and where the quarter hours that a meter has of a day, which is one of the browser's zone.
+// Returns start and end of a day in the browser's time zone, in seconds since 1970-01-01 UTC.
 const boundsOf = (day) => [0, 1].map((count) => Math.max(0, startOf(day, count)));
 const quartersPath = (meter, day) => pathOf("meters", meter, "intervals", ...boundsOf(day));
 
-// The meters that were read on a day, or before it and after it too.
+// Returns the meters that were read on the selected day, or before and after it.
 function metersOf({ register, period }) {
   const [from, till] = boundsOf(period);
   return rowsOf(metersPath(register)).filter((it) => it.opened < till && it.at > from);
 }
 
-// Asks for a text unless what is kept was asked while the register stood as it does now, or may
-// stay where that has changed.
+// Fetches rows with the function `asking`, unless the cache has them.
+// A cached response is valid for 10 minutes, if the register is unchanged or `mayStay` is true.
 async function keep(path, register, asking, mayStay = false) {
   if (used.has(path)) return;
   used.add(path);
@@ -212,7 +210,7 @@ async function askAll() {
   answeredAt = Date.now();
   drawSoon();
   used.clear();
-  // one after another, so that the office can poll in between
+  // One request at a time, so that the server can poll devices in between.
   for (const it of site.registers) {
     if (it.meter !== null) await keep(yearPath(it.register), it, askSums);
   }
@@ -223,8 +221,8 @@ async function askAll() {
   }
 }
 
-// Asks for what is looked at. How far back a register goes stays, and so do the quarter hours of a
-// day that was over at the last look.
+// Fetches the rows that the page needs for the selected register and period.
+// New readings invalidate neither the cached months nor the cached quarter hours of past days.
 async function askOpen(open, register) {
   await keep(monthsPath(open.register), register, askSums, true);
   await keep(metersPath(open.register), register, askMeters);
@@ -241,7 +239,7 @@ async function askOpen(open, register) {
 let timer = 0;
 let isAsking = false;
 let isDue = false;
-let isWaiting = false; // until somebody looks at the page
+let isWaiting = false; // True if a refresh is postponed until the page becomes visible.
 
 async function refresh() {
   isDue = true;
@@ -263,9 +261,9 @@ async function refresh() {
   drawSoon();
 }
 
-// ---- numbers and dates
+// ---- Numbers and dates.
 
-// Exact kWh with six decimals, without zeros at the end where fewer will do.
+// Formats mWh as exact kWh with `least` to six decimals.
 function plainKwh(mwh, least = 6) {
   const digits = mwh.toString().padStart(7, "0");
   let part = digits.slice(-6);
@@ -273,7 +271,6 @@ function plainKwh(mwh, least = 6) {
   return `${digits.slice(0, -6)}.${part}`;
 }
 
-// The same with commas between the thousands, as all numbers that people read.
 const grouped = (text) => text.replace(/\B(?=(\d{3})+(?!\d))/g, ",");
 function kwh(mwh, least) {
   const [whole, part] = plainKwh(mwh, least).split(".");
@@ -286,24 +283,24 @@ const sumOf = (rows) => rows.reduce((sum, row) => sum + row.mwh, 0n);
 const two = (number) => String(number).padStart(2, "0");
 const clockOf = (date) => `${two(date.getHours())}:${two(date.getMinutes())}`;
 const dateOf = (seconds) => new Date(seconds * 1000);
-// A day is named as `2026-11-26`, a month as `2026-11`, a year as `2026`.
 const dayAt = (date) => {
   const year = String(date.getFullYear()).padStart(4, "0");
   return `${year}-${two(date.getMonth() + 1)}-${two(date.getDate())}`;
 };
 const partsOf = (period) => period.split("-").map(Number);
+// Lengths of `2026-11-26`, `2026-11` and `2026`.
 const DAY = 10;
 const MONTH = 7;
-const YEAR = 4; // the lengths of those names
+const YEAR = 4;
 
-// A day by a calendar that no zone moves.
+// Returns midnight UTC of a calendar day, which no time zone moves.
 function civil(year, month, day) {
   const date = new Date(0);
   date.setUTCFullYear(year, month - 1, day);
   return date;
 }
 
-// The day, month or year that is so many after another.
+// Adds `count` days to a day, `count` months to a month, or `count` years to a year.
 function later(period, count) {
   const [year, month = 1, day = 1] = partsOf(period);
   const size = period.length;
@@ -312,7 +309,6 @@ function later(period, count) {
   return date.toISOString().slice(0, size);
 }
 
-// The first day of a day, a month or a year.
 const firstOf = (period) => `${period}-01-01`.slice(0, DAY);
 
 function titleOf(period) {
@@ -322,7 +318,7 @@ function titleOf(period) {
   return month ? words.join(" ") : `${year}`;
 }
 
-// When a day, or the one `count` after it, begins by the browser's zone.
+// Returns when a day, `count` days after `day`, begins in the browser's time zone.
 function startOf(day, count) {
   const [year, month, date] = partsOf(day);
   return new Date(year, month - 1, date + count).getTime() / 1000;
@@ -339,15 +335,14 @@ function dateTime(seconds) {
   return `${date.getDate()} ${titleOf(dayAt(date).slice(0, MONTH))}, ${clockOf(date)}`;
 }
 
-// Without the date where it is the date of the last refresh.
+// Formats a timestamp, and omits its date if that is the date of the last refresh.
 function shortTime(seconds) {
   const isToday = dayAt(dateOf(seconds)) === dayAt(dateOf(site.at));
   return isToday ? clockOf(dateOf(seconds)) : dateTime(seconds);
 }
 
-// The office's day of now. Its zone isn't told, so it is the day by the browser's, but for this:
-// where the last row is of another day than the last reading is here, the zones differ, and that
-// day stands.
+// Returns the site's current day: the day of the last daily row if that row shows that the site's
+// time zone differs from the browser's, and otherwise the browser's day.
 function today(register) {
   const now = dayAt(dateOf(site.at));
   const days = rowsOf(yearPath(register.register));
@@ -357,7 +352,7 @@ function today(register) {
   return last > now || isOther ? last : now;
 }
 
-// ---- parts of the page
+// ---- Elements of the page.
 
 function filled(node, attributes, content) {
   for (const [name, value] of Object.entries(attributes)) node.setAttribute(name, value);
@@ -372,7 +367,7 @@ const shape = (kind, attributes, ...content) =>
 
 const shown = new Map();
 
-// Fills a part anew where what it shows has changed; the focus and what was scrolled stay.
+// Redraws an element if `value` has changed, and restores focus and scrolling.
 function fill(id, value, parts) {
   const key = JSON.stringify(value, (_, it) => (typeof it === "bigint" ? `${it}` : it));
   if (shown.get(id) === key) return;
@@ -396,7 +391,7 @@ function placeOf(hash) {
   return found && { register: found[1], period: found[2] };
 }
 
-// ---- devices and registers
+// ---- Devices and their registers.
 
 function stateOf(device) {
   if (!device) return ["faint", "Not being polled"];
@@ -462,11 +457,11 @@ function deviceParts() {
   });
 }
 
-// ---- one register: a day, a month or a year
+// ---- A day, month or year of the selected register.
 
-// What a period has in it, in order, and for how many there is room: each has a title, where its
-// bar stands, its energy (null where it has no row), how many quarter hours have one, what a file
-// calls it, and where a click leads.
+// Returns a bar for each month of the selected year, or each day of the selected month.
+// `mwh` is the energy of a bar in mWh, or null if nothing is recorded for its month or day.
+// `name` is the CSV file's text for the period, and `href` the link that a click opens.
 function monthsOrDays(register, days) {
   const { period } = place;
   const isYear = period.length === YEAR;
@@ -498,7 +493,7 @@ function monthsOrDays(register, days) {
   return { room, bars };
 }
 
-// The quarter hours of a day: one in which a meter followed another has what both counted.
+// The bar of a quarter hour in which a meter was replaced adds both meters.
 function quarters(meters) {
   const [start, end] = [startOf(place.period, 0), startOf(place.period, 1)];
   const room = Math.round((end - start) / QUARTER);
@@ -529,14 +524,14 @@ function quarters(meters) {
   return { room, bars };
 }
 
-// The least of 1, 2 and 5 times a power of ten of which four reach up to a value.
+// Returns the spacing of a chart's grid lines in mWh: 1, 2 or 5 times a power of ten.
 function gridOf(most) {
   for (let unit = 1n; ; unit *= 10n) {
     for (const grid of [unit, 2n * unit, 5n * unit]) if (4n * grid >= most) return grid;
   }
 }
 
-// Where a curve stands in its picture.
+// Positions in the chart: left, right, top and base of the bars, bottom.
 const [LEFT, RIGHT, TOP, FOOT, UNDER] = [110, 960, 25, 275, 320];
 
 function barShape(bar, x, wide, high) {
@@ -555,7 +550,7 @@ function barShape(bar, x, wide, high) {
     : shape("g", {}, ...parts);
 }
 
-// Only here energies become numbers that are rounded: to draw them.
+// Draws a bar chart. Only heights of bars come from rounded energies.
 function curve({ room, bars }) {
   const some = bars.map((bar) => bar.mwh || 0n);
   const most = some.reduce((most, mwh) => (mwh > most ? mwh : most), 1n);
@@ -610,7 +605,7 @@ function table(bars) {
 
 let fileUrl = "";
 
-// A file in the form of `sunreg report --format csv --unit kwh`.
+// Returns a link to a CSV file in the format of `sunreg report --format csv --unit kwh`.
 function fileLink(bars) {
   const first = { [DAY]: "start", [MONTH]: "day", [YEAR]: "month" }[place.period.length];
   const lines = [`${first},energy_kwh\r\n`];
@@ -622,7 +617,7 @@ function fileLink(bars) {
     make("a", { id: "file", href: fileUrl, download }, "Download CSV"));
 }
 
-// Whether the bars of a day are all that the office has of it.
+// Reports whether the quarter hours of the selected day add up to the day's recorded energy.
 function comparison(sum, days, register) {
   const isNow = place.period === today(register);
   const row = days.find((it) => it.name === place.period);
@@ -643,7 +638,7 @@ function around(register, days) {
   const last = today(register);
   const months = rowsOf(monthsPath(register.register));
   const begun = months.length ? months[0].name : last;
-  // (with which day its first month begins matters in that month alone, whose days are here)
+  // The first recorded day, or the first day of its month if `days` lacks it.
   const rows = days.filter((row) => row.name.startsWith(begun));
   const first = rows.length ? rows[0].name : firstOf(begun);
   const word = { [DAY]: "day", [MONTH]: "month", [YEAR]: "year" }[size];
@@ -669,7 +664,6 @@ function around(register, days) {
   ];
 }
 
-// Where all is asked that the place shows.
 function pathsOf() {
   const name = place.register;
   const paths = [yearPath(name), monthsPath(name), metersPath(name), spanPath(place)];
@@ -744,7 +738,7 @@ function drawDetail() {
   }
 }
 
-// ---- what wants a look
+// ---- Rejected readings, incomplete set-up and polls.
 
 const list = (items) => make("ul", {}, ...items.map((it) => make("li", {}, ...it)));
 const count = (number, noun) => `${grouped(`${number}`)} ${noun}${number === 1 ? "" : "s"}`;
@@ -788,7 +782,7 @@ function noteParts() {
   return parts;
 }
 
-// ---- the whole
+// ---- The complete page and its events.
 
 const zone = () => Intl.DateTimeFormat().resolvedOptions().timeZone;
 
@@ -812,7 +806,7 @@ function draw() {
 
 let isDrawing = false;
 
-// Draws once for all that comes in a moment.
+// Redraws the page once for all responses within 20 ms.
 function drawSoon() {
   if (isDrawing) return;
   isDrawing = true;

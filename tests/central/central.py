@@ -593,7 +593,7 @@ def tells_faults(shards, mocks):
     told("a site that is no JSON", none, lambda text: text[:-5], "/site")
     told("a site without registers", none, lambda text: "[]", "/site")
     told("a name that is none", none, lambda text: text.replace('"roof-1"', '"x\' OR 1"'), "/site")
-    told("a site of too many brackets", none, lambda text: "[" * 1_000_000, "/site")
+    told("a site of too many brackets", none, lambda text: "[" * 100_000, "/site")
     told("a total that is none", none, lambda text: re.sub('"total":"[0-9]+"', '"total":7', text), "/site")
     north.reply = lambda asked: (503, '{"fault":503}')
     same("a refusal", shards.collect(sites)[2], ["collect: north: it answers 503 to GET /site"])
@@ -691,23 +691,40 @@ def tls(shards, mocks):
     del os.environ["SSL_CERT_FILE"]
 
 
+def pieces_of(text):
+    """Yields a text in pieces of random sizes."""
+    while text:
+        size = random.randrange(1, 100)
+        yield text[:size]
+        text = text[size:]
+
+
 def reads_golden_texts():
     """collect accepts the texts of rows and days that the program's own golden tests expect."""
     loader = importlib.machinery.SourceFileLoader("collect", str(CENTRAL / "collect"))
     collect = importlib.util.module_from_spec(importlib.util.spec_from_loader("collect", loader))
     loader.exec_module(collect)
-    taken = {collect.interval_rows: 0, collect.day_rows: 0}
+
+    def interval_rows(pieces, what):
+        table = collect.Table(1_000_000)
+        (begin, end), total = table.read(pieces, what)
+        return [list(map(str, row)) for row in zip(*(column[begin:end] for column in table.columns))], total
+
+    def day_rows(pieces, what):
+        (days, *values), total = collect.day_rows(pieces, what)
+        return [[collect.day_text(day).decode(), *map(str, row)] for day, *row in zip(days, *values)], total
+
+    taken = {interval_rows: 0, day_rows: 0}
     for file in sorted((HERE.parent.parent / "crates/script_cases/data").glob("*/*.out")):
         lines = file.read_text().splitlines(keepends=True)
         for place, line in enumerate(lines):
             count = int(line.split()[1]) if re.fullmatch("end [0-9]{1,6}\n", line) else 0
             rows = lines[max(0, place - count) : place]
-            for form, shape in ((collect.interval_rows, "[0-9]+ [0-9]+\n"), (collect.day_rows, "[0-9]{4}-[0-9-]+ +[0-9]+ +[0-9]+\n")):
+            for form, shape in ((interval_rows, "[0-9]+ [0-9]+\n"), (day_rows, "[0-9]{4}-[0-9-]+ +[0-9]+ +[0-9]+\n")):
                 if not rows or not all(re.fullmatch(shape, row) for row in rows) or rows[0].startswith(("1969-", "1970-01-01")):
                     continue
                 wanted = ([row.split() for row in rows], sum(int(row.split()[-1]) for row in rows))
-                got, total = form("".join([*rows, line]).encode(), str(file))
-                same(f"{file.name}: its rows", ([row.decode().split() for row in got], total), wanted)
+                same(f"{file.name}: its rows", form(pieces_of("".join([*rows, line]).encode()), str(file)), wanted)
                 taken[form] += 1
     holds("golden texts are there", min(taken.values()) > 5, taken)
 

@@ -1,7 +1,7 @@
-//! Sets up a new office from the store of an old one (a file rollover).
+//! Sets up a new office from the store of an old office, which is called a file rollover.
 //!
-//! The new office has the old one's devices, point lists and accounting registers, and each open
-//! meter, opened at its last valid entry.
+//! The new office has the devices, point lists and accounting registers of the old office. Each
+//! open meter of the old office is opened in the new office at its last valid entry.
 
 mod carried;
 mod commands;

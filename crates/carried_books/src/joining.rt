@@ -1,6 +1,7 @@
-//! Joins the files of one office at an accounting register, in order.
+//! Joins the files of one office, the oldest first, to report an accounting register over all
+//! files.
 //!
-//! A meter continues from its state in the file before. The module reports the register's meters
+//! A meter continues from its state in the previous file. The module reports the register's meters
 //! and its energy by day.
 
 mod days;

@@ -1,4 +1,4 @@
-//! Rolls a store over into a new one, and reports what several stores contain together.
+//! Rolls a store over into a new store, and reports on several stores of one office together.
 #![tactic(auto)]
 
 mod carrying;

@@ -1,5 +1,4 @@
--- Lemmas on the output of a command: what is printed for a text is printed for the input with that
--- text.
+-- Lemmas on the output of a command and its exit status.
 use Rattle.std.proofs.Common.{◌≡◌, ◌⊎◌, inl, inr, ◌<◌, ◌≤◌, ℕ, List, [], length, Option, None, Some, IfSome, refl, sym, subst}
 use Rattle.std.specs.Prelude.{◌≢◌}
 use Rattle.std.specs.Io.KnownBytes.{Appends}
@@ -11,7 +10,8 @@ use Rattle.command_io.specs.declared.status.ExitStatus.{ExitStatus}
 use Rattle.command_io.specs.declared.status.ExitStatus.TheVariants.{Fine, Refused, Failed}
 use Rattle.sun_points.specs.Writing.{GotPart}
 
--- If each output that satisfies `Prints` also satisfies `Other`, `PrintsOn` holds for `Other` too.
+-- If every output that satisfies `Prints` also satisfies `Other`, a command that prints according
+-- to `Prints` also prints according to `Other`.
 pub prints_in : {P : Type 0} (p : printers.Ghosts P) (Prints Other : List ℕ → ExitStatus → Type 0) (status : ExitStatus) (old new : P)
     → ((printed : List ℕ) (meant : ExitStatus) → Prints printed meant → Other printed meant)
     → PrintsOn p Prints status old new → PrintsOn p Other status old new
@@ -36,7 +36,8 @@ input_prints p (Some all) text whole Text Input status old from new is read fits
     subst Told read (turn whole printed meant short (subst Of is told)))
     prints)
 
--- If an input is too long, its output is only the text that says so, or a beginning of that text.
+-- A command that fails while it reports an input that is too long has printed nothing or a
+-- beginning of `too long`.
 long_told : {P : Type 0} (p : printers.Ghosts P) (Prints : List ℕ → ExitStatus → Type 0) (old new : P)
     → p.has_failed new ⊎ (new ≡ old) → GotPart too_long (p.contents old) (p.contents new) → Prints too_long Refused
     → PrintsOn p Prints Failed old new
@@ -55,7 +56,7 @@ unread_told p Prints all Refused old new (inr none) failed long = absurd (let e 
 unread_told p Prints all Failed old new (inl told) failed long = long_told p Prints old new (failed refl) told.1 (long told.0)
 unread_told p Prints all Failed old new (inr none) failed long = inl none.1
 
--- What a command prints if its input could not be read.
+-- A command that could not read its input prints `too long`, a beginning of that line, or nothing.
 pub unread_prints : {P : Type 0} (p : printers.Ghosts P) (input : Option (List ℕ)) (Input : List ℕ → List ℕ → ExitStatus → Type 0)
     (status : ExitStatus) (old new : P) → LeavesUnread input (p.contents old) (p.contents new) status
     → (status ≡ Failed → p.has_failed new ⊎ (new ≡ old)) → ((all : List ℕ) → most_bytes < length all → Input all too_long Refused)
@@ -63,7 +64,7 @@ pub unread_prints : {P : Type 0} (p : printers.Ghosts P) (input : Option (List �
 unread_prints p None Input status old new unread failed long = tt
 unread_prints p (Some all) Input status old new unread failed long = unread_told p (Input all) all status old new unread failed (long all)
 
--- What a command prints if its text is completed before it is printed.
+-- If a command builds its complete text before it prints, the built text satisfies `Prints`.
 is_made : (Prints : List ℕ → ExitStatus → Type 0) (meant : ExitStatus) (begun made : List ℕ) → meant ≢ Failed → begun ≡ []
     → PrintsAs Prints meant (Some begun) (Some made) → Prints made meant
 is_made Prints meant begun made goes none prints =

@@ -1,4 +1,4 @@
--- The output of a command, and whether printing failed.
+-- The output of a command, its exit status, and whether writing the output failed.
 use Rattle.std.specs.Prelude.{◌≡◌, ◌≢◌, ◌⊎◌, ℕ, List, [], Option}
 use Rattle.std.specs.Io.KnownBytes.{Appends}
 use Rattle.command_io.specs.declared.printer.Printer as printers
@@ -6,22 +6,23 @@ use Rattle.command_io.specs.declared.status.ExitStatus.{ExitStatus}
 use Rattle.command_io.specs.declared.status.ExitStatus.TheVariants.{Fine, Refused, Failed}
 use Rattle.sun_points.specs.Writing.{GotPart}
 
--- Unless the status is `Failed`, the output got a text that the command prints with this status.
+-- States that the output received a complete text that `Prints` allows for the exit status. Says
+-- nothing if the status is `Failed`.
 abbrev pub PrintsAs : (Prints : List ℕ → ExitStatus → Type 0) → ExitStatus
     → (old new : Option (List ℕ)) → Type 0
 PrintsAs Prints status old new =
     status ≢ Failed → (printed : List ℕ) × Appends old new printed × Prints printed status
 
--- The text was printed.
+-- States that the output received the complete text.
 abbrev pub Printed : {P : Type 0} → printers.Ghosts P → (text : List ℕ) → (old new : P) → Type 0
 Printed p text old new = Appends (p.contents old) (p.contents new) text
 
--- Printing failed after a beginning of the text, possibly empty, was written.
+-- States that a write failed after the output received a beginning of the text, possibly empty.
 abbrev pub BrokeOff : {P : Type 0} → printers.Ghosts P → (text : List ℕ) → (old new : P) → Type 0
 BrokeOff p text old new = p.has_failed new × GotPart text (p.contents old) (p.contents new)
 
--- The text was printed, and the status is the meant one; or printing failed. If the text means
--- `Failed`, nothing is printed.
+-- States that the output received the text and the command ends with the status `meant`, or that a
+-- write failed. If `meant` is `Failed`, nothing is printed.
 abbrev pub EndsAs : {P : Type 0} → printers.Ghosts P → (text : List ℕ) → (meant status : ExitStatus)
     → (old new : P) → Type 0
 EndsAs p text Fine Fine old new = Printed p text old new
@@ -34,8 +35,8 @@ EndsAs p text Failed Fine old new = ⊥
 EndsAs p text Failed Refused old new = ⊥
 EndsAs p text Failed Failed old new = new ≡ old
 
--- The output got a text that the command prints with this status. With status `Failed` it got
--- nothing, or a beginning of such a text because printing failed.
+-- States that the output received a text that `Prints` allows for the exit status. With `Failed`,
+-- the output received nothing, or a beginning of such a text because a write failed.
 abbrev pub PrintsOn : {P : Type 0} → printers.Ghosts P → (Prints : List ℕ → ExitStatus → Type 0)
     → ExitStatus → (old new : P) → Type 0
 PrintsOn p Prints Fine old new =
@@ -47,7 +48,8 @@ PrintsOn p Prints Failed old new =
     ⊎ ((printed : List ℕ) × (meant : ExitStatus) × BrokeOff p printed old new
     × Prints printed meant)
 
--- `PrintsOn`, where the text that the command prints depends on its input.
+-- States that the output received a text that `Prints` allows for the input and the exit status of
+-- a command.
 abbrev pub PrintsFor : {P : Type 0} → printers.Ghosts P
     → (Prints : (input printed : List ℕ) → ExitStatus → Type 0) → ExitStatus → (old new : P)
     → (input : List ℕ) → Type 0

@@ -1,4 +1,4 @@
-//! A buffered writer that writes complete lines.
+//! A buffered writer that passes complete lines to its inner writer.
 ghost use Rattle.std.specs.Prelude.{◌≡◌, ◌≢◌, ◌≤◌, ◌<◌, ◌+◌, ◌-◌, ◌⊎◌, ◌++◌, [], length, drop, slice_index};
 
 use std::io::{self, ErrorKind, Write};
@@ -6,11 +6,11 @@ use std::io::{self, ErrorKind, Write};
 /// The size of the buffer in bytes.
 const ROOM: usize = 8192;
 
-/// A writer with a buffer of 8,192 bytes. When the buffer is full, it writes the complete lines in
-/// it, or all of it if it has no line end. `flush` writes all.
+/// A writer with a buffer of 8,192 bytes. A full buffer is written up to its last line end, or
+/// completely if it has no line end. `flush` writes all buffered bytes.
 ///
-/// A failed write loses no bytes: what was not written stays in the buffer. After a failed write,
-/// other than an interrupted one, no further write is made.
+/// A failed write loses no bytes: the buffer keeps the unwritten bytes. After a failed write, other
+/// than an interrupted one, no further write is made.
 #[derive(Drop)]
 pub struct Buffered<W> {
     pub(crate) output: W,
@@ -20,8 +20,8 @@ pub struct Buffered<W> {
     ghost room: { filled ≤ 8192 },
 }
 
-// Returns the length of the complete lines at the front of the bytes, or of all bytes if none of
-// them ends a line.
+// Returns the length of the complete lines at the front of `bytes`, or the length of all bytes if
+// they have no line end.
 fn lines_len(bytes: &[u8]) -> usize
     ensures within { result ≤ length bytes.now }
     ensures some { 0 < length bytes.now → 0 < result }
@@ -43,7 +43,7 @@ impl<W: Write> Buffered<W> {
     ghost use Rattle.std.specs.Io.KnownBytes.{Keeps};
     ghost use Rattle.command_io.specs.Holding.{contents_of, buffered_in, output_of};
 
-    /// Creates a writer with an empty buffer.
+    /// Creates a writer with an empty buffer over `output`.
     pub fn new(output: W) -> Buffered<W>
         ensures output { output_of result ≡ output }
         ensures empty { buffered_in result ≡ [] }
@@ -56,7 +56,7 @@ impl<W: Write> Buffered<W> {
         }
     }
 
-    /// Returns the inner writer. Bytes that are still in the buffer are dropped.
+    /// Unwraps the inner writer, and discards the bytes in the buffer.
     pub fn into_output(self) -> W
         ensures { result ≡ output_of self }
     {
@@ -64,7 +64,7 @@ impl<W: Write> Buffered<W> {
         output
     }
 
-    // Writes some of the first `end` bytes of the buffer, with one write.
+    // Passes some of the first `end` buffered bytes to the inner writer, in one write.
     fn give(&mut self, end: usize) -> io::Result<()>
         requires some { 0 < end }
         requires within { end ≤ self.old.filled }
@@ -115,8 +115,8 @@ impl<W: Write> Buffered<W> {
         self.filled = end;
     }
 
-    // If the buffer lacks room for `count` bytes, writes some of it, so that it has room for at
-    // least one byte.
+    // Writes buffered bytes if the buffer lacks room for `count` more. After success the buffer has
+    // room for at least one byte.
     fn make_room(&mut self, count: usize) -> io::Result<()>
         ensures room { OnOk result (self.new.filled < 8192 ⊎ (count ≡ 0)) }
         ensures bytes { Keeps (contents_of W.contents self.old) (contents_of W.contents self.new) }

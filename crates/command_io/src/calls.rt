@@ -1,11 +1,11 @@
-//! A reader that counts its calls.
+//! A reader that counts the calls of `read`.
 ghost use Rattle.std.specs.Prelude.{◌≡◌, ◌+◌, ◌<◌, false, is_err};
 ghost use Rattle.std.specs.Io.{ReadsAtMost};
 ghost use Rattle.std.specs.Io.KnownBytes.{ReadConsumes};
 
 use std::io::{self, Read};
 
-/// A reader, the number of its calls, and whether one failed.
+/// A reader with the number of `read` calls so far, and a flag for a failed call.
 #[derive(Drop)]
 pub(crate) struct Calls<'r, R: Read> {
     pub(crate) input: &'r mut R,
@@ -26,7 +26,7 @@ impl<'r, R: Read> Calls<'r, R> {
         }
     }
 
-    /// Calls `read` once more. No call may follow a failed one.
+    /// Calls `read` once. The contract forbids a call after a failed call.
     pub(crate) fn read(&mut self, piece: &mut [u8]) -> io::Result<usize>
         requires few { self.old.made < 4194305 }
         requires works { self.old.failed ≡ false }

@@ -1,11 +1,11 @@
-//! Prints the last text of a command, and returns the exit status.
+//! Prints the last text of a command, and chooses the exit status.
 ghost use Rattle.command_io.specs.Printing.{EndsAs};
 
 use crate::printer::Printer;
 use crate::status::ExitStatus;
 
-/// Prints a text, and returns the exit status that goes with it, or `Failed` if printing fails.
-/// With the status `Failed` nothing is printed.
+/// Prints a text and returns the status `meant`, or `Failed` if printing fails. If `meant` is
+/// `Failed`, prints nothing.
 pub fn print_end<P: Printer>(text: &[u8], meant: ExitStatus, output: &mut P) -> ExitStatus
     ensures { EndsAs P.Printer text.now meant result output.old output.new }
 {

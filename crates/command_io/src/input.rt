@@ -1,4 +1,4 @@
-//! Reads a complete input.
+//! Reads the complete input of a command, up to a maximum length.
 ghost use Rattle.std.specs.Prelude.{◌≡◌, ◌≢◌, ◌≤◌, ◌↔◌, ◌⊎◌, Err, false, true, IfOk, IfErr, length};
 ghost use Rattle.command_io.specs.Input.{AreWholeOf, BlamesLengthRightly, LeavesUnread};
 ghost use Rattle.command_io.specs.Input.{TellsTooLong, most_bytes};
@@ -40,7 +40,7 @@ impl Display for ReadFault {
 
 impl Error for ReadFault {}
 
-/// Reads an input to its end, with at most `MOST_BYTES` + 1 calls of `read`. No call follows a
+/// Reads an input to its end, with at most `MOST_BYTES` + 1 calls of `read`. Makes no call after a
 /// failed one.
 pub fn read_whole<R: Read>(alloc: Global, input: &mut R) -> Result<Vec<u8>, ReadFault>
     ensures whole { IfOk result (AreWholeOf (R.remaining input.old)) }
@@ -51,8 +51,8 @@ pub fn read_whole<R: Read>(alloc: Global, input: &mut R) -> Result<Vec<u8>, Read
     read_by(alloc, &mut calls)
 }
 
-// Reads to the end of the input with a bounded number of `read` calls. If a call fails, it is the
-// last.
+// Reads an input to its end with a bounded number of `read` calls, and stops at the first failed
+// call.
 fn read_by<R: Read>(alloc: Global, calls: &mut Calls<'_, R>) -> Result<Vec<u8>, ReadFault>
     requires none { calls.old.made ≡ 0 }
     requires works { calls.old.failed ≡ false }
@@ -81,8 +81,8 @@ fn read_by<R: Read>(alloc: Global, calls: &mut Calls<'_, R>) -> Result<Vec<u8>, 
     Err(ReadFault::TooLong)
 }
 
-/// Reads the complete input of a command. If the input is too long, prints `too long`. On error the
-/// command ends with the status, which is `Refused` or `Failed`.
+/// Reads the complete input of a command. Prints `too long` if the input is too long. An error is
+/// the exit status of the command, `Refused` or `Failed`.
 pub fn read_input<R: Read, P: Printer>(
     alloc: Global,
     input: &mut R,
@@ -104,7 +104,7 @@ pub fn read_input<R: Read, P: Printer>(
     }
 }
 
-// Prints that an input is too long.
+// Prints the line `too long`, and returns the exit status for an input that is too long.
 fn tell_too_long<P: Printer>(output: &mut P) -> ExitStatus
     ensures told { TellsTooLong result (P.contents output.old) (P.contents output.new) }
     ensures failed { result ≡ ExitStatus.Failed → P.has_failed output.new }

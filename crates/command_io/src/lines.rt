@@ -5,18 +5,18 @@ ghost use Rattle.command_io.specs.Lines.{is_silent};
 use bstr::ByteSlice;
 use std::marker::Model;
 
-/// A line, without its end, and its number among all lines, from 1.
+/// A line of an input without its line end, and its number among all lines, from 1.
 #[derive(Clone, Copy, Debug)]
 pub struct InputLine<'a> {
     pub number: u64,
     pub text: &'a [u8],
 }
 
-/// An iterator over the lines of a text. It skips empty lines and those that begin with `#`.
+/// An iterator over the lines of a text. It skips empty lines and lines that begin with `#`.
 #[derive(Drop)]
 pub struct InputLines<'a> {
     lines: bstr::Lines<'a>,
-    // The number of the next line.
+    // The number of the next line, where skipped lines count too.
     number: u64,
 }
 

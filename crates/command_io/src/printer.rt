@@ -1,4 +1,4 @@
-//! The output of a command, and whether it failed.
+//! An output to which a command prints, and a writer that records whether its last write failed.
 ghost use Rattle.std.specs.Prelude.{◌≡◌, ℕ, List, [], Option, IsOk, OnErr, ⊤};
 ghost use Rattle.sun_points.specs.Writing.{GotText};
 ghost use Rattle.command_io.specs.Noting.{IsFailing, is_unwritten, written_on};
@@ -6,16 +6,16 @@ ghost use Rattle.command_io.specs.Noting.{IsFailing, is_unwritten, written_on};
 use std::io::{self, ErrorKind, Write};
 use sun_points::Sink;
 
-/// An output to which each call prints one text. A `NotedWriter` records whether it failed, other
-/// writers do not.
+/// An output to which each call of `print` writes one text. `NotedWriter` records whether the write
+/// failed; other writers do not.
 pub trait Printer {
-    // What the output received, if that is known.
+    // The bytes that the output received, if they are known.
     ghost contents: { Self → Option (List ℕ) };
 
-    // The last text was not printed completely.
+    // States that the last call of `print` did not write its complete text.
     ghost has_failed: { Self → Type 0 };
 
-    /// Prints the complete text, or fails. On error a part of the text may have been written.
+    /// Writes the complete text, or fails. After an error a part of the text may have been written.
     fn print(&mut self, text: &[u8]) -> io::Result<()>
         ensures bytes { GotText result text.now (contents self.old) (contents self.new) }
         ensures nothing { text.now ≡ [] → IsOk result }
@@ -32,14 +32,14 @@ impl<W: Write> Printer for W {
     }
 }
 
-/// A writer with a flag: its last write failed, or accepted none of its bytes.
+/// A writer that records whether its last write failed or accepted no bytes.
 #[derive(Drop)]
 pub struct NotedWriter<W> {
     pub(crate) output: W,
     pub(crate) failed: bool,
 }
 
-// Returns whether the result of a write is a failure, or that no bytes were accepted.
+// Returns whether the result of a write is an error or a count of 0 bytes.
 fn is_unwritten(answer: &io::Result<usize>) -> bool
     ensures { result ≡ is_unwritten answer.now }
 {
@@ -64,7 +64,7 @@ impl<W: Write> NotedWriter<W> {
         }
     }
 
-    /// Returns the inner writer.
+    /// Returns the writer that the `NotedWriter` wraps.
     pub fn into_output(self) -> W
         ensures { result ≡ written_on self }
     {
@@ -72,7 +72,7 @@ impl<W: Write> NotedWriter<W> {
         output
     }
 
-    // Makes one write, and records whether it failed.
+    // Makes one call of `write`, and records whether the call failed or accepted no bytes.
     fn write_once(&mut self, bytes: &[u8]) -> io::Result<usize>
         ensures bound { WritesAtMost result bytes.now }
         ensures bytes { WriteAppends (W.contents self.old.output) (W.contents self.new.output)
@@ -84,7 +84,7 @@ impl<W: Write> NotedWriter<W> {
         answer
     }
 
-    // Writes some of the bytes. Retries an interrupted write, up to 2^64 - 2 times.
+    // Writes some of the bytes with `write`. Retries an interrupted call, up to 2^64 - 2 times.
     fn write_some(&mut self, bytes: &[u8]) -> io::Result<usize>
         ensures bound { WritesAtMost result bytes.now }
         ensures bytes { WriteAppends (W.contents self.old.output) (W.contents self.new.output)

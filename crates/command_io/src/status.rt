@@ -1,15 +1,15 @@
-//! Exit statuses.
+//! The exit statuses of the program's commands.
 ghost use Rattle.std.specs.Prelude.{◌≡◌};
 ghost use Rattle.command_io.specs.Statuses.{status_number};
 
-/// How a command ended.
+/// The way in which a command ended.
 #[derive(Clone, Copy, Debug, PartialEq, Eq)]
 pub enum ExitStatus {
-    /// Everything was executed.
+    /// The command did all that was requested.
     Fine,
-    /// The input is wrong, or was refused.
+    /// The input is malformed, or was refused.
     Refused,
-    /// A file, stream or socket failed, or memory ran out.
+    /// A file, a stream or a socket failed, or memory ran out.
     Failed,
 }
 

@@ -1,4 +1,4 @@
--- The fault for an error of `clap`, by its kind.
+-- Proves that the function `refusal` returns the fault that belongs to the kind of a `clap` error.
 use Rattle.std.proofs.Common.{◌≡◌, ◌≢◌, ◌∙◌, ◌⊎◌, inl, inr, List, [], ◌∷◌, rules, sym, subst}
 use Rattle.std.specs.Borrow.{Bor}
 use Rattle.clap.specs.Words.{IsAmong, Kinds, Text}

@@ -1,4 +1,4 @@
--- The fault of arguments that are no valid command line.
+-- Defines the faults for arguments that form no valid command line.
 use Rattle.std.specs.Prelude.{◌≡◌, ◌≢◌, ⊤}
 use Rattle.clap.specs.declared.error.kind.ErrorKind.{ErrorKind}
 use Rattle.clap.specs.declared.error.kind.ErrorKind.TheVariants.{DisplayHelp, DisplayVersion, OutOfMemory}
@@ -7,8 +7,9 @@ use Rattle.command_words.specs.declared.faults.ValueFault.TheVariants as value
 use Rattle.command_words.specs.declared.faults.WordsFault.{WordsFault}
 use Rattle.command_words.specs.declared.faults.WordsFault.TheVariants.{Wrong, Help, Version, Memory}
 
--- The fault for an error that `clap` reports: `Help` or `Version` for a request of these, and
--- `Wrong` for a real error. `Memory` is possible for any of them.
+-- States that the fault may be reported for a `clap` error. A request for help or the version gives
+-- `Help` or `Version`. `Wrong` requires another error, which is not out of memory. `Memory` (out of
+-- memory) may be reported for any error.
 abbrev pub IsRefusal : ErrorKind → WordsFault → Type 0
 IsRefusal kind (Wrong text) =
     (kind ≢ DisplayHelp) × (kind ≢ DisplayVersion) × (kind ≢ OutOfMemory)
@@ -16,7 +17,7 @@ IsRefusal kind (Help text) = kind ≡ DisplayHelp
 IsRefusal kind Version = kind ≡ DisplayVersion
 IsRefusal kind Memory = ⊤
 
--- The fault for an option value that the command does not accept.
+-- States that the fault may be reported for an option value that is missing or invalid.
 abbrev pub IsMisreading : ValueFault → WordsFault → Type 0
 IsMisreading fault (Wrong text) = fault ≢ value.Memory
 IsMisreading fault (Help text) = ⊥

@@ -1,4 +1,4 @@
--- The command that the program's arguments mean.
+-- Defines the command that results from the program's parsed arguments.
 use Rattle.std.specs.Prelude.{ℕ, Bool, true, false, ◌&&◌, ◌||◌, is_some, is_none, length, nat_lt, List, [], Option, Some, None, codes, map, option_map, if◌then◌else◌}
 use Rattle.std.specs.Str.{bytes_eq}
 use Rattle.clap.specs.Words.{Row, Text}
@@ -17,7 +17,8 @@ use Rattle.command_words.specs.declared.line.FormWords.{FormWords}
 use Rattle.command_words.specs.declared.line.Sealing.{Sealing}
 use Rattle.command_words.specs.declared.line.Sealing.TheVariants as sealing
 
--- The form of a report, as far as options specify it.
+-- The options that set the form of a report. They are days, period, unit, output format, and
+-- whether the report is a statement.
 pub record Form : Type 0 where
   pub from : Option Text
   pub till : Option Text
@@ -26,14 +27,14 @@ pub record Form : Type 0 where
   pub format : Option Format
   pub statement : Bool
 
--- What an audit does with a seal, a signed-off digest of the past: nothing, print one, or compare
--- the records with the one in a file.
+-- What an audit does with a seal, which is a signed-off digest of a file's past. The audit ignores
+-- seals, prints a new seal, or checks a stored seal.
 pub data Seal : Type 0 where
   Nothing : Seal
   Print : Seal
   Against : (file : Text) → Seal
 
--- The model of a command line: a command with the values of its options.
+-- The logical model of a command line: a command with the values of its options.
 pub data Line : Type 0 where
   Replay : (zone : Text) → Line
   ReplayFile : (db : Text) → Line
@@ -58,7 +59,7 @@ pub data Line : Type 0 where
   Explain : (what number : Text) → Line
   Completions : Line
 
--- The model of a report's form.
+-- Converts an executable value of `FormWords` to its logical model.
 abbrev pub seen_form : FormWords → Form
 seen_form form = record {
   from = option_map (λ text. text.now) form.from;
@@ -69,13 +70,13 @@ seen_form form = record {
   statement = form.statement;
 }
 
--- The model of an audit's seal option.
+-- Converts an executable value of `Sealing` to its logical model.
 abbrev pub seen_sealing : Sealing → Seal
 seen_sealing sealing.Nothing = Nothing
 seen_sealing sealing.Print = Print
 seen_sealing (sealing.Against file) = Against file.now
 
--- The model of a command line.
+-- Converts an executable value of `CommandLine` to its logical model.
 abbrev pub seen : CommandLine → Line
 seen (line.Replay zone) = Replay zone.now
 seen (line.ReplayFile db) = ReplayFile db.now
@@ -104,13 +105,13 @@ seen (line.Run dbs listen every devices lasts carry earlier hosts most_kept verb
 seen (line.Explain what number) = Explain what.now number.now
 seen line.Completions = Completions
 
--- ---- options that several commands have
+-- ---- the values of options that several commands have
 
--- The time zone; `UTC0` if the option is not given.
+-- The time zone from the option `--zone`, by default `UTC0`.
 abbrev pub zone_in : List Row → Text
 zone_in rows = text_or (codes "UTC0") (codes "zone") rows
 
--- The host; `127.0.0.1` if the option is not given.
+-- The host from the option `--host`, by default `127.0.0.1`.
 abbrev pub host_in : List Row → Text
 host_in rows = text_or (codes "127.0.0.1") (codes "host") rows
 
@@ -118,37 +119,41 @@ host_in rows = text_or (codes "127.0.0.1") (codes "host") rows
 abbrev pub db_in : List Row → Option Text
 db_in rows = text_at (codes "db") rows
 
--- The port, from 1 to 65,535.
+-- The port from the option `--port`, from 1 to 65,535. None if the option is missing or its port is
+-- out of range.
 abbrev pub port_in : List Row → Option ℕ
 port_in rows = number_at 65535 (codes "port") rows
 
--- The number of connections, from 1 to 1,000,000.
+-- The number from the option `--connections`, from 1 to 1,000,000. None if the option is missing or
+-- its number is out of range.
 abbrev pub connections_in : List Row → Option ℕ
 connections_in rows = number_at 1000000 (codes "connections") rows
 
--- The names by which an HTTP request may name the host, besides those of this machine.
+-- The values of `--host-name`, which are further names that an HTTP request's Host header may have.
+-- None if a value is no host name.
 abbrev pub hosts_in : List Row → Option (List Text)
 hosts_in rows = host_names_of (texts_at (codes "host-name") rows)
 
--- ---- the commands
+-- ---- the command lines of all commands, from their options
 
--- The command `replay`. With a file it may have no zone, because the file has its own.
+-- The command `replay` with a time zone or a file. None if both are given, because the file has its
+-- own zone.
 abbrev pub replay_of : (has_zone : Bool) → (zone : Text) → (db : Option Text) → Option Line
 replay_of has_zone zone None = Some (Replay zone)
 replay_of has_zone zone (Some db) = if has_zone then None else Some (ReplayFile db)
 
--- The command line of `replay` with these options. None if the options exclude each other.
+-- Parses the options of the command `replay`. None if both a file and a time zone are given.
 abbrev pub replay_in : List Row → Option Line
 replay_in rows =
     replay_of (is_some (text_at (codes "zone") rows)) (zone_in rows) (db_in rows)
 
--- The command line of `create` with these options. None if an option is missing or invalid.
+-- Parses the options of the command `create`. None if an option is missing or invalid.
 abbrev pub create_in : List Row → Option Line
 create_in rows =
     given (db_in rows) (λ db.
     given (text_at (codes "zone") rows) (λ zone. Some (Create db zone)))
 
--- The command line of `serve` with these options. None if an option is missing or invalid.
+-- Parses the options of the command `serve`. None if an option is missing or invalid.
 abbrev pub serve_in : List Row → Option Line
 serve_in rows =
     given (db_in rows) (λ db.
@@ -156,19 +161,19 @@ serve_in rows =
     given (connections_in rows) (λ connections.
     given (hosts_in rows) (λ hosts. Some (Serve db port connections hosts)))))
 
--- The command line of `round` with these options. None if an option is missing or invalid.
+-- Parses the options of the command `round`. None if an option is missing or invalid.
 abbrev pub round_in : List Row → Option Line
 round_in rows =
     given (db_in rows) (λ db.
     given (text_at (codes "device") rows) (λ device.
     given (port_in rows) (λ port. Some (Round db device (host_in rows) port))))
 
--- The form of a report. For a statement there is none if a period is given, because a statement has
--- no periods.
+-- The form of a report. None if the report is a statement and also has a period, because statements
+-- have no periods.
 abbrev pub unless_by : (statement : Bool) → Option Period → Form → Option Form
 unless_by statement period form = if statement && is_some period then None else Some form
 
--- The form of a report with these options. None if an option is invalid.
+-- Parses the options that set a report's form. None if an option is invalid.
 abbrev pub form_in : List Row → Option Form
 form_in rows =
     let from = text_at (codes "from") rows in
@@ -186,12 +191,12 @@ form_in rows =
       statement = statement;
     }))))
 
--- The report over one file, or over several files together.
+-- The command `report` over one file, or over several files of one office.
 abbrev pub report_of : (db : Text) → (files : List Text) → (register : Text) → Form → Line
 report_of db files register form =
     if nat_lt 1 (length files) then ReportFiles files register form else Report db register form
 
--- The command line of `report` with these options. None if an option is missing or invalid.
+-- Parses the options of the command `report`. None if an option is missing or invalid.
 abbrev pub report_in : List Row → Option Line
 report_in rows =
     given (db_in rows) (λ db.
@@ -199,56 +204,59 @@ report_in rows =
     given (form_in rows) (λ form.
     Some (report_of db (texts_at (codes "db") rows) register form))))
 
--- The command line of `backup` with these options. None if an option is missing or invalid.
+-- Parses the options of the command `backup`. None if an option is missing or invalid.
 abbrev pub backup_in : List Row → Option Line
 backup_in rows =
     given (db_in rows) (λ db.
     given (text_at (codes "to") rows) (λ to. Some (Backup db to)))
 
--- The command line of `recover` with these options. None if an option is missing or invalid.
+-- Parses the options of the command `recover`. None if an option is missing or invalid.
 abbrev pub recover_in : List Row → Option Line
 recover_in rows =
     given (db_in rows) (λ db.
     given (text_at (codes "to") rows) (λ to. Some (Recover db to)))
 
--- The command line of `carry` with these options. None if an option is missing or invalid.
+-- Parses the options of the command `carry`. None if an option is missing or invalid.
 abbrev pub carry_in : List Row → Option Line
 carry_in rows =
     given (text_at (codes "from") rows) (λ from.
     given (text_at (codes "to") rows) (λ to.
     given (number_if 4294967295 (codes "until") rows) (λ until. Some (Carry from to until))))
 
--- What an audit does with a seal. It may print a seal or compare with one, and not both.
+-- What an audit does with a seal. None if the audit should both print a seal and compare the file
+-- with a seal.
 abbrev pub sealing_of : (prints : Bool) → (against : Option Text) → Option Seal
 sealing_of prints None = Some (if prints then Print else Nothing)
 sealing_of prints (Some file) = if prints then None else Some (Against file)
 
--- What an audit with these options does with a seal. None if the options exclude each other.
+-- Parses the options `--seal` and `--against` of the command `audit`. None if both options are
+-- given, because they exclude each other.
 abbrev pub sealing_in : List Row → Option Seal
 sealing_in rows = sealing_of (is_set (codes "seal") rows) (text_at (codes "against") rows)
 
--- The audit prints a seal, or compares with one.
+-- True if an audit prints a seal, or compares the file with a stored seal.
 abbrev pub asks_seal : Seal → Bool
 asks_seal Nothing = false
 asks_seal Print = true
 asks_seal (Against file) = true
 
--- The audit of these files. With a seal there may be only one file.
+-- The command `audit` for the given files. None if a seal is requested for several files.
 abbrev pub one_sealed : (dbs : List Text) → Seal → Option Line
 one_sealed dbs seal =
     if asks_seal seal && nat_lt 1 (length dbs) then None else Some (Audit dbs seal)
 
--- The command line of `audit` with these options. None if an option is missing or invalid.
+-- Parses the options of the command `audit`. None if an option is missing or invalid.
 abbrev pub audit_in : List Row → Option Line
 audit_in rows =
     given (several_at (codes "db") rows) (λ dbs.
     given (sealing_in rows) (λ seal. one_sealed dbs seal))
 
--- The scan. It may print a point list or the lines that set the device up, and not both.
+-- The command `scan`. None if the command should print both a point list and the script lines that
+-- set the device up.
 abbrev pub one_of : (list : Bool) (setup : Option Text) → Line → Option Line
 one_of list setup line = if list && is_some setup then None else Some line
 
--- The command line of `scan` with these options. None if an option is missing or invalid.
+-- Parses the options of the command `scan`. None if an option is missing or invalid.
 abbrev pub scan_in : List Row → Option Line
 scan_in rows =
     let list = is_set (codes "list") rows in
@@ -258,21 +266,22 @@ scan_in rows =
     given (number_or 5 60 (codes "timeout") rows) (λ timeout.
     one_of list setup (Scan (host_in rows) port unit timeout list setup))))
 
--- The command line of `stand-in` with these options. None if an option is missing or invalid.
+-- Parses the options of the command `stand-in`, a device simulator. None if an option is missing or
+-- invalid.
 abbrev pub stand_in_in : List Row → Option Line
 stand_in_in rows =
     given (port_in rows) (λ port.
     given (connections_in rows) (λ connections. Some (StandIn (host_in rows) port connections)))
 
--- The devices that the required option `--devices` lists.
+-- Parses the required option `--devices`, a list of devices. None if it is missing or invalid.
 abbrev pub devices_at : List Row → Option (List Place)
 devices_at rows = given (text_at (codes "devices") rows) devices_in
 
--- The devices that the option `--devices` lists; none if the option is not given.
+-- Parses the option `--devices`, a list of devices, by default empty. None if the list is invalid.
 abbrev pub devices_if : List Row → Option (List Place)
 devices_if rows = or_else [] devices_in (text_at (codes "devices") rows)
 
--- The command line of `enter` with these options. None if an option is missing or invalid.
+-- Parses the options of the command `enter`. None if an option is missing or invalid.
 abbrev pub enter_in : List Row → Option Line
 enter_in rows =
     given (db_in rows) (λ db.
@@ -280,21 +289,21 @@ enter_in rows =
     given (devices_if rows) (λ devices.
     Some (Enter db caller devices (is_set (codes "only-read") rows)))))
 
--- The period after which a run begins a new file: `month` or `year`.
+-- Parses the period after which `run` begins a new file: `month` or `year`.
 abbrev pub carried_by : Text → Option Period
 carried_by word =
     if bytes_eq word (codes "month") then Some Month
     else (if bytes_eq word (codes "year") then Some Year else None)
 
--- How many earlier files of periods a run also reports the energy of. The option is allowed only
--- for a run that begins new files and names a single file.
+-- Parses the number of earlier files whose energy the command `run` also reports. The option
+-- requires `--carry` and a single file.
 abbrev pub earlier_in : (are_several : Bool) → (carry : Option Period) → List Row
     → Option (Option ℕ)
 earlier_in are_several carry rows =
     given (number_if 1200 (codes "earlier") rows) (λ earlier.
     if is_some earlier && (are_several || is_none carry) then None else Some earlier)
 
--- The command line of `run` with these options. None if an option is missing or invalid.
+-- Parses the options of the command `run`. None if an option is missing or invalid.
 abbrev pub run_in : List Row → Option Line
 run_in rows =
     given (several_at (codes "db") rows) (λ dbs.
@@ -309,20 +318,19 @@ run_in rows =
     Some (Run dbs listen every devices lasts carry earlier hosts most_kept
     (is_set (codes "verbose") rows)))))))))))
 
--- The command line of `explain` with these options. None if an option is missing.
+-- Parses the arguments of the command `explain`. None if an argument is missing.
 abbrev pub explain_in : List Row → Option Line
 explain_in rows =
     given (text_at (codes "what") rows) (λ what.
     given (text_at (codes "number") rows) (λ number. Some (Explain what number)))
 
--- The command `completions`. The only accepted shell is bash.
+-- The command `completions` for the named shell. None unless this shell is bash.
 abbrev pub completions_in : List Row → Option Line
 completions_in rows =
     given (text_at (codes "shell") rows)
     (λ shell. if bytes_eq shell (codes "bash") then Some Completions else None)
 
--- The command line for the command with this name and these options. None if an option is missing
--- or invalid.
+-- Parses the options of the command with the given name. None if an option is missing or invalid.
 unfoldable pub command_in : Text → List Row → Option Line
 command_in name rows =
     if bytes_eq name (codes "replay") then replay_in rows
@@ -345,7 +353,8 @@ command_in name rows =
     else (if bytes_eq name (codes "completions") then completions_in rows
     else None)))))))))))))))))
 
--- The command that the arguments mean. Without a command, it is `replay` without options.
+-- The command line with the given command's name and options. Without a command, the command line
+-- is `replay` without options.
 abbrev pub line_in : Option (Text × List Row) → Option Line
 line_in None = Some (Replay (codes "UTC0"))
 line_in (Some p) = command_in p.0 p.1

@@ -1,13 +1,13 @@
--- The program's commands and options.
+-- Defines the table of the commands and options of `sunreg`.
 use Rattle.std.specs.Prelude.{ℕ, List, [], ◌∷◌, codes}
 use Rattle.clap.specs.Words.{App}
 use Rattle.command_words.specs.ClapTable.Table.{command_with, flag, lettered_flag, optional_option, program_with, repeated_option, required_option, several_option, word}
 
--- The character code of `n`.
+-- The character code of the letter n, the short form of the flag `-n`.
 abbrev pub letter_n : ℕ
 letter_n = 110
 
--- The first commands, in the order of the help.
+-- The first commands of `sunreg`, in the order of the help text.
 abbrev pub commands : List App
 commands =
     command_with (codes "replay")
@@ -36,7 +36,7 @@ commands =
     ∷ flag (codes "statement") ∷ [])
     ∷ []
 
--- The remaining commands, in the order of the help.
+-- The remaining commands of `sunreg`, in the order of the help text.
 abbrev pub later_commands : List App
 later_commands =
     command_with (codes "backup")
@@ -62,6 +62,6 @@ later_commands =
     ∷ command_with (codes "completions") (word (codes "shell") ∷ [])
     ∷ []
 
--- The program with all its commands.
+-- The definition of `sunreg` with all its commands.
 abbrev pub program : App
 program = program_with (codes "sunreg") commands later_commands

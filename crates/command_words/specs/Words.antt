@@ -1,4 +1,4 @@
--- The result of parsing the program's arguments.
+-- Defines the result of parsing the program's arguments.
 use Rattle.std.specs.Prelude.{◌≡◌, ◌≢◌, ◌⊎◌, ⊤, List, [], ◌∷◌, Option, None, Some}
 use Rattle.std.specs.Borrow.{Bor}
 use Rattle.clap.specs.Words.{IsAmong, Kinds, Text, fault_of, subcommand_of, subcommand_rows_of}
@@ -12,34 +12,38 @@ use Rattle.command_words.specs.declared.line.CommandLine.{CommandLine}
 use Rattle.command_words.specs.declared.faults.WordsFault.{WordsFault}
 use Rattle.command_words.specs.declared.faults.WordsFault.TheVariants.{Wrong, Help, Version, Memory}
 
--- `clap` parses the arguments as a command with these option values.
+-- States that `found` has the command and the option values that `clap` parses from the arguments
+-- `words`.
 abbrev pub IsFound : List (Bor Text) → ArgMatches → Type 0
 IsFound words found = subcommand_rows_of found ≡ subcommand_of program (texts words)
 
--- The command that the arguments mean, from what `clap` parses.
+-- The command line that results from the arguments, or None if an option value is invalid.
 abbrev pub line_of : List Text → Option Line
 line_of words = line_in (subcommand_of program words)
 
--- The kinds of error that `clap` may report for the arguments. The list is empty if `clap` accepts
+-- The kinds of errors that `clap` may report for the arguments, or an empty list if `clap` accepts
 -- them.
 abbrev pub errors_of : List Text → Kinds
 errors_of words = fault_of program words
 
--- The kind is a real error: no request for help or for the version.
+-- States that the kind of a `clap` error is a real error, and not a request for help or for the
+-- version.
 abbrev pub IsFault : ErrorKind → Type 0
 IsFault kind = (kind ≢ DisplayHelp) × (kind ≢ DisplayVersion)
 
--- One of the kinds is a real error.
+-- States that one of the kinds of `clap` errors is a real error, and not a request for help or for
+-- the version.
 abbrev pub HasFault : Kinds → Type 0
 HasFault [] = ⊥
 HasFault (kind ∷ kinds) = IsFault kind ⊎ HasFault kinds
 
--- `clap` accepts the arguments, and they mean this command line.
+-- States that `clap` accepts the arguments, and that the command line `line` results from the
+-- arguments.
 abbrev pub Spells : List (Bor Text) → CommandLine → Type 0
 Spells words line = (errors_of (texts words) ≡ []) × (Some (seen line) ≡ line_of (texts words))
 
--- This fault may be reported. `Wrong` requires a real error of `clap`, or a value that is missing
--- or out of range. `Help` requires a request for help, and `Version` a request for the version.
+-- States that a fault may be reported for the arguments. `Wrong` requires a real error of `clap` or
+-- an invalid option value. `Help` and `Version` require a request by the user.
 abbrev pub IsFaultOf : List (Bor Text) → WordsFault → Type 0
 IsFaultOf words (Wrong text) =
     HasFault (errors_of (texts words))

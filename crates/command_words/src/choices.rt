@@ -1,4 +1,4 @@
-//! Option values that are one of a few words.
+//! Parses option values that must be one of a few fixed words.
 ghost use Rattle.std.specs.Prelude.{codes};
 ghost use Rattle.energy_report.specs.Words.{format_of, period_of, unit_of};
 ghost use Rattle.command_words.specs.Lines.{carried_by};
@@ -28,7 +28,8 @@ pub fn period_if<'a>(found: &ArgMatches<'a>) -> Result<Option<Period>, ValueFaul
     }
 }
 
-/// Returns the period after which a run begins a new file.
+/// Parses the option `--carry`, the period after which `run` begins a new file. Returns None if the
+/// option is not given.
 pub fn carry_if<'a>(found: &ArgMatches<'a>) -> Result<Option<Period>, ValueFault<'a>>
     ensures { Reads (λ period. period)
         (if_some carried_by (text_at (codes "carry") (rows_in found.now))) result }

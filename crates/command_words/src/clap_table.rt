@@ -1,5 +1,4 @@
-//! Tables of a program's commands and options, and parsing of arguments with `clap` by these
-//! tables.
+//! Tables of a program's commands and options, and a parser that passes these tables to `clap`.
 
 mod clap_command;
 mod clap_matches;

@@ -1,77 +1,79 @@
-//! Why arguments are no valid command line.
+//! Defines the reasons why arguments form no valid command line, with their messages.
 use crate::table::NumberOption;
 use crate::values::DeviceFault;
 use std::error::Error;
 use std::fmt;
 use std::fmt::{Display, Formatter};
 
-/// Why the value of an option is not accepted.
+/// A reason why the command rejects the value of an option.
 #[derive(Clone, Copy, Drop)]
 pub enum ValueFault<'a> {
-    /// The required option has no value.
+    /// The required option `option` has no value.
     Missing {
         option: &'a str,
     },
-    /// The word is no number from 1 to the option's maximum.
+    /// The option's value `word` is no number from 1 to the option's maximum.
     Number {
         option: NumberOption<'a>,
         word: &'a str,
     },
-    /// Both options are given, and they exclude each other.
+    /// The options `one` and `other` are both given, although they exclude each other.
     Both {
         one: &'a str,
         other: &'a str,
     },
-    /// The word is not one of the option's choices.
+    /// The option's value is not one of the allowed words.
     Choice {
         option: &'a str,
         value: &'a str,
         choices: &'a [&'a str],
         word: &'a str,
     },
-    /// No command has this name.
+    /// No command has the name `name`.
     Command {
         name: &'a str,
     },
-    /// No completions exist for this shell.
+    /// No completions exist for the shell `word`.
     Shell {
         word: &'a str,
     },
-    /// The option is given, and the other one has several values, which excludes it.
+    /// The option `option` is given together with several values of the option `other`. Several
+    /// values exclude `option`.
     Alone {
         option: &'a str,
         other: &'a str,
     },
-    /// The option is given without the other one, which it requires.
+    /// The option `option` is given, but it requires the option `other`, which is not given.
     Without {
         option: &'a str,
         other: &'a str,
     },
-    /// A part of the list of devices is no device.
+    /// The part `part` of a device list is no valid device.
     Device {
         part: &'a str,
         fault: DeviceFault,
     },
-    /// The word is no host name.
+    /// The value `word` of `--host-name` is no host name.
     HostName {
         word: &'a str,
     },
     Memory,
 }
 
-/// Why arguments are no valid command line.
+/// The outcome of parsing arguments that give no command line. It is a fault, or a request for help
+/// or the version.
 #[derive(Debug, PartialEq, Eq, Drop)]
 pub enum WordsFault {
-    /// The arguments are wrong. The text for standard error says why.
+    /// The arguments are invalid. The text for standard error states the reason.
     Wrong(String),
-    /// Help was requested. The text is for standard output.
+    /// The user requested help. The text is for standard output.
     Help(String),
-    /// The version was requested.
+    /// The user requested the program's version.
     Version,
     Memory,
 }
 
-// Writes words with commas between them.
+// Writes a list of words, separated by commas.
 fn write_words<W: fmt::Write>(f: &mut Formatter<W>, words: &[&str]) -> fmt::Result {
     let mut before = "";
     for word in words {
@@ -81,7 +83,7 @@ fn write_words<W: fmt::Write>(f: &mut Formatter<W>, words: &[&str]) -> fmt::Resu
     Ok(())
 }
 
-// The texts have the form of those that `clap` writes.
+// The error texts have the form of `clap`'s own error texts.
 impl<'a> Display for ValueFault<'a> {
     fn fmt<W: fmt::Write>(&self, f: &mut Formatter<W>) -> fmt::Result {
         match self {

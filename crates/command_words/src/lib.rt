@@ -1,4 +1,4 @@
-//! The command line of the program: its commands and options, and what its arguments mean.
+//! Parses the command line of `sunreg`: its commands, its options, and their values.
 #![tactic(auto)]
 
 mod choices;

@@ -1,9 +1,8 @@
-//! A parsed command line.
+//! The parsed command line of `sunreg`.
 use crate::values::Device;
 use energy_report::{EnergyUnit, Format, Period};
 
-/// The form of a report, as far as options specify it. `from` and `till` are days, as the user
-/// wrote them.
+/// The options that set the form of a report. `from` and `till` are days, as the user wrote them.
 #[derive(Clone, Copy, Debug, PartialEq, Eq)]
 pub struct FormWords<'a> {
     pub from: Option<&'a str>,
@@ -11,107 +10,109 @@ pub struct FormWords<'a> {
     pub period: Option<Period>,
     pub unit: Option<EnergyUnit>,
     pub format: Option<Format>,
-    /// Whether a statement is requested: a row for each meter, to check a bill by. A statement has
-    /// no periods.
+    /// True if the report is a statement, which has one row for each meter, to check a bill. A
+    /// statement has no periods.
     pub statement: bool,
 }
 
-/// What an audit does with a seal, a signed-off digest of the past.
+/// What an audit does with a seal. A seal is a signed-off digest of a file's past.
 #[derive(Clone, Copy, Debug, PartialEq, Eq)]
 pub enum Sealing<'a> {
-    /// Uses no seal.
+    /// The audit uses no seal.
     Nothing,
-    /// Prints a seal of the records.
+    /// The audit prints a new seal of the audited file.
     Print,
-    /// Compares the records with the seal in a file.
+    /// The audit compares the file with the seal at this path.
     Against(&'a str),
 }
 
-/// A command with the values of its options. Texts are as the user wrote them, numbers are in their
-/// ranges, and times are in seconds.
+/// A command with the values of its options. Texts are as the user wrote them, numbers are in
+/// range, and durations are in seconds.
 #[derive(Debug, PartialEq, Eq, Drop)]
 pub enum CommandLine<'a> {
-    /// Executes a script from standard input, over a store in memory.
+    /// Executes a script from standard input, with a store in memory.
     Replay {
         zone: &'a str,
     },
-    /// Executes a script from standard input, over an office's file.
+    /// Executes a script from standard input, with an office's file as its store.
     ReplayFile {
         db: &'a str,
     },
-    /// Prints the reads of a point list from standard input.
+    /// Prints the Modbus reads that a point list from standard input requires.
     Plan,
-    /// Prints the SunSpec models of a memory image from standard input.
+    /// Prints the SunSpec models in a Modbus memory image from standard input.
     Chain,
     /// Creates the tables of a new office in a file.
     Create {
         db: &'a str,
         zone: &'a str,
     },
-    /// Executes the commands in the lines of standard input. Each is executed only once for its
-    /// idempotency key, the caller and the line's number. `devices` has the addresses of the
-    /// devices whose counters the lines read. With `only_read` the lines are only parsed, and
-    /// nothing is requested of the office or of a device.
+    /// Executes the commands in the lines of standard input. The idempotency key of each line is
+    /// `caller` and the line's number, so a retry of a line is not executed again. `devices` has
+    /// the addresses of the devices whose counters the commands read. With `only_read`, the lines
+    /// are parsed but not executed.
     Enter {
         db: &'a str,
         caller: &'a str,
         devices: Vec<Device<'a>>,
         only_read: bool,
     },
-    /// Serves HTTP for a number of connections. A request may name the host by a name of this
-    /// machine or by one of `host_names`.
+    /// Serves HTTP until a number of connections has been served. A request's Host header may have
+    /// a name of this machine or one of `host_names`.
     Serve {
         db: &'a str,
         port: u16,
         connections: u32,
         host_names: Vec<&'a str>,
     },
-    /// Polls one round of a device.
+    /// Polls a device once for each read of its plan.
     Round {
         db: &'a str,
         device: &'a str,
         host: &'a str,
         port: u16,
     },
-    /// Reports the energy of a register in the given form, by default by days, or a statement of
-    /// the register's meters.
+    /// Reports the energy of an accounting register by days or another period, or prints a
+    /// statement of the register's meters.
     Report {
         db: &'a str,
         register: &'a str,
         form: FormWords<'a>,
     },
-    /// The same report or statement over several files, the oldest first.
+    /// Prints the report or statement of an accounting register over several files of one office,
+    /// the oldest first.
     ReportFiles {
         files: Vec<&'a str>,
         register: &'a str,
         form: FormWords<'a>,
     },
-    /// Copies an office's file completely.
+    /// Copies an office's file to a new file.
     Backup {
         db: &'a str,
         to: &'a str,
     },
-    /// Recovers what can be read of an office whose log is damaged, and writes it into a new file.
+    /// Recovers the readable records of an office whose write-ahead log is damaged, and writes them
+    /// to a new file.
     Recover {
         db: &'a str,
         to: &'a str,
     },
-    /// Begins a new file in which each open meter continues from its last entry: the last one in
-    /// the old file, or with `until` the one at that time.
+    /// Begins a new file in which each open meter continues from its last entry in the old file.
+    /// With `until`, each meter continues from its last entry up to that time.
     Carry {
         from: &'a str,
         to: &'a str,
         until: Option<u32>,
     },
-    /// Checks the rows of a file by the rules for journals and polls, and against a seal. For
-    /// several files, the oldest first, also checks that each continues the previous one. With a
-    /// seal there is only one file.
+    /// Audits the rows of a file, and compares them with a seal. For several files, the oldest
+    /// first, also checks that each file continues the previous file. A seal requires a single
+    /// file.
     Audit {
         dbs: Vec<&'a str>,
         seal: Sealing<'a>,
     },
-    /// Scans the SunSpec models of a live device. Prints the models, a point list, or the lines
-    /// that set the device up under a name.
+    /// Scans the SunSpec models of a live device. Prints the models, a point list, or the script
+    /// lines that set the device up.
     Scan {
         host: &'a str,
         port: u16,
@@ -120,40 +121,40 @@ pub enum CommandLine<'a> {
         list: bool,
         setup: Option<&'a str>,
     },
-    /// Simulates a Modbus device with a register map from standard input, for a number of
-    /// connections.
+    /// Simulates a Modbus device with a register map from standard input, until a number of
+    /// connections has been served.
     StandIn {
         host: &'a str,
         port: u16,
         connections: u32,
     },
-    /// Executes a script whose devices are simulated in this process.
+    /// Executes a script whose devices are simulated in the same process.
     Loop {
         zone: &'a str,
     },
-    /// Polls devices at intervals and serves HTTP, until it is stopped or `lasts` seconds have
-    /// passed. If several files are given, the oldest first, it records in the last one.
+    /// Polls devices at intervals and serves HTTP, until the process is stopped or `lasts` seconds
+    /// have passed. If there are several files, the oldest first, only the last file is written.
     Run {
         dbs: Vec<&'a str>,
         listen: u16,
         every: u32,
         devices: Vec<Device<'a>>,
         lasts: Option<u32>,
-        /// The period after which the run begins a new file.
+        /// The period after which the command begins a new file.
         carry: Option<Period>,
-        /// How many earlier files of periods the run also reports the energy of. If several files
-        /// are given, the energy of all is reported.
+        /// The number of earlier files whose energy the command also reports. This option is not
+        /// allowed with several files, because the command then reports the energy of all of them.
         earlier: Option<u32>,
         host_names: Vec<&'a str>,
-        /// The most megabytes of accepted requests that the office stores.
+        /// The maximum size of the stored accepted requests, in megabytes.
         most_kept: Option<u32>,
         verbose: bool,
     },
-    /// Explains a number that the program printed after a word.
+    /// Explains a number that the program printed after a word, such as `held 2`.
     Explain {
         what: &'a str,
         number: &'a str,
     },
-    /// Prints the completions for bash.
+    /// Prints the completion script for bash.
     Completions,
 }

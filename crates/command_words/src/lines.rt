@@ -1,4 +1,4 @@
-//! Converts the parsed arguments into a command.
+//! Converts the option values that `clap` parsed to a command line.
 ghost use Rattle.std.specs.Prelude.{◌≡◌, is_some};
 ghost use Rattle.clap.specs.Words.{subcommand_rows_of};
 ghost use Rattle.command_words.specs.ClapTable.Table.{texts};
@@ -148,7 +148,7 @@ fn carry_line<'a>(found: &ArgMatches<'a>) -> Result<CommandLine<'a>, ValueFault<
     })
 }
 
-// Returns what an audit does with a seal.
+// Parses the options `--seal` and `--against` of `audit`.
 fn sealing<'a>(found: &ArgMatches<'a>) -> Result<Sealing<'a>, ValueFault<'a>>
     ensures { Reads seen_sealing (sealing_in (rows_in found.now)) result }
 {
@@ -169,7 +169,8 @@ fn sealing<'a>(found: &ArgMatches<'a>) -> Result<Sealing<'a>, ValueFault<'a>>
     Ok(Sealing::Against(seal))
 }
 
-// Returns the option about a seal, if one is given.
+// Returns the name of the given seal option, `--seal` or `--against`, or None if no seal is
+// requested.
 fn seal_option(seal: Sealing<'_>) -> Option<&'static str>
     ensures { is_some result ≡ asks_seal (seen_sealing seal.entry) }
 {
@@ -180,7 +181,7 @@ fn seal_option(seal: Sealing<'_>) -> Option<&'static str>
     }
 }
 
-// Returns the audit of these files. With a seal there may be only one file.
+// Returns the command `audit` for the given files. Fails if a seal is requested for several files.
 fn audit_of<'a>(dbs: Vec<&'a str>, seal: Sealing<'a>) -> Result<CommandLine<'a>, ValueFault<'a>>
     ensures { Reads seen (one_sealed (texts dbs.entry.items) (seen_sealing seal.entry)) result }
 {
@@ -240,7 +241,7 @@ fn stand_in_line<'a>(found: &ArgMatches<'a>) -> Result<CommandLine<'a>, ValueFau
     })
 }
 
-// Parses a list of devices.
+// Parses a comma-separated list of devices.
 fn listed<'a>(alloc: Global, list: &'a str) -> Result<Vec<Device<'a>>, ValueFault<'a>>
     ensures { Reads (λ devices. places_of devices.items) (devices_in list.now) result }
 {
@@ -251,7 +252,7 @@ fn listed<'a>(alloc: Global, list: &'a str) -> Result<Vec<Device<'a>>, ValueFaul
     }
 }
 
-// Returns the devices that the required option lists.
+// Parses the required option `--devices`.
 fn devices<'a>(alloc: Global, found: &ArgMatches<'a>) -> Result<Vec<Device<'a>>, ValueFault<'a>>
     ensures { Reads (λ devices. places_of devices.items) (devices_at (rows_in found.now)) result }
 {
@@ -259,7 +260,7 @@ fn devices<'a>(alloc: Global, found: &ArgMatches<'a>) -> Result<Vec<Device<'a>>,
     listed(alloc, list)
 }
 
-// Returns the devices that the option lists; none if it is not given.
+// Parses the option `--devices`. Returns an empty list if the option is not given.
 fn devices_if<'a>(alloc: Global, found: &ArgMatches<'a>) -> Result<Vec<Device<'a>>, ValueFault<'a>>
     ensures { Reads (λ devices. places_of devices.items) (devices_if (rows_in found.now)) result }
 {
@@ -283,9 +284,8 @@ fn enter_line<'a>(alloc: Global, found: &ArgMatches<'a>) -> Result<CommandLine<'
     })
 }
 
-// Returns how many earlier files of periods a run also reports the energy of. Only a run that
-// begins new files has such files. If several files are given, the energy of all is reported, so
-// the option is not allowed.
+// Parses the number of earlier files whose energy `run` also reports. The option requires `--carry`
+// and a single file. With several files, `run` reports the energy of all of them.
 fn earlier_if<'a>(
     found: &ArgMatches<'a>,
     are_several: bool,
@@ -356,7 +356,7 @@ fn completions_line<'a>(found: &ArgMatches<'a>) -> Result<CommandLine<'a>, Value
     Ok(CommandLine::Completions)
 }
 
-// Returns the command with this name and these options.
+// Parses the options of the command `name`, and returns the resulting command line.
 #[tactic(auto, unfolding(crate::specs::Lines::command_in))]
 fn command_line<'a>(
     alloc: Global,
@@ -390,7 +390,7 @@ fn command_line<'a>(
     }
 }
 
-/// Returns the command that `clap` parsed. Without a command, it is `replay`.
+/// Returns the command line that `clap` parsed. Without a command, the result is `replay`.
 pub fn line_in<'a>(alloc: Global, found: &ArgMatches<'a>) -> Result<CommandLine<'a>, ValueFault<'a>>
     ensures { Reads seen (line_in (subcommand_rows_of found.now)) result }
 {

@@ -1,4 +1,4 @@
-//! The values of a command's options.
+//! Reads the values of a command's options.
 ghost use Rattle.std.specs.Prelude.{◌≡◌, ◌≤◌, ◌==◌, IfOk, Some, codes, is_none, option_map};
 ghost use Rattle.std.specs.List.{list_all, list_any};
 ghost use Rattle.clap.specs.Words.{all_of};
@@ -13,7 +13,7 @@ use crate::values::number_up_to;
 use clap::ArgMatches;
 use std::alloc::Global;
 
-// Returns the value of an option, if it is given.
+// Returns the value of an option, or None if the option is not given.
 fn value<'a>(found: &ArgMatches<'a>, option: &str) -> Option<&'a str>
     ensures { option_map (λ text. text.now) result ≡ text_at option.now (rows_in found.now) }
 {
@@ -30,7 +30,7 @@ pub fn text<'a>(found: &ArgMatches<'a>, option: &'static str) -> Result<&'a str,
     }
 }
 
-// Returns the number of a required option.
+// Returns the number in the value of a required option.
 pub fn number<'a>(
     found: &ArgMatches<'a>,
     option: NumberOption<'static>,
@@ -43,7 +43,7 @@ pub fn number<'a>(
     number_in(option, word)
 }
 
-// Returns the number of an optional option.
+// Returns the number in the value of an optional option, or None if the option is not given.
 pub fn number_if<'a>(
     found: &ArgMatches<'a>,
     option: NumberOption<'static>,
@@ -57,7 +57,7 @@ pub fn number_if<'a>(
     }
 }
 
-// Returns the number of an option, or its default.
+// Returns the number in the value of an option, or the option's default if the option is not given.
 pub fn number_or<'a>(
     found: &ArgMatches<'a>,
     option: NumberOption<'static>,
@@ -74,7 +74,7 @@ pub fn number_or<'a>(
     }
 }
 
-// Parses a number in the range of its option.
+// Parses a number from 1 to the option's maximum.
 fn number_in<'a>(option: NumberOption<'static>, word: &'a str) -> Result<u32, ValueFault<'a>>
     ensures value { Reads (λ number. number) (number_up_to option.entry.most word.now) result }
     ensures within { IfOk result (λ number. number ≤ option.entry.most) }
@@ -85,14 +85,14 @@ fn number_in<'a>(option: NumberOption<'static>, word: &'a str) -> Result<u32, Va
     }
 }
 
-// Returns the text of an optional option.
+// Returns the text of an optional option, or None if the option is not given.
 pub fn text_if<'a>(found: &ArgMatches<'a>, option: &str) -> Option<&'a str>
     ensures { option_map (λ text. text.now) result ≡ text_at option.now (rows_in found.now) }
 {
     value(found, option)
 }
 
-// Returns the text of an option, or its default.
+// Returns the text of an option, or its default if the option is not given.
 pub fn text_or<'a>(found: &ArgMatches<'a>, option: &'static str, otherwise: &'a str) -> &'a str
     ensures { result.now ≡ text_or otherwise.entry.now option.now (rows_in found.now) }
 {
@@ -102,7 +102,7 @@ pub fn text_or<'a>(found: &ArgMatches<'a>, option: &'static str, otherwise: &'a 
     }
 }
 
-// Returns the values of an option, if it is given.
+// Returns all values of an option, or None if the option is not given.
 fn values<'a, 'f>(found: &'f ArgMatches<'a>, option: &str) -> Option<&'f [&'a str]>
     ensures { option_map (λ values. texts values.now) result
         ≡ all_of option.now (rows_in found.now) }
@@ -126,7 +126,7 @@ pub fn texts<'a>(
     }
 }
 
-// Returns whether the byte is among these bytes.
+// Returns whether a list of bytes contains a byte.
 fn is_among(bytes: &[u8], byte: u8) -> bool
     ensures { result ≡ list_any (λ other. other == byte) bytes.now }
 {
@@ -146,7 +146,7 @@ fn are_host_bytes(bytes: &[u8]) -> bool
     bytes.iter().all(|byte| is_host_byte(*byte))
 }
 
-// Returns whether a text can be a host name or an address.
+// Returns whether a text has the form of a host name or an IP address.
 fn is_host_name(name: &str) -> bool
     ensures { result ≡ is_host_name name.now }
 {
@@ -156,7 +156,7 @@ fn is_host_name(name: &str) -> bool
     }
 }
 
-// Returns the first text that is no host name, if there is one.
+// Returns the first text in a list that is no host name, or None.
 fn other_than_hosts<'a>(names: &[&'a str]) -> Option<&'a str>
     ensures { is_none result ≡ list_all is_host_name (texts names.now) }
 {
@@ -168,7 +168,7 @@ fn other_than_hosts<'a>(names: &[&'a str]) -> Option<&'a str>
     None
 }
 
-// Returns the names by which an HTTP request may name the host.
+// Returns the values of `--host-name`: names that an HTTP request's Host header may have.
 pub fn host_names<'a>(alloc: Global, found: &ArgMatches<'a>) -> Result<Vec<&'a str>, ValueFault<'a>>
     ensures { Reads (λ names. texts names.items)
         (host_names_of (texts_at (codes "host-name") (rows_in found.now))) result }

@@ -1,4 +1,4 @@
-//! The table of the program's commands and options, with their help texts.
+//! The table of all commands and options of `sunreg`, with their help texts.
 ghost use Rattle.std.specs.Prelude.{◌≡◌};
 ghost use Rattle.clap.specs.Words.{App};
 ghost use Rattle.command_words.specs.ClapTable.Table.{program_app, with_apps, with_commands};
@@ -6,7 +6,8 @@ ghost use Rattle.command_words.specs.Program.{commands, later_commands, program}
 
 use crate::clap_table::{CommandText, OptionText, ProgramText, Value};
 
-/// An option whose value is a number from 1 to `most`. The help shows `value` for it.
+/// An option whose value is a number from 1 to `most`. The help text shows `value` as the number's
+/// placeholder.
 #[derive(Clone, Copy, Drop)]
 pub struct NumberOption<'a> {
     pub name: &'a str,
@@ -20,7 +21,7 @@ pub const ZONE: &str = "UTC0";
 /// The default host.
 pub const HOST: &str = "127.0.0.1";
 
-/// The option that adds a name by which an HTTP request may name the host.
+/// The option that adds a name to the names that an HTTP request's Host header may have.
 pub const HOST_NAME: &str = "host-name";
 
 pub const PORT: NumberOption<'static> = NumberOption {
@@ -83,20 +84,21 @@ pub const TIMEOUT: NumberOption<'static> = NumberOption {
     most: 60,
 };
 
-/// The periods by which a report adds up days. `UNITS` and `FORMATS` are its units and formats.
+/// The periods by which a report sums energy. `UNITS` and `FORMATS` are the report's units and
+/// output formats.
 pub const PERIODS: &[&str] = &["day", "month", "year"];
 
 pub const UNITS: &[&str] = &["mwh", "kwh"];
 
-/// The periods after which a run may begin a new file.
+/// The periods after which the command `run` may begin a new file.
 pub const CARRIES: &[&str] = &["month", "year"];
 
 pub const FORMATS: &[&str] = &["text", "csv", "json"];
 
-/// The default unit identifier.
+/// The default Modbus unit identifier.
 pub const FIRST_UNIT: u32 = 1;
 
-/// The default timeout of a device, in seconds.
+/// The default timeout for a device's response, in seconds.
 pub const PATIENCE: u32 = 5;
 
 const DB: OptionText<'static> = OptionText {
@@ -528,12 +530,12 @@ const COMPLETIONS: CommandText<'static> = CommandText {
     }],
 };
 
-// The first commands, in the order of the help.
+// The table of the first commands, in the order of the help text.
 const COMMANDS: &[CommandText<'static>] = &[
     REPLAY, PLAN, CHAIN, SCAN, CREATE, ENTER, SERVE, ROUND, REPORT,
 ];
 
-// The remaining commands, in the order of the help.
+// The table of the remaining commands, in the order of the help text.
 const LATER_COMMANDS: &[CommandText<'static>] = &[
     BACKUP,
     RECOVER,
@@ -558,15 +560,15 @@ fn later_commands() -> &'static [CommandText<'static>]
     LATER_COMMANDS
 }
 
-/// Returns the table of the program, by which its arguments are parsed.
+/// Returns the table of all commands and options, which the argument parser uses.
 pub fn program() -> ProgramText<'static>
     ensures { program_app result ≡ program }
 {
     ProgramText {
         name: "sunreg",
         version: "1.0",
-        about: "Polls SunSpec meters over Modbus TCP and books their energy by quarter hour and day",
-        after: "Exit status: 0 success, 1 refused, 2 invalid arguments, 3 a file, stream or socket failed",
+        about: "Polls SunSpec meters over Modbus TCP; books energy by quarter hour and day",
+        after: "Exit status: 0 success, 1 refused, 2 invalid arguments, 3 input or output failed",
         commands: commands(),
         later: later_commands(),
     }

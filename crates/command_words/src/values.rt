@@ -1,4 +1,4 @@
-//! Option values: numbers, and lists of devices.
+//! Parses option values: numbers and lists of devices.
 
 mod devices;
 mod list_fault;

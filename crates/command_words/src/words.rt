@@ -1,4 +1,4 @@
-//! Parses the arguments of the program.
+//! Parses the arguments of `sunreg` into a command line.
 ghost use Rattle.std.specs.Prelude.{IfErr, IfOk};
 ghost use Rattle.clap.specs.Words.{FailsBy, kind_of};
 ghost use Rattle.command_words.specs.ClapTable.Table.{texts};
@@ -14,7 +14,7 @@ use clap::error::ErrorKind;
 use clap::{ArgMatches, Error};
 use std::alloc::Global;
 
-// Parses the arguments with `clap`.
+// Parses the arguments with `clap`, by the table of commands and options.
 fn found_in<'a>(alloc: Global, words: &'a [&'a str]) -> Result<ArgMatches<'a>, Error>
     ensures found { IfOk result (IsFound words.entry.now) }
     ensures fails { FailsBy (errors_of (texts words.entry.now)) result }
@@ -22,7 +22,7 @@ fn found_in<'a>(alloc: Global, words: &'a [&'a str]) -> Result<ArgMatches<'a>, E
     matches_of(alloc, program(), words)
 }
 
-// Returns the fault of arguments that `clap` rejects, with the text that `clap` writes.
+// Returns the fault for a `clap` error, with the error text of `clap`.
 fn refusal(alloc: Global, error: &Error) -> WordsFault
     ensures { IsRefusal (kind_of error.now) result }
 {
@@ -42,7 +42,7 @@ fn refusal(alloc: Global, error: &Error) -> WordsFault
     }
 }
 
-// Returns the fault of an option value that is not accepted, with its text.
+// Returns the fault for an invalid option value, with its error text.
 fn wrong_value(alloc: Global, fault: &ValueFault) -> WordsFault
     ensures { IsMisreading fault.now result }
 {
@@ -55,7 +55,7 @@ fn wrong_value(alloc: Global, fault: &ValueFault) -> WordsFault
     }
 }
 
-/// Parses the arguments that follow the program's name. Texts of options are not changed. Without
+/// Parses the arguments after the program's name. Option texts are returned unchanged. Without
 /// arguments, the command is `replay`.
 pub fn command_of<'a>(alloc: Global, words: &'a [&'a str]) -> Result<CommandLine<'a>, WordsFault>
     ensures line { IfOk result (Spells words.entry.now) }

@@ -1,4 +1,4 @@
--- The definitions at both ends of each limit, as numbers.
+-- The definitions evaluated at both ends of each limit.
 use Rattle.std.specs.Prelude.{pos, negsuc}
 use Rattle.std.proofs.Common.{◌≡◌, ℕ, ◌+◌, ◌==◌, ◌||◌, ◌&&◌, nat_le, nat_lt, Bool, true, false, if◌then◌else◌, List, [], ◌∷◌, length, Some, None, refl}
 use Rattle.sun_chain.specs.Image.{Words}
@@ -11,11 +11,11 @@ use Rattle.device_scan.specs.Stages.{begun, holding, is_known, model_at, stage_a
 use Rattle.device_scan.specs.declared.counter.CounterScale.TheVariants.{Fixed, Register}
 use Rattle.device_scan.specs.declared.stage.Stage.TheVariants.{Mark, Head, Ending, Registers, Over}
 
--- Two words that a device showed, at consecutive addresses.
+-- A memory image with two words at consecutive addresses.
 abbrev two : (address first second : ℕ) → Words
 two address first second at = if at == address then Some first else if at == address + 1 then Some second else None
 
--- Marks.
+-- The stages after a read of the `SunS` mark.
 
 first_read : wanted begun ≡ Some (holding 40000 2)
 first_read = refl
@@ -32,7 +32,7 @@ no_mark = refl
 marked : stage_after (two 50000 0x5375 0x6E53) (Mark 50000) ≡ Head 50002 0
 marked = refl
 
--- Heads.
+-- The stages after a read of a model's head.
 
 unknown_between : stage_after (two 10 9 4) (Head 10 3) ≡ Head 16 4
 unknown_between = refl
@@ -67,7 +67,7 @@ ending = refl
 no_ending : stage_after nothing (Head 65535 1) ≡ Over
 no_ending = refl
 
--- Registers.
+-- The reads of a model's registers.
 
 in_a_model : stage_after (two 10 1 126) (Head 10 0) ≡ Registers (model_at 10 1 126) 0 1
 in_a_model = refl
@@ -90,7 +90,7 @@ after_125 = refl
 empty_model : stage_after (two 10 1 0) (Head 10 0) ≡ Head 12 1
 empty_model = refl
 
--- The known models are the models whose tables have points.
+-- The known models are those whose tables have points.
 known_has_points : (id : ℕ) → is_known id ≡ nat_lt 0 (length (table_of id))
 known_has_points id = tests (id == 1) (nat_le 101 id && nat_le id 103) (nat_le 201 id && nat_le id 204)
   where
@@ -104,7 +104,7 @@ known_has_points id = tests (id == 1) (nat_le 101 id && nat_le id 103) (nat_le 2
     tests false false true = refl
     tests false false false = refl
 
--- Responses to a read of register 0 by unit 1, identifier 7.
+-- The results of responses to a read of register 0 of unit 1 with transaction identifier 7.
 
 abbrev one_read : Ask
 one_read = record { id = 7; unit = 1; span = holding 0 1 }
@@ -127,7 +127,7 @@ another_unit = refl
 excepted : settled one_read ((0 ∷ 7 ∷ 0 ∷ 0 ∷ 0 ∷ 3 ∷ 1 ∷ 131 ∷ 1 ∷ []) ∷ []) ≡ Some None
 excepted = refl
 
--- The registers of a counter and of its scale.
+-- The spans that contain a counter and its scale.
 
 two_alone : counter_span HoldingRegisters 40000 (Fixed (pos 0)) ≡ Some (holding 40000 2)
 two_alone = refl
@@ -156,7 +156,7 @@ last_two = refl
 half_a_counter : counter_span HoldingRegisters 65535 (Fixed (pos 0)) ≡ None
 half_a_counter = refl
 
--- The count and the scale in words.
+-- The count and the power of ten of a counter in words.
 
 high_word_first : shown_in 10 (1 ∷ 2 ∷ []) 10 (Fixed (pos 0)) ≡ Some (record { raw = 65538; sf = pos 0 })
 high_word_first = refl

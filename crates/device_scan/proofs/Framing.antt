@@ -1,4 +1,4 @@
--- The frames of streams that arrive in pieces.
+-- Lemmas about the frames of streams that arrive in chunks.
 use Rattle.std.proofs.Common.{◌≡◌, ℕ, ◌+◌, ◌-◌, ◌<◌, ◌⊎◌, inl, inr, List, [], ◌∷◌, ◌++◌, length, take, drop, refl, sym, ap, ◌∙◌, subst, arith, append_assoc, length-append, lit<}
 use Rattle.std.specs.List.{flat_map}
 use Rattle.std.proofs.lemmas.List.{append-nil, take_all, take-append-drop, take_rest}
@@ -12,14 +12,15 @@ use Rattle.mb_wire.proofs.Readings.{AllByRecursion-append, Reads-is, Reads-only,
 abbrev concat : List (List ℕ) → List ℕ
 concat all = flat_map (λ frame. frame) all
 
--- The slice from an index, in the form of a call's argument.
+-- The bytes from an index to the end of the list, as a slice.
 abbrev pub from : ℕ → List ℕ → List ℕ
 from n bytes = take (length bytes - n) (drop n bytes)
 
 pub whole_again : (n : ℕ) (bytes : List ℕ) → take n bytes ++ from n bytes ≡ bytes
 whole_again n bytes = ap (λ t. take n bytes ++ t) (take_rest bytes n) ∙ take-append-drop n bytes
 
--- Bytes after others continue the others' unfinished frame.
+-- The frames of two concatenated byte lists are those of the first, followed by those of its rest
+-- with the second.
 pub frames-then : (a b : List ℕ) → (frames (a ++ b) ≡ frames a ++ frames (rest a ++ b)) × (rest (a ++ b) ≡ rest (rest a ++ b))
 frames-then a b =
     let first = Reads-is a in
@@ -38,7 +39,7 @@ frames-then a b =
       ends = next.ends;
     }
 
--- Bytes that are an incomplete frame or a bad one have no frames, and are their own rest.
+-- An incomplete or invalid frame contains no complete frame, and is its own rest.
 pub rest_alone : (b : List ℕ) → IsOpen b ⊎ IsBad b → (frames b ≡ []) × (rest b ≡ b)
 rest_alone b ends = Reads-only b [] b record { joined = refl; each = tt; ends = ends }
 
@@ -53,7 +54,7 @@ frame_alone b whole =
 pub open_nil : IsOpen []
 open_nil = inl (lit< tt)
 
--- Bytes after a bad length change nothing.
+-- Bytes after an invalid length field leave the stream's rest invalid.
 pub bad_stays : (b left : List ℕ) → IsBad b → IsBad (rest (b ++ left))
 bad_stays b left bad =
     let same : span_of (b ++ left) ≡ span_of b = span_of-append b left bad.0 in
@@ -62,14 +63,14 @@ bad_stays b left bad =
     let alone = rest_alone (b ++ left) (inr still) in
     subst IsBad (sym alone.1) still
 
--- The frames that the bytes of a feed complete.
+-- A feed that ends a frame completes exactly that frame.
 pub told : (what : Framing) (b : List ℕ) → TellsFraming what b → (frames b ≡ ended what b) × (rest b ≡ (buffered_after what b).rest)
 told Need b tells = rest_alone b (inl tells)
 told Whole b tells = frame_alone b tells.0
 told Foreign b tells = frame_alone b tells.0
 told Garbled b tells = rest_alone b (inr tells.0)
 
--- A piece consists of the bytes that a feed consumed and the bytes left.
+-- A chunk consists of the bytes that a feed consumed and the remaining bytes.
 pub piece_is : (r piece : List ℕ) (taken : ℕ) → r ++ piece ≡ (r ++ take taken piece) ++ from taken piece
 piece_is r piece taken = ap (λ y. r ++ y) (sym (whole_again taken piece)) ∙ sym (append_assoc r (take taken piece) (from taken piece))
 
@@ -80,7 +81,7 @@ piece_rest what r piece taken buffered tells is =
     let stays : rest b ≡ buffered.rest = (told what b tells).1 ∙ ap (λ (h : Buffered). h.rest) (sym is) in
     ap rest (piece_is r piece taken) ∙ (frames-then b (from taken piece)).1 ∙ ap (λ y. rest (y ++ from taken piece)) stays
 
--- A feed that takes a complete piece and completes no frame leaves all bytes buffered.
+-- A feed that consumes all of a chunk and completes no frame buffers all bytes.
 pub need_rest : (what : Framing) (r piece : List ℕ) (taken : ℕ) (buffered : Buffered) → TellsFraming what (r ++ take taken piece) → buffered ≡ buffered_after what (r ++ take taken piece)
     → what ≡ Need → taken ≡ length piece → (buffered.rest ≡ rest (r ++ piece)) × IsOpen buffered.rest × (frames (r ++ piece) ≡ []) × (buffered ≡ buffered_after Need (r ++ piece))
 need_rest what r piece taken buffered tells is need all =
@@ -93,21 +94,21 @@ need_rest what r piece taken buffered tells is need all =
     let stays : buffered.rest ≡ r ++ piece = ap (λ (h : Buffered). h.rest) is_need in
     (stays ∙ sym alone.1, subst IsOpen (sym stays) is_open, alone.0, is_need)
 
--- After a feed that ends at a bad length, the rest of the stream is bad.
+-- After a feed that ends at an invalid length field, the rest of the stream is invalid.
 pub garbled_rest : (what : Framing) (r piece : List ℕ) (taken : ℕ) → TellsFraming what (r ++ take taken piece) → what ≡ Garbled → IsBad (rest (r ++ piece))
 garbled_rest what r piece taken tells garbled =
     let b = r ++ take taken piece in
     let bad : TellsFraming Garbled b = subst (λ w. TellsFraming w b) garbled tells in
     subst (λ y. IsBad (rest y)) (sym (piece_is r piece taken)) (bad_stays b (from taken piece) bad.0)
 
--- An incomplete frame with no bytes after it has no frames, and is its own rest.
+-- An incomplete frame without further bytes completes no frame and is its own rest.
 pub nothing_came : (r : List ℕ) → IsOpen r → (frames (r ++ []) ≡ []) × (r ≡ rest (r ++ []))
 nothing_came r is_open =
     let alone = rest_alone r (inl is_open) in
     (ap frames (append-nil r) ∙ alone.0, sym alone.1 ∙ sym (ap rest (append-nil r)))
 
--- The frames of more bytes are those of the bytes that arrived so far, and those of their rest
--- with the new bytes.
+-- The frames of more bytes are those of the bytes that arrived until now, followed by those of
+-- their rest with the new bytes.
 pub came_more : (r came more : List ℕ) → (frames (r ++ (came ++ more)) ≡ frames (r ++ came) ++ frames (rest (r ++ came) ++ more)) × (rest (r ++ (came ++ more)) ≡ rest (rest (r ++ came) ++ more))
 came_more r came more =
     let joined : r ++ (came ++ more) ≡ (r ++ came) ++ more = sym (append_assoc r came more) in

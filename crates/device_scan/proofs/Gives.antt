@@ -1,4 +1,4 @@
--- Texts that a link received, one after another.
+-- Lemmas about bytes written to a link in several parts.
 use Rattle.std.proofs.Common.{ℕ, List, [], ◌++◌, Option, None, Some, Result, Ok, Err, sym, ap, ◌∙◌, append-nil, append_assoc}
 use Rattle.std.proofs.KnownBytes.{Appends-trans, Appends-kept}
 use Rattle.std.specs.Io.KnownBytes.{Appends, Keeps}
@@ -13,12 +13,13 @@ part_after a b c x y first second = (
   Appends-trans a b c x second.0 first second.3,
 )
 
--- The link received a text, and then another text or a part of it.
+-- Writing `x` completely and then `y`, completely or in part, writes their concatenation,
+-- completely or in part.
 pub got_both : {X E : Type 0} (result : Result X E) (a b c : Option (List ℕ)) (x y : List ℕ) → Appends a b x → GotText result y b c → GotText result (x ++ y) a c
 got_both (Ok done) a b c x y first second = Appends-trans a b c x y first second
 got_both (Err error) a b c x y first second = part_after a b c x y first second
 
--- Of a failed write the link received a part, of any other write everything.
+-- A failed write sends a first part of the bytes, and any other write sends all of them.
 pub got_of : {X E : Type 0} (result : Result X E) (a b : Option (List ℕ)) (bytes : List ℕ) → Gives result a b bytes → GotText result bytes a b
 got_of (Ok done) a b bytes gives = gives
 got_of (Err error) a b bytes gives = (gives.part, gives.unsent, gives.whole, gives.given)
@@ -28,7 +29,7 @@ kept_nothing None b kept = tt
 kept_nothing (Some xs) None kept = absurd kept
 kept_nothing (Some xs) (Some ys) kept = kept ∙ sym (append-nil xs)
 
--- The link received nothing more.
+-- If nothing more is written, the link has received the same bytes.
 pub got_kept : {X E : Type 0} (result : Result X E) (a b c : Option (List ℕ)) (x : List ℕ) → Appends a b x → Keeps b c → GotText result x a c
 got_kept (Ok done) a b c x got kept = Appends-kept a b c x got kept
 got_kept (Err error) a b c x got kept = (x, [], sym (append-nil x), Appends-kept a b c x got kept)

@@ -1,4 +1,4 @@
--- A bound on the number of reads left.
+-- Bounds the number of reads that a scan can still make.
 use Rattle.std.proofs.Common.{◌≡◌, ℕ, ◌+◌, ◌-◌, ◌*◌, ◌<◌, ◌≤◌, Bool, true, false, ◌==◌, ◌&&◌, nat_le, nat_lt, if◌then◌else◌, Option, None, Some, refl, sym, ap, arith}
 use Rattle.std.specs.Prelude.{option_and_then}
 use Rattle.std.specs.Option.{option_map_or}
@@ -11,7 +11,8 @@ use Rattle.device_scan.specs.Stages.{after_head, checked, head_at, in_model, is_
 use Rattle.device_scan.specs.declared.stage.Stage.{Stage}
 use Rattle.device_scan.specs.declared.stage.Stage.TheVariants.{Mark, Head, Ending, Registers, Over}
 
--- 125 for each read that may follow, and 1 for each address that may still be requested.
+-- A number that is at least 125 for each read that may follow, plus 1 for each address that may
+-- still be requested.
 abbrev pub potential : Stage → ℕ
 potential (Mark address) = if address == 40000 then 82161 else if address == 50000 then 82036 else 81911
 potential (Head address models) = 250 + 250 * (64 - models) + (65536 - address)
@@ -38,7 +39,7 @@ marked_potential address =
       | false ↦ elim (address == 50000) as (λ b. 250 + 250 * 64 + (65536 - (address + 2)) + 125 ≤ (if b then 82036 else 81911)) [ true ↦ omega arith | false ↦ omega arith ]
     ]
 
--- The model is valid at this address, after `models` others.
+-- True if the model at this address is valid after `models` models.
 pub record Standing (models address : ℕ) (model : Model) : Type 0 where
   pub at : model.address ≡ address
   pub few : models < 64
@@ -84,7 +85,7 @@ head_step word models address None =
 head_step word models address (Some id) =
     found_potential models address (model_in word models address) (λ model. model_stands word models address model)
 
--- Each read lowers the bound by at least 125.
+-- Each read of a scan lowers the bound by at least 125.
 pub less_potential : (word : Words) (stage : Stage) (span : Span) → wanted stage ≡ Some span → potential (stage_after word stage) + 125 ≤ potential stage
 less_potential word (Mark address) span is =
     elim (is_marked word address) as (λ b. potential (if b then Head (address + 2) 0 else other_mark address) + 125 ≤ potential (Mark address))

@@ -1,4 +1,4 @@
--- The result that frames settle.
+-- Lemmas about the result of a request, by the frames that arrive after it.
 use Rattle.std.proofs.Common.{Global, ◌≡◌, ◌≢◌, ℕ, List, [], ◌∷◌, ◌++◌, length, Option, None, Some, Result, Ok, Err, Bool, true, false, cond, ◌==◌, ◌&&◌, take, refl, sym, ap, ◌∙◌, subst, option_map, find}
 use Rattle.std.specs.Prelude.{IfOk, IfSome, Vec, unwrap_or}
 use Rattle.std.proofs.lemmas.Bool.{eq-eqb, ne_eqb}
@@ -25,7 +25,7 @@ if_ok_then P Q (Err e) holds step = tt
 abbrev brings : Ask → List ℕ → Option (List ℕ)
 brings ask frame = words_in ask (fields_of frame)
 
--- Frames after other frames settle a try only if the others do not.
+-- Later frames decide the result of a request only if the earlier frames do not.
 pub settled_both : (ask : Ask) (fs gs : List (List ℕ)) → settled ask (fs ++ gs) ≡ first_of (settled ask fs) (settled ask gs)
 settled_both ask [] gs = refl
 settled_both ask (f ∷ fs) gs =
@@ -41,7 +41,8 @@ pub first_none : {X : Type 0} (a : Option X) → first_of a None ≡ a
 first_none None = refl
 first_none (Some x) = refl
 
--- One frame settles a try exactly if it is of Modbus and has the try's transaction identifier.
+-- One frame decides the result exactly if it is a Modbus frame with the request's transaction
+-- identifier.
 one_frame : (ask : Ask) (f : List ℕ) (is : Bool) → is_reply ask f ≡ is → settled ask (f ∷ []) ≡ cond is (Some (brings ask f)) None
 one_frame ask f true e = ap (λ (b : Bool). option_map (brings ask) (cond b (Some f) None)) e
 one_frame ask f false e = ap (λ (b : Bool). option_map (brings ask) (cond b (Some f) None)) e
@@ -52,12 +53,12 @@ own_reply ask f own = ap (λ (b : Bool). b && (tid_of f == ask.id)) (eq-eqb _ _ 
 foreign_reply : (ask : Ask) (f : List ℕ) → (IsOwn f → ⊥) → is_reply ask f ≡ false
 foreign_reply ask f foreign = ap (λ (b : Bool). b && (tid_of f == ask.id)) (ne_eqb _ _ foreign)
 
--- A reader that holds no frame settles no try.
+-- A frame reader without a frame decides no result.
 pub none_held : (ask : Ask) (held : Option (List ℕ)) → None ≡ option_map fields_of held → settled ask (frames_held held) ≡ None
 none_held ask None is = refl
 none_held ask (Some f) is = cc
 
--- A reader with a frame of another identifier, or of the try's identifier.
+-- A frame in the reader with another transaction identifier than the request decides no result.
 pub other_held : (ask : Ask) (held : Option (List ℕ)) (fields : Fields) → Some fields ≡ option_map fields_of held → IfSome held IsOwn → fields.tid ≢ ask.id → settled ask (frames_held held) ≡ None
 other_held ask None fields is own other = cc
 other_held ask (Some f) fields is own other =
@@ -73,7 +74,7 @@ same_held ask (Some f) fields is own equal =
     let tids : fields.tid ≡ tid_of f = ap (λ (x : Fields). x.tid) same in
     one_frame ask f true (own_reply ask f own ∙ eq-eqb _ _ (sym tids ∙ equal)) ∙ ap (λ (x : Fields). Some (words_in ask x)) (sym same)
 
--- If the frame that a feed completed has this protocol, the reader holds that frame next.
+-- The frame that a feed completed decides the same result as the frame in the reader afterwards.
 settled_ended : (ask : Ask) (what : Framing) (b : List ℕ) → TellsFraming what b → settled ask (ended what b) ≡ settled ask (frames_held (buffered_after what b).frame)
 settled_ended ask Need b tells = refl
 settled_ended ask Whole b tells = refl
@@ -89,7 +90,7 @@ own_after Garbled b tells = tt
 pub own_held : (what : Framing) (b : List ℕ) (buffered : Buffered) → TellsFraming what b → buffered ≡ buffered_after what b → IfSome buffered.frame IsOwn
 own_held what b buffered tells is = subst (λ (h : Buffered). IfSome h.frame IsOwn) (sym is) (own_after what b tells)
 
--- A piece settles what its first feed settles, or else what the remaining bytes settle.
+-- A chunk decides the result that its first feed decides, or else that of the remaining bytes.
 pub piece_settles : (ask : Ask) (what : Framing) (r piece : List ℕ) (taken : ℕ) (buffered : Buffered) → TellsFraming what (r ++ take taken piece) → buffered ≡ buffered_after what (r ++ take taken piece)
     → settled ask (frames (r ++ piece)) ≡ first_of (settled ask (frames_held buffered.frame)) (settled ask (frames (buffered.rest ++ from taken piece)))
 piece_settles ask what r piece taken buffered tells is =
@@ -105,20 +106,20 @@ piece_settles ask what r piece taken buffered tells is =
     ∙ ap (λ (x : Option (Option (List ℕ))). first_of x (settled ask (frames (rest b ++ left)))) front
     ∙ ap (λ (y : List ℕ). first_of (settled ask (frames_held buffered.frame)) (settled ask (frames (y ++ left)))) stays
 
--- A feed that takes a complete piece and completes no frame settles nothing.
+-- A feed that consumes all of a chunk and completes no frame decides no result.
 pub need_settles : (ask : Ask) (what : Framing) (r piece : List ℕ) (taken : ℕ) (buffered : Buffered) → TellsFraming what (r ++ take taken piece) → buffered ≡ buffered_after what (r ++ take taken piece)
     → what ≡ Need → taken ≡ length piece → settled ask (frames_held buffered.frame) ≡ settled ask (frames (r ++ piece))
 need_settles ask what r piece taken buffered tells is need all =
     let so = need_rest what r piece taken buffered tells is need all in
     ap (λ (h : Buffered). settled ask (frames_held h.frame)) so.3 ∙ ap (settled ask) (sym so.2)
 
--- An earlier result, and then a piece.
+-- An earlier result has precedence over the result of a later chunk.
 pub heard_piece : (heard later : Option (Option (List ℕ))) (held piece : Option (Option (List ℕ))) (result : Option (Option (List ℕ))) → later ≡ first_of heard held → result ≡ first_of later piece
     → result ≡ first_of heard (first_of held piece)
 heard_piece heard later held piece result first next =
     next ∙ ap (λ (x : Option (Option (List ℕ))). first_of x piece) first ∙ first_assoc heard held piece
 
--- Consecutive turns that settle nothing.
+-- A turn that receives no bytes leaves the incomplete frame unchanged.
 pub hears_nothing : (a b : Option (List ℕ)) (r : List ℕ) → IsOpen r → Keeps a b → Hears a b r r []
 hears_nothing a b r is_open kept = record { took = Consumes-kept a a b [] (Consumes-nil a) kept; read = (nothing_came r is_open).1; is_open = is_open }
 
@@ -147,7 +148,7 @@ garbles_both a b c r s came first next = record {
       next.bad;
 }
 
--- Turns.
+-- Lemmas about turns that read the link once.
 
 pub kept_idle : (a b : Option (List ℕ)) (piece : List ℕ) (answer : Took) → TakeConsumes a b (Ok answer) piece → answer ≡ took.Idle → Keeps a b
 kept_idle a b piece answer took is = subst (λ (t : Took). TakeConsumes a b (Ok t) piece) is took
@@ -158,7 +159,7 @@ turn_bytes ask a b r s bytes turn took read is_open tells = record { came = byte
 pub turn_idle : (ask : Ask) (a b : Option (List ℕ)) (r : List ℕ) → IsOpen r → Keeps a b → HearsTurn ask a b r r Idle
 turn_idle ask a b r is_open kept = record { came = []; hears = hears_nothing a b r is_open kept; tells = ap (settled ask) (nothing_came r is_open).0 }
 
--- Bytes arrived, and settle nothing.
+-- True if bytes arrived over the link and decided no result.
 pub record Waits (ask : Ask) (a b : Option (List ℕ)) (r s : List ℕ) : Type 0 where
   pub came : List ℕ
   pub hears : Hears a b r s came

@@ -1,4 +1,4 @@
--- The count and the scale that a read over a new link shows.
+-- Lemmas about the count and the power of ten that a read over a new link returns.
 use Rattle.std.proofs.Common.{◌≡◌, ℕ, List, [], Option, Some, Result, refl, ap, ◌∙◌, subst}
 use Rattle.mb_wire.specs.Spans.{Span}
 use Rattle.device_scan.specs.Counters.{AsksCounter, ShowsCounter, shown_by, shown_in}
@@ -8,7 +8,7 @@ use Rattle.device_scan.specs.declared.counter.CounterScale.{CounterScale}
 use Rattle.device_scan.specs.declared.counter.Shown.{Shown}
 use Rattle.device_scan.proofs.Talking.{standing}
 
--- A new client has a new link.
+-- A new client has the state of a new link.
 begun_here : (bytes given : Option (List ℕ)) (open_bytes : List ℕ) (next : ℕ) → open_bytes ≡ [] → next ≡ 1 → standing bytes given open_bytes next ≡ fresh bytes given
 begun_here bytes given open_bytes next nothing first =
     ap (λ (o : List ℕ). standing bytes given o next) nothing ∙ ap (λ (n : ℕ). standing bytes given [] n) first
@@ -29,7 +29,7 @@ shows_read unit asked wanted span bytes given open_bytes next end words address 
       shows = shows;
     })
 
--- The words were read at their addresses.
+-- A counter's value is read from the words at the counter's addresses.
 pub shows_words : (first : ℕ) (read words : List ℕ) (address : ℕ) (scale : CounterScale) (shown : Option Shown) → shown ≡ shown_in first read address scale → read ≡ words → shown ≡ shown_by first (Some words) address scale
 shows_words first read words address scale shown shows same =
     shows ∙ ap (λ (all : List ℕ). shown_in first all address scale) same

@@ -1,4 +1,4 @@
--- Tries, reads and exchanges, one after another.
+-- Lemmas about consecutive requests, reads and exchanges of a scan.
 use Rattle.std.specs.Prelude.{slice_index}
 use Rattle.std.proofs.Common.{◌≡◌, ℕ, ◌+◌, ◌*◌, ◌<◌, ◌≤◌, List, [], ◌∷◌, ◌++◌, length, Option, None, Some, Result, Ok, Bool, true, false, ◌==◌, if◌then◌else◌, drop, map, refl, sym, ap, ◌∙◌, subst, append-nil, append_assoc, length-append, arith, option_map}
 use Rattle.std.specs.List.{flat_map}
@@ -31,7 +31,7 @@ use Rattle.device_scan.proofs.Gives.{got_both, part_after}
 use Rattle.device_scan.proofs.Settles.{hears_both, hears_nothing}
 use Rattle.device_scan.proofs.Potentials.{less_potential, potential}
 
--- Written bytes.
+-- Lemmas about the bytes written to the link.
 
 pub requests_one : {X E : Type 0} (unit : ℕ) (span : Span) (id : ℕ) (result : Result X E) (a b : Option (List ℕ)) → GotText result (request_under unit span id) a b → OnlyRequests unit span result a b
 requests_one unit span id result a b got =
@@ -46,7 +46,7 @@ requests_two unit span id next result a b c first second = (
       (got_both result a b c (request_under unit span id) (request_under unit span next) first second),
 )
 
--- A request for holding registers.
+-- The frame of a request for holding registers is the frame of an `Inquiry`.
 pub holding_frame : (id unit : ℕ) (function : ReadFunction) (address count : ℕ) → function ≡ HoldingRegisters
     → request_frame (record { id = id; unit = unit; span = record { function = function; address = address; count = count } }) ≡ inquiry_frame unit (record { id = id; address = address; count = count })
 holding_frame id unit function address count is =
@@ -76,7 +76,7 @@ wanted_holding (Ending at) span is = same_function span _ is
 wanted_holding (InModel model asked models) span is = same_function span _ is
 wanted_holding Over span is = cc
 
--- Received bytes.
+-- Lemmas about the bytes that arrive over the link.
 
 pub hears_kept : (a b c : Option (List ℕ)) (r s came : List ℕ) → Keeps a b → Hears b c r s came → Hears a c r s came
 hears_kept a b c r s came kept heard = record {
@@ -99,7 +99,7 @@ garbles_kept a b c r kept garbles = record {
   bad = garbles.bad;
 }
 
--- All bytes that arrived during a read.
+-- All bytes that arrived over the link during a read.
 pub record Heard (a b : Line) : Type 0 where
   pub came : List ℕ
   pub hears : Hears a.bytes b.bytes a.open_bytes b.open_bytes came
@@ -117,7 +117,7 @@ pub reads_heard : (unit : ℕ) (a b : Line) (span : Span) (words : Option (List 
 reads_heard unit a b span words (AtOnce all is tries) = tries_heard unit a b span words tries
 reads_heard unit a b span words (Again mid first next) = heard_both a mid b (tries_heard unit a mid span None first) (tries_heard unit mid b span words next)
 
--- A response has as many words as the request.
+-- Lemmas about the number of words in a response: it is the number requested.
 
 reply_full : (query : Query) (pdu : List ℕ) (quantity : ℕ) (words : List ℕ) → WantsRegisters query quantity → brought (Ok (brought_by (wanted_by query) pdu)) ≡ Some (words_spelled (drop 2 pdu))
     → brought (answer_in query pdu) ≡ Some words → length words ≡ quantity
@@ -157,7 +157,7 @@ pub reads_full : (unit : ℕ) (a b : Line) (span : Span) (answer : Option (List 
 reads_full unit a b span answer words (AtOnce all said tries) is = tries_full unit a b span answer words tries is
 reads_full unit a b span answer words (Again mid first next) is = tries_full unit mid b span answer words next is
 
--- Exchanges, one after another.
+-- Lemmas about consecutive exchanges of a scan.
 
 pub same_words : (a b : Words) → ((address : ℕ) → a address ≡ b address) → a ≡ b
 same_words a b same = λ i. λ address. same address i
@@ -170,7 +170,7 @@ talks_more : (unit : ℕ) (a : Line) (xs : List Exchange) (x : Exchange) (b c : 
 talks_more unit a [] x b c talk reads = (c, subst (λ (l : Line). Reads unit l c x.span x.words) (sym talk) reads, refl)
 talks_more unit a (first ∷ xs) x b c talk reads = (talk.0, talk.1, talks_more unit talk.0 xs x b c talk.2 reads)
 
--- The exchanges so far lead to this state.
+-- True if the exchanges until now lead to this state of the link, these words and this stage.
 pub record Progress (unit : ℕ) (old now : Line) (word : Words) (stage : Stage) (exchanges : List Exchange) : Type 0 where
   pub asked : (later : List Exchange) → AsksInTurn word stage later → AsksInTurn nothing begun (exchanges ++ later)
   pub words : word ≡ words_told nothing exchanges
@@ -205,7 +205,7 @@ progress_more unit old now next word later stage later_stage xs x before is read
       few = omega arith;
     }
 
--- A scan in progress.
+-- Lemmas about a scan that is in progress.
 
 abbrev pub standing : (bytes given : Option (List ℕ)) (open_bytes : List ℕ) (next : ℕ) → Line
 standing bytes given open_bytes next = record { bytes = bytes; given = given; open_bytes = open_bytes; next = next }
@@ -262,7 +262,7 @@ going_more unit old_bytes old_given bytes given later_bytes later_given asked_un
       takes = omega arith;
     }
 
--- No read is next.
+-- The scan ends if its stage requires no further read.
 pub going_ends : (unit : ℕ) (old_bytes old_given bytes given : Option (List ℕ)) (asked_unit : ℕ) (open_bytes : List ℕ) (next : ℕ) (word found : Words) (stage : Stage) (old_taken taken : ℕ) →
     Going unit old_bytes old_given bytes given asked_unit open_bytes next word stage old_taken taken → wanted stage ≡ None → found ≡ word → Scans unit old_bytes old_given bytes given found
 going_ends unit old_bytes old_given bytes given asked_unit open_bytes next word found stage old_taken taken going over is =
@@ -278,7 +278,7 @@ going_ends unit old_bytes old_given bytes given asked_unit open_bytes next word 
       given = refl;
     }
 
--- A read that failed, and a read whose answer could not be stored.
+-- A scan that failed has written only requests for holding registers, the last possibly incomplete.
 pub going_part : (unit : ℕ) (old_bytes old_given bytes given later_given : Option (List ℕ)) (asked_unit : ℕ) (open_bytes : List ℕ) (next : ℕ) (word : Words) (stage : Stage) (old_taken taken : ℕ) →
     Going unit old_bytes old_given bytes given asked_unit open_bytes next word stage old_taken taken →
     ((inquiries : List Inquiry) × GotPart (flat_map (inquiry_frame asked_unit) inquiries) given later_given) →
@@ -296,14 +296,14 @@ pub part_of_all : (a b : Option (List ℕ)) (unit : ℕ) → ((inquiries : List 
 part_of_all a b unit inquires =
     (inquires.0, (flat_map (inquiry_frame unit) inquires.0, [], sym (append-nil (flat_map (inquiry_frame unit) inquires.0)), inquires.1))
 
--- The measure of the reads falls.
+-- Each read lowers the bound on the remaining reads.
 pub smaller : (word : Words) (stage next : Stage) (span : Span) → wanted stage ≡ Some span → next ≡ stage_after word stage → potential next < potential stage
 smaller word stage next span is goes =
     let less : potential (stage_after word stage) + 125 ≤ potential stage = less_potential word stage span is in
     let same : potential next ≡ potential (stage_after word stage) = ap potential goes in
     omega arith
 
--- As many words as the request.
+-- The words of a response are as many as the request asked for.
 pub seen_full : {Z : Type 0} (answer : Option (Vec ℕ Z)) (count : ℕ) → ((words : List ℕ) → words_seen answer ≡ Some words → length words ≡ count) → IfSome answer (λ words. length words.items ≡ count)
 seen_full None count full = tt
 seen_full (Some words) count full = full words.items refl

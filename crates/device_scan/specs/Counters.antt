@@ -1,4 +1,4 @@
--- The count and the scale of a counter, which one read of its device brings.
+-- Defines the count and the scale of a counter in the words of one read.
 use Rattle.std.specs.Prelude.{◌≡◌, ℕ, ℤ, pos, negsuc, ◌+◌, ◌-◌, ◌==◌, ◌&&◌, nat_le, int_le, min, max, Bool, if◌then◌else◌, List, slice_index, Some, None, option_and_then}
 use Rattle.std.specs.Option.{option_map}
 use Rattle.std.specs.declared.option.Option.{Option}
@@ -18,64 +18,67 @@ abbrev pub first_register : (address : ℕ) → CounterScale → ℕ
 first_register address (Fixed sf) = address
 first_register address (Register at) = min address at
 
--- The address after the greatest one among the registers of a counter and of its scale.
+-- The address after the greatest register address of a counter and of its scale.
 abbrev pub end_register : (address : ℕ) → CounterScale → ℕ
 end_register address (Fixed sf) = address + 2
 end_register address (Register at) = max (address + 2) (at + 1)
 
--- The span of registers from `first` to before `end`, or `None` if one read cannot bring them
--- all.
+-- The span of registers from `first` to `end` exclusive, or `None` if one Modbus read cannot
+-- request all of them.
 abbrev pub span_between : ReadFunction → (first end : ℕ) → Option Span
 span_between function first end =
     if nat_le (end - first) MAX_READ_REGISTERS && nat_le end ADDRESSES
     then Some (record { function = function; address = first; count = end - first })
     else None
 
--- The span of registers that a read of the counter requests, or `None` if one read cannot bring
--- them all.
+-- The span of registers that a read of the counter requests, or `None` if one Modbus read cannot
+-- request all of them.
 abbrev pub counter_span : ReadFunction → (address : ℕ) → CounterScale → Option Span
 counter_span function address scale =
     span_between function (first_register address scale) (end_register address scale)
 
--- The word at an address. The first of the words is at address `first`.
+-- The word at an address in a list of words whose first word is at address `first`.
 abbrev pub word_at : (first : ℕ) → List ℕ → (address : ℕ) → ℕ
 word_at first words address = slice_index words (address - first)
 
--- A counter may have this scale: it is from -3 to 3.
+-- True if the power of ten is from -3 to 3, which a counter may have.
 abbrev pub is_allowed : ℤ → Bool
 is_allowed sf = int_le (negsuc 2) sf && int_le sf (pos 3)
 
--- The scale if a counter may have it, otherwise `None`.
+-- The power of ten if it is from -3 to 3, otherwise `None`.
 abbrev pub allowed : ℤ → Option ℤ
 allowed sf = if is_allowed sf then Some sf else None
 
--- The scale in a sunssf register. `None` if the register is not implemented or not from -3 to 3.
+-- The power of ten in a sunssf register, or `None` if it is not implemented or not from -3 to 3.
 abbrev pub told : (word : ℕ) → Option ℤ
 told word = if word == 0x8000 then None else allowed (scale_value word)
 
--- The scale of a counter, fixed or from its register among the words. `None` if a counter may not
--- have it.
+-- The power of ten of a counter, fixed or read from its register, or `None` if it is not from -3 to
+-- 3.
 abbrev pub scale_in : (first : ℕ) → List ℕ → CounterScale → Option ℤ
 scale_in first words (Fixed sf) = allowed sf
 scale_in first words (Register at) = told (word_at first words at)
 
--- The count in two words from an address on, the high word first.
+-- The count in the two words from `address`, high word first.
 abbrev pub count_in : (first : ℕ) → List ℕ → (address : ℕ) → ℕ
 count_in first words address =
     acc32_value (word_at first words address) (word_at first words (address + 1))
 
--- The count and the scale that the words show, or `None` without an allowed scale.
+-- The count and power of ten of a counter in the words, or `None` if the power of ten is not
+-- allowed.
 abbrev pub shown_in : (first : ℕ) → List ℕ → (address : ℕ) → CounterScale → Option Shown
 shown_in first words address scale =
     option_map (λ sf. record { raw = count_in first words address; sf = sf })
     (scale_in first words scale)
 
--- The count and the scale that the words of a read show, or `None` if the read brought no words.
+-- The count and power of ten of a counter in the words of a read, or `None` if the read returned no
+-- words.
 abbrev pub shown_by : (first : ℕ) → Option (List ℕ) → (address : ℕ) → CounterScale → Option Shown
 shown_by first words address scale =
     option_and_then (λ all. shown_in first all address scale) words
 
--- A read over a new link requested the span, and `shown` is what its words show of the counter.
+-- True if a read over a new link requested the span, and `shown` is the counter's value in the
+-- words of that read.
 pub record ReadsCounter (unit : ℕ) (span : Span)
     (old_bytes old_given new_bytes new_given : Option (List ℕ))
     (address : ℕ) (scale : CounterScale) (shown : Option Shown)
@@ -87,7 +90,7 @@ pub record ReadsCounter (unit : ℕ) (span : Span)
   pub given : end.given ≡ new_given
   pub shows : shown ≡ shown_by span.address words address scale
 
--- The effect of reading a counter whose registers are this span. Without a span, nothing is read,
+-- The effect of reading a counter whose registers are this span. Without a span, nothing is read
 -- and `shown` is `None`.
 abbrev pub ShowsCounter : (unit : ℕ) → Option Span
     → (old_bytes old_given new_bytes new_given : Option (List ℕ))
@@ -97,7 +100,8 @@ ShowsCounter unit None old_bytes old_given new_bytes new_given address scale sho
 ShowsCounter unit (Some span) old_bytes old_given new_bytes new_given address scale shown =
     ReadsCounter unit span old_bytes old_given new_bytes new_given address scale shown
 
--- The link was only sent requests for this span. Without a span, it was sent nothing.
+-- True if only requests for this span were written to the link. Without a span, nothing was
+-- written.
 abbrev pub AsksCounter : {X E : Type 0} → (unit : ℕ) → Option Span → Result X E
     → (old new : Option (List ℕ)) → Type 0
 AsksCounter unit None result old new = new ≡ old

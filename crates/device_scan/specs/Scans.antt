@@ -1,4 +1,4 @@
--- A scan: its reads in order, and the words that they bring.
+-- Defines a scan: a list of reads in order, and the words that they return.
 use Rattle.std.specs.Prelude.{◌≡◌, ℕ, ◌≤◌, List, [], ◌∷◌, length, Some, None}
 use Rattle.std.specs.declared.option.Option.{Option}
 use Rattle.mb_wire.specs.Spans.{Span}
@@ -9,41 +9,41 @@ use Rattle.device_scan.specs.declared.scan.Scan.{Scan}
 use Rattle.device_scan.specs.declared.stage.Stage.{Stage}
 use Rattle.device_scan.specs.declared.scanning.TheConstants.{MOST_READS}
 
--- The words that a scan has received so far, by address.
+-- The words that a scan has received until now, by address.
 abbrev pub words_of : Scan → Words
 words_of scan = word_in scan.image
 
--- The stage of a scan, which determines the next read.
+-- The stage of a scan, which determines its next read.
 abbrev pub stage_of : Scan → Stage
 stage_of scan = scan.stage
 
--- One read of a scan: the registers that it requests, and their words, or `None` if the device
--- sent none.
+-- One read of a scan: the requested registers, and their words, or `None` if the device returned
+-- none.
 pub record Exchange : Type 0 where
   pub span : Span
   pub words : Option (List ℕ)
 
--- The state without any words.
+-- The memory image without any words.
 abbrev pub nothing : Words
 nothing address = None
 
--- The words after a response to a read from an address. Its words replace earlier ones. `None`
--- changes nothing.
+-- The image after a read from `address`. The words of the response replace earlier words, and
+-- `None` changes nothing.
 abbrev pub put_answer : Words → ℕ → Option (List ℕ) → Words
 put_answer word address None = word
 put_answer word address (Some words) = put_words word address words
 
--- The words after one more read.
+-- The image after one more read.
 abbrev pub words_after : Words → Exchange → Words
 words_after word exchange = put_answer word exchange.span.address exchange.words
 
--- The words after these reads.
+-- The image after a list of reads.
 abbrev pub words_told : Words → List Exchange → Words
 words_told word [] = word
 words_told word (exchange ∷ exchanges) = words_told (words_after word exchange) exchanges
 
--- Each read is the read that the stage wants, given the words so far. After the last of them, the
--- scan wants none.
+-- True if the stage requires each read, given the words read until then, and requires no read after
+-- the last.
 abbrev pub AsksInTurn : Words → Stage → List Exchange → Type 0
 AsksInTurn word stage [] = wanted stage ≡ None
 AsksInTurn word stage (exchange ∷ exchanges) =
@@ -52,19 +52,19 @@ AsksInTurn word stage (exchange ∷ exchanges) =
     (stage_after (words_after word exchange) stage)
     exchanges
 
--- The effects of these reads on the link, one after another.
+-- The effects of a list of reads on the link, one after another.
 abbrev pub Talks : (unit : ℕ) → Line → List Exchange → Line → Type 0
 Talks unit old [] new = old ≡ new
 Talks unit old (exchange ∷ exchanges) new =
     (mid : Line) × Reads unit old mid exchange.span exchange.words × Talks unit mid exchanges new
 
--- The state of a link on which nothing has arrived and nothing was requested, with the first
--- transaction identifier, 1.
+-- The state of a new link: no incomplete frame is buffered, and the next transaction identifier is
+-- 1.
 abbrev pub fresh : (bytes given : Option (List ℕ)) → Line
 fresh bytes given = record { bytes = bytes; given = given; open_bytes = []; next = 1 }
 
--- The effect of a scan over a new link: it makes a list of reads, and `word` has the words that
--- they bring.
+-- The effect of a scan over a new link: the scan executes a list of reads, and `word` has the words
+-- that they return.
 pub record Scans (unit : ℕ) (old_bytes old_given new_bytes new_given : Option (List ℕ))
     (word : Words) : Type 0 where
   pub exchanges : List Exchange

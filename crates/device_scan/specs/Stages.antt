@@ -1,4 +1,5 @@
--- The next read of a scan: the mark, the head of each model, and the registers of the known models.
+-- Defines the next read of a scan: the `SunS` mark, the head (ID and length) of each model, and the
+-- registers of known models.
 use Rattle.std.specs.Prelude.{ℕ, ◌+◌, ◌-◌, ◌==◌, ◌&&◌, ◌||◌, not, nat_le, nat_lt, min, Bool, true, if◌then◌else◌, Some, None, option_and_then}
 use Rattle.std.specs.Option.{option_map_or}
 use Rattle.std.specs.declared.option.Option.{Option}
@@ -11,14 +12,14 @@ use Rattle.sun_chain.specs.declared.model.Model.{Model}
 use Rattle.device_scan.specs.declared.stage.Stage.{Stage}
 use Rattle.device_scan.specs.declared.stage.Stage.TheVariants.{Mark, Head, Ending, Registers, Over}
 
--- A span of holding registers, which function 3 reads.
+-- A span of holding registers, which Modbus function 3 reads.
 abbrev pub holding : (address count : ℕ) → Span
 holding address count =
     record { function = HoldingRegisters; address = address; count = count }
 
--- The read that a stage wants, or `None` at the end. A mark has two registers. A head is an ID
--- and a length, or only one register at the last address. The end's ID may be read alone.
--- Registers of a model are read up to 125 at once.
+-- The read that a stage requires, or `None` at the end. A mark has two registers. A head has an ID
+-- and a length, or only the ID at address 65535. The registers of a model are read up to 125 at
+-- once.
 abbrev pub wanted : Stage → Option Span
 wanted (Mark address) = Some (holding address 2)
 wanted (Head address models) = Some (holding address (min 2 (ADDRESSES - address)))
@@ -27,7 +28,7 @@ wanted (Registers model asked models) =
     Some (holding (model.address + 2 + asked) (min MAX_READ_REGISTERS (model.length - asked)))
 wanted Over = None
 
--- The model whose registers a stage reads next, or `None`.
+-- The model whose registers the stage reads next, or `None`.
 abbrev pub model_of : Stage → Option Model
 model_of (Mark address) = None
 model_of (Head address models) = None
@@ -35,32 +36,33 @@ model_of (Ending address) = None
 model_of (Registers model asked models) = Some model
 model_of Over = None
 
--- A model with this ID has a table of points: 1, 101 to 103, and 201 to 204.
+-- True if the points of models with this ID are known: 1, 101 to 103, and 201 to 204.
 abbrev pub is_known : ℕ → Bool
 is_known id = id == 1 || (nat_le 101 id && nat_le id 103) || (nat_le 201 id && nat_le id 204)
 
--- The first stage of a scan, which reads the mark at 40000.
+-- The first stage of a scan, which reads the `SunS` mark at address 40000.
 abbrev pub begun : Stage
 begun = Mark 40000
 
--- The stage after an address without a mark: 50000, then 0, then the end of the scan.
+-- The stage after a base address without the `SunS` mark: 50000, then 0, then the end of the scan.
 abbrev pub other_mark : ℕ → Stage
 other_mark address =
     if address == 40000 then Mark 50000 else if address == 50000 then Mark 0 else Over
 
--- The stage after `models` models: the head at this address, or the end of the scan past the last
--- address.
+-- The stage after `models` models: reading the head at this address, or the end of the scan past
+-- address 65535.
 abbrev pub head_at : (models address : ℕ) → Stage
 head_at models address = if nat_le address 65535 then Head address models else Over
 
--- The stage after the head of a model. Only the registers of models with a table are read.
+-- The stage after the head (ID and length) of a model was read. The registers are read only if the
+-- model's points are known.
 abbrev pub in_model : (models : ℕ) → Model → Stage
 in_model models model =
     if is_known model.id && nat_lt 0 model.length then Registers model 0 models
     else head_at models (next_after model)
 
--- The model is valid: its ID is not the end's, at most 64 models come before and with it, and it
--- ends by the last address.
+-- True if the model is valid: its ID does not end the chain, it is at most the 64th model, and it
+-- ends at or before address 65535.
 abbrev pub may_stand : (models : ℕ) → Model → Bool
 may_stand models model =
     not (model.id == 0xFFFF) && nat_lt models 64 && nat_le (next_after model) ADDRESSES
@@ -69,11 +71,11 @@ may_stand models model =
 abbrev pub checked : (models : ℕ) → Model → Option Model
 checked models model = if may_stand models model then Some model else None
 
--- A model with its address, its ID and its length.
+-- A model with this address, this ID and this length.
 abbrev pub model_at : (address id length : ℕ) → Model
 model_at address id length = record { address = address; id = id; length = length }
 
--- The valid model at an address after `models` others, or `None`. Its ID and its length must have
+-- The valid model at an address after `models` models, or `None`. Its ID and its length must have
 -- been read.
 abbrev pub model_in : Words → (models address : ℕ) → Option Model
 model_in word models address =
@@ -81,18 +83,18 @@ model_in word models address =
     (word (address + 1)))
     (word address)
 
--- The stage after a head that was not read: it reads the ID alone, because the end may be the
--- device's last register.
+-- The stage after a head that was not read: reading the ID alone, because the end of the chain may
+-- be the device's last register.
 abbrev pub ending_at : (address : ℕ) → Stage
 ending_at address = if nat_lt address 65535 then Ending address else Over
 
--- The stage after the read of a head: by its ID, or by `None` if the ID was not read.
+-- The stage after a read of a head, by the ID that was read, or by `None` if the ID was not read.
 abbrev pub after_head : Words → (models address : ℕ) → Option ℕ → Stage
 after_head word models address None = ending_at address
 after_head word models address (Some id) =
     option_map_or (in_model (models + 1)) (model_in word models address) Over
 
--- The stage after a read of this stage. `word` has the words that the scan has received so far.
+-- The stage after the read of a stage. `word` has the words that the scan has received until now.
 abbrev pub stage_after : Words → Stage → Stage
 stage_after word (Mark address) =
     if is_marked word address then Head (address + 2) 0 else other_mark address
@@ -104,8 +106,8 @@ stage_after word (Registers model asked models) =
     else head_at models (next_after model)
 stage_after word Over = Over
 
--- The registers that this stage reads lie within a device's addresses, and its numbers are within
--- the limits of a scan.
+-- True if the registers that this stage reads have addresses below 65536, and its numbers are
+-- within the limits of a scan.
 abbrev pub fits : Stage → Bool
 fits (Mark address) = nat_le address 50000
 fits (Head address models) = nat_le models 64

@@ -1,4 +1,4 @@
-//! Writes requests to a device.
+//! Writes read requests to a device.
 ghost use Rattle.std.specs.Prelude.{◌≡◌, is_err};
 ghost use Rattle.std.specs.Io.KnownBytes.{Keeps};
 ghost use Rattle.mb_wire.specs.Links.{risen};
@@ -8,7 +8,7 @@ ghost use Rattle.device_scan.specs.Answers.{ask_of, request_frame};
 use crate::tries::Try;
 use mb_wire::{Link, LinkFailed, MAX_ADU, MAX_PDU, encode_request, give_all, write_frame};
 
-/// Writes the request of a try.
+/// Writes the frame of a read request to the link.
 pub(crate) fn give_request<L: Link>(link: &mut L, attempt: Try) -> Result<(), LinkFailed>
     ensures given { GotText result (request_frame (ask_of attempt))
         (L.given link.old) (L.given link.new) }

@@ -1,4 +1,4 @@
-//! A client that reads a device's registers, with at most two requests for each read.
+//! A Modbus client that reads a device's registers, with at most two requests for each read.
 ghost use Rattle.std.specs.Prelude.{◌≡◌, ◌≤◌, ◌+◌, ◌*◌, [], Err, IfOk};
 ghost use Rattle.mb_wire.specs.Frames.{IsOpen};
 ghost use Rattle.mb_wire.specs.Links.{risen};
@@ -13,8 +13,8 @@ use crate::tries::Try;
 use mb_wire::{FrameReader, Link, LinkFailed, ReadSpan};
 use std::alloc::Global;
 
-/// A client on one link: the bytes since the end of the last frame, the unit identifier, and the
-/// next transaction identifier.
+/// A Modbus client on one link: the bytes of an incomplete frame, the unit identifier, and the next
+/// transaction identifier.
 #[derive(Drop)]
 pub(crate) struct Client {
     reader: FrameReader,
@@ -39,8 +39,8 @@ impl Client {
         }
     }
 
-    // Sends one request and waits for its response. The transaction identifier wraps from 65535
-    // to 0.
+    // Sends one request and waits for the response. The transaction identifier wraps from 65535 to
+    // 0.
     fn try_once<L: Link>(
         &mut self,
         alloc: Global,
@@ -72,7 +72,8 @@ impl Client {
         }
     }
 
-    /// Reads registers. If the first request brings no words, the client sends one more.
+    /// Reads registers of the device. If the first request returns no words, the client sends a
+    /// second request.
     pub(crate) fn read<L: Link>(
         &mut self,
         alloc: Global,

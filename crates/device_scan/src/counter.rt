@@ -1,4 +1,4 @@
-//! Reads a counter of a device once.
+//! Reads a counter of a device and its scale once.
 ghost use Rattle.std.specs.Prelude.{◌≡◌, ◌≤◌, ◌+◌, ◌*◌, [], Err, Some, IfOk};
 ghost use Rattle.std.specs.Option.{option_map};
 ghost use Rattle.mb_wire.specs.Links.{risen};
@@ -14,16 +14,16 @@ use mb_wire::{ADDRESSES, Link, MAX_READ_REGISTERS, ReadFunction, ReadSpan};
 use std::alloc::Global;
 use sun_points::{acc32, sunssf};
 
-/// The source of a counter's scale.
+/// The source of a counter's power of ten.
 #[derive(Clone, Copy, Debug, PartialEq, Eq)]
 pub enum CounterScale {
-    /// A power of ten that is not read from the device.
+    /// A fixed power of ten, which is not read from the device.
     Fixed(i16),
     /// The `sunssf` register at this address of the device.
     Register(u16),
 }
 
-/// The state of a counter: its count, and the power of ten of its unit.
+/// The value of a counter: its count, and the power of ten of the count's unit.
 #[derive(Clone, Copy, Debug, PartialEq, Eq)]
 pub struct Shown {
     pub raw: u32,
@@ -66,8 +66,8 @@ fn span_of(function: ReadFunction, address: u16, scale: CounterScale) -> Option<
     }
 }
 
-// Returns the word at an address, or 0 without such a word. The caller's span has all addresses
-// that it needs.
+// Returns the word at an address, or 0 if the words do not include the address. The caller's span
+// includes each address that is needed.
 fn word_at(first: u16, words: &[u16], address: u32) -> u16
     ensures { result ≡ specs.word_at first words.now address }
 {
@@ -81,7 +81,8 @@ fn allowed(sf: i16) -> Option<i16>
     if -3 <= sf && sf <= 3 { Some(sf) } else { None }
 }
 
-// Returns the scale in a sunssf register, or `None` if it is not implemented or not from -3 to 3.
+// Returns the power of ten in a sunssf register, or `None` if it is not implemented or not from -3
+// to 3.
 fn told(word: u16) -> Option<i16>
     ensures { result ≡ specs.told word }
 {
@@ -115,15 +116,15 @@ fn shown_in(first: u16, words: &[u16], address: u16, scale: CounterScale) -> Opt
     }
 }
 
-/// Reads a counter of a unit over a new link: two registers from `address`, the high word first,
-/// and the register of its scale. One read requests all of them, and is repeated once if it brings
-/// no words.
+/// Reads a counter of a unit over a new link: two registers from `address`, high word first, and
+/// the register of the scale. One read requests all of these registers, and is retried once if it
+/// returns no words.
 ///
 /// Returns `None` in these cases:
-/// - Neither try brought words.
+/// - Both tries returned no words.
 /// - The scale's register is not implemented.
 /// - The scale is not from -3 to 3.
-/// - No single read can bring all registers. In this case nothing is requested.
+/// - No single Modbus read can request all registers. In this case no request is sent.
 pub fn read_counter<L: Link>(
     alloc: Global,
     link: &mut L,

@@ -1,4 +1,4 @@
-//! Reads a device's response to a try.
+//! Waits for a device's response to a read request.
 ghost use Rattle.std.specs.Prelude.{◌≡◌, ◌≤◌, ◌+◌, ◌++◌, length, true, false, Err, IfOk, IfSome};
 ghost use Rattle.std.specs.Option.{option_map};
 ghost use Rattle.mb_wire.specs.Bytes.{words_of};
@@ -19,20 +19,20 @@ use mb_wire::{
 };
 use std::alloc::{AllocError, Global};
 
-/// The maximum number of reads of the link for one try.
+/// The maximum number of reads of the link while waiting for one response.
 pub const MOST_TAKES: u64 = 1000;
 
-/// The words that a device sent in response to a try, or `None` if its response brought none.
+/// The registers in a device's response, or `None` if the response has none.
 pub(crate) type Answer = Option<Vec<u16>>;
 
-/// The result of one read of the link.
+/// The result of one read of the link while waiting for a response.
 #[derive(Drop)]
 pub(crate) enum Turn {
     /// The read of the link timed out.
     Idle,
-    /// The read brought bytes, and no response to the try.
+    /// Bytes arrived, but no complete response to the request.
     More,
-    /// The response to the try arrived, with or without words.
+    /// The response to the request arrived, with or without registers.
     Settled(Answer),
 }
 
@@ -48,7 +48,7 @@ fn registers<'a>(read: Result<Reply<'a>, ReplyFault>) -> Option<&'a [u8]>
     }
 }
 
-// Returns the words of a response frame. A response of another unit brings no words.
+// Returns the registers in a response frame. A response from another unit has none.
 fn answer(alloc: Global, frame: &Frame<'_>, attempt: &Try) -> Result<Answer, AllocError>
     ensures { IfOk result
         (λ answer. words_seen answer ≡ words_in (ask_of attempt.now) (spelled frame.now)) }
@@ -62,8 +62,8 @@ fn answer(alloc: Global, frame: &Frame<'_>, attempt: &Try) -> Result<Answer, All
     }
 }
 
-// Returns the result of the try after one more frame. A result that exists already has precedence
-// over the frame.
+// Returns the response to the request after one more frame. An earlier response has precedence over
+// the frame.
 fn hear_frame(
     alloc: Global,
     reader: &FrameReader,
@@ -98,8 +98,8 @@ fn hear_held(
     Ok(Some(answer(alloc, &frame, attempt)?))
 }
 
-// Returns the result of the try after a piece of bytes. A result that exists already has
-// precedence over the frames of the piece.
+// Returns the response to the request after one more chunk of bytes. An earlier response has
+// precedence over the frames of the chunk.
 fn hear_piece(
     alloc: Global,
     reader: &mut FrameReader,
@@ -157,8 +157,8 @@ fn hear_turn<L: Link>(
     }
 }
 
-/// Reads the link until a response to the try arrives or a read times out, at most `MOST_TAKES`
-/// times. Returns the words of the response, or `None`.
+/// Reads the link until the response to the request arrives or a read times out, at most
+/// `MOST_TAKES` times. Returns the registers in the response, or `None`.
 pub(crate) fn hear<L: Link>(
     alloc: Global,
     link: &mut L,

@@ -1,8 +1,8 @@
-//! The models that have a table.
+//! The SunSpec models whose points are known.
 ghost use Rattle.std.specs.Prelude.{◌≡◌};
 ghost use Rattle.device_scan.specs.Stages.{is_known};
 
-/// Returns whether the points of a model with this ID are known.
+/// Returns whether the program has a table of points for models with this ID.
 pub(crate) fn is_known(id: u16) -> bool
     ensures { result ≡ is_known id }
 {

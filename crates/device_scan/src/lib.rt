@@ -1,5 +1,4 @@
-//! A scan: reads the words of a device's chain of SunSpec models over a live link, and reads a
-//! single counter.
+//! Scans a device over a live link for its chain of SunSpec models, and reads single counters.
 #![tactic(auto)]
 
 mod asking;

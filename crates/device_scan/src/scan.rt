@@ -1,4 +1,4 @@
-//! Chooses the next read of a scan, and collects the responses in an image.
+//! Chooses the next read of a scan, and stores the responses in a memory image.
 ghost use Rattle.std.specs.Prelude.{◌≡◌, ◌<◌, ◌≤◌, ◌+◌, ◌-◌, ℕ, length, min, Some, None, IfSome, IsSome, IsTrue, OnOk, OnErr};
 ghost use Rattle.std.specs.Option.{option_map};
 ghost use Rattle.mb_wire.specs.Spans.{span_view};
@@ -16,7 +16,7 @@ use sun_chain::{Image, Model};
 /// The ID of the model that ends a chain.
 const END_ID: u16 = 0xFFFF;
 
-/// The first base address of the search for the mark.
+/// The first base address at which a scan searches for the `SunS` mark.
 const FIRST_MARK: u16 = 40000;
 
 /// The maximum number of models in a chain.
@@ -34,7 +34,7 @@ pub struct Scan {
 impl Scan {
     ghost use Rattle.device_scan.specs.Scans.{stage_of, words_of};
 
-    /// Creates a scan before its first read.
+    /// Creates a scan that has read no words yet.
     pub fn new(alloc: Global) -> Self
         ensures words { (address : ℕ) → words_of result address ≡ None }
         ensures stage { stage_of result ≡ begun }
@@ -45,7 +45,7 @@ impl Scan {
         }
     }
 
-    /// Returns the registers of the next read, or `None` at the end of the scan.
+    /// Returns the registers of the scan's next read, or `None` at the end of the scan.
     pub fn next(&self) -> Option<ReadSpan>
         ensures { option_map span_view result ≡ wanted (stage_of self.now) }
     {
@@ -61,8 +61,8 @@ impl Scan {
         }
     }
 
-    /// Returns the model whose registers are read next, or `None` if the next read is of no
-    /// model's registers.
+    /// Returns the model whose registers the scan reads next. Returns `None` if the next read is of
+    /// a mark or a head, or the scan is over.
     pub fn model(&self) -> Option<Model>
         ensures { result ≡ model_of (stage_of self.now) }
     {
@@ -72,7 +72,7 @@ impl Scan {
         }
     }
 
-    /// Records the words of a response to the next read. On an error the scan is unchanged, and the
+    /// Stores the words of a response to the next read. On error, the scan is unchanged and the
     /// same read is next.
     pub fn answered(&mut self, span: ReadSpan, words: &[u16]) -> Result<(), AllocError>
         requires next { wanted (stage_of self.old) ≡ Some (span_view span) }
@@ -94,7 +94,7 @@ impl Scan {
         }
     }
 
-    /// Records that the device sent no words for the next read.
+    /// Records that the device returned no words for the scan's next read.
     pub fn unread(&mut self)
         ensures words { (address : ℕ) → words_of self.new address ≡ words_of self.old address }
         ensures stage { stage_of self.new ≡ stage_after (words_of self.new) (stage_of self.old) }
@@ -102,7 +102,7 @@ impl Scan {
         self.go_on();
     }
 
-    /// Returns the words that the device sent.
+    /// Consumes the scan, and returns the words that the device sent.
     pub fn into_image(self) -> Image
         ensures { word_in result ≡ words_of self }
     {
@@ -135,8 +135,7 @@ fn holding(address: u16, count: u16) -> ReadSpan
     }
 }
 
-// Returns the number of registers of a head. The last address has no second register for the
-// length.
+// Returns the number of registers of a model's head (ID and length): 2, or 1 at address 65535.
 fn head_count(address: u16) -> u16
     ensures { result ≡ min 2 (ADDRESSES - address) }
 {
@@ -155,7 +154,8 @@ fn after_mark(image: &Image, address: u16) -> Stage
     }
 }
 
-// Returns the stage after an address without a mark. The search ends after address 0.
+// Returns the stage after a base address without the `SunS` mark. The search ends after base
+// address 0.
 fn other_mark(address: u16) -> Stage
     ensures stage { result ≡ other_mark address }
     ensures inside { IsTrue (fits result) }
@@ -183,8 +183,8 @@ fn after_head(image: &Image, address: u16, models: u8) -> Stage
     }
 }
 
-// Returns the stage after a head that was not read. It reads the end's ID alone, except at the
-// last address, where the head had only one register.
+// Returns the stage after a model's head was not read. The next read is of the ID alone, because
+// the end of the chain may be the device's last register. At address 65535 the scan is over.
 fn ending_at(address: u16) -> Stage
     ensures stage { result ≡ ending_at address }
     ensures inside { IsTrue (fits result) }
@@ -196,8 +196,8 @@ fn ending_at(address: u16) -> Stage
     }
 }
 
-// Returns the valid model at an address, or `None`. A 65th model, the end's ID and a model past
-// the last address are not valid.
+// Returns the valid model at an address, or `None`. A 65th model, the end of the chain, and a model
+// that extends past address 65535 are not valid.
 fn model_in(image: &Image, address: u16, models: u8) -> Option<Model>
     ensures model { result ≡ model_in (word_in image.now) models address }
     ensures inside { IfSome result (λ model. next_after model ≤ ADDRESSES) }
@@ -217,8 +217,8 @@ fn model_in(image: &Image, address: u16, models: u8) -> Option<Model>
     }
 }
 
-// Returns the stage after the head of a model. Only the registers of models with a table are
-// requested.
+// Returns the stage after the head (ID and length) of a model was read. The registers are read only
+// if the model's points are known.
 fn in_model(model: Model, models: u8) -> Stage
     requires inside { next_after model ≤ ADDRESSES }
     requires few { models ≤ 64 }

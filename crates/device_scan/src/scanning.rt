@@ -1,4 +1,4 @@
-//! Scans a device over a link.
+//! Scans a device over a link for its chain of SunSpec models.
 ghost use Rattle.std.specs.Prelude.{◌≡◌, ℕ, ◌≤◌, ◌+◌, ◌*◌, [], Err, Some, IfOk, IfSome, OnOk, length};
 ghost use Rattle.mb_wire.specs.Spans.{span_view};
 ghost use Rattle.mb_wire.specs.Links.{risen};
@@ -17,11 +17,11 @@ use mb_wire::{Link, ReadSpan};
 use std::alloc::{AllocError, Global};
 use sun_chain::{Image, Model};
 
-/// The maximum number of reads of a scan: three for the mark, 65 for heads, one for the end's ID,
-/// and the reads of the registers of 64 models.
+/// The maximum number of reads of a scan. Three are for the `SunS` mark, 65 for the IDs and lengths
+/// of models, and one for the end's ID. The other reads are for the registers of 64 models.
 pub const MOST_READS: u64 = 657;
 
-/// An observer of a scan's progress.
+/// An observer of the progress of a scan.
 pub trait ScanObserver {
     fn reads(&mut self, model: Model);
 }
@@ -49,9 +49,9 @@ fn take_in(scan: &mut Scan, span: ReadSpan, answer: Answer) -> Result<(), AllocE
     }
 }
 
-/// Scans a unit over a new link. The scan reads the mark, the head of each model, and the registers
-/// of the models with a table. A read that brings no words is repeated once. The image holds
-/// exactly the words of the responses.
+/// Scans a unit over a new link: the `SunS` mark, the ID and length of each model, and the
+/// registers of known models. A read that returns no words is retried once. The image has exactly
+/// the words of the responses.
 pub fn scan_over<L: Link, W: ScanObserver>(
     alloc: Global,
     link: &mut L,

@@ -1,18 +1,18 @@
-//! The stages of a scan.
+//! The stages of a scan of a device.
 use sun_chain::Model;
 
-/// What a scan reads next.
+/// The kind of words that a scan reads next.
 #[derive(Clone, Copy, Debug, PartialEq, Eq)]
 pub(crate) enum Stage {
-    /// The mark, at this address.
+    /// The `SunS` mark, at this base address.
     Mark(u16),
-    /// The head at this address: of the next model, or of the end. The number is that of the
-    /// models before it.
+    /// The ID and length of the next model, or the end of the chain, at this address. The second
+    /// number counts the earlier models.
     Head(u16, u8),
-    /// The end's ID alone, at this address.
+    /// The ID at this address alone, because it may end the chain.
     Ending(u16),
-    /// The registers of a model, after this many of them were read. The last number counts the
-    /// models so far.
+    /// The registers of a model, after this number of them was read. The last number counts the
+    /// models until now.
     Registers(Model, u16, u8),
     /// The scan is over.
     Over,

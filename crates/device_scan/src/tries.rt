@@ -1,7 +1,8 @@
-//! A try of a read.
+//! One request of a read of a device's registers.
 use mb_wire::ReadSpan;
 
-/// One request of a read: its transaction identifier, the unit identifier, and the registers.
+/// One request of a read: its transaction identifier, its unit identifier, and the requested
+/// registers.
 #[derive(Clone, Copy, Debug, PartialEq, Eq)]
 pub(crate) struct Try {
     pub(crate) id: u16,

@@ -1,4 +1,4 @@
--- The total energy is the sum of the steps.
+-- The total energy of an installation is the sum of the energies of its steps.
 use Rattle.std.proofs.Common.{◌≡◌, ℕ, ◌+◌, ◌-◌, ◌*◌, ◌≤◌, List, [], ◌∷◌, arith}
 use Rattle.std.proofs.Math.Nat.{mul-le-mul_right}
 use Rattle.std.specs.List.{sum_by}
@@ -17,13 +17,14 @@ one_step r l u h = omega (arith, mul-le-mul_right u h)
 pub energy_in : Step → ℕ
 energy_in s = s.mwh
 
--- The steps with one more entry add up to the earlier sum plus the energy of that entry.
+-- Adding an entry increases the sum of the step energies by the energy of that entry.
 pub sum-step : (range : ℕ) (opening : Last) (e : Entry) (es : List Entry)
     → sum_by (λ (s : Step). s.mwh) (steps_of range opening (e ∷ es))
     ≡ energy_of range (last_of opening es) e + sum_by (λ (s : Step). s.mwh) (steps_of range opening es)
 sum-step range opening e es = sum_by-cons (λ (s : Step). s.mwh) (step_to range (last_of opening es) e) (steps_of range opening es)
 
--- The steps balance with what the counter shows and what was recorded.
+-- The step energies balance with the counter's first and last values, its rollovers and its
+-- changes.
 pub balance : StepsAddUp
 balance range opening [] h = omega arith
 balance range opening (entry.Step at raw rolls ∷ es) h =
@@ -44,7 +45,7 @@ balance range opening (entry.Change at before new sf ∷ es) h =
 pub sum-steps : StepsAreTheWhole
 sum-steps range opening es h = omega (arith, balance range opening es h)
 
--- One more entry adds its energy.
+-- Adding an entry increases the total energy of an installation by the energy of that entry.
 pub whole-cons : (range : ℕ) (opening : Last) (e : Entry) (es : List Entry) → NeverFalls range opening (e ∷ es)
     → whole_energy range opening (e ∷ es) ≡ whole_energy range opening es + energy_of range (last_of opening es) e
 whole-cons range opening e es h =

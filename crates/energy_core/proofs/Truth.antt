@@ -1,4 +1,4 @@
--- What a true run shows is recorded, with the true energy.
+-- The readings of a true run are all accepted, and their recorded energy is the true energy.
 use Rattle.std.proofs.Common.{◌≡◌, ◌≢◌, ℕ, ℤ, ◌+◌, ◌-◌, ◌*◌, ◌%◌, ◌<◌, ◌≤◌, true, false, not, List, [], ◌∷◌, map, IsTrue, nat_le, nat_lt, if◌then◌else◌, refl, ap, sym, ◌∙◌, arith}
 use Rattle.std.proofs.Math.Nat.{mod-lt, mul-le-mul_right, add-mul}
 use Rattle.std.proofs.lemmas.Bool.{cases_lt}
@@ -42,7 +42,7 @@ accepted range terms last reading none =
       ),
     ))
 
--- The counter made less than a full turn, since a full turn would be too long a gap.
+-- A counter made less than a full turn if it could not have made a full turn in the time passed.
 less_than_a_turn : (ceiling unit seconds range d : ℕ) → can_count ceiling unit seconds d ≡ true → can_count ceiling unit seconds range ≡ false → d < range
 less_than_a_turn ceiling unit seconds range d slow long =
     elim (cases_lt d range) [
@@ -58,11 +58,12 @@ less_than_a_turn ceiling unit seconds range d slow long =
 not_beyond_range : (range count : ℕ) → 0 < range → nat_le range (count % range) ≡ false
 not_beyond_range range count pos = let below : count % range < range = mod-lt count pos in grind (arith, nat_tests)
 
--- The terms of an installation whose energy is the true one.
+-- The limits by which a reading of a true run is judged: the ceiling, and the true energy so far.
 abbrev terms_after : (ceiling : ℕ) → ℤ → Item → Item → Terms
 terms_after ceiling sf first a = record { ceiling = ceiling; total = advance sf first a }
 
--- A reading that only its speed or its range could reject is accepted, with the true energy.
+-- A reading of a true run is accepted with the true energy, if only its speed or its range could
+-- reject it.
 one_reading : (range ceiling : ℕ) (sf : ℤ) (first a b : Item) → 0 < range → a.count ≤ b.count
     → IsTrue (can_count ceiling (unit_of sf) (b.at - a.at) (b.count - a.count))
     → ((c : Cause) → c ≢ cause.TooFast → c ≢ cause.NotBelowRange
@@ -93,7 +94,8 @@ one_reading range ceiling sf first a b pos on slow others =
       far,
     )
 
--- The invariant after each item of a true run.
+-- The invariant after each item of a true run: the recorded entries match the true counts and the
+-- true energy.
 record Booked (range ceiling : ℕ) (sf : ℤ) (first : Item) (items : List Item) (es : List Entry) : Type 0 where
   last : last_of (shown range sf first) es ≡ shown range sf (newest first items)
   on : first.count ≤ (newest first items).count
@@ -137,7 +139,8 @@ next range ceiling sf first b items es pos on h far =
 nothing_yet : (v u n : ℕ) → (v + 0) - (v + 0) ≡ (n - n) * u
 nothing_yet v u n = let z : n - n ≡ 0 = omega arith in let m : (n - n) * u ≡ 0 * u = ap (λ k. k * u) z in omega arith
 
--- The verdict on the reading of one more item.
+-- The verdict on a run's next reading is the same after the recorded entries as after the true
+-- counts.
 verdict_next : (range ceiling : ℕ) (sf : ℤ) (first b : Item) (items : List Item) (es : List Entry) (v : Verdict)
     → Booked range ceiling sf first items es
     → verdict_of range (terms_after ceiling sf first (newest first items)) (shown range sf (newest first items)) (told range sf b) ≡ v

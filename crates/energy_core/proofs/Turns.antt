@@ -1,4 +1,4 @@
--- The advance of a counter that made less than a full turn.
+-- The number of counts that a counter advanced, if it made less than a full turn.
 use Rattle.std.proofs.Common.{◌≡◌, ℕ, ◌+◌, ◌-◌, ◌*◌, ◌%◌, ◌<◌, ◌≤◌, true, false, nat_lt, if◌then◌else◌, ap, ◌∙◌, ◌⊎◌, inl, inr, arith}
 use Rattle.std.proofs.Math.Nat.{mod-lt, mod-eq_of_lt, mod-eq-sub-mod, mod-add-mod, add-mod_right}
 use Rattle.std.proofs.lemmas.Bool.{cases_lt}
@@ -22,13 +22,14 @@ wrapped range r d less small =
           inr (omega arith)
     ]
 
--- The distance between the shown numbers is the advance of the counter, if that is less than a full
--- turn.
+-- The distance between two shown numbers is the true advance of the counter, if the advance is less
+-- than a full turn.
 pub distance-shown : (range a d : ℕ) → 0 < range → d < range → distance range (a % range) ((a + d) % range) ≡ d
 distance-shown range a d pos less =
     rw (← mod-add-mod a range d) (went_from range (a % range) d ((a % range + d) % range) less (mod-lt a pos) (wrapped range (a % range) d less (mod-lt a pos)))
 
--- With a full turn if it shows less than before, the counter reached its true count.
+-- A reading reaches the counter's true count if one full turn is added whenever it shows less than
+-- before.
 pub turned : (range from to : ℕ) → from < range → to < range
     → (from ≤ to + (if nat_lt to from then 1 else 0) * range)
     × (to + (if nat_lt to from then 1 else 0) * range ≡ from + distance range from to)

@@ -1,6 +1,6 @@
--- The entries of an installation, the steps between them, and their energy. A list of entries has
--- the latest first, and does not contain the opening. `range` is the number of counts in a full
--- turn.
+-- The entries of an installation, the steps between entries, and the energy of each step. A list of
+-- entries begins with the latest, and does not contain the opening entry. `range` is the number of
+-- counts in a full turn of the counter.
 use Rattle.std.specs.Prelude.{◌≡◌, ℕ, ℤ, ◌+◌, ◌-◌, ◌*◌, ◌/◌, ◌≤◌, ◌<◌, ◌≤ℤ◌, List, [], ◌∷◌}
 use Rattle.energy_core.specs.declared.limits.TheConstants.{INTERVAL_SECONDS, MAX_INTERVALS, MAX_SCALE, MAX_TOTAL, MIN_SCALE}
 use Rattle.energy_core.specs.declared.entries.Last.{Last}
@@ -9,7 +9,7 @@ use Rattle.energy_core.specs.declared.entries.Entry.{Entry}
 use Rattle.energy_core.specs.declared.entries.Entry.TheVariants as entry
 use Rattle.energy_core.specs.Value.{unit_of, value_of}
 
--- The number of intervals that the time from the first to the later second time touches.
+-- The number of quarter-hour intervals that the time from `from` to the later time `till` touches.
 abbrev pub intervals_touched : (from till : ℕ) → ℕ
 intervals_touched from till = (till - 1) / INTERVAL_SECONDS - from / INTERVAL_SECONDS + 1
 
@@ -18,37 +18,38 @@ abbrev pub moment_of : Entry → ℕ
 moment_of (entry.Step at raw rolls) = at
 moment_of (entry.Change at before new sf) = at
 
--- The counter's state after an entry, if `last` is its state before the entry.
+-- The counter's state after an entry, where `last` is the counter's state before the entry.
 abbrev pub after : Last → Entry → Last
 after last (entry.Step at raw rolls) = record { at = at; raw = raw; sf = last.sf }
 after last (entry.Change at before new sf) = record { at = at; raw = new; sf = sf }
 
--- The counter's state after all these entries, the opening included.
+-- The counter's state after the opening entry and all entries of a list.
 abbrev pub last_of : Last → List Entry → Last
 last_of opening [] = opening
 last_of opening (e ∷ es) = after (last_of opening es) e
 
--- The count that the counter reached at the entry: with its full turns for a `Step`, before it
--- was set for a `Change`.
+-- The count that the counter reached at an entry. A `Step` includes its full turns. A `Change`
+-- counts what the counter showed before it was set.
 abbrev pub reached : (range : ℕ) → Entry → ℕ
 reached range (entry.Step at raw rolls) = raw + rolls * range
 reached range (entry.Change at before new sf) = before
 
--- The energy in mWh from the state `last` to this entry.
+-- The energy in mWh from the counter's state `last` to an entry.
 abbrev pub energy_of : (range : ℕ) → Last → Entry → ℕ
 energy_of range last e = reached range e * unit_of last.sf - value_of last
 
--- The step from the state `last` to this entry.
+-- The step (both times and the energy in mWh) from the counter's state `last` to an entry.
 abbrev pub step_to : (range : ℕ) → Last → Entry → Step
 step_to range last e = record { from = last.at; till = moment_of e; mwh = energy_of range last e }
 
--- The steps of an installation, one between each two consecutive entries, the latest first.
+-- The steps of an installation, one between each two consecutive entries. The latest step comes
+-- first.
 abbrev pub steps_of : (range : ℕ) → Last → List Entry → List Step
 steps_of range opening [] = []
 steps_of range opening (e ∷ es) = step_to range (last_of opening es) e ∷ steps_of range opening es
 
--- The energy of all recorded full turns, plus the energy of the number that the counter showed
--- before each change, in mWh.
+-- The energy in mWh of all recorded full turns, plus the energy of the count that the counter
+-- showed before each change.
 abbrev pub recorded : (range : ℕ) → Last → List Entry → ℕ
 recorded range opening [] = 0
 recorded range opening (entry.Step at raw rolls ∷ es) =
@@ -56,41 +57,42 @@ recorded range opening (entry.Step at raw rolls ∷ es) =
 recorded range opening (entry.Change at before new sf ∷ es) =
     before * unit_of (last_of opening es).sf + recorded range opening es
 
--- The energy of the numbers to which changes set the counter, in mWh.
+-- The energy in mWh of the counts to which resets and rescales set the counter.
 abbrev pub set_anew : List Entry → ℕ
 set_anew [] = 0
 set_anew (entry.Step at raw rolls ∷ es) = set_anew es
 set_anew (entry.Change at before new sf ∷ es) = new * unit_of sf + set_anew es
 
--- The total energy of an installation. It is the last value less the first, plus one full range for
--- each recorded rollover. For each change it adds what the counter showed before it, less what it
--- was set to.
+-- The total energy of an installation, in mWh: the last value less the first, plus one full range
+-- for each recorded rollover. Each reset or rescale adds the value before it less the value after
+-- it.
 abbrev pub whole_energy : (range : ℕ) → Last → List Entry → ℕ
 whole_energy range opening es =
     (value_of (last_of opening es) + recorded range opening es) - (value_of opening + set_anew es)
 
--- No entry's count is less than the count before it, so no subtraction above is cut off at 0.
+-- No entry's count is less than the counter's count before that entry. Therefore `whole_energy`
+-- never cuts off a subtraction at 0.
 abbrev pub NeverFalls : (range : ℕ) → Last → List Entry → Type 0
 NeverFalls range opening [] = Unit {0}
 NeverFalls range opening (e ∷ es) =
     ((last_of opening es).raw ≤ reached range e) × NeverFalls range opening es
 
--- A scale factor that an accounting register may have: from -3 to 3.
+-- The scale factor is from -3 to 3, as an accounting register requires.
 abbrev pub IsScale : ℤ → Type 0
 IsScale sf = (MIN_SCALE ≤ℤ sf) × (sf ≤ℤ MAX_SCALE)
 
--- The scale factor that a change sets is from -3 to 3. A `Step` sets none.
+-- The scale factor that a `Change` sets is from -3 to 3. A `Step` sets no scale factor.
 abbrev pub HasScale : Entry → Type 0
 HasScale (entry.Step at raw rolls) = Unit {0}
 HasScale (entry.Change at before new sf) = IsScale sf
 
--- Every number of the entry is below the counter's range.
+-- Every count in the entry is below the counter's range.
 abbrev pub CanBeShown : (range : ℕ) → Entry → Type 0
 CanBeShown range (entry.Step at raw rolls) = raw < range
 CanBeShown range (entry.Change at before new sf) = (before < range) × (new < range)
 
--- The entry may follow the state `last`: its count does not go back, it is later, and its step,
--- scale factor and numbers are within their limits.
+-- An entry may follow the counter's state `last`. Its count does not go back, its time is later,
+-- and its step, scale factor and counts are within their limits.
 pub record Follows (range : ℕ) (last : Last) (e : Entry) : Type 0 where
   pub rises : last.raw ≤ reached range e
   pub later : last.at < moment_of e
@@ -98,13 +100,13 @@ pub record Follows (range : ℕ) (last : Last) (e : Entry) : Type 0 where
   pub scale : HasScale e
   pub shown : CanBeShown range e
 
--- Each entry may follow the counter's state after the earlier ones.
+-- Each entry may follow the counter's state after the entries before it.
 abbrev pub AllFollow : (range : ℕ) → Last → List Entry → Type 0
 AllFollow range opening [] = Unit {0}
 AllFollow range opening (e ∷ es) = Follows range (last_of opening es) e × AllFollow range opening es
 
--- After these entries, `last` is the counter's state and `total` is the energy in mWh, within its
--- limit. Each entry may follow those before it.
+-- After the opening entry and the entries `es`, `last` is the counter's state and `total` is the
+-- energy in mWh, within its limit. Each entry may follow the entries before it.
 pub record IsAccount (range : ℕ) (opening : Last) (es : List Entry) (last : Last) (total : ℕ) : Type
     0 where
   pub last_is : last ≡ last_of opening es

@@ -1,4 +1,5 @@
--- Theorems on the definitions, over every list of entries and of readings.
+-- Theorems about the definitions of accounts and verdicts, for every list of entries and of
+-- readings.
 use Rattle.std.specs.Prelude.{◌≡◌, ℕ, ◌+◌, ◌*◌, ◌<◌, ◌≤◌, ◌↔◌, List, [], ◌∷◌, Ok, All, sum_by, nat_lt, if◌then◌else◌}
 use Rattle.energy_core.specs.declared.limits.TheConstants.{MAX_INTERVALS, MAX_TOTAL}
 use Rattle.energy_core.specs.declared.entries.Last.{Last}
@@ -14,26 +15,27 @@ use Rattle.energy_core.specs.Verdict.{distance, verdict_of, IsPlausible}
 use Rattle.energy_core.specs.Admission.{entered, IsBooked}
 use Rattle.energy_core.specs.Readings.{entries_of_readings}
 
--- The energies of the steps, the opening's value and the values that changes set equal the last
--- value plus `recorded`.
+-- Theorem: the energies of the steps, the opening value and the values that changes set equal the
+-- last value plus `recorded`.
 abbrev pub StepsAddUp : Type 0
 StepsAddUp = (range : ℕ) (opening : Last) (es : List Entry) → NeverFalls range opening es
     → sum_by (λ (s : Step). s.mwh) (steps_of range opening es) + value_of opening + set_anew es
     ≡ value_of (last_of opening es) + recorded range opening es
 
--- The energies of the steps add up to the total energy.
+-- Theorem: the energies of the steps of an installation add up to its total energy.
 abbrev pub StepsAreTheWhole : Type 0
 StepsAreTheWhole = (range : ℕ) (opening : Last) (es : List Entry) → NeverFalls range opening es
     → sum_by (λ (s : Step). s.mwh) (steps_of range opening es) ≡ whole_energy range opening es
 
--- `entered` records an entry exactly if the entry may follow `last` and the total energy stays
--- within its limit.
+-- Theorem: `entered` records an entry if and only if the entry may follow `last` and the total
+-- energy stays within its limit.
 abbrev pub EnteredIsBooked : Type 0
 EnteredIsBooked = (range total : ℕ) (last : Last) (e : Entry) (next : Last) (step : Step)
     → (entered range total last e ≡ Ok (next, step)) ↔ IsBooked range total last e next step
 
--- A reading is accepted exactly if no cause to reject it applies. It has one rollover if it shows
--- less than the last entry, else none. Its energy is the distance that the counter advanced.
+-- Theorem: a reading is accepted if and only if no cause to reject it applies. The counter rolled
+-- over once if the reading is less than the last entry's count, otherwise not. The reading's energy
+-- follows from the number of counts that the counter advanced.
 abbrev pub AcceptedIsPlausible : Type 0
 AcceptedIsPlausible = (range : ℕ) (terms : Terms) (last : Last) (reading : Reading) (rolls step : ℕ)
     → (verdict_of range terms last reading ≡ Accepted rolls step)
@@ -41,7 +43,8 @@ AcceptedIsPlausible = (range : ℕ) (terms : Terms) (last : Last) (reading : Rea
     × (rolls ≡ (if nat_lt reading.raw last.raw then 1 else 0))
     × (step ≡ distance range last.raw reading.raw * unit_of last.sf))
 
--- An accepted reading may be recorded as an entry, with the same step.
+-- Theorem: an accepted reading may be recorded as an entry, with the energy that the verdict
+-- states.
 abbrev pub AcceptedIsEntered : Type 0
 AcceptedIsEntered = (range : ℕ) (terms : Terms) (last : Last) (reading : Reading) (rolls step : ℕ)
     → last.raw < range
@@ -52,25 +55,26 @@ AcceptedIsEntered = (range : ℕ) (terms : Terms) (last : Last) (reading : Readi
       record { from = last.at; till = reading.at; mwh = step },
     )
 
--- An installation that was just opened has an account with 0 mWh.
+-- Theorem: an installation that was just opened has an account with 0 mWh.
 abbrev pub AccountsBegin : Type 0
 AccountsBegin = (range : ℕ) (opening : Last) → IsAccount range opening [] opening 0
 
--- One more entry that is recorded extends the account by that entry.
+-- Theorem: recording one more entry extends the account of an installation by that entry.
 abbrev pub AccountsGoOn : Type 0
 AccountsGoOn = (range : ℕ) (opening : Last) (es : List Entry) (last : Last) (total : ℕ)
     (e : Entry) (next : Last) (step : Step)
     → IsAccount range opening es last total → IsBooked range total last e next step
     → IsAccount range opening (e ∷ es) next (total + step.mwh)
 
--- A step that can be divided among the intervals that it touches.
+-- The step can be divided among the intervals that it touches.
 pub record IsShareable (step : Step) : Type 0 where
   pub later : step.from < step.till
   pub span : intervals_touched step.from step.till ≤ MAX_INTERVALS
   pub within : step.mwh ≤ MAX_TOTAL
 
--- The counter is below its range and at a lawful scale, and no entry goes back. The total is the
--- sum of the steps, and each step can be divided among its intervals.
+-- The account of an installation is sound. The counter's count is below its range, its scale factor
+-- is from -3 to 3, and no entry's count goes back. The total energy is the sum of the steps, and
+-- each step can be divided among its intervals.
 pub record IsSound (range : ℕ) (opening : Last) (es : List Entry) (last : Last)
     (total : ℕ) : Type 0 where
   pub raw : last.raw < range
@@ -79,14 +83,14 @@ pub record IsSound (range : ℕ) (opening : Last) (es : List Entry) (last : Last
   pub sum : total ≡ sum_by (λ (s : Step). s.mwh) (steps_of range opening es)
   pub steps : All IsShareable (steps_of range opening es)
 
--- If the opening shows a number below the range at a lawful scale factor, each account of the
--- installation is sound.
+-- Theorem: every account of an installation is sound if the opening entry shows a count below the
+-- range at a scale factor from -3 to 3.
 abbrev pub AccountsAreSound : Type 0
 AccountsAreSound = (range : ℕ) (opening : Last) (es : List Entry) (last : Last) (total : ℕ)
     → opening.raw < range → IsScale opening.sf
     → IsAccount range opening es last total → IsSound range opening es last total
 
--- After any list of readings, the accepted ones are entries that have an account.
+-- Theorem: after any list of readings, the accepted readings are entries that have an account.
 abbrev pub ReadingsKeepAccounts : Type 0
 ReadingsKeepAccounts = (range ceiling : ℕ) (opening : Last) (rs : List Reading)
     → opening.raw < range

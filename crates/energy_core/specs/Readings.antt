@@ -1,4 +1,5 @@
--- The readings of an installation, and the accepted ones as its entries. The latest comes first.
+-- The readings of an installation, and the entries that the accepted readings become. Both lists
+-- begin with the latest.
 use Rattle.std.specs.Prelude.{ℕ, List, [], ◌∷◌}
 use Rattle.energy_core.specs.declared.entries.Last.{Last}
 use Rattle.energy_core.specs.declared.entries.Entry.{Entry}
@@ -9,32 +10,32 @@ use Rattle.energy_core.specs.declared.verdicts.Verdict.TheVariants.{Accepted, He
 use Rattle.energy_core.specs.Account.{last_of, whole_energy}
 use Rattle.energy_core.specs.Verdict.{verdict_of}
 
--- The verdict on a reading of an installation with these entries.
+-- The verdict on a reading after the opening entry and the entries `es`.
 abbrev pub verdict_on : (range ceiling : ℕ) → Last → List Entry → Reading → Verdict
 verdict_on range ceiling opening es reading =
     verdict_of range (record { ceiling = ceiling; total = whole_energy range opening es })
     (last_of opening es) reading
 
--- The entries after a verdict on a reading: with the reading if it is accepted, unchanged if it
--- is rejected.
+-- The entries after a verdict on a reading. An accepted reading is added to the entries, and a
+-- rejected reading leaves them unchanged.
 abbrev pub with_verdict : List Entry → Reading → Verdict → List Entry
 with_verdict es reading (Accepted rolls step) = entry.Step reading.at reading.raw rolls ∷ es
 with_verdict es reading (Held cause) = es
 
--- The entries of an installation after these readings. Some readings may be rejected. The latest
--- entry comes first.
+-- The entries of an installation after a list of readings. Some of the readings may be rejected.
+-- Both lists begin with the latest.
 abbrev pub entries_of_readings : (range ceiling : ℕ) → Last → List Reading → List Entry
 entries_of_readings range ceiling opening [] = []
 entries_of_readings range ceiling opening (r ∷ rs) =
     let es = entries_of_readings range ceiling opening rs in
     with_verdict es r (verdict_on range ceiling opening es r)
 
--- The reading is accepted.
+-- The verdict accepts the reading.
 abbrev pub IsAccepted : Verdict → Type 0
 IsAccepted (Accepted rolls step) = Unit {0}
 IsAccepted (Held cause) = ⊥
 
--- Each of these readings is accepted when it is judged after the earlier ones.
+-- Each reading of a list is accepted when it is judged after the earlier readings.
 abbrev pub AllAccepted : (range ceiling : ℕ) → Last → List Reading → Type 0
 AllAccepted range ceiling opening [] = Unit {0}
 AllAccepted range ceiling opening (r ∷ rs) =

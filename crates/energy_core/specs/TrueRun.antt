@@ -1,5 +1,5 @@
--- A true run: what a meter really counted over time. The latest item comes first; the item at
--- opening is not in the list.
+-- A true run: the list of counts that a meter really made over time. The list begins with the
+-- latest count, and does not contain the count at the opening.
 use Rattle.std.specs.Prelude.{◌≡◌, ◌≢◌, ℕ, ℤ, ◌-◌, ◌*◌, ◌%◌, ◌<◌, ◌≤◌, IsTrue, false, List, [], ◌∷◌, map}
 use Rattle.energy_core.specs.declared.entries.Last.{Last}
 use Rattle.energy_core.specs.declared.entries.Step.{Step}
@@ -12,25 +12,26 @@ use Rattle.energy_core.specs.Account.{whole_energy, steps_of}
 use Rattle.energy_core.specs.Verdict.{can_count, applies}
 use Rattle.energy_core.specs.Readings.{entries_of_readings, AllAccepted}
 
--- A time, and the true count of the meter since its beginning.
+-- A time, and the true count of the meter at that time, counted without rollovers.
 pub record Item : Type 0 where
   pub at : ℕ
   pub count : ℕ
 
--- What the meter shows at an item: the true count modulo the counter's range.
+-- The counter's state that the meter shows at a true count: the count modulo the counter's range.
 abbrev pub shown : (range : ℕ) → ℤ → Item → Last
 shown range sf item = record { at = item.at; raw = item.count % range; sf = sf }
 
--- The meter's reading at an item.
+-- The reading of the meter at a true count: the count modulo the counter's range.
 abbrev pub told : (range : ℕ) → ℤ → Item → Reading
 told range sf item = record { at = item.at; raw = item.count % range; sf = sf }
 
--- The latest item of a run. If the list is empty, that is the item at the opening.
+-- The latest item of a true run. For an empty list, it is the item at the opening.
 abbrev pub newest : Item → List Item → Item
 newest first [] = first
 newest first (b ∷ items) = b
 
--- Times rise. Counts never fall, and never rise faster than the ceiling allows.
+-- The items are a true run. Times rise. Counts never fall, and never rise faster than the ceiling
+-- on power allows.
 abbrev pub IsTrueRun : (ceiling : ℕ) → ℤ → Item → List Item → Type 0
 IsTrueRun ceiling sf first [] = Unit {0}
 IsTrueRun ceiling sf first (b ∷ items) =
@@ -40,13 +41,13 @@ IsTrueRun ceiling sf first (b ∷ items) =
     × IsTrue (can_count ceiling (unit_of sf) (b.at - a.at) (b.count - a.count))
     × IsTrueRun ceiling sf first items
 
--- The true energy from one item to another, in mWh.
+-- The true energy between two items of a true run, in mWh.
 abbrev pub advance : ℤ → Item → Item → ℕ
 advance sf a b = (b.count - a.count) * unit_of sf
 
--- Only the speed or the range could be a cause to reject a reading of the run. The meter is read
--- often enough, each reading shows a number other than 0, and the total energy stays within its
--- limit.
+-- The meter is polled often enough, each reading shows a number other than 0, and the total energy
+-- stays within its limit. Only the causes `TooFast` and `NotBelowRange` could still reject a
+-- reading.
 abbrev pub IsReadOftenEnough : (range ceiling : ℕ) → ℤ → Item → List Item → Type 0
 IsReadOftenEnough range ceiling sf first [] = Unit {0}
 IsReadOftenEnough range ceiling sf first (b ∷ items) =
@@ -56,15 +57,15 @@ IsReadOftenEnough range ceiling sf first (b ∷ items) =
     → applies range terms (shown range sf a) (told range sf b) c ≡ false)
     × IsReadOftenEnough range ceiling sf first items
 
--- The true steps, one between each two consecutive items, the latest first.
+-- The true steps of a run, one between each two consecutive items. The latest step comes first.
 abbrev pub true_steps : ℤ → Item → List Item → List Step
 true_steps sf first [] = []
 true_steps sf first (b ∷ items) =
     let a = newest first items in
     record { from = a.at; till = b.at; mwh = advance sf a b } ∷ true_steps sf first items
 
--- The run is recorded truly. Every reading is accepted, each step is the true energy between its
--- times, and the total energy is the true energy since the opening.
+-- The readings of a run are recorded truly. Every reading is accepted, each step has the true
+-- energy between its times, and the total energy is the true energy since the opening.
 pub record IsBookedTruly (range ceiling : ℕ) (sf : ℤ) (first : Item) (items : List Item) : Type 0
   where
     pub accepted : AllAccepted range ceiling (shown range sf first) (map (told range sf) items)
@@ -75,7 +76,8 @@ pub record IsBookedTruly (range ceiling : ℕ) (sf : ℤ) (first : Item) (items 
         (entries_of_readings range ceiling (shown range sf first) (map (told range sf) items))
         ≡ advance sf first (newest first items)
 
--- A true run that is read often enough is recorded truly, however often the counter rolled over.
+-- Theorem: a true run that is polled often enough is recorded truly, however often the counter
+-- rolled over.
 abbrev pub TruthIsBooked : Type 0
 TruthIsBooked = (range ceiling : ℕ) (sf : ℤ) (first : Item) (items : List Item) → 0 < range
     → IsTrueRun ceiling sf first items → IsReadOftenEnough range ceiling sf first items

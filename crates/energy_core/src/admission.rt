@@ -1,4 +1,4 @@
-//! Records entries by hand, or refuses them.
+//! Records or refuses the entries that an operator makes by hand for a meter.
 ghost use Rattle.std.specs.Prelude.{◌≡◌, ◌≤◌, ◌<◌, ◌+◌, ◌*◌, ◌≤ℤ◌};
 ghost use Rattle.std.specs.Prelude.{IfOk};
 ghost use Rattle.energy_core.specs.Admission.{AccountsGoOnBy, entered, is_beyond, has_bad_scale, fault_number};
@@ -12,20 +12,20 @@ use crate::limits::{MAX_INTERVALS, MAX_RANGE, MAX_SCALE, MAX_TOTAL, MAX_UNIT, MI
 use crate::measures::is_long_span;
 use crate::verdicts::Terms;
 
-/// Why an entry by hand is refused.
+/// The reason why an entry by hand is refused.
 #[derive(Clone, Copy, Debug, PartialEq, Eq)]
 pub enum TermFault {
-    /// The counter would have gone back.
+    /// The entry's count is less than the count at the last entry.
     NegativeStep,
-    /// The last entry has the same time or a later one.
+    /// The entry is not later than the last entry.
     NotLater,
-    /// The step would touch more than 3,000 intervals.
+    /// The step from the last entry to this entry would touch more than 3,000 quarter hours.
     SpanTooLong,
     /// The total energy of the installation would exceed 4 * 10^18 mWh.
     TotalFull,
-    /// The scale factor is not from -3 to 3.
+    /// The entry's scale factor is not from -3 to 3.
     BadScale,
-    /// A number is not below the counter's range.
+    /// A count in the entry is not below the counter's range, so the counter cannot show it.
     NotBelowRange,
 }
 
@@ -45,7 +45,7 @@ impl TermFault {
     }
 }
 
-/// Returns the time of an entry.
+/// Returns the time of an entry, in seconds since 1970-01-01 UTC.
 fn moment(entry: &Entry) -> u64
     ensures { result ≡ moment_of entry.now }
 {
@@ -54,8 +54,8 @@ fn moment(entry: &Entry) -> u64
     }
 }
 
-/// Returns the count that the counter reached at an entry: with its full turns for a `Step`,
-/// before it was set for a `Change`.
+/// Returns the count that the counter reached at an entry. A `Step` includes its full turns. A
+/// `Change` counts what the counter showed before it was set.
 fn reach(range: u64, entry: &Entry) -> u64
     requires { range ≤ MAX_RANGE }
     ensures value { result ≡ reached range entry.now }
@@ -67,7 +67,7 @@ fn reach(range: u64, entry: &Entry) -> u64
     }
 }
 
-/// Returns the energy in mWh from the last entry to an entry that does not go back.
+/// Returns the energy in mWh from the counter's last entry to `entry`, whose count is not less.
 pub(crate) fn energy(range: u64, last: &Last, entry: &Entry) -> u64
     requires range { range ≤ MAX_RANGE }
     requires scale_low { MIN_SCALE ≤ℤ last.now.sf }
@@ -89,7 +89,7 @@ fn is_off_scale(entry: &Entry) -> bool
     }
 }
 
-/// Returns whether an entry has a number that the counter cannot show.
+/// Returns whether an entry contains a count that the counter cannot show.
 fn is_out_of_range(range: u64, entry: &Entry) -> bool
     ensures { result ≡ is_beyond range entry.now }
 {
@@ -101,7 +101,7 @@ fn is_out_of_range(range: u64, entry: &Entry) -> bool
     }
 }
 
-/// Returns the counter's state (time, number and scale factor) after an entry.
+/// Returns the counter's state (time, count and scale factor) after an entry.
 fn stand(last: &Last, entry: &Entry) -> Last
     ensures { result ≡ after last.now entry.now }
 {
@@ -115,10 +115,10 @@ fn stand(last: &Last, entry: &Entry) -> Last
     }
 }
 
-/// Records an entry after the last one. Returns the counter's state after it, and the step between
-/// the two. On error, returns the first fault that applies.
+/// Records an entry after the counter's last entry. Returns the counter's state after the new
+/// entry, and the step between the two entries. On error, returns the first fault that applies.
 ///
-/// Folding a list of entries with this function gives the account of an installation.
+/// Folding a list of entries with this function computes the account of an installation.
 pub fn enter<C: Counter>(
     counter: &C,
     terms: &Terms,
@@ -133,13 +133,14 @@ pub fn enter<C: Counter>(
     ensures account { let range = C.range counter.now in
         AccountsGoOnBy range terms.now.total last.now entry.now result }
 
-    // the new total is what a call with the next entry requires
+    // On success, the returned state and the new total energy satisfy the requirements of
+    // `enter`, so the next entry can be recorded.
     ensures total { IfOk result (λ r. terms.now.total + r.1.mwh ≤ MAX_TOTAL) }
     ensures raw { IfOk result (λ r. r.0.raw < C.range counter.now) }
     ensures scale_low { IfOk result (λ r. MIN_SCALE ≤ℤ r.0.sf) }
     ensures scale_high { IfOk result (λ r. r.0.sf ≤ℤ MAX_SCALE) }
 
-    // the step can be divided among its intervals
+    // On success, the returned step can be divided among the intervals that it touches.
     ensures later { IfOk result (λ r. r.1.from < r.1.till) }
     ensures span { IfOk result (λ r. intervals_touched r.1.from r.1.till ≤ MAX_INTERVALS) }
 {

@@ -1,4 +1,4 @@
-//! Corrections of a counter: readings by hand and at closing, resets and rescales.
+//! Corrections of a counter: readings by hand, readings at closing, resets and rescales.
 ghost use Rattle.std.specs.Prelude.{◌≡◌, ◌≤◌, ◌<◌, ◌≤ℤ◌};
 ghost use Rattle.energy_core.specs.declared.entries.Entry.TheVariants as entry;
 ghost use Rattle.energy_core.specs.Admission.{entered};
@@ -9,8 +9,8 @@ use crate::entries::{Entry, Last, Step};
 use crate::limits::{MAX_SCALE, MAX_TOTAL, MIN_SCALE};
 use crate::verdicts::Terms;
 
-/// Records a reading by hand, or the one at closing, after `rolls` full turns. The ceiling is not
-/// checked.
+/// Records a reading by hand, or a reading at closing, after `rolls` full turns of the counter. The
+/// ceiling on power is not checked.
 pub fn manual<C: Counter>(
     counter: &C,
     terms: &Terms,
@@ -29,7 +29,8 @@ pub fn manual<C: Counter>(
     enter(counter, terms, last, &Entry::Step { at, raw, rolls })
 }
 
-/// Records a reset: the counter showed `before` and was set to `after`. The ceiling is not checked.
+/// Records a reset: the counter showed `before` and was set to `after`. The ceiling on power is not
+/// checked.
 pub fn reset<C: Counter>(
     counter: &C,
     terms: &Terms,
@@ -49,7 +50,7 @@ pub fn reset<C: Counter>(
 }
 
 /// Records a rescale: a reset that also sets the scale factor. `after` is counted at the new scale
-/// factor. The ceiling is not checked.
+/// factor `sf`. The ceiling on power is not checked.
 pub fn rescale<C: Counter>(
     counter: &C,
     terms: &Terms,

@@ -1,19 +1,19 @@
-//! Counters that roll over: `acc32`, and those with another range.
+//! Counters that roll over: SunSpec's `acc32`, and counters with a smaller range.
 ghost use Rattle.std.specs.Prelude.{◌≡◌, ℕ, ◌≤◌, ◌%◌, ◌↔◌, IsSome, IfSome};
 ghost use Rattle.energy_core.specs.declared.limits.TheConstants.{MAX_RANGE, MIN_RANGE};
 
 use crate::limits::{MAX_RANGE, MIN_RANGE};
 
-/// A counter that rolls over: it shows the true count modulo its range.
+/// A counter that rolls over: it shows the true count modulo the counter's range.
 pub trait Counter {
-    /// The number of counts in a full turn.
+    /// The number of counts in a full turn of the counter.
     ghost range: { Self → ℕ };
 
-    /// Returns the number of counts in a full turn.
+    /// Returns the number of counts in a full turn of the counter.
     fn range(&self) -> u64
         ensures { result ≡ range self.now };
 
-    /// Returns what the counter shows at a true count.
+    /// Returns the number that the counter shows at the true count `count`.
     fn shown(&self, count: u64) -> u32
         ensures { result ≡ count % range self.now };
 
@@ -45,7 +45,7 @@ impl Counter for Acc32 {
     }
 }
 
-/// A counter with another range than 32 bits. Many meters roll over at a power of ten.
+/// A counter whose range may be less than 2^32 counts. Many meters roll over at a power of ten.
 #[derive(Clone, Copy, Debug, PartialEq, Eq)]
 pub struct Ranged {
     range: u64,
@@ -56,7 +56,8 @@ pub struct Ranged {
 impl Ranged {
     ghost use Rattle.energy_core.specs.Ranged.{IsRange, range_of};
 
-    /// Creates a counter with this range, from 65,536 to 4,294,967,296 counts.
+    /// Creates a counter with a range from 65,536 to 4,294,967,296 counts. Returns `None` for any
+    /// other range.
     pub fn new(range: u64) -> Option<Self>
         ensures valid { IsSome result ↔ IsRange range }
         ensures value { IfSome result (λ counter. range_of counter ≡ range) }

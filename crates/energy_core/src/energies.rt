@@ -1,4 +1,4 @@
-//! The energy between two numbers of a counter.
+//! The energy between two counts of a counter.
 ghost use Rattle.std.specs.Prelude.{◌≡◌, ◌≤◌, ◌-◌, ◌*◌, ◌^◌, ◌≤ℤ◌};
 ghost use Rattle.energy_core.specs.Value.{unit_of, value_of};
 
@@ -6,11 +6,12 @@ use crate::entries::Last;
 use crate::limits::{MAX_SCALE, MAX_UNIT, MIN_SCALE};
 use crate::measures::unit;
 
-/// Returns the energy in mWh from the last entry to `reached`, or 0 if `reached` is less.
-/// `reached` is the count that the counter would have without rollovers and resets.
+/// Returns the energy in mWh from the counter's last entry to the count `reached`, or 0 if
+/// `reached` is less. `reached` is the count that the counter would have without rollovers and
+/// resets.
 ///
-/// The crate computes all energy here. `reached` may be greater than any number that a counter
-/// shows.
+/// This crate computes all energy with this function. `reached` may be greater than any number that
+/// a counter shows.
 pub fn energy_up_to(last: &Last, reached: u128) -> u128
     requires reached { reached ≤ 2 ^ 97 }
     requires scale_low { MIN_SCALE ≤ℤ last.now.sf }

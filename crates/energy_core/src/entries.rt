@@ -1,6 +1,7 @@
-//! The entries of a counter, its state after them, and the step between two of them.
-/// The state of a counter: a time in seconds since 1970-01-01 UTC, the number it shows, and its
-/// scale factor.
+//! The entries of a counter, the counter's state after each entry, and the step between two
+//! entries.
+/// The state of a counter: a time in seconds since 1970-01-01 UTC, the count that the counter
+/// shows, and its scale factor.
 #[derive(Clone, Copy, Debug, PartialEq, Eq)]
 pub struct Last {
     pub at: u64,
@@ -8,18 +9,18 @@ pub struct Last {
     pub sf: i16,
 }
 
-/// An entry of an installation after its opening.
+/// An entry of an installation after the opening entry.
 #[derive(Clone, Copy, Debug, PartialEq, Eq)]
 pub enum Entry {
-    /// A reading, a correction by hand or a closing: the counter reached `raw`, after `rolls` full
+    /// A reading, a correction by hand or a closing. The counter reached `raw` after `rolls` full
     /// turns.
     Step {
         at: u64,
         raw: u32,
         rolls: u8,
     },
-    /// A reset or a rescale: the counter reached `before`, and was set to `after` at the scale
-    /// `sf`.
+    /// A reset or a rescale. The counter reached `before`, and was then set to `after` at the scale
+    /// factor `sf`.
     Change {
         at: u64,
         before: u32,
@@ -28,7 +29,7 @@ pub enum Entry {
     },
 }
 
-/// The energy between two consecutive entries, in mWh, and their times.
+/// The energy in mWh between two consecutive entries, and the times of both entries.
 #[derive(Clone, Copy, Debug, PartialEq, Eq)]
 pub struct Step {
     pub from: u64,

@@ -1,4 +1,4 @@
-//! The sentence that describes each fault, and each cause to reject a reading.
+//! The sentence that describes each fault of an entry, and each cause to reject a reading.
 use crate::admission::TermFault;
 use crate::verdicts::Cause;
 use std::error::Error;

@@ -1,4 +1,5 @@
-//! Energy from a counter that rolls over: which readings are accepted, and the energy of each step.
+//! Decides which readings of a counter that rolls over are accepted, and computes the energy of
+//! each step.
 #![tactic(auto)]
 
 mod admission;

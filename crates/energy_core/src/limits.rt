@@ -1,31 +1,31 @@
-//! The limits of a meter's numbers.
+//! The limits of a meter's counts, scale factors, power and energy.
 
 /// The least range of a counter, in counts.
 pub const MIN_RANGE: u64 = 65_536;
 
-/// The greatest range of a counter, in counts: that of 32 bits.
+/// The greatest range of a counter, in counts: the range of a 32-bit counter.
 pub const MAX_RANGE: u64 = 4_294_967_296;
 
-/// The greatest number that a counter shows: that of 32 bits.
+/// The greatest count that a counter shows, which is the greatest number of 32 bits.
 pub const MAX_SHOWN: u64 = 4_294_967_295;
 
-/// The least scale factor of a counter: a count is a thousandth of a Wh.
+/// The least scale factor of a counter, at which a count is 1 mWh.
 pub const MIN_SCALE: i16 = -3;
 
-/// The greatest scale factor of a counter: a count is a thousand Wh.
+/// The greatest scale factor of a counter, at which a count is 1,000,000 mWh (1 kWh).
 pub const MAX_SCALE: i16 = 3;
 
-/// The greatest energy of one count, in mWh: that of the greatest scale factor.
+/// The greatest energy of one count, in mWh, which is the energy at the greatest scale factor.
 pub const MAX_UNIT: u64 = 1_000_000;
 
-/// The greatest ceiling of a meter, in W.
+/// The greatest ceiling on a meter's power, in W.
 pub const MAX_CEILING: u64 = 1_000_000_000;
 
 /// The greatest total energy of an installation, in mWh.
 pub const MAX_TOTAL: u64 = 4_000_000_000_000_000_000;
 
-/// The length of an interval in seconds. Each interval begins at a multiple of it.
+/// The length of an interval, in seconds. Each interval begins at a multiple of this length.
 pub const INTERVAL_SECONDS: u64 = 900;
 
-/// The greatest number of intervals that a step may touch.
+/// The greatest number of quarter-hour intervals that a step may touch.
 pub const MAX_INTERVALS: u64 = 3000;

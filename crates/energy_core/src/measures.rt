@@ -1,11 +1,11 @@
-//! The unit of a counter, and the length of a step.
+//! The energy of one count of a counter, and the check of a step's length.
 ghost use Rattle.std.specs.Prelude.{◌≡◌, ◌≤◌, ◌<◌, ◌↔◌, ◌≤ℤ◌, IsTrue};
 ghost use Rattle.energy_core.specs.Value.{unit_of};
 ghost use Rattle.energy_core.specs.Account.{intervals_touched};
 
 use crate::limits::{INTERVAL_SECONDS, MAX_INTERVALS, MAX_SCALE, MAX_UNIT, MIN_SCALE};
 
-/// Returns the energy of one count in mWh.
+/// Returns the energy in mWh of one count at the scale factor `sf`.
 #[tactic(auto, unfolding(crate::specs::Value::unit_of))]
 pub(crate) fn unit(sf: i16) -> u64
     requires low { MIN_SCALE ≤ℤ sf }
@@ -25,7 +25,7 @@ pub(crate) fn unit(sf: i16) -> u64
     }
 }
 
-/// Returns whether the time from `from` to `till` touches more intervals than a step may touch.
+/// Returns whether the time from `from` to `till` touches more than `MAX_INTERVALS` intervals.
 pub(crate) fn is_long_span(from: u64, till: u64) -> bool
     requires { from < till }
     ensures { IsTrue result ↔ (MAX_INTERVALS < intervals_touched from till) }

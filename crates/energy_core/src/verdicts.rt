@@ -1,4 +1,4 @@
-//! Accepts or rejects a reading.
+//! Accepts or rejects a reading of a meter's counter.
 ghost use Rattle.std.specs.Prelude.{◌≡◌, ◌≤◌, ◌<◌, ◌*◌, ◌≤ℤ◌, nat_lt, if◌then◌else◌};
 ghost use Rattle.energy_core.specs.Value.{unit_of};
 ghost use Rattle.energy_core.specs.Verdict.{verdict_of, can_count, distance, cause_number};
@@ -12,16 +12,16 @@ use crate::limits::{
 };
 use crate::measures::{is_long_span, unit};
 
-/// The terms by which a reading or an entry is judged: the ceiling, which is the greatest power
-/// that can flow, in W, and the energy so far, in mWh.
+/// The limits by which a reading or an entry is judged: the ceiling (the greatest power, in W), and
+/// the total energy so far, in mWh.
 #[derive(Clone, Copy, Debug, PartialEq, Eq)]
 pub struct Terms {
     pub ceiling: u64,
     pub total: u64,
 }
 
-/// A meter's reading: the time in seconds since 1970-01-01 UTC, its counter, and the counter's
-/// scale factor. A scale factor that the device does not implement counts as 0.
+/// A reading of a meter: the time in seconds since 1970-01-01 UTC, the count that the meter shows,
+/// and the count's scale factor. A scale factor that the device does not implement is read as 0.
 #[derive(Clone, Copy, Debug, PartialEq, Eq)]
 pub struct Reading {
     pub at: u64,
@@ -29,29 +29,29 @@ pub struct Reading {
     pub sf: i16,
 }
 
-/// Why a reading is rejected.
+/// The cause for which a reading is rejected.
 #[derive(Clone, Copy, Debug, PartialEq, Eq)]
 pub enum Cause {
-    /// The counter shows 0: SunSpec's value of an accumulator that does not count.
+    /// The counter shows 0, which SunSpec defines as an accumulator that does not count.
     NotAccumulated,
-    /// The scale factor differs from that of the last entry.
+    /// The scale factor of the reading differs from the scale factor of the last entry.
     ScaleChanged,
-    /// The last entry has the same time or a later one.
+    /// The reading is not later than the last entry.
     NotLater,
-    /// The step would touch more than 3,000 intervals.
+    /// The step from the last entry to the reading would touch more than 3,000 quarter hours.
     SpanTooLong,
-    /// The counter could have made a full turn.
+    /// The counter could have made a full turn since the last entry, so its advance is unknown.
     GapTooLong,
-    /// The counter advanced further than the ceiling allows.
+    /// The counter advanced further than the ceiling on power allows.
     TooFast,
     /// The total energy of the installation would exceed 4 * 10^18 mWh.
     TotalFull,
-    /// The counter shows a number that is not below its range.
+    /// The count of the reading is not below the counter's range.
     NotBelowRange,
 }
 
 impl Cause {
-    /// Returns the number under which the cause is printed and stored.
+    /// Returns the number under which the cause of a rejection is printed and stored.
     pub fn number(self) -> u8
         ensures { result ≡ cause_number self }
     {
@@ -71,15 +71,15 @@ impl Cause {
 /// The verdict on a reading.
 #[derive(Clone, Copy, Debug, PartialEq, Eq)]
 pub enum Verdict {
-    /// The reading is an entry. `rolls` is how often the counter rolled over since the last entry,
-    /// 0 or 1. `step` is the energy between the two, in mWh.
+    /// The reading becomes an entry. `rolls` is how often the counter rolled over since the last
+    /// entry, 0 or 1. `step` is the energy since the last entry, in mWh.
     Accepted { rolls: u8, step: u64 },
-    /// The reading is rejected, and is no entry.
+    /// The reading is rejected and does not become an entry.
     Held(Cause),
 }
 
-/// Returns whether a power of at most `ceiling` W can make a meter count this far in this many
-/// seconds.
+/// Returns whether a power of at most `ceiling` W can advance a meter by `count` counts in
+/// `seconds` seconds.
 fn may_count(ceiling: u64, unit: u64, seconds: u64, count: u64) -> bool
     requires ceiling { ceiling ≤ MAX_CEILING }
     requires unit { unit ≤ MAX_UNIT }
@@ -90,7 +90,8 @@ fn may_count(ceiling: u64, unit: u64, seconds: u64, count: u64) -> bool
     count.saturating_sub(1) * unit * 18 <= ceiling * seconds * 5
 }
 
-/// Returns how far a counter advanced from one number to another, if it made less than a full turn.
+/// Returns the number of counts that a counter advanced from one shown number to another, if it
+/// made less than a full turn.
 fn distance_between(range: u64, from: u64, to: u64) -> u64
     requires some { 0 < range }
     requires range { range ≤ MAX_RANGE }
@@ -106,7 +107,7 @@ fn distance_between(range: u64, from: u64, to: u64) -> u64
     }
 }
 
-/// Returns the energy in mWh that an accepted reading adds, after this many rollovers.
+/// Returns the energy in mWh that an accepted reading adds, after `rolls` rollovers.
 fn energy_to(range: u64, last: &Last, reading: &Reading, rolls: u8) -> u64
     requires range { range ≤ MAX_RANGE }
     requires from { last.now.raw < range }
@@ -125,8 +126,8 @@ fn energy_to(range: u64, last: &Last, reading: &Reading, rolls: u8) -> u64
     energy(range, last, &entry)
 }
 
-/// Accepts a reading, or rejects it for the first cause that applies. The causes are checked in
-/// the order of their numbers 1, 2, 8, 3, 4, 5, 6, 7.
+/// Accepts a reading, or rejects the reading for the first cause that applies. The causes are
+/// checked in the order of their numbers 1, 2, 8, 3, 4, 5, 6, 7.
 pub fn judge<C: Counter>(counter: &C, terms: &Terms, last: &Last, reading: &Reading) -> Verdict
     requires ceiling_low { 1 ≤ terms.now.ceiling }
     requires ceiling_high { terms.now.ceiling ≤ MAX_CEILING }

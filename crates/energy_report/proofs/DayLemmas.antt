@@ -1,4 +1,4 @@
--- Texts of days, and the days that they spell.
+-- Lemmas about texts of civil days, and about the days that these texts represent.
 use Rattle.std.proofs.Common.{◌≡◌, ℕ, ◌+◌, ◌*◌, ◌/◌, ◌%◌, ◌≤◌, List, [], ◌∷◌, ◌++◌, length, get_or, refl, sym, ◌∙◌, ap, subst, arith}
 use Rattle.std.specs.Prelude.{ℤ, pos, negsuc, ◌≤ℤ◌, unsigned_abs, codes, Some, None}
 use Rattle.jiff.specs.Words.{date_text}
@@ -11,7 +11,7 @@ use Rattle.jiff_core.proofs.SignedLemmas.{signed_arith}
 use Rattle.energy_report.specs.declared.spelled_day.Parts.{Parts}
 use Rattle.energy_report.specs.Days.{AreFew, DigitIs, IsReadAs, PairIs, PartsAre, parts_text}
 
--- ---- pairs of digits
+-- ---- texts of numbers with two digits
 
 pub pair : (tens ones a b : ℕ) → DigitIs tens (Some a) → DigitIs ones (Some b) → PairIs tens ones (Some (a * 10 + b))
 pair tens ones a b first second =
@@ -29,7 +29,7 @@ no_ones tens ones none n few is =
     let here : 48 + n % 10 ≡ ones = ap (λ (xs : List ℕ). get_or xs 1 0) is in
     none (n % 10) (omega arith) (sym here)
 
--- ---- parts
+-- ---- the numbers of year, month and day in a date
 
 pub record Pairs (parts : Parts) (text : List ℕ) : Type 0 where
   pub size : length text ≡ 10
@@ -45,7 +45,8 @@ pairs parts text is =
     let P : List ℕ → Type 0 = λ xs. Pairs parts xs in
     subst P is (record { size = refl; first = refl; second = refl; century = refl; year = refl; month = refl; day = refl })
 
--- Ten characters, one by one.
+-- If a text has ten characters with hyphens at the indices 4 and 7, then it equals the list of
+-- these ten characters.
 ten : (xs : List ℕ) → length xs ≡ 10 → get_or xs 4 0 ≡ 45 → get_or xs 7 0 ≡ 45
     → get_or xs 0 0 ∷ get_or xs 1 0 ∷ get_or xs 2 0 ∷ get_or xs 3 0 ∷ 45 ∷ get_or xs 5 0 ∷ get_or xs 6 0 ∷ 45 ∷ get_or xs 8 0 ∷ get_or xs 9 0 ∷ []
     ≡ xs
@@ -65,13 +66,14 @@ spelled parts text size first second century year month day = (
       ∙ ten text size first second,
 )
 
--- ---- days
+-- ---- the civil days that texts represent
 
 natural : (z : ℤ) → pos 0 ≤ℤ z → z ≡ pos (unsigned_abs z)
 natural (pos n) le = refl
 natural (negsuc n) le = absurd (omega (arith, signed_arith, le))
 
--- The parts of a day.
+-- True if four numbers of two digits are the century, the year within the century, the month and
+-- the day of a date.
 pub record IsOf (parts : Parts) (date : Date) : Type 0 where
   pub few : AreFew parts
   pub year : date.year ≡ pos (parts.century * 100 + parts.year)
@@ -106,7 +108,7 @@ has_parts day le =
       day = refl;
     }
 
--- A text without parts spells no day.
+-- If a text does not have the form `YYYY-MM-DD`, then the text represents no day.
 pub none : (text : List ℕ) → PartsAre text None → IsReadAs text None
 none text lacks day spells =
     let parts = has_parts day spells.1 in
@@ -118,7 +120,7 @@ same_pair a b is =
     let second : 48 + a % 10 ≡ 48 + b % 10 = ap (λ (xs : List ℕ). get_or xs 1 0) is in
     omega (arith, first, second)
 
--- A text has one list of parts.
+-- If two lists of numbers have the same text of the form `YYYY-MM-DD`, then the numbers are equal.
 same_parts : (a b : Parts) (text : List ℕ) → parts_text a ≡ text → parts_text b ≡ text
     → (a.century ≡ b.century) × (a.year ≡ b.year) × (a.month ≡ b.month) × (a.day ≡ b.day)
 same_parts a b text first second =
@@ -130,7 +132,7 @@ same_parts a b text first second =
       same_pair a.day b.day (x.day ∙ sym y.day),
     )
 
--- A day with these parts.
+-- If the calendar has a day with the numbers of a text, then the text represents this day.
 pub read : (text : List ℕ) (parts : Parts) (day : Date) → PartsAre text (Some parts)
     → IsYmd (pos (parts.century * 100 + parts.year)) (pos parts.month) (pos parts.day) day → IsReadAs text (Some day)
 read text parts day are is =
@@ -143,7 +145,7 @@ read text parts day are is =
 upward : (a b : ℕ) → a ≤ b → pos a ≤ℤ pos b
 upward a b le = omega (arith, signed_arith, le)
 
--- The calendar has each day that is spelled.
+-- If the calendar has no day with the numbers of a text, then the text represents no day.
 pub unread : (text : List ℕ) (parts : Parts) → PartsAre text (Some parts)
     → ¬ IsDate (pos (parts.century * 100 + parts.year)) (pos parts.month) (pos parts.day) → IsReadAs text None
 unread text parts are lacks day spells =

@@ -1,4 +1,4 @@
--- Six decimals, two by two.
+-- Lemmas about six decimals, formatted as three numbers of two digits.
 use Rattle.std.proofs.Common.{◌≡◌, ℕ, ◌+◌, ◌/◌, ◌%◌, ◌<◌, false, cond, [], ◌∷◌, ◌++◌, refl, sym, ap, arith}
 use Rattle.std.specs.Fmt.{digit_glyph}
 use Rattle.std.proofs.lemmas.Bool.{lt-ltb}
@@ -25,7 +25,7 @@ decimals n few =
     (sym (six (n / 100_000 % 10) (n / 10_000 % 10) (n / 1_000 % 10) (n / 100 % 10) (n / 10 % 10) (n / 1 % 10)
     (omega arith) (omega arith) (omega arith) (omega arith) (omega arith) (omega arith)))
 
--- The lowest digits are those of the remainder.
+-- The last six digits of a number equal those of its remainder modulo 1,000,000.
 pub decimals-rest : (n : ℕ) → low_digits 10 6 (n % 1_000_000) ≡ low_digits 10 6 n
 decimals-rest n =
     let a : n % 1_000_000 / 100_000 % 10 ≡ n / 100_000 % 10 = omega arith in

@@ -1,4 +1,4 @@
--- The report in its plain form.
+-- Lemmas that the report without options is the list of days that `interval_core` defines.
 use Rattle.std.proofs.Common.{◌≡◌, ◌-◌, ◌^◌, ◌≤◌, false, List, [], ◌∷◌, ◌++◌, map, length, refl, ◌∙◌, ap, arith}
 use Rattle.std.specs.Prelude.{◌<ℤ◌, All, min}
 use Rattle.std.specs.List.{flat_map, join_by}

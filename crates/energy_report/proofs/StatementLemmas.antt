@@ -1,4 +1,4 @@
--- The text of a statement, row by row.
+-- Lemmas about the text of statements that is written row by row.
 use Rattle.std.proofs.Common.{◌≡◌, ℕ, zero, suc, ◌+◌, ◌<◌, ◌==◌, List, [], ◌∷◌, ◌++◌, length, take, drop, get_or, refl, sym, ◌∙◌, ap, append-nil, append_assoc, arith}
 use Rattle.std.specs.List.{flat_map, join_by}
 use Rattle.std.proofs.lemmas.Bool.{ne_eqb}
@@ -9,18 +9,19 @@ use Rattle.energy_report.specs.declared.meter_statement.MeterStatement.{MeterSta
 use Rattle.energy_report.specs.StatementTexts.{begun_text, lead, opening, row_text, separator, statement_text}
 use Rattle.energy_report.specs.Texts.{ending_by}
 
--- A row after another.
+-- The text of a statement's row that follows another row, with the separator before it.
 abbrev next_text : StatementForm → MeterStatement → List ℕ
 next_text form row = separator form ++ row_text form row
 
 abbrev joined : StatementForm → List MeterStatement → List ℕ
 joined form rows = join_by (row_text form) (separator form) rows
 
--- A row with the text before it, after `count` rows.
+-- The text that a statement's row adds after `count` rows. A separator precedes the row, unless the
+-- row is the first.
 abbrev pub piece : StatementForm → (count : ℕ) → MeterStatement → List ℕ
 piece form count row = lead (count == 0) form ++ row_text form row
 
--- The rows after those.
+-- The text of a statement's rows that follow another row.
 abbrev pub later : StatementForm → List MeterStatement → List ℕ
 later form rows = flat_map (next_text form) rows
 
@@ -33,7 +34,8 @@ split form (x ∷ done) row more =
     ∙ ap (λ b. (row_text form x ++ later form done) ++ ((lead b form ++ row_text form row) ++ later form more))
     (sym (ne_eqb (suc (length done)) 0 (λ e. omega (arith, e))))
 
--- The text of rows is that of the first rows, of one more, and of those after it.
+-- The text of a list of rows consists of the texts of the first rows, of the next row, and of the
+-- later rows.
 pub begun : (form : StatementForm) (done : List MeterStatement) (row : MeterStatement) (more : List MeterStatement)
     → begun_text form (done ++ row ∷ more) ≡ begun_text form done ++ (piece form (length done) row ++ later form more)
 begun form done row more =
@@ -45,7 +47,7 @@ pub begun_more : (form : StatementForm) (done : List MeterStatement) (row : Mete
 begun_more form done row =
     begun form done row [] ∙ ap (λ text. begun_text form done ++ text) (append-nil (piece form (length done) row))
 
--- ---- the row at an index
+-- ---- the row of a statement at an index of the list of meters
 
 around : {X : Type 0} (xs : List X) (i : ℕ) (d : X) → i < length xs → take i xs ++ get_or xs i d ∷ drop (suc i) xs ≡ xs
 around [] i d lt = absurd (omega (arith, lt))
@@ -57,7 +59,7 @@ length_before [] i lt = absurd (omega (arith, lt))
 length_before (x ∷ xs) zero lt = refl
 length_before (x ∷ xs) (suc i) lt = ap suc (length_before xs i (omega (arith, lt)))
 
--- The text after the row at an index.
+-- The text of a statement after the row at an index.
 abbrev pub tail : StatementForm → List MeterStatement → (i : ℕ) → List ℕ
 tail form rows i = later form (drop (suc i) rows) ++ ending_by form.format (length rows)
 
@@ -89,7 +91,7 @@ next form rows i row lt is =
     ∙ sym (begun_more form (take i rows) row)
     ∙ ap (begun_text form) (ap (λ (x : MeterStatement). take i rows ++ x ∷ []) is ∙ sym (take_more rows i row lt))
 
--- ---- texts that were appended to one another
+-- ---- concatenations of more than two texts
 
 pub pushed : (p q r x y : List ℕ) → q ≡ p ++ x → r ≡ q ++ y → r ≡ p ++ (x ++ y)
 pushed p q r x y first second = second ∙ ap (λ front. front ++ y) first ∙ append_assoc p x y

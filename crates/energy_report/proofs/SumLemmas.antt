@@ -1,4 +1,4 @@
--- Sums of rows.
+-- Lemmas about the sums of the counts and energies of report rows.
 use Rattle.std.proofs.Common.{◌≡◌, ℕ, ◌+◌, Bool, true, false, cond, List, [], ◌∷◌, refl, sym, ◌∙◌, ap, add_assoc}
 use Rattle.std.specs.Prelude.{sum_by}
 use Rattle.std.proofs.lemmas.List.Sums.{sum_by-cons}
@@ -8,7 +8,8 @@ use Rattle.energy_report.specs.declared.row.Row.{Row}
 use Rattle.energy_report.specs.Periods.{is_same}
 use Rattle.energy_report.specs.Rows.{before, joined, row_of, rows_by}
 
--- What is added if rows are joined.
+-- True if the value of a function for two merged rows is the sum of its values for both rows, as
+-- for count and energy.
 abbrev pub Adds : (Row → ℕ) → Type 0
 Adds f = (row next : Row) → f (joined row next) ≡ f row + f next
 

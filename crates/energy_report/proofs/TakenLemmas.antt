@@ -1,4 +1,4 @@
--- What was written of the days that were passed, step by step.
+-- Lemmas about the text that a report has written after each day that the report received.
 use Rattle.std.proofs.Common.{◌≡◌, ℕ, ◌+◌, ◌-◌, ◌<◌, ◌≤◌, ◌^◌, ◌==◌, Bool, true, false, cond, Option, Some, None, List, [], ◌∷◌, ◌++◌, length, refl, sym, ◌∙◌, ap, subst, append-nil, append_assoc, length-append, arith}
 use Rattle.std.specs.Prelude.{min}
 use Rattle.std.specs.Io.KnownBytes.{Appends}
@@ -18,14 +18,15 @@ use Rattle.energy_report.specs.Writing.{AreWritten, GotUnless, Finishes, HasTake
 use Rattle.energy_report.proofs.SnocLemmas.{after, after-push, few, shown-joined, with_day, without_day}
 use Rattle.energy_report.proofs.TextLemmas.{begun-append, begun-push, following, longer, whole}
 
--- One day less is fewer.
+-- If a list has fewer than 2^64 days, then the list without its last day also has fewer than 2^64
+-- days.
 fewer : (days : List DayTotal) (t : DayTotal) → length (days ++ t ∷ []) < 2 ^ 64 → length days < 2 ^ 64
 fewer days t less = omega (arith, less, length-append days (t ∷ []))
 
 clash : {P : Type 0} (b : Bool) → b ≡ false → b ≡ true → P
 clash b works failed = absurd (let e : false ≡ true = sym works ∙ failed in cc e)
 
--- Everything but the pending row stays.
+-- True if the new state of a report equals the old state except for the pending row.
 pub record Keeps {W : Type 0} (old new : ReportRows W) : Type 0 where
   pub form : new.form ≡ old.form
   pub now : new.output.now ≡ old.output.now
@@ -54,7 +55,7 @@ module _ {W : Type 0} (contents : W → Option (List ℕ)) where
     broken = λ failed less. clash old.failed works failed;
   }
 
-  -- The text so far, in terms of the new state.
+  -- If only the pending row changes, then the written text is unchanged.
   same_text : (from : W) (done : List Row) (old new : ReportRows W) → Keeps old new → Appends (contents from) (contents old.output.now) (begun_text old.form done)
       → Appends (contents from) (contents new.output.now) (begun_text new.form done)
   same_text from done old new keeps text = rw (keeps.form, keeps.now) text
@@ -115,9 +116,9 @@ module _ {W : Type 0} (contents : W → Option (List ℕ)) where
     broken = λ failed less. clash old.failed works (sym keeps.failed ∙ failed);
   }
 
--- ---- a row is written
+-- ---- writing one row of the report
 
--- Existing rows stay, and so their text stays.
+-- If a report has at least one row, then it still has at least one row after a day is added.
 after-more : (p : Period) (row : Row) (rest : List Row) (t : DayTotal) (b : Bool) (next : Row) (rows : List Row)
     → (r : Row) × (rs : List Row) × (cond b (joined row next ∷ rows) (row ∷ next ∷ rows) ≡ r ∷ rs)
 after-more p row rest t true next rows = (joined row next, rows, refl)
@@ -152,7 +153,7 @@ begun_of : (form : ReportForm) (front more : List Row) → (rest : List ℕ) × 
 begun_of form [] more = (begun_text form more, refl)
 begun_of form (row ∷ rows) more = (_, begun-append form row rows more)
 
--- The text so far is a part of the report on all days.
+-- After any days, the text written so far is a part of the report on all days.
 part_of : (form : ReportForm) (front : List Row) (days : List DayTotal) → Goes form front days
     → (rest : List ℕ) × (report_text form days ≡ begun_text form front ++ rest)
 part_of form front days goes =
@@ -162,7 +163,7 @@ part_of form front days goes =
     (split.0 ++ end, whole form days rows goes.2 ∙ ap (λ text. text ++ end) split.1 ∙ append_assoc (begun_text form front) split.0 end)
 
 module _ {W : Type 0} (contents : W → Option (List ℕ)) where
-  -- The count of rows is exact.
+  -- If the report received fewer than 2^64 days, then its count of written rows is exact.
   counted : (form : ReportForm) (days : List DayTotal) (done : List Row) (last : Row) (count next : ℕ) → rows_in form days ≡ done ++ last ∷ []
       → length days < 2 ^ 64 → count ≡ length done → next ≡ min (count + 1) (2 ^ 64 - 1) → next ≡ length (done ++ last ∷ [])
   counted form days done last count next rows less is after_it =
@@ -234,9 +235,10 @@ module _ {W : Type 0} (contents : W → Option (List ℕ)) where
             rw (form, keeps.now) whole_part;
       }
 
-  -- ---- the end
+  -- ---- the text of the finished report
 
-  -- The earlier text, and the last text.
+  -- After `finish`, the text of the report is the text written so far, followed by the end of the
+  -- report.
   ends : (from : W) (text last whole_text : List ℕ) (old new : ReportRows W) → WritesText contents last old new → old.failed ≡ false → text ++ last ≡ whole_text
       → Appends (contents from) (contents old.output.now) text → (b : Bool) → new.failed ≡ b
       → GotUnless b whole_text (contents from) (contents new.output.now)
@@ -249,7 +251,7 @@ module _ {W : Type 0} (contents : W → Option (List ℕ)) where
       let Q : List ℕ → Type 0 = λ text. GotPart text (contents from) (contents new.output.now) in
       subst Q is (following text last _ _ _ got (subst P failed (writes.written works)))
 
-  -- An earlier write failed: nothing more is written.
+  -- If an earlier write failed, then `finish` writes nothing more.
   pub ends_broken : (days : List DayTotal) (from old new : ReportRows W) → old.failed ≡ true → new.failed ≡ true → new.output.now ≡ old.output.now
       → HasTaken contents days from old → length days < 2 ^ 64 → IsFinished contents days from new
   ends_broken days from old new failed again now h less =
@@ -303,7 +305,7 @@ module _ {W : Type 0} (contents : W → Option (List ℕ)) where
   ends_row days from old mid new o works is row writes h less =
       ends_after days from old mid new o works is row writes h less mid.failed refl
 
-  -- Nothing was passed yet.
+  -- If a report is new, then it has received the empty list of days.
   pub fresh : (new : ReportRows W) → new.failed ≡ false → new.pending ≡ None → new.count ≡ 0 → HasTaken contents [] new new
   fresh new works none count =
       let P : Option Row → Type 0 = λ o. AreWritten [] [] o in

@@ -1,4 +1,4 @@
--- Tallies of entries, with one more entry.
+-- Lemmas about the tally of a meter's entries after one more entry.
 use Rattle.std.proofs.Common.{◌≡◌, ℕ, ◌+◌, Bool, true, false, cond, Option, Some, None, List, [], ◌∷◌, ◌++◌, reverse, refl, sym, ◌∙◌, ap, arith}
 use Rattle.std.specs.List.{count_by, find}
 use Rattle.std.specs.Option.{option_map, option_or}
@@ -50,7 +50,7 @@ last p before e = sym (
     ∙ map_choice stand_of (p e) e (find p (reverse before))
     )
 
--- A tally with one more entry.
+-- The tally of a meter after one more entry is added.
 abbrev pub with_entry : Zone → DayRange → EntryTally → MeterEntry → EntryTally
 with_entry zone range old e = record {
   first = option_or old.first (cond (stands_within zone range e) (Some (stand_of e)) None);
@@ -61,7 +61,7 @@ with_entry zone range old e = record {
   voids = counted (old.voids + cond (is_voided zone range e) 1 0);
 }
 
--- Tallies that are equal in each part.
+-- A tally with the given counter states and numbers of corrections.
 abbrev tally : (first last : Option Last) (by_hand resets rescales voids : ℕ) → EntryTally
 tally first last by_hand resets rescales voids =
     record { first = first; last = last; by_hand = by_hand; resets = resets; rescales = rescales; voids = voids }

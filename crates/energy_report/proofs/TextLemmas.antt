@@ -1,4 +1,4 @@
--- The text of rows that are written one by one.
+-- Lemmas about the text of a report whose rows are written one by one.
 use Rattle.std.proofs.Common.{◌≡◌, ℕ, suc, ◌==◌, Option, List, [], ◌∷◌, ◌++◌, map, length, refl, sym, ◌∙◌, ap, append-nil, append_assoc, arith}
 use Rattle.std.specs.List.{flat_map}
 use Rattle.std.specs.Io.KnownBytes.{Appends}
@@ -14,7 +14,7 @@ use Rattle.energy_report.specs.Rows.{rows_in, shown}
 use Rattle.energy_report.specs.Texts.{ending, last_text, lead, opening, report_text, row_text, rows_text, separator}
 use Rattle.energy_report.specs.Writing.{begun_text}
 
--- A row after another.
+-- The text of a report's row that follows another row, with the separator before it.
 abbrev next_text : ReportForm → Row → List ℕ
 next_text form row = separator form ++ row_text form row
 
@@ -27,7 +27,7 @@ nexts : (form : ReportForm) (xs ys : List Row)
 nexts form xs ys =
     ap (flat_map (next_text form)) (map-append xs ys) ∙ flat_map-append (next_text form) (map shown xs) (map shown ys)
 
--- The text so far stays if there are more rows.
+-- After rows are added at the end, the new text begins with the text of the earlier rows.
 pub begun-append : (form : ReportForm) (row : Row) (rows more : List Row)
     → begun_text form ((row ∷ rows) ++ more) ≡ begun_text form (row ∷ rows) ++ flat_map (next_text form) (map shown more)
 begun-append form row rows more =
@@ -38,7 +38,8 @@ begun-append form row rows more =
     ∙ ap (λ text. opening form ++ text) (sym (append_assoc front xs ys))
     ∙ sym (append_assoc (opening form) (front ++ xs) ys)
 
--- One more row.
+-- After a row is added, the new text is the earlier text, followed by the row with the text before
+-- the row.
 pub begun-push : (form : ReportForm) (done : List Row) (row : Row)
     → begun_text form (done ++ row ∷ []) ≡ begun_text form done ++ (lead (length done == 0) form ++ row_text form (shown row))
 begun-push form [] row = ap (λ text. opening form ++ text) (append-nil (row_text form (shown row)))
@@ -47,7 +48,8 @@ begun-push form (x ∷ done) row =
     ∙ ap (λ text. begun_text form (x ∷ done) ++ text) (append-nil (next_text form (shown row)))
     ∙ ap (λ b. begun_text form (x ∷ done) ++ (lead b form ++ row_text form (shown row))) (sym (ne_eqb (suc (length done)) 0 (λ e. omega (arith, e))))
 
--- The complete text is that of all rows so far, and the rest.
+-- The complete text of a report consists of the text of all rows, followed by the end of the
+-- report.
 pub whole : (form : ReportForm) (days : List DayTotal) (rows : List Row) → rows_in form days ≡ rows
     → report_text form days ≡ begun_text form rows ++ last_text form (length rows)
 whole form days [] is = ap (λ rows. rows_text form (map shown rows)) is ∙ ap (λ text. text ++ ending form 0) (append-nil (opening form))
@@ -55,7 +57,7 @@ whole form days (row ∷ rows) is =
     ap (λ those. rows_text form (map shown those)) is
     ∙ ap (λ n. begun_text form (row ∷ rows) ++ ending form n) (length-map (row ∷ rows) shown)
 
--- A part of a text is a part of a longer text.
+-- If a text was written completely or in part, then the same output is a part of each longer text.
 pub longer : (x y : List ℕ) (a b : Option (List ℕ)) → GotPart x a b → GotPart (x ++ y) a b
 longer x y a b got =
     (got.0, got.1 ++ y, ap (λ (front : List ℕ). front ++ y) got.2 ∙ append_assoc got.0 got.1 y, got.3)

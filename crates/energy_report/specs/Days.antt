@@ -1,4 +1,5 @@
--- The text of a civil day, and the range of days that two words select.
+-- The text of a civil day, and the range of civil days that two arguments on the command line
+-- select.
 use Rattle.std.specs.Prelude.{◌≡◌, ℕ, ◌+◌, ◌<◌, pos, ◌≤ℤ◌, List, [], ◌∷◌, ◌++◌, codes, true, false, Option, Some, None}
 use Rattle.std.specs.Borrow.{Bor}
 use Rattle.jiff.specs.Words.{date_text}
@@ -10,73 +11,78 @@ use Rattle.energy_report.specs.declared.spelled_day.Parts.{Parts}
 use Rattle.energy_report.specs.declared.spelled_range.RangeFault.{RangeFault}
 use Rattle.energy_report.specs.declared.spelled_range.RangeFault.TheVariants as fault
 
--- The text is this day in the form `2026-11-25`; the year has four digits.
+-- True if the text is the civil day in the form `2026-11-25`, with a year of four digits.
 abbrev pub Spells : List ℕ → Date → Type 0
 Spells text day = (date_text day ≡ text) × (pos 0 ≤ℤ day.year)
 
--- The result of parsing a text: the day that it spells, or `None` if it spells none.
+-- True if parsing a text yields the day that the text represents, or `None` if the text represents
+-- no day.
 abbrev pub IsReadAs : List ℕ → Option Date → Type 0
 IsReadAs text (Some day) = Spells text day
 IsReadAs text None = (day : Date) → ¬ Spells text day
 
--- The end of a range that a word selects: the day that it spells, or open without a word.
+-- True if one end of a range is the day that an argument represents. Without an argument, the range
+-- is open at this end.
 abbrev pub IsEnd : Option (Bor (List ℕ)) → Option Date → Type 0
 IsEnd None None = Unit {0}
 IsEnd None (Some day) = ⊥
 IsEnd (Some word) None = ⊥
 IsEnd (Some word) (Some day) = Spells word.now day
 
--- The word exists and spells no day.
+-- True if the argument exists and does not represent a day.
 abbrev pub IsNoEnd : Option (Bor (List ℕ)) → Type 0
 IsNoEnd None = ⊥
 IsNoEnd (Some word) = (day : Date) → ¬ Spells word.now day
 
--- The two words select this range: its first day, and the day after its last.
+-- True if two arguments select a range of days. The first argument is the first day of the range,
+-- and the second argument is the day after the last day.
 pub record IsRange (first last : Option (Bor (List ℕ))) (range : DayRange) : Type 0 where
   pub from : IsEnd first range.from
   pub till : IsEnd last range.till
   pub forward : is_backward range ≡ false
 
--- Both words spell days, and the second day is before the first.
+-- True if both arguments represent days, and the second day is before the first day.
 pub record AreBackward (first last : Option (Bor (List ℕ))) : Type 0 where
   pub range : DayRange
   pub from : IsEnd first range.from
   pub till : IsEnd last range.till
   pub backward : is_backward range ≡ true
 
--- Why two words select no range: the first or the second spells no day, or the range ends before it
--- begins.
+-- The reason why two arguments do not select a range of days. The first or the second argument is
+-- not a day, or the second day is before the first day.
 abbrev pub IsRangeFault : (from till : Option (Bor (List ℕ))) → RangeFault → Type 0
 IsRangeFault from till fault.From = IsNoEnd from
 IsRangeFault from till fault.Till = IsNoEnd till
 IsRangeFault from till fault.Backward = AreBackward from till
 
--- ---- digits
+-- ---- the digits of a date
 
--- The byte is a digit with this value, or no digit (`None`).
+-- True if the byte is the digit with the value `n`. For `None`, true if the byte is not a digit.
 abbrev pub DigitIs : (byte : ℕ) → Option ℕ → Type 0
 DigitIs byte (Some n) = (n < 10) × (byte ≡ 48 + n)
 DigitIs byte None = (n : ℕ) → n < 10 → ¬ (byte ≡ 48 + n)
 
--- Two bytes are digits of a number below 100, or not both digits (`None`).
+-- True if the two bytes are the digits of a number below 100. For `None`, true if they are not both
+-- digits.
 abbrev pub PairIs : (tens ones : ℕ) → Option ℕ → Type 0
 PairIs tens ones (Some n) = (n < 100) × (pad2 n ≡ tens ∷ ones ∷ [])
 PairIs tens ones None = (n : ℕ) → n < 100 → ¬ (pad2 n ≡ tens ∷ ones ∷ [])
 
--- The text of a day's parts, in two digits each, with hyphens.
+-- The text of a date from its numbers of two digits, with hyphens between year, month and day.
 abbrev pub parts_text : Parts → List ℕ
 parts_text parts =
     pad2 parts.century ++ pad2 parts.year ++ codes "-" ++ pad2 parts.month ++ codes "-"
     ++ pad2 parts.day
 
--- Each part is below 100.
+-- True if each number of the date is below 100.
 pub record AreFew (parts : Parts) : Type 0 where
   pub century : parts.century < 100
   pub year : parts.year < 100
   pub month : parts.month < 100
   pub day : parts.day < 100
 
--- The parts of a text of the form `YYYY-MM-DD`; `None` if the text has another form.
+-- True if the numbers are the year, month and day in a text of the form `YYYY-MM-DD`. For `None`,
+-- true if the text has another form.
 abbrev pub PartsAre : List ℕ → Option Parts → Type 0
 PartsAre text (Some parts) = AreFew parts × (parts_text parts ≡ text)
 PartsAre text None = (parts : Parts) → AreFew parts → ¬ (parts_text parts ≡ text)

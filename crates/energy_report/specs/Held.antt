@@ -1,4 +1,4 @@
--- The number of rejected readings of a meter in a range, by cause.
+-- The number of rejected readings of a meter in a range of days, by cause.
 use Rattle.std.specs.Prelude.{ℕ, Bool, ◌&&◌, ◌==◌, List, [], ◌∷◌}
 use Rattle.std.specs.List.{count_by}
 use Rattle.energy_core.specs.declared.verdicts.Cause.{Cause}
@@ -12,20 +12,20 @@ use Rattle.energy_report.specs.declared.held_counts.HeldCount.{HeldCount}
 use Rattle.energy_report.specs.declared.held_counts.HeldCounts.{HeldCounts}
 use Rattle.energy_report.specs.RowLines.{counted, one_more_if}
 
--- Whether the two causes are equal.
+-- True if two causes of rejections are equal.
 abbrev pub is_one : (one other : Cause) → Bool
 is_one one other = cause_number one == cause_number other
 
--- Whether the reading was rejected for this cause at a time in the range.
+-- True if a reading was rejected for the cause `why` at a time in the range.
 abbrev pub is_held_within : Zone → DayRange → (why : Cause) → HeldReading → Bool
 is_held_within zone range why held = has_moment zone range held.at && is_one held.cause why
 
--- The number of readings that were rejected for this cause at a time in the range; the count stays
--- at 2^64 - 1.
+-- The number of readings that were rejected for the cause `why` at a time in the range. The number
+-- saturates at 2^64 - 1.
 abbrev pub held_for : Zone → DayRange → List HeldReading → (why : Cause) → ℕ
 held_for zone range holds why = counted (count_by (is_held_within zone range why) holds)
 
--- The rejected readings of a list with timestamps in the range, counted by cause.
+-- The numbers of rejected readings with timestamps in the range, by cause.
 abbrev pub held_within : Zone → DayRange → List HeldReading → HeldCounts
 held_within zone range holds = record {
   not_accumulated = held_for zone range holds cause.NotAccumulated;
@@ -38,7 +38,7 @@ held_within zone range holds = record {
   not_below_range = held_for zone range holds cause.NotBelowRange;
 }
 
--- The counts with their causes, in order of the numbers of the causes.
+-- Each cause with its count, in the order of the causes' numbers.
 abbrev pub by_cause : HeldCounts → List HeldCount
 by_cause counts =
     record { cause = cause.NotAccumulated; count = counts.not_accumulated }
@@ -51,9 +51,9 @@ by_cause counts =
     ∷ record { cause = cause.NotBelowRange; count = counts.not_below_range }
     ∷ []
 
--- ---- readings that arrive one by one
+-- ---- counting rejected readings one by one
 
--- The counts before any reading: all are 0.
+-- The counts before any rejected reading, which are all 0.
 abbrev pub none_held : HeldCounts
 none_held = record {
   not_accumulated = 0;
@@ -66,8 +66,8 @@ none_held = record {
   not_below_range = 0;
 }
 
--- The counts after one more reading. If `counts` is true, the count of its cause grows by one; no
--- other count changes.
+-- The counts after one more rejected reading. If `counts` is true, the count of the reading's cause
+-- grows by one. The other counts are unchanged.
 abbrev pub with_one : HeldCounts → (counts : Bool) → (why : Cause) → HeldCounts
 with_one old counts why = record {
   not_accumulated = one_more_if (counts && is_one why cause.NotAccumulated) old.not_accumulated;

@@ -1,4 +1,4 @@
--- Theorems on the rows of a report, for any list of days.
+-- Theorems about the rows of a report, for any list of days.
 use Rattle.std.specs.Prelude.{◌≡◌, ℕ, ◌+◌, ◌<◌, ◌^◌, false, List, [], ◌∷◌, map, filter, All, Option, Some, sum_by}
 use Rattle.jiff_core.specs.declared.civil.date.Date.{Date}
 use Rattle.interval_core.specs.Days.{account_of, AreInOrder}
@@ -14,43 +14,43 @@ use Rattle.energy_report.specs.Rows.{rows_by, rows_in, shown_rows}
 use Rattle.energy_report.specs.Texts.{report_text}
 use Rattle.energy_report.specs.Words.{plain_form}
 
--- The energy of several days together, in mWh.
+-- The total energy of a list of days, in mWh.
 abbrev pub energy_of_days : List DayTotal → ℕ
 energy_of_days days = sum_by (λ total. total.mwh) days
 
--- The number of intervals of several days together.
+-- The total number of intervals of a list of days.
 abbrev pub intervals_of_days : List DayTotal → ℕ
 intervals_of_days days = sum_by (λ total. total.count) days
 
--- The energy of several rows together, in mWh.
+-- The total energy of a list of report rows, in mWh.
 abbrev pub energy_of_rows : List Row → ℕ
 energy_of_rows rows = sum_by (λ row. row.mwh) rows
 
--- The number of intervals of several rows together.
+-- The total number of intervals of a list of report rows.
 abbrev pub intervals_of_rows : List Row → ℕ
 intervals_of_rows rows = sum_by (λ row. row.count) rows
 
--- For any period, the rows of a report together have the energy and the number of intervals of the
--- days in the range.
+-- Theorem: for any period, the rows of a report add up to the energy and the number of intervals of
+-- the days in the range.
 abbrev pub RowsAddUp : Type 0
 RowsAddUp = (form : ReportForm) (days : List DayTotal)
     → (energy_of_rows (rows_in form days) ≡ energy_of_days (days_in form.range days))
     × (intervals_of_rows (rows_in form days) ≡ intervals_of_days (days_in form.range days))
 
--- The printed rows are exact if the days in the range together have less than 2^64 intervals and
--- less than 2^128 mWh.
+-- Theorem: suppose that the days in the range have fewer than 2^64 intervals and less than 2^128
+-- mWh in total. Then the printed rows are exact.
 abbrev pub RowsAreShown : Type 0
 RowsAreShown = (form : ReportForm) (days : List DayTotal)
     → intervals_of_days (days_in form.range days) < 2 ^ 64
     → energy_of_days (days_in form.range days) < 2 ^ 128
     → shown_rows form days ≡ rows_in form days
 
--- The range from one day up to, but not including, another; `None` is an open end.
+-- The range from the day `from` up to, but not including, the day `till`. `None` is an open end.
 abbrev pub range : (from till : Option Date) → DayRange
 range from till = record { from = from; till = till }
 
--- If a range is cut at a day, its two parts together have its energy: no day is lost or counted
--- twice.
+-- Theorem: if a range is cut in two at a day, then the energies of both parts add up to the energy
+-- of the range. No day is lost or counted twice.
 abbrev pub RangesAddUp : Type 0
 RangesAddUp = (from till : Option Date) (cut : Date) (days : List DayTotal)
     → ends_before from (Some cut) ≡ false → ends_before (Some cut) till ≡ false
@@ -58,32 +58,33 @@ RangesAddUp = (from till : Option Date) (cut : Date) (days : List DayTotal)
     + energy_of_days (days_in (range (Some cut) till) days)
     ≡ energy_of_days (days_in (range from till) days)
 
--- The days of a list that are in the period of a row.
+-- The days of a list that are in the period of a report row.
 abbrev pub days_of_row : Period → Row → List DayTotal → List DayTotal
 days_of_row period row days = filter (λ total. is_same period row.first total.day) days
 
--- No two of these rows are of the same period.
+-- True if no two rows of the list are of the same period.
 abbrev pub AreApart : Period → List Row → Type 0
 AreApart period [] = Unit {0}
 AreApart period (row ∷ rows) =
     All (λ later. is_same period row.first later.first ≡ false) rows × AreApart period rows
 
--- The row has the energy of all days of the list that are in its period.
+-- True if the row has the energy of all days in the list that belong to the row's period.
 abbrev pub HasItsDays : Period → List DayTotal → Row → Type 0
 HasItsDays period days row = row.mwh ≡ energy_of_days (days_of_row period row days)
 
--- If the days are in order, each period with days has exactly one row, with the energy of all its
--- days.
+-- Theorem: if the days are in order, then each period with days has exactly one row. The row has
+-- the energy of all days of the period.
 abbrev pub RowsAreWhole : Type 0
 RowsAreWhole = (period : Period) (days : List DayTotal) → AreInOrder (map account_of days)
     → All (HasItsDays period days) (rows_by period days) × AreApart period (rows_by period days)
 
--- The number of intervals of the day fits in 32 bits, and its energy in 128 bits.
+-- True if the number of intervals of a day fits in 32 bits, and the day's energy in mWh fits in 128
+-- bits.
 abbrev pub IsHeld : DayTotal → Type 0
 IsHeld total = (total.count < 2 ^ 32) × (total.mwh < 2 ^ 128)
 
--- The report of all days, a row a day, in mWh, in the format text, is the same text as the list of
--- days.
+-- Theorem: the report without options (all days, one row for each day, mWh, text) is the same text
+-- as the list of days.
 abbrev pub PlainReportsAreListsOfDays : Type 0
 PlainReportsAreListsOfDays = (days : List DayTotal) → AreInOrder (map account_of days)
     → All IsHeld days → report_text plain_form days ≡ days_text days

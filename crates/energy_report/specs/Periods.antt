@@ -1,4 +1,4 @@
--- The days of a calendar period: a day, a month or a year.
+-- The civil days of a calendar period, which is a day, a month or a year.
 use Rattle.std.specs.Prelude.{◌≡◌, ◌↔◌, ℤ, ◌≤ℤ◌, Bool, true, ◌&&◌, pos}
 use Rattle.std.specs.Ordering.{int_eq}
 use Rattle.jiff_core.specs.Calendar.{days_from_civil}
@@ -7,7 +7,7 @@ use Rattle.jiff.specs.Words.{epoch_day, month_length}
 use Rattle.energy_report.specs.declared.form.Period.{Period}
 use Rattle.energy_report.specs.declared.form.Period.TheVariants as period
 
--- Whether two days are in the same period: equal, or in the same month or year.
+-- True if two civil days are in the same day, month or year, depending on the period.
 abbrev pub is_same : Period → (one other : Date) → Bool
 is_same period.Day one other = int_eq (epoch_day one) (epoch_day other)
 is_same period.Month one other =
@@ -20,7 +20,8 @@ last_day period.Day day = epoch_day day
 last_day period.Month day = days_from_civil day.year day.month (month_length day)
 last_day period.Year day = days_from_civil day.year 12 31
 
--- A later day is in the period of a day exactly if it is not after the last day of the period.
+-- Theorem: a later day is in the period of a day if and only if it is not after the last day of the
+-- period.
 abbrev pub PeriodsEndWithTheirLastDay : Type 0
 PeriodsEndWithTheirLastDay = (period : Period) (day other : Date)
     → epoch_day day ≤ℤ epoch_day other

@@ -1,19 +1,19 @@
--- A sink that writes a line for each row as it arrives.
+-- The model of a sink that writes a line for each row.
 use Rattle.std.specs.Prelude.{◌≡◌, ℕ, ◌+◌, min, Bool, true, false, List, Option, if◌then◌else◌}
 use Rattle.std.specs.Io.KnownBytes.{Appends}
 use Rattle.energy_report.specs.declared.row_lines.RowLines.{RowLines}
 use Rattle.sun_points.specs.Writing.{GotPart}
 
--- A count that stays at 2^64 - 1.
+-- A number that saturates at 2^64 - 1.
 abbrev pub counted : ℕ → ℕ
 counted n = min n 18446744073709551615
 
--- The count, plus one if `counts` is true; it stays at 2^64 - 1.
+-- The count, plus one if `counts` is true. The count saturates at 2^64 - 1.
 abbrev pub one_more_if : (counts : Bool) → (count : ℕ) → ℕ
 one_more_if counts count = counted (count + (if counts then 1 else 0))
 
--- The text of `count` rows was written and the rows were counted. If a write failed, a part of the
--- text was written.
+-- True if the sink wrote the text of `count` rows and counted the rows. If a write failed, only a
+-- part of the text was written.
 pub record HasWritten {W : Type 0} (contents : W → Option (List ℕ)) (text : List ℕ) (count : ℕ)
     (old new : RowLines W) : Type 0 where
   pub output : new.output.ghost_name ≡ old.output.ghost_name
@@ -22,7 +22,8 @@ pub record HasWritten {W : Type 0} (contents : W → Option (List ℕ)) (text : 
       × (new.count ≡ counted (old.count + count))
   pub part : new.failed ≡ true → GotPart text (contents old.output.now) (contents new.output.now)
 
--- The sink writes the line of a row and counts the row. After a failed write it drops the row.
+-- The effect of a row on the sink. The sink writes the line of the row and counts the row. After a
+-- failed write, the sink drops the row.
 pub record WritesLine {W : Type 0} (contents : W → Option (List ℕ)) (line : List ℕ)
     (old new : RowLines W)
     : Type 0 where

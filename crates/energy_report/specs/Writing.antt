@@ -1,4 +1,4 @@
--- What a report has written while its days arrive one by one.
+-- The text that a report has written while its days arrive one by one.
 use Rattle.std.specs.Prelude.{◌≡◌, ℕ, ◌+◌, ◌-◌, ◌<◌, ◌^◌, ◌==◌, ◌++◌, ◌∷◌, min, Bool, true, false, List, [], map, length, Option, Some, None}
 use Rattle.std.specs.List.{join_by}
 use Rattle.std.specs.Io.KnownBytes.{Appends}
@@ -10,14 +10,15 @@ use Rattle.energy_report.specs.declared.report_rows.ReportRows.{ReportRows}
 use Rattle.energy_report.specs.Rows.{rows_in, shown}
 use Rattle.energy_report.specs.Texts.{lead, opening, report_text, row_text, separator}
 
--- The text was written completely; or, if a write failed, a part of it.
+-- True if the text was written completely, or only in part if a write failed.
 abbrev pub GotUnless : (failed : Bool) → (text : List ℕ) → (old new : Option (List ℕ)) → Type 0
 GotUnless false text old new = Appends old new text
 GotUnless true text old new = GotPart text old new
 
--- ---- one text
+-- ---- writing one text to the output
 
--- The report writes a text, if no write has failed before; otherwise nothing.
+-- The effect of writing a text. The report writes the text to its output, unless an earlier write
+-- failed.
 pub record WritesText {W : Type 0} (contents : W → Option (List ℕ)) (text : List ℕ)
     (old new : ReportRows W) : Type 0 where
   pub form : new.form ≡ old.form
@@ -28,8 +29,8 @@ pub record WritesText {W : Type 0} (contents : W → Option (List ℕ)) (text : 
       → GotUnless new.failed text (contents old.output.now) (contents new.output.now)
   pub dropped : old.failed ≡ true → (new.failed ≡ true) × (new.output.now ≡ old.output.now)
 
--- The report writes a row with the text before it, and counts the row; after a failed write it
--- writes nothing.
+-- The effect of writing a row. The report writes the row with the text before it, and counts the
+-- row. After a failed write, the report writes nothing.
 pub record WritesRow {W : Type 0} (contents : W → Option (List ℕ)) (row : Row)
     (old new : ReportRows W) : Type 0 where
   pub form : new.form ≡ old.form
@@ -41,22 +42,23 @@ pub record WritesRow {W : Type 0} (contents : W → Option (List ℕ)) (row : Ro
       (contents old.output.now) (contents new.output.now)
   pub dropped : old.failed ≡ true → (new.failed ≡ true) × (new.output.now ≡ old.output.now)
 
--- ---- the days that were passed
+-- ---- the text for the days that the report received
 
--- The text of the rows that are written so far, if others may follow: empty before the first row.
+-- The text of the rows written so far, without the end of the report. The text is empty before the
+-- first row.
 abbrev pub begun_text : ReportForm → List Row → List ℕ
 begun_text form [] = []
 begun_text form (row ∷ rows) =
     opening form ++ join_by (row_text form) (separator form) (map shown (row ∷ rows))
 
--- All rows but the last one are written. The last one is held back, because the next day may be in
--- its period.
+-- True if all rows but the last are written. The last row is pending, because the next day may be
+-- in its period.
 abbrev pub AreWritten : (rows done : List Row) → (pending : Option Row) → Type 0
 AreWritten rows done None = (rows ≡ []) × (done ≡ [])
 AreWritten rows done (Some pending) =
     (last : Row) × (rows ≡ done ++ last ∷ []) × (pending ≡ shown last)
 
--- All rows of these days but the last one are written and counted, and the last one is held back.
+-- True if all rows of the days but the last row are written and counted. The last row is pending.
 pub record IsWritten {W : Type 0} (contents : W → Option (List ℕ)) (days : List DayTotal)
     (old : W) (new : ReportRows W) : Type 0 where
   pub done : List Row
@@ -64,13 +66,15 @@ pub record IsWritten {W : Type 0} (contents : W → Option (List ℕ)) (days : L
   pub count : new.count ≡ length done
   pub text : Appends (contents old) (contents new.output.now) (begun_text new.form done)
 
--- A write failed: what was written is a part of each report whose first days are these.
+-- True if the written text is a part of every report that begins with the given days. This holds
+-- after a failed write.
 abbrev pub IsBroken : {W : Type 0} → (W → Option (List ℕ)) → List DayTotal
     → (old : W) (new : ReportRows W) → Type 0
 IsBroken contents days old new = (more : List DayTotal)
     → GotPart (report_text new.form (days ++ more)) (contents old) (contents new.output.now)
 
--- The report has taken these days from its beginning on; they are fewer than 2^64.
+-- True if the report has received a list of fewer than 2^64 days since its beginning. Their rows
+-- are written, except the pending row, or a write failed.
 pub record HasTaken {W : Type 0} (contents : W → Option (List ℕ)) (days : List DayTotal)
     (from to : ReportRows W) : Type 0 where
   pub form : to.form ≡ from.form
@@ -78,14 +82,15 @@ pub record HasTaken {W : Type 0} (contents : W → Option (List ℕ)) (days : Li
       → IsWritten contents days from.output.now to
   pub broken : to.failed ≡ true → length days < 2 ^ 64 → IsBroken contents days from.output.now to
 
--- The report takes one more day after the days that it has taken.
+-- The effect of one more day on the report. The report has then received the earlier days, followed
+-- by this day.
 pub record TakesDay {W : Type 0} (contents : W → Option (List ℕ)) (old : ReportRows W)
     (total : DayTotal) (new : ReportRows W) : Type 0 where
   pub output : new.output.ghost_name ≡ old.output.ghost_name
   pub taken : (from : ReportRows W) (days : List DayTotal)
       → HasTaken contents days from old → HasTaken contents (days ++ total ∷ []) from new
 
--- The report has this form, and has taken no day yet.
+-- True if a report is new. It has the given form, and has received no day yet.
 pub record IsFresh {W : Type 0} (contents : W → Option (List ℕ)) (asked : ReportForm)
     (writer : W) (new : ReportRows W) : Type 0 where
   pub form : new.form ≡ asked
@@ -93,13 +98,15 @@ pub record IsFresh {W : Type 0} (contents : W → Option (List ℕ)) (asked : Re
   pub works : new.failed ≡ false
   pub taken : HasTaken contents [] new new
 
--- The complete report on these days was written, or a part of it if a write failed.
+-- True if the complete report on a list of days was written, or only a part of the report if a
+-- write failed.
 abbrev pub IsFinished : {W : Type 0} → (W → Option (List ℕ)) → List DayTotal
     → (from to : ReportRows W) → Type 0
 IsFinished contents days from to = GotUnless to.failed (report_text from.form days)
     (contents from.output.now) (contents to.output.now)
 
--- `IsFinished` holds for all days that the report has taken, if they are fewer than 2^64.
+-- True after `finish` if `IsFinished` holds for all days that the report received, provided that
+-- they are fewer than 2^64.
 pub record Finishes {W : Type 0} (contents : W → Option (List ℕ)) (old new : ReportRows W)
     : Type 0 where
   pub output : new.output.ghost_name ≡ old.output.ghost_name

@@ -1,13 +1,13 @@
-//! A sink that adds up the energy of interval rows in a range of days.
+//! A sink that adds up the energy of interval rows in a range of civil days.
 ghost use Rattle.std.specs.Prelude.{◌≡◌, if◌then◌else◌};
 
 use interval_core::{DayRange, Share, Zone};
 use office_books::RowSink;
 
-/// Adds up the energy of the interval rows whose quarter hours start in a range, by the clocks of a
-/// zone.
+/// Adds up the energy of the interval rows whose quarter hours start in a range of days, by the
+/// clocks of a zone.
 ///
-/// The sum stays at 2^128 - 1 mWh.
+/// The sum saturates at 2^128 - 1 mWh.
 #[derive(Drop)]
 pub struct EnergyWithin {
     zone: Zone,
@@ -18,7 +18,7 @@ pub struct EnergyWithin {
 impl EnergyWithin {
     ghost use Rattle.energy_report.specs.Energies.{IsFresh};
 
-    /// Creates a sum of no rows.
+    /// Creates a sink with an energy of 0 mWh.
     pub fn new(zone: Zone, range: DayRange) -> EnergyWithin
         ensures { IsFresh zone range result }
     {
@@ -29,7 +29,7 @@ impl EnergyWithin {
         }
     }
 
-    /// Returns the energy of the rows so far, in mWh.
+    /// Returns the energy in mWh of the interval rows that the sink received so far.
     pub fn mwh(&self) -> u128
         ensures { result ≡ self.now.mwh }
     {

@@ -1,4 +1,4 @@
-//! The form of a report or a statement, and the words that select it.
+//! The form of a report or a statement, and the arguments on the command line that select the form.
 ghost use Rattle.std.specs.Prelude.{◌≡◌};
 ghost use Rattle.jiff.specs.Words.{epoch_day};
 ghost use Rattle.energy_report.specs.Periods as periods;
@@ -7,7 +7,7 @@ ghost use Rattle.energy_report.specs.Words.{period_of, unit_of, format_of, plain
 
 use interval_core::{Day, DayRange};
 
-/// The period whose days are added up to a row.
+/// The period whose days form one row of a report.
 #[derive(Clone, Copy, Debug, PartialEq, Eq)]
 pub enum Period {
     Day,
@@ -15,27 +15,27 @@ pub enum Period {
     Year,
 }
 
-/// The unit of energy.
+/// The unit in which a report prints energy.
 #[derive(Clone, Copy, Debug, PartialEq, Eq)]
 pub enum EnergyUnit {
     /// Whole milliwatt-hours (mWh).
     MilliwattHours,
-    /// kWh with six decimals, which are exact.
+    /// Kilowatt-hours (kWh) with six decimals, which represent every number of mWh exactly.
     KilowattHours,
 }
 
-/// The format of rows.
+/// The output format of a report or a statement.
 #[derive(Clone, Copy, Debug, PartialEq, Eq)]
 pub enum Format {
-    /// Lines for a reader, and then their number.
+    /// Lines of text for a reader, followed by a last line with the number of the lines before.
     Text,
-    /// A table with a header, as in RFC 4180.
+    /// A CSV table with a header, as in RFC 4180.
     Csv,
-    /// One array of objects.
+    /// A JSON array with one object for each row.
     Json,
 }
 
-/// The form of a report: its range of days, its period, its unit and its format.
+/// The form of a report, which is its range of days, its period, its unit and its format.
 #[derive(Clone, Copy, Debug, PartialEq, Eq)]
 pub struct ReportForm {
     pub range: DayRange,
@@ -44,7 +44,7 @@ pub struct ReportForm {
     pub format: Format,
 }
 
-/// The form of a statement: its range of days, its unit and its format.
+/// The form of a statement, which is its range of days, its unit and its format.
 #[derive(Clone, Copy, Debug, PartialEq, Eq)]
 pub struct StatementForm {
     pub range: DayRange,
@@ -53,7 +53,8 @@ pub struct StatementForm {
 }
 
 impl ReportForm {
-    /// Returns the form of a report without options: all days, a row a day, in mWh.
+    /// Returns the form of a report without options: all days, one row for each day, energy in mWh,
+    /// as text.
     pub fn plain() -> ReportForm
         ensures { result ≡ plain_form }
     {
@@ -67,7 +68,7 @@ impl ReportForm {
 }
 
 impl Period {
-    /// Parses a period: `day`, `month` or `year`; `None` for any other word.
+    /// Parses the name of a period: `day`, `month` or `year`. Returns `None` for any other word.
     pub fn read(word: &str) -> Option<Period>
         ensures { result ≡ period_of word.now }
     {
@@ -103,7 +104,7 @@ impl Period {
 }
 
 impl EnergyUnit {
-    /// Parses a unit: `mwh` or `kwh`; `None` for any other word.
+    /// Parses the name of a unit: `mwh` or `kwh`. Returns `None` for any other word.
     pub fn read(word: &str) -> Option<EnergyUnit>
         ensures { result ≡ unit_of word.now }
     {
@@ -116,7 +117,7 @@ impl EnergyUnit {
 }
 
 impl Format {
-    /// Parses a format: `text`, `csv` or `json`; `None` for any other word.
+    /// Parses the name of a format: `text`, `csv` or `json`. Returns `None` for any other word.
     pub fn read(word: &str) -> Option<Format>
         ensures { result ≡ format_of word.now }
     {

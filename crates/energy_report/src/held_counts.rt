@@ -7,22 +7,22 @@ ghost use Rattle.energy_report.specs.RowLines.{one_more_if};
 use crate::tallies::{both, tallied};
 use energy_core::Cause;
 
-/// The number of rejected readings for each cause. A count stays at 2^64 - 1.
+/// The number of rejected readings for each cause. Each count saturates at 2^64 - 1.
 #[derive(Clone, Copy, Debug, PartialEq, Eq)]
 pub struct HeldCounts {
-    /// The counter showed 0, as a counter does that does not count.
+    /// The counter showed 0, which SunSpec defines as an accumulator that does not count.
     pub not_accumulated: u64,
-    /// The scale differed from that of the last entry.
+    /// The scale factor of the reading differed from the scale factor of the last entry.
     pub scale_changed: u64,
     /// The reading was not later than the last entry.
     pub not_later: u64,
-    /// Too many quarter hours had passed since the last entry.
+    /// More than 3,000 quarter hours had passed since the last entry.
     pub span_too_long: u64,
-    /// The counter could have made a full turn.
+    /// The counter could have advanced by its full range or more since the last entry.
     pub gap_too_long: u64,
-    /// The counter advanced further than the ceiling allows.
+    /// The counter advanced further than the ceiling on power allows.
     pub too_fast: u64,
-    /// The energy would have passed the largest total of a meter.
+    /// The total energy of the meter would have exceeded its limit.
     pub total_full: u64,
     /// The counter showed a number that is not below its range.
     pub not_below_range: u64,
@@ -36,7 +36,7 @@ pub struct HeldCount {
 }
 
 impl HeldCounts {
-    /// Creates the counts before any reading: all are 0.
+    /// Creates counts that are all 0.
     pub fn none() -> HeldCounts
         ensures { result ≡ held.none_held }
     {
@@ -52,7 +52,7 @@ impl HeldCounts {
         }
     }
 
-    /// Returns the counts with their causes, in order of the causes' numbers.
+    /// Returns each cause with its count, in the order of the causes' numbers.
     pub fn by_cause(&self) -> [HeldCount; 8]
         ensures { result ≡ held.by_cause self.now }
     {
@@ -92,7 +92,8 @@ impl HeldCounts {
         ]
     }
 
-    // The counts after one more reading: that of its cause grows by one, if `counts` is true.
+    // Returns the counts after one more rejected reading. If `counts` is true, the count of its
+    // cause grows by one, otherwise no count changes.
     pub(crate) fn with_one(&self, counts: bool, cause: Cause) -> HeldCounts
         ensures { result ≡ held.with_one self.now counts cause }
     {
@@ -119,7 +120,8 @@ impl HeldCounts {
     }
 }
 
-// The count, plus one if `counts` is true and the reading has the cause of the count.
+// Returns the count of `counted_cause` after one more reading. The count grows by one if `counts`
+// is true and the reading was rejected for this cause.
 fn one_more_for(count: u64, counts: bool, cause: Cause, counted_cause: Cause) -> u64
     ensures { result ≡ one_more_if (counts && held.is_one cause counted_cause) count }
 {

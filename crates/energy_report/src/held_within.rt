@@ -1,12 +1,12 @@
-//! A sink that counts the rejected readings in a range of days by cause.
+//! A sink that counts the rejected readings in a range of civil days by cause.
 
 use crate::held_counts::HeldCounts;
 use interval_core::{DayRange, Zone};
 use office_books::RowSink;
 use office_events::HeldReading;
 
-/// Counts the rejected readings with timestamps in a range, by the clocks of a zone, for each
-/// cause.
+/// Counts, for each cause, the rejected readings whose timestamps are in a range of days, by the
+/// clocks of a zone.
 #[derive(Drop)]
 pub struct HeldWithin {
     zone: Zone,
@@ -18,7 +18,7 @@ impl HeldWithin {
     ghost use Rattle.std.specs.Prelude.{◌≡◌};
     ghost use Rattle.energy_report.specs.HeldSinks.{HasCountedNone};
 
-    /// Creates a counter without readings.
+    /// Creates a sink whose counts are all 0.
     pub fn new(zone: Zone, range: DayRange) -> HeldWithin
         ensures { HasCountedNone zone range result }
     {
@@ -29,7 +29,7 @@ impl HeldWithin {
         }
     }
 
-    /// Returns the number of rejected readings so far, for each cause.
+    /// Returns the number of rejected readings for each cause that the sink received so far.
     pub fn counts(&self) -> HeldCounts
         ensures { result ≡ self.now.counts }
     {

@@ -1,4 +1,4 @@
-//! The rows of an energy report on a range of civil days, by period, and the texts of reports and
+//! Computes the rows of energy reports over a range of civil days, and writes reports and
 //! statements.
 #![tactic(auto)]
 

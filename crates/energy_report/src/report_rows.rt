@@ -1,4 +1,4 @@
-//! Writes a report while its days arrive one by one.
+//! Writes a report whose days arrive one by one.
 ghost use Rattle.std.specs.Prelude.{◌≡◌};
 
 use crate::form::ReportForm;
@@ -10,7 +10,7 @@ use script_text::Line;
 use std::io::Write;
 use sun_points::Sink;
 
-/// Writes the rows of a report. Each row is written as soon as a day of another period arrives.
+/// Writes the rows of a report. A row is written when a day of the next period arrives.
 ///
 /// After a failed write, all later days are dropped.
 #[derive(Drop)]
@@ -26,7 +26,7 @@ impl<'o, W: Write> ReportRows<'o, W> {
     ghost use Rattle.energy_report.specs.Texts.{last_text};
     ghost use Rattle.energy_report.specs.Writing.{Finishes, IsFresh, WritesRow, WritesText};
 
-    /// Creates a report without days, which is written to `output`.
+    /// Creates an empty report that writes to `output`.
     pub fn to(form: ReportForm, output: &'o mut W) -> ReportRows<'o, W>
         ensures output { result.output.ghost_name ≡ output.entry.ghost_name }
         ensures fresh { IsFresh W.contents form output.old result }
@@ -47,7 +47,7 @@ impl<'o, W: Write> ReportRows<'o, W> {
         self.failed
     }
 
-    /// Writes the rest of the report, after all its days have arrived.
+    /// Writes the pending row and the end of the report. Call this function after the last day.
     pub fn finish(&mut self)
         ensures { Finishes W.contents self.old self.new }
     {
@@ -60,7 +60,7 @@ impl<'o, W: Write> ReportRows<'o, W> {
         }
     }
 
-    // Writes a row and counts it.
+    // Writes a row of the report and counts it.
     fn write_row(&mut self, row: &Row)
         ensures { WritesRow W.contents row.now self.old self.new }
     {
@@ -70,7 +70,7 @@ impl<'o, W: Write> ReportRows<'o, W> {
         self.count = self.count.saturating_add(1);
     }
 
-    // Writes the text after the rows.
+    // Writes the text after the last row of the report.
     fn write_last(&mut self)
         ensures { WritesText W.contents (last_text self.old.form self.old.count)
             self.old self.new }
@@ -80,7 +80,7 @@ impl<'o, W: Write> ReportRows<'o, W> {
         self.write(&text);
     }
 
-    // Writes a text, unless an earlier write failed.
+    // Writes a text to the output, unless an earlier write failed.
     fn write(&mut self, text: &Line)
         ensures { WritesText W.contents text.now self.old self.new }
     {

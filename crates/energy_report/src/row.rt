@@ -1,10 +1,10 @@
-//! The rows of a report.
+//! The rows of a report. Each row adds up the days of one period.
 ghost use Rattle.std.specs.Prelude.{◌≡◌};
 ghost use Rattle.energy_report.specs.Rows.{joined, row_of, shown};
 
 use interval_core::{Day, DayTotal};
 
-/// A row of a report: the sum of its days in one period.
+/// A row of a report, which is the sum of days in one period.
 ///
 /// `first` is the first of these days, `count` the number of their intervals, and `mwh` their
 /// energy in mWh.
@@ -16,7 +16,7 @@ pub struct Row {
 }
 
 impl Row {
-    /// Returns the row of a single day.
+    /// Returns the row of a report for a single day.
     pub fn of(total: &DayTotal) -> Row
         ensures { result ≡ shown (row_of total.now) }
     {
@@ -28,7 +28,8 @@ impl Row {
         none.and(total)
     }
 
-    /// Returns the row with one more day. The count stays at 2^64 - 1, the energy at 2^128 - 1 mWh.
+    /// Returns the row after the day `total` is added to it. The count saturates at 2^64 - 1, and
+    /// the energy at 2^128 - 1 mWh.
     pub fn and(&self, total: &DayTotal) -> Row
         ensures { result ≡ shown (joined self.now (row_of total.now)) }
     {

@@ -1,4 +1,4 @@
-//! Writes a line for each row while the rows arrive one by one.
+//! Writes a line for each row that arrives.
 ghost use Rattle.std.specs.Prelude.{◌≡◌};
 
 use interval_core::{DayTotal, Share};
@@ -6,7 +6,7 @@ use office_books::RowSink;
 use script_text::{write_day, write_interval};
 use std::io::Write;
 
-/// Writes a line for each row, and counts the rows, up to 2^64 - 1.
+/// Writes a line for each row, and counts the rows up to 2^64 - 1.
 ///
 /// After a failed write, all later rows are dropped.
 #[derive(Drop)]
@@ -19,7 +19,7 @@ pub struct RowLines<'o, W> {
 impl<'o, W: Write> RowLines<'o, W> {
     ghost use Rattle.std.specs.Prelude.{false};
 
-    /// Creates a sink without rows, which writes to `output`.
+    /// Creates a sink that has received no row and writes to `output`.
     pub fn to(output: &'o mut W) -> RowLines<'o, W>
         ensures output { result.output.ghost_name ≡ output.entry.ghost_name }
         ensures same { result.output.now ≡ output.old }

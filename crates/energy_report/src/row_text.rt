@@ -1,4 +1,5 @@
-//! Formats rows, and the texts around them. No call allocates memory.
+//! Formats the rows of a report, and the texts before, between and after the rows. No function
+//! allocates memory.
 ghost use Rattle.std.specs.Prelude.{◌≡◌, ◌≤◌, ◌<◌, ◌+◌, ◌++◌, length, replicate};
 ghost use Rattle.sun_points.specs.Decimal.{low_digits};
 ghost use Rattle.interval_core.specs.Report.{right};
@@ -9,10 +10,10 @@ use crate::row::Row;
 use interval_core::Day;
 use script_text::{Line, Text, day_of_month, month_of, push_part, push_year};
 
-// The text of an energy in either unit, of at most 46 characters.
+// The text of an energy in mWh or kWh, which has at most 46 characters.
 pub(crate) type Energy = Text<48>;
 
-/// Returns a row with the text before it: that before the first row, or that between two rows.
+/// Returns the text of a row, preceded by the text that begins the report or separates two rows.
 pub(crate) fn row_piece(form: &ReportForm, is_first: bool, row: &Row) -> Line
     ensures { result ≡ text.lead is_first form.now ++ text.row_text form.now row.now }
 {
@@ -22,7 +23,8 @@ pub(crate) fn row_piece(form: &ReportForm, is_first: bool, row: &Row) -> Line
     line
 }
 
-/// Returns the text after `count` rows. Without rows it begins with the text before the first row.
+/// Returns the text after the last of `count` rows. If `count` is 0, the text also begins the
+/// report.
 pub(crate) fn last_piece(form: &ReportForm, count: u64) -> Line
     ensures { result ≡ text.last_text form.now count }
 {
@@ -155,10 +157,9 @@ fn count_width(period: Period) -> usize
     }
 }
 
-// ---- periods
+// ---- names of the periods of report rows
 
-/// Returns the text of the period that contains a day, as in rows: `2026-11-25`, `2026-11` or
-/// `2026`.
+/// Returns the name of the period that contains a day, such as `2026-11-25`, `2026-11` or `2026`.
 pub fn period_name(period: Period, day: Day) -> Line
     ensures { result ≡ text.period_text period day }
 {
@@ -183,7 +184,7 @@ fn push_period(line: &mut Line, period: Period, day: Day)
     }
 }
 
-// ---- energy
+// ---- texts of energies in mWh and kWh
 
 pub(crate) fn energy(unit: EnergyUnit, mwh: u128) -> Energy
     ensures bytes { result ≡ text.energy_text unit mwh }
@@ -201,7 +202,7 @@ pub(crate) fn energy(unit: EnergyUnit, mwh: u128) -> Energy
     energy
 }
 
-// Appends a number below a million, in six digits.
+// Appends a number below 1,000,000 as six digits, with leading zeros.
 fn push_decimals(energy: &mut Energy, number: u32)
     requires room { length energy.old ≤ 40 }
     requires few { number < 1_000_000 }
@@ -213,7 +214,7 @@ fn push_decimals(energy: &mut Energy, number: u32)
     energy.push_pair((number % 100) as u8);
 }
 
-// Appends an energy, right-aligned in 24 columns.
+// Appends the text of an energy, right-aligned in 24 columns.
 fn push_energy_right(line: &mut Line, unit: EnergyUnit, mwh: u128)
     requires { length line.old ≤ 70 }
     ensures bytes { line.new ≡ line.old ++ right 24 (text.energy_text unit mwh) }
@@ -227,7 +228,7 @@ fn push_energy_right(line: &mut Line, unit: EnergyUnit, mwh: u128)
     line.push(bytes);
 }
 
-// Appends this number of spaces, at most 24.
+// Appends `count` spaces, at most 24.
 fn push_spaces(line: &mut Line, count: usize)
     requires few { count ≤ 24 }
     requires room { length line.old + count ≤ 128 }

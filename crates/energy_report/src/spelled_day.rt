@@ -1,10 +1,10 @@
-//! Parses the text of a civil day.
+//! Parses the text of a civil day, such as `2026-11-25`.
 ghost use Rattle.energy_report.specs.Days.{DigitIs, IsReadAs, PairIs, PartsAre};
 
 use interval_core::Day;
 
-// The numbers of a day's parts, two digits each: the first and the last two of the year, the month,
-// the day.
+// The parts of a date as numbers of two digits: the century, the year within the century, the month
+// and the day.
 #[derive(Clone, Copy)]
 struct Parts {
     century: u8,
@@ -30,8 +30,7 @@ fn pair_of(tens: u8, ones: u8) -> Option<u8>
     Some(tens * 10 + ones)
 }
 
-// The parts of a text of ten characters, with hyphens between year, month and day; `None` for any
-// other text.
+// Returns the numbers in a text of the form `YYYY-MM-DD`, or `None` for a text of another form.
 fn parts_of(text: &[u8]) -> Option<Parts>
     ensures { PartsAre text.now result }
 {
@@ -56,7 +55,8 @@ fn parts_of(text: &[u8]) -> Option<Parts>
     })
 }
 
-/// Parses a day as `YYYY-MM-DD`, in the years 0000 to 9999; `None` if the text spells no day.
+/// Parses a civil day of the form `YYYY-MM-DD`, in the years 0000 to 9999. Returns `None` if the
+/// text is not a day of the calendar.
 pub fn read_day(text: &str) -> Option<Day>
     ensures { IsReadAs text.now result }
 {

@@ -1,25 +1,25 @@
-//! Parses the range of days that two words select.
+//! Parses the range of civil days that two arguments on the command line select.
 ghost use Rattle.std.specs.Prelude.{MatchResult};
 ghost use Rattle.energy_report.specs.Days.{IsEnd, IsNoEnd, IsRange, IsRangeFault};
 
 use crate::spelled_day::read_day;
 use interval_core::{Day, DayRange};
 
-/// Why two words select no range.
+/// The reason why two arguments do not select a range of days.
 #[derive(Clone, Copy, Debug, PartialEq, Eq)]
 pub enum RangeFault {
-    /// The word for the first day spells no day.
+    /// The argument for the first day of the range is not a day.
     From,
-    /// The word for the day after the last spells no day.
+    /// The argument for the end of the range, which is the day after its last day, is not a day.
     Till,
-    /// The range ends before it begins.
+    /// The end of the range is before its first day.
     Backward,
 }
 
 #[derive(Clone, Copy)]
 struct NoDay;
 
-// The end of a range that a word selects; open if there is no word.
+// Parses the argument for one end of a range. Without an argument, the range is open at this end.
 fn read_end(word: Option<&str>) -> Result<Option<Day>, NoDay>
     ensures { MatchResult result (IsEnd word.entry) (λ none. IsNoEnd word.entry) }
 {
@@ -32,9 +32,10 @@ fn read_end(word: Option<&str>) -> Result<Option<Day>, NoDay>
     }
 }
 
-/// Parses the range from one day up to, not including, another, each as `YYYY-MM-DD`.
+/// Parses a range of days from the argument for its first day and the argument for its end. Both
+/// arguments have the form `YYYY-MM-DD`, and the range excludes the day of its end.
 ///
-/// The range is open at an end whose word is missing.
+/// Without an argument, the range is open at that end.
 pub fn read_range(from: Option<&str>, till: Option<&str>) -> Result<DayRange, RangeFault>
     ensures { MatchResult result (IsRange from.entry till.entry)
         (IsRangeFault from.entry till.entry) }

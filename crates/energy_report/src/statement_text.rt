@@ -1,4 +1,4 @@
-//! Writes statements. No call allocates memory.
+//! Writes the statements of meters in a range of days. No function allocates memory.
 ghost use Rattle.std.specs.Prelude.{◌≡◌, ◌≤◌, ◌+◌, ◌++◌, ◌&&◌, ◌==◌, length};
 ghost use Rattle.sun_points.specs.Writing.{GotText};
 ghost use Rattle.energy_core.specs.Verdict.{cause_number};
@@ -16,10 +16,11 @@ use script_text::Text;
 use std::io::{self, Write};
 use sun_points::Sink;
 
-// A row, or the text around rows, of at most 900 characters.
+// The text of a statement's row with the text before it, which has at most 900 characters.
 type Page = Text<1024>;
 
-/// Writes the statement of meters completely, or its beginning if a write fails.
+/// Writes the statements of all meters. If a write fails, only the beginning of the text is
+/// written.
 pub fn write_statement<W: Write>(
     form: &StatementForm,
     rows: &[MeterStatement],
@@ -77,7 +78,8 @@ fn ending_page(form: &StatementForm, count: u64) -> Page
     page
 }
 
-// A row with the text before it: that before the first row, or that between two rows.
+// Returns the text of a statement's row, preceded by the text that separates two rows. Nothing
+// precedes the first row.
 fn row_page(form: &StatementForm, is_first: bool, row: &MeterStatement) -> Page
     ensures { result ≡ text.lead is_first form.now ++ text.row_text form.now row.now }
 {
@@ -118,9 +120,10 @@ fn push_row(page: &mut Page, form: &StatementForm, row: &MeterStatement)
     }
 }
 
-// ---- the reading of a counter
+// ---- the energy of the count that a counter shows
 
-// The value of a counter's reading, in mWh; 0 if its scale is out of range.
+// Returns the energy in mWh of the count that a counter shows, or 0 if its scale factor is out of
+// range.
 fn worth(stand: &Last) -> u128
     ensures { result ≡ worth_of stand.now }
 {
@@ -182,7 +185,7 @@ fn push_worth(page: &mut Page, format: Format, unit: EnergyUnit, stand: &Option<
     }
 }
 
-// ---- rejected readings
+// ---- texts of the counts of rejected readings
 
 fn held_mark(format: Format) -> &'static [u8]
     ensures word { result.now ≡ text.held_mark format }
@@ -230,7 +233,7 @@ fn push_counts_or_zero(page: &mut Page, format: Format, held: &HeldCounts)
     }
 }
 
-// Appends the counts that are not 0, and returns whether there are none.
+// Appends the counts that are not 0, and returns whether all counts are 0.
 fn push_counts(page: &mut Page, format: Format, held: &HeldCounts) -> bool
     requires { length page.old ≤ 710 }
     ensures bytes { page.new ≡ page.old ++ text.counts_text format (text.held_some held.now) }
@@ -246,7 +249,7 @@ fn push_counts(page: &mut Page, format: Format, held: &HeldCounts) -> bool
     are_none
 }
 
-// Appends a count that is not 0, preceded by the text between two counts.
+// Appends a count that is not 0, preceded by a separator if the count is not the first.
 fn push_count(page: &mut Page, format: Format, is_first: bool, one: &HeldCount)
     requires { length page.old ≤ 910 }
     ensures bytes { page.new ≡ page.old ++ text.count_piece format is_first one.now }
@@ -272,7 +275,7 @@ fn push_one(page: &mut Page, format: Format, one: &HeldCount)
     page.push_number(count_mark(format), one.count);
 }
 
-// ---- fields
+// ---- the statement of a meter as fields of a line
 
 fn push_fields(page: &mut Page, form: &StatementForm, mark: &[u8], row: &MeterStatement)
     requires room { length page.old ≤ 2 }
@@ -314,7 +317,7 @@ fn push_count_fields(page: &mut Page, mark: &[u8], tally: &EntryTally)
     page.push_number(mark, tally.voids);
 }
 
-// ---- an object
+// ---- the statement of a meter as a JSON object
 
 fn push_object(page: &mut Page, unit: EnergyUnit, row: &MeterStatement)
     requires { length page.old ≤ 2 }

@@ -1,4 +1,4 @@
-//! Tallies the entries of a meter in a range of days.
+//! Tallies the entries of a meter in a range of civil days.
 ghost use Rattle.std.specs.Prelude.{◌≡◌, ◌&&◌, ◌++◌, ◌∷◌, [], List, Some, None, if◌then◌else◌};
 ghost use Rattle.std.specs.Option.{option_or};
 ghost use Rattle.office_books.specs.declared.entries.MeterEntry.{MeterEntry as Listed};
@@ -11,26 +11,28 @@ use interval_core::{DayRange, Zone};
 use meter_journal::EntryKind;
 use office_books::MeterEntry;
 
-/// The tally of a meter's entries in a range of days: the counter at the first and the last entry,
-/// and the number of corrections.
+/// The tally of a meter's entries in a range of days. It has the counter at the first and the last
+/// entry, and the number of corrections.
 ///
-/// A count stays at 2^64 - 1.
+/// Each number of corrections saturates at 2^64 - 1.
 #[derive(Clone, Copy, Debug, PartialEq, Eq)]
 pub struct EntryTally {
-    /// The counter after the first and after the last valid entry; `None` without a valid entry.
+    /// The counter's state after the first and after the last valid entry in the range. `None`
+    /// without a valid entry.
     pub first: Option<Last>,
     pub last: Option<Last>,
-    /// Valid readings by hand.
+    /// The number of valid readings by hand.
     pub by_hand: u64,
-    /// Valid resets and rescalings.
+    /// The numbers of valid resets and of valid rescales.
     pub resets: u64,
     pub rescales: u64,
-    /// Voided entries. Each counts at its own timestamp, not at that of its void.
+    /// The number of voided entries. A voided entry counts if its own timestamp is in the range,
+    /// whatever the time of its void.
     pub voids: u64,
 }
 
 impl EntryTally {
-    /// Creates a tally without entries.
+    /// Creates the tally of an empty list of entries.
     pub fn new() -> EntryTally
         ensures none { (zone : Zone) (range : DayRange) → result ≡ tally_of zone range [] }
     {
@@ -44,7 +46,7 @@ impl EntryTally {
         }
     }
 
-    /// Adds the next entries of the meter to the tally, in order.
+    /// Adds entries of the meter to the tally, in order.
     pub fn take_all(&mut self, zone: &Zone, range: &DayRange, entries: &[MeterEntry])
         ensures { (before : List Listed) → self.old ≡ tally_of zone.now range.now before
             → self.new ≡ tally_of zone.now range.now (before ++ entries.now) }
@@ -73,9 +75,9 @@ impl EntryTally {
     }
 }
 
-// ---- an entry
+// ---- the properties of a meter entry
 
-// The state of the counter after an entry.
+// Returns the counter's state after a meter entry.
 fn stand_of(entry: &MeterEntry) -> Last
     ensures { result ≡ statements.stand_of entry.now }
 {
@@ -141,7 +143,7 @@ fn is_rescale(entry: &MeterEntry) -> bool
     }
 }
 
-// ---- one more entry
+// ---- the tally after one more meter entry
 
 pub(crate) fn both(one: bool, other: bool) -> bool
     ensures { result ≡ one && other }

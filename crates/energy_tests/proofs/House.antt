@@ -1,4 +1,4 @@
--- The account of one reading.
+-- The account of a meter after one reading.
 use Rattle.std.proofs.Common.{pos, List, [], ◌∷◌, refl, arith}
 use Rattle.energy_core.specs.declared.entries.Last.{Last}
 use Rattle.energy_core.specs.declared.entries.Entry.{Entry}

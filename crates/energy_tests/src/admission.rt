@@ -1,4 +1,4 @@
-//! Which entries of a meter are recorded, and with which energy.
+//! Tests which entries of a meter are recorded, and with which energy.
 use crate::terms::{PREVIOUS, TOTAL_LIMIT, booked, last};
 use crate::verdicts::ranged;
 use energy_core::{Acc32, Counter, Entry, Last, Step, TermFault, Terms, enter};
@@ -71,8 +71,8 @@ static CASES: [Case; 21] = [
         entry: step!(5_000_000, 5300, 0),
         answer: booked!(last!(5_000_000, 5300, 0), 2_701_800, 0),
     },
-    // A step over at most 3,000 quarter hours: from the last second of one, from the first second
-    // of one, and with one second more.
+    // Steps over 3,000 quarter hours, which begin in the last second or in the first second of a
+    // quarter hour. Each step is also tested with one second more.
     Case {
         total: 0,
         last: last!(899, 5200, 0),
@@ -97,14 +97,14 @@ static CASES: [Case; 21] = [
         entry: step!(2_700_901, 5300, 0),
         answer: Err(TermFault::SpanTooLong),
     },
-    // The greatest number of rollovers.
+    // An entry with the greatest number of rollovers.
     Case {
         total: 0,
         last: last!(1900, 5200, -3),
         entry: step!(2000, 0, 255),
         answer: booked!(last!(2000, 0, -3), 1900, 1_095_216_655_280),
     },
-    // The limit of the total energy: just reached, and passed.
+    // Entries that reach the limit of the total energy, and entries that exceed it.
     Case {
         total: NEARLY_FULL,
         last: PREVIOUS,
@@ -117,8 +117,8 @@ static CASES: [Case; 21] = [
         entry: step!(2000, 5202, 0),
         answer: Err(TermFault::TotalFull),
     },
-    // A change of the counter. The step ends at the value before the change, and the counter
-    // continues from the new value.
+    // A reset or a rescale of the counter. The step ends at the value before the change, and the
+    // counter continues from the value after the change.
     Case {
         total: 200_000,
         last: PREVIOUS,
@@ -131,7 +131,7 @@ static CASES: [Case; 21] = [
         entry: change!(2000, 5250, 0, 0),
         answer: booked!(last!(2000, 0, 0), 1900, 50_000),
     },
-    // Scale factors that an entry may and may not have.
+    // Scale factors that an entry may set, and scale factors that it may not.
     Case {
         total: 0,
         last: PREVIOUS,
@@ -156,7 +156,7 @@ static CASES: [Case; 21] = [
         entry: change!(2000, 5200, 1, 4),
         answer: Err(TermFault::BadScale),
     },
-    // If several faults apply, the first one is reported.
+    // Entries with several faults. The first fault in the order of the rules is reported.
     Case {
         total: NEARLY_FULL,
         last: PREVIOUS,
@@ -216,8 +216,8 @@ static BELOW_A_MILLION: [Case; 7] = [
     },
 ];
 
-/// A counter of the least range: 255 full turns of 65,536 counts, and the greatest number that it
-/// shows.
+/// Entries of a counter with the least range: 255 full turns of 65,536 counts, and the greatest
+/// number that it shows.
 static BELOW_65536: [Case; 5] = [
     Case {
         total: 0,
@@ -274,13 +274,13 @@ fn enters<C: Counter>(rt: &impl Abort, counter: &C, cases: &[Case]) {
     }
 }
 
-/// An entry is recorded, or is refused for the first fault that applies.
+/// Checks that an entry is recorded, or refused for the first fault that applies.
 #[test]
 fn entries_are_booked_or_refused(rt: HostRuntime) {
     enters(&rt, &Acc32, &CASES);
 }
 
-/// An entry with a number that its counter cannot show is refused.
+/// Checks that an entry with a count that its counter cannot show is refused.
 #[test]
 fn entries_tell_what_the_counter_can_show(rt: HostRuntime) {
     enters(&rt, &ranged(&rt, 1_000_000), &BELOW_A_MILLION);

@@ -1,4 +1,4 @@
-//! The audit's check of a meter's rows.
+//! Tests how the audit checks the table rows of a meter.
 ghost use Rattle.std.specs.Prelude.{◌<◌, ◌^◌};
 
 use crate::samples::HOUSE;
@@ -10,7 +10,7 @@ use meter_audit::{
 };
 use std::test::Fail;
 
-/// A reading of 5200 at time 1900, after an opening of 5000 at 1000.
+/// A table row of a reading of 5200 counts at 1900 s, after an opening of 5000 counts at 1000 s.
 const FIRST: TableRow = TableRow {
     place: 2,
     kind: RowKind::Reading,
@@ -22,7 +22,7 @@ const FIRST: TableRow = TableRow {
     is_voided: false,
 };
 
-/// A reading of 5300 at time 2800.
+/// A table row of a reading of 5300 counts at 2800 s.
 const SECOND: TableRow = TableRow {
     place: 3,
     kind: RowKind::Reading,
@@ -45,7 +45,7 @@ const SHARES: [Share; 2] = [
     },
 ];
 
-/// Returns why a row after the opening is refused, or None.
+/// Returns the fault for which a row after the opening is refused, or `None`.
 fn refused(row: TableRow) -> Option<RowFault>
     requires { row.place < 2 ^ 63 }
 {
@@ -55,7 +55,7 @@ fn refused(row: TableRow) -> Option<RowFault>
     }
 }
 
-/// A checked row gives its interval rows.
+/// Checks the interval rows that follow from one checked table row.
 #[test]
 fn rows_give_intervals(rt: HostRuntime) {
     let mut progress = start(rt.alloc(), &HOUSE);
@@ -67,7 +67,7 @@ fn rows_give_intervals(rt: HostRuntime) {
     assert!(rt; progress.wanted.as_slice() == &SHARES[1..]);
 }
 
-/// The next row adds to the last interval row.
+/// Checks that the next table row adds energy to the last interval row.
 #[test]
 fn a_row_adds_to_the_last_interval(rt: HostRuntime) -> Result<(), Fail> {
     let mut progress = start(rt.alloc(), &HOUSE);
@@ -82,7 +82,7 @@ fn a_row_adds_to_the_last_interval(rt: HostRuntime) -> Result<(), Fail> {
     Ok(())
 }
 
-/// A voided row gives no interval rows.
+/// Checks that a voided table row adds no interval rows.
 #[test]
 fn a_voided_row_gives_none(rt: HostRuntime) {
     let mut progress = start(rt.alloc(), &HOUSE);
@@ -96,7 +96,7 @@ fn a_voided_row_gives_none(rt: HostRuntime) {
     assert!(rt; progress.wanted.is_empty());
 }
 
-/// A voided row is checked like any other row if the row before it is not voided.
+/// Checks that a voided reading directly after a valid row is checked like a valid reading.
 #[test]
 fn a_voided_row_is_looked_at_after_one_that_stands(rt: HostRuntime) {
     let fast = TableRow {
@@ -113,7 +113,7 @@ fn a_voided_row_is_looked_at_after_one_that_stands(rt: HostRuntime) {
     assert!(rt; check_rows(&HOUSE, &[before, following]).is_ok());
 }
 
-/// After a refused row, the check continues from the index of that row.
+/// Checks that the check continues with the next sequence number after a refused row.
 #[test]
 fn a_refused_row_is_passed_over(rt: HostRuntime) {
     let mut progress = start(rt.alloc(), &HOUSE);
@@ -122,8 +122,8 @@ fn a_refused_row_is_passed_over(rt: HostRuntime) {
     assert!(rt; progress.check.place == 3 && progress.check.total == 0);
 }
 
-/// A row is refused if an unused column is not 0, or if another entry than a rescale changes the
-/// scale factor.
+/// Checks that a row is refused if an unused column is not 0, or if an entry other than a rescale
+/// changes the scale factor.
 #[test]
 fn columns_are_looked_at(rt: HostRuntime) {
     assert!(rt; refused(FIRST).is_none());
@@ -145,8 +145,8 @@ fn columns_are_looked_at(rt: HostRuntime) {
     assert!(rt; refused(voided) == Some(RowFault::CannotBeVoided));
 }
 
-/// A reading above the meter's ceiling is refused. An entry by hand may pass the ceiling, but the
-/// counter may not go back.
+/// Checks that a reading above the meter's ceiling is refused. An entry by hand may exceed the
+/// ceiling, but its count may not go back.
 #[test]
 fn numbers_are_looked_at(rt: HostRuntime) {
     let fast = TableRow {
@@ -166,8 +166,8 @@ fn numbers_are_looked_at(rt: HostRuntime) {
     assert!(rt; refused(back) == Some(RowFault::Refused(TermFault::NegativeStep)));
 }
 
-/// Rows must be in order of time. The first row that is not later than the row before it is
-/// reported by its index.
+/// Checks that rows must be in order of time. The first row that is not later than the row before
+/// it is reported by its index.
 #[test]
 fn rows_in_their_order(rt: HostRuntime) {
     assert!(rt; check_rows(&HOUSE, &[FIRST, SECOND]).is_ok());
@@ -182,7 +182,7 @@ fn rows_in_their_order(rt: HostRuntime) {
     assert!(rt; check_rows(&HOUSE, &[FIRST, late]) == Err(wanted));
 }
 
-/// No row may follow a closing of the meter.
+/// Checks that no row may follow the closing of a meter.
 #[test]
 fn nothing_comes_after_a_closing(rt: HostRuntime) {
     let closing = TableRow {
@@ -196,7 +196,8 @@ fn nothing_comes_after_a_closing(rt: HostRuntime) {
     assert!(rt; check_rows(&HOUSE, &[closing, SECOND]) == Err(wanted));
 }
 
-/// The check reports the first interval row that has another energy than the entries give.
+/// Checks that the audit reports the first interval row whose energy differs from the energy
+/// computed from the entries.
 #[test]
 fn intervals_differ(rt: HostRuntime) {
     assert!(rt; first_difference(&SHARES, &SHARES).is_none());
@@ -217,7 +218,7 @@ fn intervals_differ(rt: HostRuntime) {
     assert!(rt; first_difference(&SHARES, &[SHARES[0], other]) == Some(wanted));
 }
 
-/// The check reports an interval row that only one of the two lists has.
+/// Checks that the audit reports an interval row that only one of the two lists has.
 #[test]
 fn an_interval_alone(rt: HostRuntime) {
     let wanted = IntervalDifference {

@@ -1,4 +1,4 @@
-//! Entries that a person makes. The last reading showed 5200 at time 1900, and the energy so far is
+//! Tests entries by hand. The last reading showed 5200 counts at 1900 s, and the energy so far is
 //! 200 Wh.
 use crate::terms::{PREVIOUS, booked, last};
 use energy_core::{Acc32, Last, Step, TermFault, Terms, close, manual, rescale, reset};
@@ -20,7 +20,7 @@ const SET_TO_0: Answer = booked!(last!(2000, 0, 0), 1900, 50_000);
 
 const AT_TEN_WATT_HOURS: Answer = booked!(last!(2000, 520, 1), 1900, 0);
 
-/// A reading by hand is an entry.
+/// Checks that a reading by hand is recorded as an entry.
 #[test]
 fn readings_by_hand_are_entries(rt: HostRuntime) {
     let answer = manual(&Acc32, &TERMS, &PREVIOUS, 2000, 5300, 0);
@@ -29,7 +29,7 @@ fn readings_by_hand_are_entries(rt: HostRuntime) {
     assert!(rt; answer == OVER_A_TURN);
 }
 
-/// A reading at closing is an entry.
+/// Checks that a reading at closing is recorded as an entry.
 #[test]
 fn readings_at_closing_are_entries(rt: HostRuntime) {
     let answer = close(&Acc32, &TERMS, &PREVIOUS, 2000, 5200, 0);
@@ -38,7 +38,7 @@ fn readings_at_closing_are_entries(rt: HostRuntime) {
     assert!(rt; answer == Err(TermFault::NegativeStep));
 }
 
-/// A reset and a rescale are entries.
+/// Checks that a reset and a rescale are recorded as entries.
 #[test]
 fn resets_and_rescales_are_entries(rt: HostRuntime) {
     let answer = reset(&Acc32, &TERMS, &PREVIOUS, 2000, 5250, 0);

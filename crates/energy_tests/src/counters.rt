@@ -1,9 +1,9 @@
-//! Counters that roll over.
+//! Tests counters that roll over.
 use crate::verdicts::ranged;
 use energy_core::{Acc32, Counter, Ranged};
 use std::process::Abort;
 
-/// What a counter shows at a true count of pulses, without the full turns.
+/// A true count of pulses, and the number that the counter shows, which lacks the full turns.
 struct Shown {
     count: u64,
     shown: u32,
@@ -46,21 +46,21 @@ fn shows<C: Counter>(rt: &impl Abort, counter: &C, range: u64, cases: &[Shown]) 
     }
 }
 
-/// A counter shows the true count without its full turns.
+/// Checks that a counter shows its true count without the full turns.
 #[test]
 fn counters_show_the_count_without_its_turns(rt: HostRuntime) {
     shows(&rt, &Acc32, 4_294_967_296, &OF_32_BITS);
     shows(&rt, &ranged(&rt, 4_294_967_296), 4_294_967_296, &OF_32_BITS);
 }
 
-/// A counter may roll over at another value than 2^32.
+/// Checks that a counter may roll over at a value other than 2^32.
 #[test]
 fn a_counter_may_have_a_range_of_its_own(rt: HostRuntime) {
     shows(&rt, &ranged(&rt, 65_536), 65_536, &OF_16_BITS);
     shows(&rt, &ranged(&rt, 1_000_000), 1_000_000, &BELOW_A_MILLION);
 }
 
-/// A counter's range that is too small or too great is refused.
+/// Checks that a counter's range is refused if it is too small or too great.
 #[test]
 fn ranges_have_bounds(rt: HostRuntime) {
     for range in UNLAWFUL {

@@ -1,4 +1,4 @@
-//! The civil days of interval rows in a time zone.
+//! Tests the civil days of interval rows in a time zone.
 use crate::shares::{share, shares_of, step};
 use energy_core::Step;
 use interval_core::{DayFault, DayFold, DayTotal, Share, Zone, by_day};
@@ -9,7 +9,7 @@ pub const CENTRAL_EUROPE: &str = "CET-1CEST,M3.5.0,M10.5.0/3";
 
 const EASTERN: &str = "EST5EDT,M3.2.0,M11.1.0";
 
-/// A civil day, how many interval rows it has, and their energy in mWh.
+/// An expected civil day, the number of its intervals, and their energy in mWh.
 struct Told {
     year: i16,
     month: i8,
@@ -37,7 +37,8 @@ struct Case {
 }
 
 static CASES: [Case; 7] = [
-    // A day of 23 hours and a day of 25 hours, when daylight saving time begins and ends.
+    // A day of 23 hours, on which daylight saving time begins, and a day of 25 hours, on which it
+    // ends.
     Case {
         zone: CENTRAL_EUROPE,
         step: step!(1_711_839_600, 1_711_922_400, 920_000),
@@ -48,7 +49,7 @@ static CASES: [Case; 7] = [
         step: step!(1_729_980_000, 1_730_070_000, 1_000_000),
         days: &[told!(2024, 10, 27, 100, 1_000_000)],
     },
-    // A change of the clocks that sets them back over midnight.
+    // A change that sets the clocks back over midnight.
     Case {
         zone: "AAA0BBB,M3.2.0/0:30,M11.1.0/0:30",
         step: step!(1_730_587_500, 1_730_592_900, 60_000),
@@ -79,7 +80,7 @@ static CASES: [Case; 7] = [
     },
 ];
 
-/// Returns a `DayFold` after these rows, which are added one by one.
+/// Returns a `DayFold` to which the given rows were added one by one.
 fn folded(
     rt: &impl Abort,
     alloc: Global,
@@ -105,7 +106,7 @@ fn is_told(total: &DayTotal, told: &Told) -> bool {
         && total.mwh == told.mwh
 }
 
-/// Returns whether the totals are these days.
+/// Returns whether day totals equal the expected days.
 fn are_told(totals: &[DayTotal], days: &[Told]) -> bool {
     totals.len() == days.len()
         && totals
@@ -114,8 +115,8 @@ fn are_told(totals: &[DayTotal], days: &[Told]) -> bool {
             .all(|(total, told)| is_told(total, told))
 }
 
-/// Returns whether the fold of these rows has these days: the fold itself, a clone of it, and its
-/// rows as a list.
+/// Returns whether rows add up to the expected days. The function checks a fold, a clone of the
+/// fold, and the list of the fold's days.
 fn folds_to(
     rt: &impl Abort,
     alloc: Global,
@@ -135,7 +136,8 @@ fn is_spread_so(rt: &impl Abort, alloc: Global, case: &Case) -> bool {
     folds_to(rt, alloc, &rows, &zone, case.days).expect(rt, "no days")
 }
 
-/// The days follow the zone's clocks, also when daylight saving time begins or ends.
+/// Checks that civil days follow the clocks of a zone, also when daylight saving time begins or
+/// ends.
 #[test]
 fn days_follow_the_clocks_of_a_zone(rt: HostRuntime) {
     for (i, case) in CASES.iter().enumerate() {
@@ -143,7 +145,7 @@ fn days_follow_the_clocks_of_a_zone(rt: HostRuntime) {
     }
 }
 
-/// Rows by quarter hour. The quarter hour from 2700 has two rows.
+/// Interval rows. Two of them are in the quarter hour from 2700 s.
 static ROWS: [Share; 5] = [
     share!(900, 177_777),
     share!(1800, 111_111),
@@ -154,7 +156,7 @@ static ROWS: [Share; 5] = [
 
 static FOUR_INTERVALS: [Told; 1] = [told!(1970, 1, 1, 4, 345_000)];
 
-/// A quarter hour with two rows counts once.
+/// Checks that a quarter hour with two rows counts once.
 #[test]
 fn an_interval_with_two_rows_counts_once(rt: HostRuntime) {
     let zone = Zone::read("UTC0").expect(&rt, "no zone");
@@ -165,7 +167,7 @@ static ONE_ROW: [Share; 1] = [share!(1_711_839_600, 7)];
 
 static ONE_INTERVAL: [Told; 1] = [told!(2024, 3, 31, 1, 7)];
 
-/// `by_day` adds rows up by civil day. Without rows there are no days.
+/// Checks that `by_day` adds up rows by civil day, and that an empty list of rows has no days.
 #[test]
 fn by_day_adds_up_rows(rt: HostRuntime) {
     let zone = Zone::read(CENTRAL_EUROPE).expect(&rt, "no zone");

@@ -1,4 +1,4 @@
-//! The texts of causes and faults about energy.
+//! Tests the texts of causes and faults about energy.
 use crate::texts::tells;
 use energy_core::{Cause, TermFault};
 use interval_core::{DayFault, ZoneFault};
@@ -78,7 +78,7 @@ const ZONES: [(ZoneFault, &str); 2] = [
     (ZoneFault::Memory, "memory ran out"),
 ];
 
-/// Each cause of a rejection and each fault has its text.
+/// Checks that each cause of a rejection and each fault has its text.
 #[test]
 fn energy(rt: HostRuntime) {
     tells(&rt, rt.alloc(), &HELD);

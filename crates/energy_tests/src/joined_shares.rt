@@ -1,9 +1,9 @@
-//! Shares of several steps that are merged into one row for each quarter hour.
+//! Tests that shares of several steps are merged into one row for each quarter hour.
 use energy_core::Step;
 use interval_core::Share;
 use meter_journal::{append_shares, join};
 
-/// The interval rows of the two steps in `steps_share_an_interval`.
+/// The expected interval rows of the two steps in the test `steps_share_an_interval`.
 const ROWS: [Share; 3] = [
     Share {
         start: 900,
@@ -19,7 +19,7 @@ const ROWS: [Share; 3] = [
     },
 ];
 
-/// Two steps in one quarter hour share its row.
+/// Checks that two steps in one quarter hour share its row.
 #[test]
 fn steps_share_an_interval(rt: HostRuntime) {
     let mut rows = Vec::new(rt.alloc());
@@ -51,7 +51,8 @@ const NEXT: Share = Share {
     mwh: 0,
 };
 
-/// The row of a quarter hour stays pending until a share of another quarter hour arrives.
+/// Checks that the row of a quarter hour stays pending until a share of another quarter hour
+/// arrives.
 #[test]
 fn one_row_stays_open(rt: HostRuntime) {
     let mut pending = None;

@@ -1,18 +1,18 @@
-//! The rows of a meter's journal in a list.
+//! Tests the list of a meter's entry rows.
 use crate::samples::{HOUSE, of_kind, reading, struck};
 use energy_core::{Entry, Last};
 use meter_journal::{
     EntryKind, EntryRow, are_numbered, find_row, is_voidable, last_of_rows, row_after, strike,
 };
 
-/// The state of a 32-bit counter that is about to roll over.
+/// The state of a 32-bit counter that is 96 counts before its rollover.
 const TURNING: Last = Last {
     at: 1000,
     raw: 4_294_967_200,
     sf: 0,
 };
 
-/// The indices of rows continue from the opening's index.
+/// Checks that the sequence numbers of entries continue from the number of the opening.
 #[test]
 fn places_count_on(rt: HostRuntime) {
     let entry = Entry::Step {
@@ -26,7 +26,7 @@ fn places_count_on(rt: HostRuntime) {
     assert!(rt; after_a_void == reading(3, 1900, 5200, 0));
 }
 
-/// Rows must have consecutive indices.
+/// Checks that rows must have consecutive sequence numbers.
 #[test]
 fn rows_have_their_places(rt: HostRuntime) {
     let rows = [reading(2, 1900, 5200, 0), struck(reading(3, 2800, 5300, 0))];
@@ -35,7 +35,7 @@ fn rows_have_their_places(rt: HostRuntime) {
     assert!(rt; !are_numbered(&[rows[0], rows[0]]));
 }
 
-/// Of all entries, only a closing closes a meter.
+/// Checks that only an entry of the kind closing closes a meter.
 #[test]
 fn a_closing_alone_closes(rt: HostRuntime) {
     assert!(rt; EntryKind::Closing.is_closing());
@@ -43,7 +43,7 @@ fn a_closing_alone_closes(rt: HostRuntime) {
     assert!(rt; !EntryKind::Reset.is_closing() && !EntryKind::Rescale.is_closing());
 }
 
-/// If the reading after a voided one has a rollover, it keeps the rollover.
+/// Checks that the reading after a voided reading keeps its own rollover.
 #[test]
 fn a_void_over_a_rollover(rt: HostRuntime) {
     let mut rows = [reading(2, 1900, 4_294_967_290, 0), reading(3, 2800, 104, 1)];
@@ -52,7 +52,7 @@ fn a_void_over_a_rollover(rt: HostRuntime) {
     assert!(rt; rows[1] == reading(3, 2800, 104, 1));
 }
 
-/// If a voided reading has a rollover, the reading after it gets the rollover.
+/// Checks that the rollover of a voided reading moves to the reading after it.
 #[test]
 fn a_void_moves_a_rollover(rt: HostRuntime) {
     let mut rows = [reading(2, 1900, 4, 1), reading(3, 2800, 104, 0)];
@@ -61,7 +61,8 @@ fn a_void_moves_a_rollover(rt: HostRuntime) {
     assert!(rt; rows[1] == reading(3, 2800, 104, 1));
 }
 
-/// Only a reading may be voided, and only if a reading or nothing follows it.
+/// Checks that only a reading may be voided, and only if the next valid row is a reading or does
+/// not exist.
 #[test]
 fn only_readings_are_voided(rt: HostRuntime) {
     let row = reading(2, 1900, 5200, 0);
@@ -74,7 +75,7 @@ fn only_readings_are_voided(rt: HostRuntime) {
     assert!(rt; !is_voidable(&row, &Some(of_kind(EntryKind::Closing, next))));
 }
 
-/// A row is found by its index, together with the next row that is not voided.
+/// Checks that a row is found by its sequence number, together with the next valid row.
 #[test]
 fn rows_by_place(rt: HostRuntime) {
     let rows = [
@@ -90,7 +91,7 @@ fn rows_by_place(rt: HostRuntime) {
     assert!(rt; find_row(&rows, 5).is_none());
 }
 
-/// The state of the counter follows from the rows that are not voided.
+/// Checks that the state of the counter follows from the valid rows only.
 #[test]
 fn the_counter_after_rows(rt: HostRuntime) {
     let first = reading(2, 1900, 5200, 0);

@@ -1,4 +1,4 @@
-//! Tests of energy: which readings are accepted, interval rows and civil days, and the journal of
+//! Tests which readings are accepted, the energy by quarter hour and civil day, and the journal of
 //! one meter.
 #![tactic(auto)]
 

@@ -1,4 +1,4 @@
-//! The numbers under which causes and faults are printed and stored.
+//! Tests the numbers under which causes and faults are printed and stored.
 use energy_core::{Cause, TermFault};
 use interval_core::{DayFault, ZoneFault};
 
@@ -22,7 +22,7 @@ static FAULTS: [(TermFault, u8); 6] = [
     (TermFault::NotBelowRange, 6),
 ];
 
-/// Each cause has its number.
+/// Checks the number of each cause of a rejection.
 #[test]
 fn causes_have_numbers(rt: HostRuntime) {
     for (cause, number) in &CAUSES {
@@ -30,7 +30,7 @@ fn causes_have_numbers(rt: HostRuntime) {
     }
 }
 
-/// Each fault of an entry has its number.
+/// Checks the number of each fault of an entry.
 #[test]
 fn faults_of_entries_have_numbers(rt: HostRuntime) {
     for (fault, number) in &FAULTS {
@@ -38,7 +38,7 @@ fn faults_of_entries_have_numbers(rt: HostRuntime) {
     }
 }
 
-/// Each fault of a zone or a day has its number.
+/// Checks the number of each fault of a zone or a civil day.
 #[test]
 fn faults_of_zones_and_days_have_numbers(rt: HostRuntime) {
     assert!(rt; ZoneFault::Text.number() == 1);

@@ -1,10 +1,10 @@
-//! Rows that the tests share.
+//! Meters and entry rows that the tests share.
 ghost use Rattle.std.specs.Prelude.{◌≡◌, true, false};
 
 use energy_core::{Entry, Last};
 use meter_journal::{EntryKind, EntryRow, Installed};
 
-/// A meter with a 32-bit counter that showed 5000 at time 1000.
+/// A meter with a 32-bit counter that showed 5000 counts at 1000 s.
 pub(crate) const HOUSE: Installed = Installed {
     range: 4_294_967_296,
     ceiling: 100_000,
@@ -15,7 +15,7 @@ pub(crate) const HOUSE: Installed = Installed {
     },
 };
 
-/// Returns the journal row of a reading that is not voided.
+/// Returns the entry row of a valid reading.
 pub(crate) fn reading(place: u64, at: u64, raw: u32, rolls: u8) -> EntryRow
     ensures place { result.place ≡ place }
     ensures stands { result.stands ≡ true }
@@ -28,7 +28,7 @@ pub(crate) fn reading(place: u64, at: u64, raw: u32, rolls: u8) -> EntryRow
     }
 }
 
-/// Returns the row, marked as voided.
+/// Returns an entry row, marked as voided.
 pub(crate) fn struck(row: EntryRow) -> EntryRow
     ensures place { result.place ≡ row.place }
     ensures stands { result.stands ≡ false }
@@ -39,7 +39,7 @@ pub(crate) fn struck(row: EntryRow) -> EntryRow
     }
 }
 
-/// Returns the row with another kind of entry.
+/// Returns an entry row with its kind replaced.
 pub(crate) fn of_kind(kind: EntryKind, row: EntryRow) -> EntryRow
     ensures place { result.place ≡ row.place }
 {

@@ -1,4 +1,4 @@
-//! The shares of a step: its energy in each quarter hour that it touches.
+//! Tests the shares of a step, which are its energies in the quarter hours that it touches.
 use energy_core::Step;
 use interval_core::{INTERVAL, Share, Shares};
 use std::alloc::{AllocError, Global};
@@ -9,7 +9,7 @@ struct Case {
     shares: &'static [Share],
 }
 
-/// A step between two times, with this energy in mWh.
+/// Creates a step from its two times and its energy in mWh.
 macro_rules! step {
     ($from:expr, $till:expr, $mwh:expr) => {
         Step {
@@ -67,10 +67,10 @@ static CASES: [Case; 8] = [
     },
 ];
 
-/// The energies in mWh of steps from time 0 that touch 3,000 quarter hours.
+/// The energies in mWh of steps from 0 s that touch 3,000 quarter hours.
 static LONG: [u64; 3] = [0, 1000, 4_000_000_000_000_000_000];
 
-/// Returns the shares of a step.
+/// Returns the list of the shares of a step.
 pub fn shares_of(rt: &impl Abort, alloc: Global, step: &Step) -> Result<Vec<Share>, AllocError> {
     assert!(rt; step.from < step.till);
     assert!(rt; (step.till - 1) / 900 - step.from / 900 < 3000);
@@ -86,7 +86,7 @@ fn sum(shares: &[Share]) -> u64 {
     sum
 }
 
-/// A step is spread over the quarter hours that it touches.
+/// Checks that the energy of a step is spread over the quarter hours that it touches.
 #[test]
 fn a_step_is_spread_over_its_intervals(rt: HostRuntime) {
     for (i, case) in CASES.iter().enumerate() {
@@ -95,7 +95,7 @@ fn a_step_is_spread_over_its_intervals(rt: HostRuntime) {
     }
 }
 
-/// The shares of a step over 3,000 quarter hours add up to its energy.
+/// Checks that the shares of a step over 3,000 quarter hours add up to the step's energy.
 #[test]
 fn three_thousand_intervals_lose_nothing(rt: HostRuntime) {
     for mwh in LONG {

@@ -10,7 +10,7 @@ pub const PREVIOUS: Last = Last {
     sf: 0,
 };
 
-/// The state of a counter: its time, its value and its scale factor.
+/// Creates the state of a counter from its time, its count and its scale factor.
 macro_rules! last {
     ($at:expr, $raw:expr, $sf:expr) => {
         Last {
@@ -21,8 +21,8 @@ macro_rules! last {
     };
 }
 
-/// The result of a recorded entry: the counter's state after it, the time of the entry before it,
-/// and the energy between the two.
+/// Creates the result of a recorded entry. Its arguments are the counter's state after the entry,
+/// the time of the entry before it, and the energy in mWh.
 macro_rules! booked {
     ($last:expr, $from:expr, $mwh:expr) => {
         Ok((

@@ -1,9 +1,9 @@
-//! Checks the texts of faults.
+//! Checks the texts of causes and faults.
 use std::alloc::Global;
 use std::fmt::Display;
 use std::process::Abort;
 
-/// Asserts that each fault has this text, without a full stop.
+/// Asserts that each fault has its expected text, without a full stop.
 pub(crate) fn tells<F: Display>(rt: &impl Abort, alloc: Global, texts: &[(F, &str)]) {
     for (fault, text) in texts {
         let said = format!(in alloc; "{fault}").expect(rt, "no memory");

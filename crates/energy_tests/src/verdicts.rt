@@ -1,4 +1,4 @@
-//! Which readings are accepted, and why others are rejected.
+//! Tests which readings are accepted, and for which causes other readings are rejected.
 use crate::terms::{PREVIOUS, TOTAL_LIMIT, last};
 use energy_core::{Acc32, Cause, Counter, Last, Ranged, Reading, Terms, Verdict, judge};
 use std::process::Abort;
@@ -46,7 +46,7 @@ static CASES: [Case; 22] = [
         reading: reading!(1900, 5200, 0),
         verdict: accepted!(0, 200_000),
     },
-    // No advance of the counter, and the least advance.
+    // Readings without an advance of the counter, and with the least advance.
     Case {
         ceiling: 1,
         total: 0,
@@ -68,7 +68,7 @@ static CASES: [Case; 22] = [
         reading: reading!(1901, 5202, 0),
         verdict: held!(TooFast),
     },
-    // A rollover, with power at the ceiling and below it.
+    // Readings after a rollover, with power at the ceiling and below it.
     Case {
         ceiling: 1000,
         total: 0,
@@ -90,7 +90,7 @@ static CASES: [Case; 22] = [
         reading: reading!(1900, 104, 0),
         verdict: held!(TooFast),
     },
-    // A lower value that can't be a rollover.
+    // A reading that is less than the last entry and cannot be a rollover.
     Case {
         ceiling: 100_000,
         total: 0,
@@ -98,7 +98,7 @@ static CASES: [Case; 22] = [
         reading: reading!(2800, 5199, 0),
         verdict: held!(TooFast),
     },
-    // The longest time between two readings in which the counter can't make a full turn.
+    // Readings after the longest time in which the counter cannot make a full turn.
     Case {
         ceiling: 1_000_000,
         total: 0,
@@ -113,7 +113,7 @@ static CASES: [Case; 22] = [
         reading: reading!(15462, 501, -3),
         verdict: held!(GapTooLong),
     },
-    // A reading after a rescale, and one after a reset.
+    // A reading after a rescale, and a reading after a reset.
     Case {
         ceiling: 100_000,
         total: 200_000,
@@ -142,7 +142,7 @@ static CASES: [Case; 22] = [
         reading: reading!(3700, 30, 0),
         verdict: accepted!(0, 30_000),
     },
-    // The limit of the total energy.
+    // Readings at the limit of the total energy.
     Case {
         ceiling: 1_000_000,
         total: 3_999_999_999_999_999_000,
@@ -157,7 +157,7 @@ static CASES: [Case; 22] = [
         reading: reading!(900, 3, 0),
         verdict: held!(TotalFull),
     },
-    // A step over 3,000 quarter hours, which is the limit.
+    // Readings whose step touches 3,000 quarter hours, which is the limit.
     Case {
         ceiling: 1000,
         total: 0,
@@ -172,7 +172,8 @@ static CASES: [Case; 22] = [
         reading: reading!(2_700_001, 2, 0),
         verdict: held!(SpanTooLong),
     },
-    // If several causes apply, the first one in the order of the rules is reported.
+    // Readings with several causes of rejection. The first cause in the order of the rules is
+    // reported.
     Case {
         ceiling: 1000,
         total: 0,
@@ -194,7 +195,7 @@ static CASES: [Case; 22] = [
         reading: reading!(1900, 0, 1),
         verdict: held!(NotAccumulated),
     },
-    // The greatest ceiling that a meter may have.
+    // A reading of a meter with the greatest ceiling.
     Case {
         ceiling: 1_000_000_000,
         total: 0,
@@ -258,8 +259,8 @@ static BELOW_A_MILLION: [Case; 7] = [
     },
 ];
 
-/// A case without energy so far. Its arguments are the ceiling, the scale factor, the last entry's
-/// time and value, the reading's time and value, and the verdict.
+/// Creates a case with a total energy of 0. Its arguments are the ceiling, the scale factor, the
+/// last entry's time and count, the reading's time and count, and the verdict.
 macro_rules! case {
     ($ceiling:expr, $sf:expr, $from:expr, $before:expr, $at:expr, $raw:expr, $verdict:expr) => {
         Case {
@@ -276,7 +277,7 @@ static LEAST_RANGE: [Case; 5] = [
     case!(100_000, 0, 0, 65_535, 900, 65_535, accepted!(0, 0)),
     case!(100_000, 0, 0, 65_535, 900, 1, accepted!(1, 2000)),
     case!(100_000, 0, 0, 5, 900, 65_536, held!(NotBelowRange)),
-    // A power of 100 kW makes a full turn of the counter, 65,536 Wh, in 2,359.26 seconds.
+    // A full turn of the counter, 65,536 Wh, takes 2,359.26 seconds at 100 kW.
     case!(100_000, 0, 0, 5, 2359, 6, accepted!(0, 1000)),
     case!(100_000, 0, 0, 5, 2360, 6, held!(GapTooLong)),
 ];
@@ -285,8 +286,8 @@ static GREATEST_RANGE: [Case; 22] = [
     case!(1, 0, 0, 4_294_967_295, 4, 4_294_967_295, accepted!(0, 0)),
     case!(1, 0, 0, 4_294_967_294, 4, 4_294_967_295, accepted!(0, 1000)),
     case!(1000, 0, 0, 4_294_967_295, 900, 1, accepted!(1, 2000)),
-    // The greatest ceiling allows a full turn, 4,294,967,296 Wh, in 15,461.88 seconds. It allows
-    // 4,294,722,222.2 Wh in 15,461 seconds.
+    // A full turn of the counter, 4,294,967,296 Wh, takes 15,461.88 seconds at the greatest ceiling
+    // of 1 GW. In 15,461 seconds, 1 GW is 4,294,722,222.2 Wh.
     case!(1_000_000_000, 0, 0, 5, 15_461, 6, accepted!(0, 1000)),
     case!(1_000_000_000, 0, 0, 5, 15_462, 6, held!(GapTooLong)),
     case!(1_000_000_000, 0, 0, 1, 15_461, 4_294_722_224, FARTHEST),
@@ -299,8 +300,8 @@ static GREATEST_RANGE: [Case; 22] = [
         4_294_722_225,
         held!(TooFast)
     ),
-    // In 18 seconds, 1 W gives 5 mWh, and the greatest ceiling 5,000 kWh. The counter may show one
-    // count more.
+    // In 18 seconds, 1 W is 5 mWh, and the greatest ceiling of 1 GW is 5,000 kWh. The counter may
+    // show one count more.
     case!(1, -3, 0, 1, 18, 7, accepted!(0, 6)),
     case!(1, -3, 0, 1, 18, 8, held!(TooFast)),
     case!(
@@ -313,7 +314,7 @@ static GREATEST_RANGE: [Case; 22] = [
         accepted!(0, 5_001_000_000)
     ),
     case!(1_000_000_000, 3, 0, 1, 18, 5003, held!(TooFast)),
-    // An advance of one count at each scale factor.
+    // Readings with an advance of one count at each scale factor.
     case!(1_000_000, -3, 0, 1, 900, 2, accepted!(0, 1)),
     case!(1_000_000, -2, 0, 1, 900, 2, accepted!(0, 10)),
     case!(1_000_000, -1, 0, 1, 900, 2, accepted!(0, 100)),
@@ -321,8 +322,8 @@ static GREATEST_RANGE: [Case; 22] = [
     case!(1_000_000, 1, 0, 1, 900, 2, accepted!(0, 10_000)),
     case!(1_000_000, 2, 0, 1, 900, 2, accepted!(0, 100_000)),
     case!(1_000_000, 3, 0, 1, 900, 2, accepted!(0, 1_000_000)),
-    // A step over 3,000 quarter hours: from the last second of one, from the first second of one,
-    // and with one second more.
+    // Steps over 3,000 quarter hours, which begin in the last second or in the first second of a
+    // quarter hour. Each step is also tested with one second more.
     case!(1000, 0, 899, 1, 2_700_000, 2, accepted!(0, 1000)),
     case!(1000, 0, 899, 1, 2_700_001, 2, held!(SpanTooLong)),
     case!(1000, 0, 900, 1, 2_700_900, 2, accepted!(0, 1000)),
@@ -351,24 +352,24 @@ fn judges<C: Counter>(rt: &impl Abort, counter: &C, cases: &[Case]) {
     }
 }
 
-/// Returns the range of a counter with this number of values.
+/// Returns a counter with the given range in counts.
 pub(crate) fn ranged(rt: &impl Abort, range: u64) -> Ranged {
     Ranged::new(range).expect(rt, "no lawful range")
 }
 
-/// Readings of a 32-bit counter get the expected verdicts.
+/// Checks the verdicts on readings of a 32-bit counter.
 #[test]
 fn readings_are_judged_on_a_counter_of_32_bits(rt: HostRuntime) {
     judges(&rt, &Acc32, &CASES);
 }
 
-/// Readings of a counter that rolls over at a million get the expected verdicts.
+/// Checks the verdicts on readings of a counter that rolls over at 1,000,000 counts.
 #[test]
 fn readings_are_judged_below_a_million(rt: HostRuntime) {
     judges(&rt, &ranged(&rt, 1_000_000), &BELOW_A_MILLION);
 }
 
-/// Readings of counters with the least and the greatest range get the expected verdicts.
+/// Checks the verdicts on readings of counters with the least and the greatest range.
 #[test]
 fn readings_are_judged_at_both_ends_of_ranges(rt: HostRuntime) {
     judges(&rt, &ranged(&rt, 65_536), &LEAST_RANGE);

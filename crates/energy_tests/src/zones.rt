@@ -1,9 +1,9 @@
-//! The texts of time zones, and the civil days of times.
+//! Tests the texts of time zones, and the civil days of timestamps.
 use crate::days::CENTRAL_EUROPE;
 use interval_core::{Zone, ZoneFault, day_of};
 use std::process::Abort;
 
-/// The text of a time zone, a time, and the civil day of that time in the zone.
+/// The text of a time zone, a timestamp, and the civil day of the timestamp in the zone.
 struct Case {
     zone: &'static str,
     moment: u64,
@@ -35,7 +35,7 @@ static CASES: [Case; 8] = [
     day!(CENTRAL_EUROPE, 1_711_839_600, 2024, 3, 31),
 ];
 
-/// Texts that are no time zones. The last one has 65 bytes, and 64 are allowed.
+/// Texts that are not time zones. The last text has 65 bytes, and 64 bytes are allowed.
 static NO_ZONES: [&str; 9] = [
     "",
     "UTC",
@@ -62,7 +62,7 @@ fn assert_on_its_day(rt: &impl Abort, case: &Case) {
     );
 }
 
-/// The earliest and the latest time that the program accepts have civil days.
+/// Checks that the earliest and the latest timestamp that the program accepts have civil days.
 #[test]
 fn the_first_and_the_last_moment_have_days(rt: HostRuntime) {
     for case in &CASES {
@@ -70,7 +70,7 @@ fn the_first_and_the_last_moment_have_days(rt: HostRuntime) {
     }
 }
 
-/// A text that is not a POSIX time zone rule is refused.
+/// Checks that a text that is not a POSIX time zone rule is refused.
 #[test]
 fn other_texts_are_no_zones(rt: HostRuntime) {
     for text in NO_ZONES {

@@ -1,4 +1,4 @@
--- Records that are added to a store that may refuse calls.
+-- Properties of writes to a store for tests, which fails a chosen call.
 use Rattle.std.proofs.Common.{◌≡◌, List, [], ◌∷◌, true, false, refl, sym, subst, Result, Ok, Err}
 use Rattle.std.proofs.lemmas.List.Elements.{Contains-append_left, Contains-push}
 use Rattle.office_events.specs.declared.facts.Fact.{Fact}
@@ -36,7 +36,7 @@ beneath old new n facts (Err fault) books = record {
   goes = record { clean = books.goes.clean; faults = refl; zone = books.goes.zone };
 }
 
--- The store below added the records, or memory ran out.
+-- A write that reaches the store below satisfies the guarantees of a write.
 pub passed : (old between new : ListBooks) (n k m : Failures) (facts : List Fact) (done result : Result (Unit {0}) BooksFault)
     → between ≡ old → k ≡ n → result ≡ done → m ≡ faults_after done k → Books (ledger_of between) (ledger_of new) facts done
     → Books (refusing (ledger_of old) n) (refusing (ledger_of new) m) facts result
@@ -47,7 +47,7 @@ passed old between new n k m facts done result same stays is noted books =
     let M : Failures → Type 0 = λ f. Books (refusing (ledger_of between) k) (refusing (ledger_of new) f) facts done in
     subst B same (subst N stays (subst R (sym is) (subst M (sym noted) (beneath (ledger_of between) (ledger_of new) k facts done books))))
 
--- The call was refused, and there were records to add.
+-- A write that fails before it reaches the store below satisfies the guarantees of a failed write.
 refused_at : (ledger : Ledger) (n : Failures) (facts : List Fact) (fault : BooksFault) → (facts ≡ [] → ⊥)
     → Books (refusing ledger n) (refusing ledger (faults_after {T = Unit {0}} (Err fault) n)) facts (Err fault)
 refused_at ledger n facts fault some = record {

@@ -1,10 +1,11 @@
--- The model of a store for tests, which refuses one call before it reaches the store below.
+-- The model of a store for tests, which fails a chosen call and passes all other calls to a store
+-- below.
 use Rattle.std.specs.Prelude.{List, Contains}
 use Rattle.office_events.specs.declared.facts.Fact.{Fact}
 use Rattle.office_books.specs.declared.failures.Failures.{Failures}
 use Rattle.office_books.specs.Ledgers.{Ledger}
 
--- The store holds the records of the store below it, but has failure counts of its own.
+-- The model has the records of the store below, but a separate failure counter.
 abbrev pub refusing : Ledger → Failures → Ledger
 refusing beneath failures = record {
   holds = beneath.holds;

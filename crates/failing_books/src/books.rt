@@ -1,4 +1,4 @@
-//! A store in memory that refuses one call.
+//! A store in memory that fails a chosen call, for tests.
 ghost use Rattle.std.specs.Prelude.{◌≡◌, IfErr};
 ghost use Rattle.office_books.specs.Faults.{faults_after, no_failures};
 ghost use Rattle.office_books.specs.declared.faults.BooksFault.TheVariants.{Store};
@@ -12,15 +12,15 @@ use office_events::{
     Device, EntryPlace, Fact, HeldReading, Installation, Name, PlannedList, Poll, PollRow, Register,
 };
 
-/// A store in memory for tests. It refuses the call with one number, as a failed store does; any
-/// other call fails only if memory runs out.
+/// A store in memory that fails a chosen call, for tests. Every other call fails only for lack of
+/// memory.
 #[derive(Drop)]
 pub struct FailingBooks {
     pub(crate) books: ListBooks,
     pub(crate) calls: u64,
     pub(crate) failing: u64,
     pub(crate) failures: Failures,
-    /// Whether the refused call, if it passes rows to a sink, passes all rows before it is refused.
+    /// True if a failing query that passes rows to a sink passes all rows before it fails.
     pub(crate) rows_come_first: bool,
 }
 
@@ -29,8 +29,8 @@ impl FailingBooks {
     ghost use Rattle.office_events.specs.declared.facts.Fact.{Fact};
     ghost use Rattle.memory_books.specs.Listed.{ledger_of};
 
-    /// Creates a store that refuses call number `failing`. The first call has number 1. Calls that
-    /// cannot fail, and a booking of no records, are not counted.
+    /// Creates a store that fails its call number `failing`, where the first call has number 1.
+    /// Calls that cannot fail and writes of no records are not counted.
     pub fn new(books: ListBooks, failing: u64) -> FailingBooks
         ensures holds { (known : List Fact) → (ledger_of books).holds known
             → (⟦<FailingBooks as Books>⟧.ledger result).holds known }
@@ -46,7 +46,7 @@ impl FailingBooks {
         }
     }
 
-    /// Counts a call, and refuses it if it is the one with the failing number.
+    /// Counts a call, and fails it if its number is the chosen number.
     fn called(&mut self) -> Result<(), BooksFault>
         ensures books { self.new.books ≡ self.old.books }
         ensures holds { (known : List Fact) → (ledger_of self.old.books).holds known

@@ -1,4 +1,4 @@
-//! A store for tests that fails after the last row of a query.
+//! A store for tests whose failing query first passes all of its rows to the sink.
 ghost use Rattle.std.specs.Prelude.{◌≡◌};
 ghost use Rattle.office_books.specs.Faults.{no_failures};
 
@@ -11,8 +11,8 @@ impl FailingBooks {
     ghost use Rattle.office_events.specs.declared.facts.Fact.{Fact};
     ghost use Rattle.memory_books.specs.Listed.{ledger_of};
 
-    /// Creates a store that refuses call number `failing`, as `new` does. If this call passes rows
-    /// to a sink, it passes all of them before it is refused.
+    /// Creates a store that fails its call number `failing`. If this call is a query that passes
+    /// rows to a sink, it fails after the last row.
     pub fn after_rows(books: ListBooks, failing: u64) -> FailingBooks
         ensures holds { (known : List Fact) → (ledger_of books).holds known
             → (⟦<FailingBooks as Books>⟧.ledger result).holds known }

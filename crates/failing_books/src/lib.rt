@@ -1,4 +1,4 @@
-//! A store in memory that refuses one call, for tests of the crates above a store.
+//! A store in memory that fails a chosen call, for tests of code that uses a store.
 #![tactic(auto)]
 
 mod books;

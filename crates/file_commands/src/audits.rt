@@ -1,5 +1,5 @@
-//! Audits an office's files, and prints or checks a seal of one. A seal is a signed-off digest of
-//! the past.
+//! Audits an office's files, and prints or checks a seal of a file. A seal is a signed-off digest
+//! of the file's past.
 use crate::files::{OfficeFiles, Opening};
 use crate::opening::open_in;
 use command_words::Sealing;
@@ -14,11 +14,11 @@ use stored_files::{
     write_joins, write_seal,
 };
 
-/// The greatest length of a seal, in bytes. A seal of 4,096 meters with a thousand voids each is
-/// shorter.
+/// The greatest length of a seal that the command `audit` reads, in bytes. A seal of 4,096 meters,
+/// each with a thousand voided entries, is shorter.
 const MOST_SEAL: u64 = 300_000_000;
 
-/// The bytes with which each seal begins.
+/// The first bytes of each seal.
 const SEAL_BEGIN: &[u8; 5] = b"seal ";
 
 // Prints the seal of an office's tables.
@@ -32,7 +32,7 @@ fn print_seal<S: Alter>(
     Ok(true)
 }
 
-// Returns whether the tables still have the records that a seal covers. `text` is the seal.
+// Returns whether the tables still match the seal with the text `text`.
 fn hold_to<S: Alter>(
     rt: &HostRuntime,
     connection: &mut Connection<S>,
@@ -43,8 +43,8 @@ fn hold_to<S: Alter>(
     write_checked(rt.alloc(), &checked, &mut output)
 }
 
-// Audits the tables, and returns whether the audit finds nothing. Then it also prints a seal, or
-// compares the tables with one.
+// Audits the tables, and returns whether no difference was found. In that case, prints a seal or
+// checks the tables against a seal, as `seal` requests.
 fn audit_over<S: Alter>(
     rt: &HostRuntime,
     connection: &mut Connection<S>,
@@ -77,8 +77,8 @@ fn audit_in<'a, D: Databases>(
     }
 }
 
-// Returns the length of a seal's file, or `None` if the file is longer than any seal. Fails if the
-// file is not regular.
+// Returns the length of a file that should contain a seal, or `None` if the file is longer than any
+// seal. Fails if the file is not regular.
 fn seal_length(rt: &HostRuntime, file: &str) -> io::Result<Option<u64>> {
     let found = fs::metadata(rt, file)?;
     if !found.is_file() {
@@ -92,8 +92,8 @@ fn seal_length(rt: &HostRuntime, file: &str) -> io::Result<Option<u64>> {
     })
 }
 
-// Returns the bytes of a seal's file. `None` if its length or its first bytes show that it is no
-// seal.
+// Returns the bytes of a file that should contain a seal. Returns `None` if the file is too long
+// for a seal, or does not begin like a seal.
 fn seal_in(rt: &HostRuntime, file: &str) -> io::Result<Option<Vec<u8>>> {
     let Some(length) = seal_length(rt, file)? else {
         return Ok(None);
@@ -119,7 +119,7 @@ fn ended(told: Result<bool, Failure<'_>>) -> Ending<'_> {
     }
 }
 
-// Audits the tables of a database, and compares them with the seal in a file.
+// Audits the tables of a database, and checks them against the seal in a file.
 fn audit_against<'a, D: Databases>(
     rt: &HostRuntime,
     databases: &D,
@@ -150,8 +150,9 @@ fn audit_against<'a, D: Databases>(
     }
 }
 
-/// Audits an office's file: checks its rows by the rules for journals and polls. Prints a seal of
-/// the rows, or compares them with one. Writes nothing to the file.
+/// Audits an office's file by checking its rows against the rules for journals and polls. If
+/// requested, also prints a seal of the rows, or checks the rows against a seal. Writes nothing to
+/// the file.
 pub fn audit<'a, D: OfficeFiles>(
     rt: &HostRuntime,
     files: &D,
@@ -165,9 +166,9 @@ pub fn audit<'a, D: OfficeFiles>(
     }
 }
 
-// ---- several files
+// ---- audits of several files of one office
 
-// Returns the fault of a file whose zone could not be read.
+// Returns the fault of a file whose time zone could not be read.
 fn zone_fault(fault: OpenFault) -> AuditFault {
     match fault {
         OpenFault::NotOurs => AuditFault::NotOurs,
@@ -177,7 +178,7 @@ fn zone_fault(fault: OpenFault) -> AuditFault {
     }
 }
 
-// Compares a file with the files before it.
+// Checks whether a file continues the earlier files.
 fn join_next<'a, S: Alter>(
     rt: &HostRuntime,
     connection: &mut Connection<S>,
@@ -191,8 +192,9 @@ fn join_next<'a, S: Alter>(
     }
 }
 
-// Audits the tables of one of several files, and returns whether the audit finds nothing. If this
-// file and the earlier ones are fine, compares it with the earlier ones.
+// Audits the tables of one of several files, and returns whether no difference was found. If this
+// file and all earlier files have no differences, also checks whether this file continues the
+// earlier files.
 fn audit_next<'a, S: Alter>(
     rt: &HostRuntime,
     connection: &mut Connection<S>,
@@ -207,7 +209,7 @@ fn audit_next<'a, S: Alter>(
     Ok(fine && so_far)
 }
 
-// Prints a line with the name of a database, and audits it.
+// Prints a line with the name of a database file, and audits the file.
 fn audit_file<'a, D: Databases>(
     rt: &HostRuntime,
     databases: &D,
@@ -226,8 +228,8 @@ fn audit_file<'a, D: Databases>(
     }
 }
 
-// Audits the files at these paths in order. Returns whether all are fine, and each continues the
-// previous one.
+// Audits the files at the given paths in order. Returns whether no file has differences, and each
+// file continues the previous file.
 fn audit_files<'a, D: Databases>(
     rt: &HostRuntime,
     databases: &D,
@@ -249,7 +251,7 @@ fn audit_files<'a, D: Databases>(
     }
 }
 
-// Returns the first of these paths that equals an earlier one, if any.
+// Returns the first path that equals an earlier path in the list, or `None`.
 fn twice<'a>(paths: &[&'a str]) -> Option<&'a str> {
     for (index, path) in paths.iter().enumerate() {
         if paths[..index].iter().any(|other| *other == *path) {
@@ -259,8 +261,8 @@ fn twice<'a>(paths: &[&'a str]) -> Option<&'a str> {
     None
 }
 
-/// Audits an office's files, the oldest first, and whether each continues the previous one. Writes
-/// nothing to the files, and has one file open at a time.
+/// Audits an office's files, the oldest first, and checks whether each file continues the previous
+/// file. Writes nothing to the files, and opens one file at a time.
 pub fn audit_several<'a, D: OfficeFiles>(
     rt: &HostRuntime,
     files: &D,

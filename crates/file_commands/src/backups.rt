@@ -1,9 +1,11 @@
-//! Copies an office into one complete file, even while a process runs it.
+//! Copies an office's file and log into one complete new file, even while a process runs the
+//! office.
 use crate::copies::{Pair, copy_sound, make_whole, remove, sound_pair_at};
 use crate::parts::{finish_part, part_of};
 use stored_files::{CopyFault, Ending, Failure};
 
-/// Returns the failure of a copy, with the path of the file that has the fault.
+/// Maps the fault of a copy to a failure of the command. The failure has the path of the faulty
+/// file, which is the original or the copy.
 pub(crate) fn told_of<'a>(db: &'a str, to: &'a str, fault: CopyFault) -> Failure<'a> {
     match fault {
         CopyFault::Changing | CopyFault::Torn | CopyFault::NotOurs => {
@@ -16,7 +18,7 @@ pub(crate) fn told_of<'a>(db: &'a str, to: &'a str, fault: CopyFault) -> Failure
     }
 }
 
-// Copies a file and its log to the names of an incomplete copy.
+// Copies an office's file and its log to new files with temporary names.
 fn copy_parts<'a>(
     rt: &HostRuntime,
     db: &'a str,
@@ -31,7 +33,7 @@ fn copy_parts<'a>(
     }
 }
 
-// Merges the log of the incomplete copy into its file, and renames the file to its final name.
+// Merges the log of a copy into the copied file, and renames the file to its final name.
 fn finish<'a>(rt: &HostRuntime, db: &'a str, to: &'a str, part: &Pair) -> Result<(), Failure<'a>> {
     match make_whole(rt, part.file.as_str()) {
         Ok(()) => finish_part(rt, to, part),
@@ -55,7 +57,7 @@ fn back_up<'a>(rt: &HostRuntime, db: &'a str, to: &'a str) -> Result<(), Failure
     made
 }
 
-/// Copies the office in a file into a new, complete file. A process may be running the office.
+/// Copies an office's file and log into one new file. Another process may be running the office.
 pub fn backup<'a>(rt: &HostRuntime, db: &'a str, to: &'a str) -> Ending<'a> {
     match back_up(rt, db, to) {
         Ok(()) => Ending::Fine,

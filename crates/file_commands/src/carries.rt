@@ -1,4 +1,4 @@
-//! Begins a new file in which each open meter of an office continues.
+//! Rolls an office over into a new file, in which each open meter continues from its last entry.
 use crate::copies::{Pair, make_whole, remove};
 use crate::escaped::Escaped;
 use crate::files::{OfficeFiles, Opening};
@@ -12,17 +12,17 @@ use std::io::{self, Write};
 use std::str::from_utf8;
 use stored_files::{CarryEnd, CopyFault, Databases, Ending, Failure, Named, carry_stored};
 
-/// Why the meters of a file could not continue in a new file.
+/// A reason why an office's file could not be rolled over into a new file.
 #[derive(Drop)]
 pub enum NotCarried<'a> {
     Failed(Failure<'a>),
-    /// The office in the file at this path refused something, or failed.
+    /// The office in the file at `path` refused a command of the file rollover, or failed.
     Refused { path: &'a str, why: Refusal },
-    /// A meter of the file at this path has no entry yet at the requested time.
+    /// A meter of the file at `path` has no entry at or before the requested time.
     NotYet { path: &'a str, meter: Name },
 }
 
-// Returns why the meters of one office could not continue in another.
+// Maps an error inside a file rollover to a `NotCarried`, with the path of the old or new file.
 fn not_carried<'a>(from: &'a str, to: &'a str, fault: CarryFault) -> NotCarried<'a> {
     match fault {
         CarryFault::Old(why) => NotCarried::Refused { path: from, why },
@@ -31,7 +31,8 @@ fn not_carried<'a>(from: &'a str, to: &'a str, fault: CarryFault) -> NotCarried<
     }
 }
 
-// Returns why an office could not be opened, or why its meters could not continue in a new one.
+// Maps the error that ended a file rollover to a `NotCarried`, with the path of the old or new
+// file.
 fn not_ended<'a>(from: &'a str, to: &'a str, end: CarryEnd) -> NotCarried<'a> {
     match end {
         CarryEnd::Unopened(fault) => NotCarried::Failed(Failure::Unopened { path: from, fault }),
@@ -40,7 +41,7 @@ fn not_ended<'a>(from: &'a str, to: &'a str, end: CarryEnd) -> NotCarried<'a> {
     }
 }
 
-// Lets the meters of a database continue in an incomplete new file.
+// Rolls a database over into a new file with a temporary name.
 fn carry_into_part<'a, D: Databases>(
     rt: &HostRuntime,
     databases: &D,
@@ -62,7 +63,8 @@ fn carry_into_part<'a, D: Databases>(
     }
 }
 
-// Merges the log of the incomplete new file into it, and renames it to its final name.
+// Merges the log of a new file into the file, and renames the file from its temporary to its final
+// name.
 fn finish<'a>(rt: &HostRuntime, to: &'a str, part: &Pair) -> Result<(), Failure<'a>> {
     match make_whole(rt, part.file.as_str()) {
         Ok(()) => {}
@@ -74,8 +76,8 @@ fn finish<'a>(rt: &HostRuntime, to: &'a str, part: &Pair) -> Result<(), Failure<
     Ok(())
 }
 
-// Lets the meters of a database continue in an incomplete new file, and renames it to its final
-// name. Returns the number of meters.
+// Rolls a database over into a new file, and renames that file to its final name. Returns the
+// number of meters.
 fn carry_whole<'a, D: Databases>(
     rt: &HostRuntime,
     databases: &D,
@@ -95,12 +97,12 @@ fn carry_whole<'a, D: Databases>(
     }
 }
 
-/// Begins a new file in which the meters of an open database continue from their last entries.
-/// Returns the number of meters.
+/// Rolls the office in an open database over into a new file, in which the office's meters continue
+/// from their last entries. Returns the number of meters.
 ///
-/// On failure the incomplete file is removed. If only the sync of the folder failed, the new file
-/// keeps its name. An incomplete file that an interrupted call left is removed first, because no
-/// other process has the old file open.
+/// On failure, removes the incomplete file. If only the sync of the folder fails, the new file
+/// remains. First removes the incomplete file of an interrupted call, because no other process has
+/// the old file open.
 pub fn carry_open<'a, D: Databases>(
     rt: &HostRuntime,
     databases: &D,
@@ -119,7 +121,7 @@ pub fn carry_open<'a, D: Databases>(
     carried
 }
 
-// Prints how many meters continue in the new file.
+// Prints the number of meters that continue in the new file.
 fn say_carried(rt: &HostRuntime, count: u64) -> Ending<'static> {
     match write!(io::writer(rt), "carried {count} meters\n") {
         Ok(()) => Ending::Fine,
@@ -127,7 +129,7 @@ fn say_carried(rt: &HostRuntime, count: u64) -> Ending<'static> {
     }
 }
 
-/// Writes the meaning of a refusal, and the file in which it occurred.
+/// Writes the meaning of a refusal to `errors`, with the path of the file whose office refused.
 pub(crate) fn write_refusal<W: Write>(errors: &mut W, path: &str, why: Refusal) -> io::Result<()> {
     match meaning_of(Kind::Refused, u32::from(why.number())) {
         Some(meaning) => write!(
@@ -141,7 +143,7 @@ pub(crate) fn write_refusal<W: Write>(errors: &mut W, path: &str, why: Refusal) 
     }
 }
 
-// Writes the message that a meter of a file has no entry yet at the requested time.
+// Writes a message to `errors` that a meter has no entry at or before the requested time.
 fn write_not_yet<W: Write>(errors: &mut W, path: &str, meter: &Name) -> io::Result<()> {
     let name = from_utf8(meter.as_bytes()).unwrap_or("a meter");
     let path = Named(path);
@@ -151,7 +153,7 @@ fn write_not_yet<W: Write>(errors: &mut W, path: &str, meter: &Name) -> io::Resu
     )
 }
 
-/// Writes a line that says why the meters of a file could not continue in another.
+/// Writes the reason why a file could not be rolled over into a new file to `errors`.
 pub fn write_why<W: Write>(errors: &mut W, why: &NotCarried<'_>) -> io::Result<()> {
     match why {
         NotCarried::Failed(failure) => write!(errors, "sunreg: {failure}\n"),
@@ -165,7 +167,8 @@ fn print_refusal(rt: &HostRuntime, why: Refusal) -> io::Result<()> {
     write!(io::writer(rt), "refused {number}\n")
 }
 
-/// Prints a refusal, and reports what it means and in which file it occurred.
+/// Prints a refusal of an office, and reports its meaning on standard error, with the path of the
+/// office's file.
 pub(crate) fn say_refused(rt: &HostRuntime, path: &str, why: Refusal) -> Ending<'static> {
     if print_refusal(rt, why).is_err() {
         return Ending::Failed(Failure::Streams);
@@ -175,15 +178,14 @@ pub(crate) fn say_refused(rt: &HostRuntime, path: &str, why: Refusal) -> Ending<
     Ending::Refused
 }
 
-// Reports that a meter of a file has no entry yet at the requested time.
+// Reports on standard error that a meter has no entry at or before the requested time.
 fn say_not_yet(rt: &HostRuntime, path: &str, meter: &Name) -> Ending<'static> {
     let mut errors = Escaped::new(rt.stderr());
     let _said = write_not_yet(&mut errors, path, meter);
     Ending::Refused
 }
 
-// Lets the meters of the file at a path continue in an incomplete new file, and renames it to its
-// final name.
+// Opens the file at a path, rolls it over into a new file, and renames that file to its final name.
 fn carry_in<'a, D: Databases>(
     rt: &HostRuntime,
     databases: &D,
@@ -198,8 +200,8 @@ fn carry_in<'a, D: Databases>(
     }
 }
 
-// Lets the meters of a file continue in an incomplete new file, and renames it to its final name.
-// On failure the incomplete file is removed.
+// Rolls a file over into a new file, and renames that file to its final name. On failure, removes
+// the incomplete file.
 fn carry_into<'a, D: Databases>(
     rt: &HostRuntime,
     databases: &D,
@@ -220,9 +222,9 @@ fn carry_into<'a, D: Databases>(
     ending
 }
 
-/// Begins a new file in which each open meter of an office continues from its last entry: the last
-/// one in the file, or the one at a given time. The old file is only copied, so another process may
-/// be running its office.
+/// Begins a new file in which each open meter of an office continues. A meter continues from its
+/// last entry, or from its last entry up to a given time. The old file is only copied, so another
+/// process may be running its office.
 pub fn carry<'a, D: OfficeFiles>(
     rt: &HostRuntime,
     files: &D,

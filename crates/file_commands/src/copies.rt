@@ -1,4 +1,4 @@
-//! Copies a database file together with its log.
+//! Copies a database file together with its write-ahead log.
 use sqlite::Unknown;
 use std::env;
 use std::fs::{self, File, OpenOptions};
@@ -10,29 +10,29 @@ use stored_files::{
     real_path, whole_file,
 };
 
-/// How often a copy is repeated if the log is merged into its file during the copy.
+/// The maximum number of attempts to copy a file whose log is merged into it during the copy.
 const TRIES: u32 = 8;
 
-/// The length of a log's header in bytes. Merging a log into its file changes the salt in this
-/// header.
+/// The length of a write-ahead log's header, in bytes. Merging a log into its file changes the salt
+/// in this header.
 const HEADER: u64 = 32;
 
-/// A file and its log.
+/// The paths of a database file and its write-ahead log.
 #[derive(Drop)]
 pub(crate) struct Pair {
     pub(crate) file: String,
     pub(crate) log: String,
 }
 
-/// Removes the file and the log, if they exist.
+/// Removes a database file and its log, if they exist.
 pub(crate) fn remove(rt: &HostRuntime, pair: &Pair) {
     let _gone = fs::remove_file(rt, pair.file.as_str());
     let _gone = fs::remove_file(rt, pair.log.as_str());
 }
 
-/// Returns the real paths of a file and its log. Fails if another program left a rollback journal
-/// beside the file, because the file is then incomplete. The log may have lost commits, which
-/// [`sound_pair_at`] rejects.
+/// Returns the real paths of a database file and its log. Fails if a rollback journal exists beside
+/// the file, because the file is then incomplete. Unlike [`sound_pair_at`], accepts a log that has
+/// lost commits.
 pub(crate) fn pair_at(rt: &HostRuntime, path: &str) -> Result<Pair, FileFault> {
     match fs::exists(rt, path) {
         Ok(true) => {}
@@ -52,13 +52,15 @@ pub(crate) fn pair_at(rt: &HostRuntime, path: &str) -> Result<Pair, FileFault> {
     }
 }
 
-/// Like [`pair_at`], but fails if the log has lost commits.
+/// Returns the real paths of a database file and its log, like [`pair_at`]. Fails if the log has
+/// lost commits.
 pub(crate) fn sound_pair_at(rt: &HostRuntime, path: &str) -> Result<Pair, FileFault> {
     check_beside(rt, path)?;
     pair_at(rt, path)
 }
 
-// Returns the header of a log: its first bytes, or no bytes if there is no log.
+// Returns the first bytes of a log, up to its header's length. Returns no bytes if the log does not
+// exist.
 fn header_of(rt: &HostRuntime, log: &str) -> io::Result<Vec<u8>> {
     let mut header = Vec::new(rt.alloc());
     match File::open(rt, log) {
@@ -84,9 +86,9 @@ fn copy_file(rt: &HostRuntime, from: &str, to: &str) -> io::Result<()> {
     copy.sync_all()
 }
 
-// Copies a file and then its log. Returns whether the log's header is unchanged. If it is, no
-// checkpoint ran during the copy, and the two copies belong together. The copied log has what an
-// office wrote during the copy, up to the end of some commit.
+// Copies a file and then its log. Returns whether the log's header was unchanged during the copy.
+// If so, no checkpoint ran, and the two copies belong together. The copied log includes commits
+// that an office wrote during the copy.
 fn copy_pair(rt: &HostRuntime, source: &Pair, part: &Pair) -> io::Result<bool> {
     let before = header_of(rt, source.log.as_str())?;
     copy_file(rt, source.file.as_str(), part.file.as_str())?;
@@ -99,8 +101,8 @@ fn copy_pair(rt: &HostRuntime, source: &Pair, part: &Pair) -> io::Result<bool> {
     Ok(before.as_slice() == after.as_slice())
 }
 
-/// Copies a file and its log, and repeats the copy if a checkpoint ran during it. Returns whether
-/// the copies belong together.
+/// Copies a file and its log. Repeats the copy if a checkpoint ran during it. Returns whether the
+/// copied file and the copied log belong together.
 pub(crate) fn copy_settled(rt: &HostRuntime, source: &Pair, copy: &Pair) -> io::Result<bool> {
     for _ in 0..TRIES {
         if copy_pair(rt, source, copy)? {
@@ -111,7 +113,7 @@ pub(crate) fn copy_settled(rt: &HostRuntime, source: &Pair, copy: &Pair) -> io::
     Ok(false)
 }
 
-// Returns whether the log of a copy has lost no commit. Fails if that cannot be found out.
+// Returns whether the log of a copied file has lost no commit. Fails if the log cannot be checked.
 fn is_sound(rt: &HostRuntime, copy: &Pair) -> io::Result<bool> {
     match check_beside(rt, copy.file.as_str()) {
         Ok(()) => Ok(true),
@@ -121,8 +123,9 @@ fn is_sound(rt: &HostRuntime, copy: &Pair) -> io::Result<bool> {
     }
 }
 
-/// Like [`copy_settled`], but also repeats the copy if the copied log has lost commits. If an
-/// office wrote while the log was read, the copy can have later frames without earlier ones.
+/// Copies a file and its log like [`copy_settled`], and also repeats the copy if the copied log has
+/// lost commits. If an office writes during the copy, the copied log can have later frames without
+/// earlier frames.
 pub(crate) fn copy_sound(rt: &HostRuntime, source: &Pair, copy: &Pair) -> io::Result<bool> {
     for _ in 0..TRIES {
         if copy_settled(rt, source, copy)? && is_sound(rt, copy)? {
@@ -134,7 +137,7 @@ pub(crate) fn copy_sound(rt: &HostRuntime, source: &Pair, copy: &Pair) -> io::Re
 }
 
 /// Merges the log of an office's file into the file, which then needs no log. No other process may
-/// have them open.
+/// have the file open.
 pub(crate) fn make_whole(rt: &HostRuntime, file: &str) -> Result<(), CopyFault> {
     match whole_file(rt, file, Unknown) {
         Ok(_files) => Ok(()),
@@ -142,8 +145,8 @@ pub(crate) fn make_whole(rt: &HostRuntime, file: &str) -> Result<(), CopyFault> 
     }
 }
 
-// Returns the names of a temporary copy that is only read. They are in the folder of temporary
-// files, and contain the current time.
+// Returns the paths of a temporary copy of a file and its log, which is only read. The paths are in
+// the folder of temporary files, and contain the current time.
 fn passing_names(rt: &HostRuntime) -> Result<Pair, FileFault> {
     let alloc = rt.alloc();
     let (Ok(folder), Ok(now)) = (env::temp_dir(rt), SystemTime::now(rt)) else {
@@ -162,8 +165,8 @@ fn passing_names(rt: &HostRuntime) -> Result<Pair, FileFault> {
     Ok(Pair { file, log })
 }
 
-/// Opens a copy of the database at a path. The copy is gone once the connection is closed. The
-/// file, its folder and other processes are not disturbed.
+/// Opens a temporary copy of the database at a path. The copy disappears when the connection is
+/// closed. The original file, its folder and other processes are not affected.
 pub(crate) fn open_copy(
     rt: &HostRuntime,
     path: &str,
@@ -175,7 +178,7 @@ pub(crate) fn open_copy(
         Ok(false) => Err(FileFault::Busy),
         Err(_) => Err(FileFault::Unreadable),
     };
-    // (an open file exists until it is closed, so the names can be removed at once)
+    // (an open file exists until it is closed, so the file names of the copy can be removed now)
     remove(rt, &copy);
     opened
 }

@@ -1,4 +1,4 @@
-//! The earlier files of an office, whose energy a run reports too.
+//! Reads the earlier files of an office, whose energy the command `run` also reports.
 use crate::carries::write_refusal;
 use crate::files::{OfficeFiles, Opening};
 use crate::joined_reports::{NotJoined, join_in, last_of};
@@ -8,11 +8,12 @@ use office_events::Name;
 use std::io::Write;
 use stored_files::{Databases, Ending, Failure, JoinedOffice};
 
-// The name of any register: all registers are read.
+// A register name for the merged report. The name has no effect, because all accounting registers
+// are read.
 const ANY: &[u8] = b"any";
 
-// Adds the energy that a file has for all its registers. If the file does not continue the earlier
-// ones, reports why.
+// Adds the energy of all accounting registers in a file to the merged energy. If the file does not
+// continue the earlier files, reports the reason.
 fn join<'a, D: Databases, K: Keeping, E: Write>(
     rt: &HostRuntime,
     databases: &D,
@@ -39,8 +40,8 @@ fn join<'a, D: Databases, K: Keeping, E: Write>(
     }
 }
 
-// Returns the energy that the files have for their registers. They are read in order, one file open
-// at a time.
+// Returns the merged energy of all accounting registers in several files. Reads the files in order,
+// and opens one file at a time.
 fn keep_all<'a, D: Databases, E: Write>(
     rt: &HostRuntime,
     databases: &D,
@@ -60,7 +61,7 @@ fn keep_all<'a, D: Databases, E: Write>(
     Ok(joined)
 }
 
-// Returns the registers of the earlier files, with their energy.
+// Returns the registers of the earlier files with their merged energy.
 fn registers_of<'a>(held: JoinedOffice<HeldRegisters>) -> Result<Vec<EarlierRegister>, Ending<'a>> {
     let JoinedOffice { kept, .. } = held;
     let HeldRegisters { kept } = kept;
@@ -70,7 +71,7 @@ fn registers_of<'a>(held: JoinedOffice<HeldRegisters>) -> Result<Vec<EarlierRegi
     }
 }
 
-// Checks that the current file continues the earlier ones.
+// Checks that the current file continues the earlier files.
 fn hold<'a, D: Databases, E: Write>(
     rt: &HostRuntime,
     databases: &D,
@@ -90,13 +91,14 @@ fn hold<'a, D: Databases, E: Write>(
     }
 }
 
-/// Returns all files except the last one.
+/// Returns all paths in a list except the last one.
 pub fn but_last<'a, 'f>(paths: &'f [&'a str]) -> &'f [&'a str] {
     let count = paths.len().saturating_sub(1);
     &paths[..count]
 }
 
-// Reports how many earlier files have their energy reported too, and names the first of them.
+// Reports how many earlier files are included in the energy that the command `run` reports. Also
+// reports the name of the first file.
 fn say_earlier<E: Write>(errors: &mut E, current: &str, paths: &[&str]) {
     if let Some(first) = paths.first() {
         let count = paths.len();
@@ -108,9 +110,9 @@ fn say_earlier<E: Write>(errors: &mut E, current: &str, paths: &[&str]) {
     }
 }
 
-/// Returns the energy that earlier files, the oldest first, have for their registers. Fails if the
-/// current file, which may be new, does not continue them. All files are only read, one after the
-/// other. Writes their number, or why a file does not continue the others, to `errors`.
+/// Returns the energy of all accounting registers in earlier files, the oldest first. Fails if the
+/// current file, which may be new, does not continue the earlier files. Only reads the files, one
+/// at a time. Writes the number of files, or the reason of the failure, to `errors`.
 pub fn earlier_registers<'a, D: OfficeFiles, E: Write>(
     rt: &HostRuntime,
     files: &D,

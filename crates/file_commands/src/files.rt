@@ -1,30 +1,30 @@
-//! The files of the system, opened as databases.
+//! Opens files of the operating system as databases.
 use crate::copies::open_copy;
 use sqlite::{Connection, FileFrom, FileStore, Unknown};
 use stored_files::{Databases, FileConnection, FileFault, make_file, open_file};
 
-/// How a database is opened.
+/// The way in which a database file is opened.
 #[derive(Clone, Copy)]
 pub enum Opening {
-    /// The file itself is opened, for writing.
+    /// Opens the file itself, for reading and writing.
     InPlace,
-    /// The file itself is opened; a copy instead, if the system does not let this process write the
-    /// file.
+    /// Opens the file itself, or a temporary copy if the operating system refuses to open the file
+    /// for writing.
     ToRead,
-    /// A copy of the file is opened. The file and its folder are not disturbed.
+    /// Opens a temporary copy of the file. The file and its folder are not affected.
     Copied,
 }
 
-/// The files of an office as databases, which each command opens as it needs.
+/// A source of an office's database files, with the way in which each command opens them.
 ///
-/// The proofs cover any such files. Only the program itself names the files of the system, because
-/// the prover needs half a minute for each call over them.
+/// Functions are generic over this source. Only the program's outermost call names the files of the
+/// operating system, because the prover needs half a minute for each call over them.
 pub trait OfficeFiles: Databases + Copy {
-    /// Returns the same files, to be opened in this way.
+    /// Returns the same source of files, with `opening` as the way in which files are opened.
     fn opened(&self, opening: Opening) -> Self;
 }
 
-/// The files of the system, and how they are opened.
+/// The files of the operating system, and the way in which they are opened.
 #[derive(Clone, Copy)]
 pub struct Files<'r> {
     rt: &'r HostRuntime,
@@ -32,7 +32,7 @@ pub struct Files<'r> {
 }
 
 impl<'r> Files<'r> {
-    /// Returns the files of the system, each opened in place.
+    /// Returns the files of the operating system, each opened in place.
     pub fn of(rt: &'r HostRuntime) -> Files<'r> {
         let opening = Opening::InPlace;
         Files { rt, opening }
@@ -61,7 +61,8 @@ impl Databases for Files<'_> {
     }
 }
 
-// Opens the database in a file; a copy of it instead, if the system refuses to open the file.
+// Opens the database in a file. If the operating system refuses to open the file, opens a temporary
+// copy of the file.
 fn open_to_read(rt: &HostRuntime, path: &str) -> Result<FileConnection<Unknown>, FileFault> {
     match open_file(rt, path, Unknown) {
         Err(FileFault::Unreadable) => open_copy(rt, path),

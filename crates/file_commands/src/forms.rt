@@ -1,4 +1,4 @@
-//! The forms of reports and statements that options request.
+//! Builds the forms of reports and statements from command line options.
 use command_words::FormWords;
 use energy_report::{
     EnergyUnit, Format, Period, RangeFault, ReportForm, StatementForm, read_range,
@@ -6,7 +6,7 @@ use energy_report::{
 use interval_core::DayRange;
 use stored_files::Ending;
 
-/// Returns the range of days that the options request.
+/// Parses the range of days in the options `--from` and `--till`.
 pub fn range_of<'a>(words: &FormWords<'a>) -> Result<DayRange, Ending<'a>> {
     match read_range(words.from, words.till) {
         Ok(range) => Ok(range),
@@ -22,7 +22,7 @@ pub fn range_of<'a>(words: &FormWords<'a>) -> Result<DayRange, Ending<'a>> {
     }
 }
 
-/// Returns the form of a report that the options request, for a range of days.
+/// Returns the form of a report, from its options and its range of days.
 pub fn form_of(words: &FormWords<'_>, range: DayRange) -> ReportForm {
     ReportForm {
         range,
@@ -32,7 +32,7 @@ pub fn form_of(words: &FormWords<'_>, range: DayRange) -> ReportForm {
     }
 }
 
-/// Returns the form of a statement that the options request, for a range of days.
+/// Returns the form of a statement, from its options and its range of days.
 pub fn statement_of(words: &FormWords<'_>, range: DayRange) -> StatementForm {
     StatementForm {
         range,

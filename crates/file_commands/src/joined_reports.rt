@@ -1,4 +1,4 @@
-//! Reports of a register over several files of one office.
+//! Prints reports on an accounting register over several files of one office.
 use crate::carries::say_refused;
 use crate::escaped::Escaped;
 use crate::files::{OfficeFiles, Opening};
@@ -18,17 +18,17 @@ use stored_files::{
     Databases, Ending, Failure, JoinFault, JoinedOffice, Named, ending_of, join_stored,
 };
 
-// What to do if the files do not continue each other.
+// The remedy that is printed if an office's files do not continue each other.
 const REMEDY: &str =
     "name the files oldest first, each carried from the one before, and void what the older one booked after the carry";
 
-// Returns the name of an installation's meter.
+// Returns the name of an installed meter.
 fn name_of(row: &Installation) -> &str {
     from_utf8(row.opening.meter.as_bytes()).unwrap_or("?")
 }
 
-// Reports a meter that does not continue the earlier one: where it begins, and the last entry of
-// the earlier meter.
+// Reports that a meter does not continue from the earlier file. The message has the meter's
+// opening, and its last entry in the earlier file.
 fn say_apart<E: Write>(errors: &mut E, before: &str, path: &str, apart: &Apart) {
     let (before, path) = (Named(before), Named(path));
     let begins = &apart.begins.opening;
@@ -57,7 +57,7 @@ fn say_apart<E: Write>(errors: &mut E, before: &str, path: &str, apart: &Apart) 
     );
 }
 
-// Reports why a file does not continue the earlier ones.
+// Reports the reason why a file does not continue the earlier files.
 fn say_unjoined<E: Write>(errors: &mut E, before: &str, path: &str, why: &Unjoined) {
     if let Unjoined::Apart(apart) = why {
         return say_apart(errors, before, path, apart);
@@ -82,7 +82,7 @@ fn say_unjoined<E: Write>(errors: &mut E, before: &str, path: &str, why: &Unjoin
     }
 }
 
-// Reports that a file has another time zone than the earlier ones.
+// Reports that a file has another time zone than the earlier files.
 fn say_other_zone<E: Write>(errors: &mut E, before: &str, path: &str) {
     let (before, path) = (Named(before), Named(path));
     let _said = write!(
@@ -92,17 +92,18 @@ fn say_other_zone<E: Write>(errors: &mut E, before: &str, path: &str) {
     );
 }
 
-/// Why a file does not continue the earlier ones.
+/// A reason why a file could not be added to the earlier files of a report.
 #[derive(Drop)]
 pub(crate) enum NotJoined<'a> {
     Failed(Failure<'a>),
-    /// The store of the file failed, or memory ran out.
+    /// The store in the file failed, or memory ran out.
     Refused(Refusal),
-    /// The file does not continue the earlier ones, and the reason was already reported.
+    /// The file does not continue the earlier files. The reason was already reported.
     Apart,
 }
 
-// Returns why the office in a database does not continue the earlier ones, and reports the reason.
+// Maps a fault of adding a file to a merged report. If the file does not continue the earlier
+// files, also reports the reason.
 fn not_joined<'a, E: Write>(
     errors: &mut E,
     before: &str,
@@ -123,8 +124,8 @@ fn not_joined<'a, E: Write>(
     }
 }
 
-/// Adds what one file has for the report. If the file does not continue the earlier ones, writes
-/// why to `errors`.
+/// Adds the data of one file to a merged report. If the file does not continue the earlier files,
+/// writes the reason to `errors`.
 pub(crate) fn join_in<'a, D: Databases, K: Keeping, E: Write>(
     rt: &HostRuntime,
     databases: &D,
@@ -145,8 +146,8 @@ pub(crate) fn join_in<'a, D: Databases, K: Keeping, E: Write>(
     }
 }
 
-// Returns what the files have for the report on a register. They are read in order, one file open
-// at a time.
+// Returns the merged data of all files for the report on an accounting register. Reads the files in
+// order, and opens one file at a time.
 fn join_all<'a, D: Databases, K: Keeping>(
     rt: &HostRuntime,
     databases: &D,
@@ -181,7 +182,7 @@ fn join_all<'a, D: Databases, K: Keeping>(
     Ok(joined)
 }
 
-// Flushes the output, and returns how the command ended.
+// Flushes the output, and returns the ending of the command.
 fn ended<W: Write + Drop>(output: &mut Buffered<W>, status: ExitStatus) -> Ending<'static> {
     match output.flush() {
         Ok(()) => ending_of(status),
@@ -189,14 +190,14 @@ fn ended<W: Write + Drop>(output: &mut Buffered<W>, status: ExitStatus) -> Endin
     }
 }
 
-// Prints the report over all files.
+// Prints the merged report on an accounting register over all files.
 fn print_report(rt: &HostRuntime, joined: JoinedFiles, form: &ReportForm) -> Ending<'static> {
     let mut output = Buffered::new(io::writer(rt));
     let status = report_joined(joined, form, &mut output);
     ended(&mut output, status)
 }
 
-// Prints the report, if one of the files has the register.
+// Prints the merged report on an accounting register, if one of the files has this register.
 fn report_recorded(
     rt: &HostRuntime,
     path: &str,
@@ -215,7 +216,7 @@ fn report_recorded(
     }
 }
 
-// Prints the statement over all files.
+// Prints the merged statement of the meters at an accounting register, over all files.
 fn print_statement(
     rt: &HostRuntime,
     joined: &JoinedStatement,
@@ -228,7 +229,8 @@ fn print_statement(
     }
 }
 
-// Prints the statement, if one of the files has the register.
+// Prints the merged statement of the meters at an accounting register, if one of the files has this
+// register.
 fn state_recorded(
     rt: &HostRuntime,
     path: &str,
@@ -247,7 +249,7 @@ fn state_recorded(
     }
 }
 
-/// Returns the last of the files, or an empty path without files.
+/// Returns the last path in a list, or an empty path if the list is empty.
 pub fn last_of<'a>(paths: &[&'a str]) -> &'a str {
     match paths.last() {
         Some(path) => *path,
@@ -255,7 +257,7 @@ pub fn last_of<'a>(paths: &[&'a str]) -> &'a str {
     }
 }
 
-// Prints the energy of a register over several files.
+// Prints the energy of an accounting register over several files.
 fn report_register<'a, D: Databases>(
     rt: &HostRuntime,
     databases: &D,
@@ -269,7 +271,7 @@ fn report_register<'a, D: Databases>(
     }
 }
 
-// Prints the statement of a register's meters over several files.
+// Prints the statement of the meters at an accounting register over several files.
 fn state_register<'a, D: Databases>(
     rt: &HostRuntime,
     databases: &D,
@@ -283,8 +285,8 @@ fn state_register<'a, D: Databases>(
     }
 }
 
-/// Prints the energy of a register over several files of one office, the oldest first, or the
-/// statement of its meters.
+/// Prints the energy of an accounting register, or the statement of its meters, over several files
+/// of one office, the oldest first.
 pub fn report_files<'a, D: OfficeFiles>(
     rt: &HostRuntime,
     files: &D,

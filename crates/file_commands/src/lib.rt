@@ -1,5 +1,5 @@
-//! The commands over an office's files that do not poll devices or serve HTTP. Also what a run does
-//! with its files.
+//! The commands over an office's files that do not poll devices or serve HTTP. Also has the file
+//! operations of the command `run`.
 #![tactic(auto)]
 
 mod audits;

@@ -1,4 +1,4 @@
-//! Creates an office in a file.
+//! Creates a new office in a file.
 use crate::copies::{Pair, make_whole, remove};
 use crate::parts::{
     begin_new_part, check_name, finish_part, make_empty_log, rename_over, unwritable,
@@ -11,7 +11,7 @@ use stored_files::{
     length_of, log_of, real_path,
 };
 
-// Returns the failure for a file that is not empty, in which no office can be created.
+// Returns the failure of creating an office in a file that is not empty.
 fn why_occupied<'a, D: Databases>(databases: &D, path: &'a str) -> Failure<'a> {
     match databases.make(path) {
         Ok(connection) if is_bare(&connection) => Failure::Occupied { path },
@@ -23,7 +23,8 @@ fn why_occupied<'a, D: Databases>(databases: &D, path: &'a str) -> Failure<'a> {
     }
 }
 
-// Creates the tables of a new office in an incomplete file, and merges its log into it.
+// Creates the tables of a new office in a file with a temporary name, and merges the file's log
+// into it.
 fn fill_part<'a, D: Databases>(
     rt: &HostRuntime,
     databases: &D,
@@ -45,7 +46,7 @@ fn fill_part<'a, D: Databases>(
     }
 }
 
-// Replaces an empty file by a complete new one, which gets the empty file's permissions.
+// Replaces an empty file by a complete new file, which gets the empty file's permissions.
 fn replace_empty(rt: &HostRuntime, part: &Pair, path: &str) -> io::Result<()> {
     let rights = fs::metadata(rt, path)?.permissions();
     fs::set_permissions(rt, part.file.as_str(), rights)?;
@@ -53,7 +54,8 @@ fn replace_empty(rt: &HostRuntime, part: &Pair, path: &str) -> io::Result<()> {
     rename_over(rt, part.file.as_str(), path)
 }
 
-// Renames a complete new file to its final name, which is free or belongs to an empty file.
+// Renames a complete new file to its final name. This name must not exist, or must be the name of
+// an empty file.
 fn name_new<'a>(
     rt: &HostRuntime,
     path: &'a str,
@@ -70,8 +72,9 @@ fn name_new<'a>(
     }
 }
 
-// Creates an office in an incomplete file, and renames it to its final name. On failure the
-// incomplete file is removed. If only the sync of the folder failed, the office keeps its name.
+// Creates an office in a file with a temporary name, and renames the file to its final name. On
+// failure, removes the incomplete file. If only the sync of the folder fails, the office's file
+// remains.
 fn make_office<'a, D: Databases>(
     rt: &HostRuntime,
     databases: &D,
@@ -96,8 +99,8 @@ fn make_office<'a, D: Databases>(
     }
 }
 
-// Creates an office at a path that has no file, or an empty one. The path's log must not exist, or
-// be empty.
+// Creates an office at a path that has no file or an empty file. The log beside this path must be
+// missing or empty.
 fn create_in<'a, D: Databases>(
     rt: &HostRuntime,
     databases: &D,
@@ -119,7 +122,7 @@ fn create_in<'a, D: Databases>(
     make_office(rt, databases, path, zone, length.is_some())
 }
 
-/// Creates an office whose days are counted in a time zone.
+/// Creates an office with the days of a time zone, in the file at a path.
 pub fn create<'a, D: Databases>(
     rt: &HostRuntime,
     databases: &D,

@@ -1,4 +1,4 @@
-//! Opens an office's file, and reports unusual conditions.
+//! Opens an office's file, and reports a missing log or a large file.
 use crate::escaped::Escaped;
 use sqlite::Connection;
 use std::io::{IsTerminal, Write};
@@ -6,10 +6,10 @@ use stored_files::{
     Databases, Failure, Named, check_regular, is_bare, is_blank, is_office, length_of, log_of,
 };
 
-/// The length in bytes at which a file begins to take a second or more to open.
+/// The length of a file, in bytes, from which opening the file takes a second or more.
 const LARGE: u64 = 16_000_000;
 
-// Reports that a file has no log beside it.
+// Reports that a database file has no write-ahead log beside it.
 fn say_no_log<E: Write>(errors: &mut E, path: &str) {
     let path = Named(path);
     let _said = write!(
@@ -18,8 +18,8 @@ fn say_no_log<E: Write>(errors: &mut E, path: &str) {
     );
 }
 
-// Reports, on a terminal, that a large file is being opened, since opening reads the complete file
-// and its log.
+// Reports that a large file is being opened, if standard error is a terminal. Opening takes time,
+// because the complete file and its log are read.
 fn say_opening<E: Write>(rt: &HostRuntime, errors: &mut E, path: &str, bytes: u64) {
     let path = Named(path);
     if bytes >= LARGE && rt.stderr().is_terminal() {
@@ -31,8 +31,8 @@ fn say_opening<E: Write>(rt: &HostRuntime, errors: &mut E, path: &str, bytes: u6
     }
 }
 
-/// Opens the office in the database at a path. Reports if its log is missing, and fails if a log
-/// exists without its file.
+/// Opens the database of an office at a path. Reports a missing log, and fails if a log exists
+/// without its database file.
 pub fn open_in<'a, D: Databases>(
     rt: &HostRuntime,
     databases: &D,
@@ -42,8 +42,8 @@ pub fn open_in<'a, D: Databases>(
     open_telling(rt, databases, path, false, &mut errors)
 }
 
-/// Like [`open_in`], but writes its reports to `errors`. A new file has no log yet, and nothing is
-/// reported about that.
+/// Opens the database of an office like [`open_in`], but writes reports to `errors`. If the file is
+/// new, does not report that its log is missing.
 pub(crate) fn open_telling<'a, D: Databases, E: Write>(
     rt: &HostRuntime,
     databases: &D,

@@ -1,4 +1,4 @@
-//! New files, which are written as NAME.part, and renamed to NAME once they are complete.
+//! Creates new files under the name NAME.part, and renames them to NAME once they are complete.
 use crate::copies::{Pair, remove};
 use std::alloc::AllocError;
 use std::fs::{self, File, OpenOptions};
@@ -6,12 +6,12 @@ use std::io::{self, ErrorKind};
 use std::os::unix::fs::OpenOptionsExt;
 use stored_files::{CopyFault, Databases, Failure, FileFault, real_path};
 
-/// The endings of names that belong to other files: a log, a file that another program creates
-/// beside a database, or an incomplete file.
+/// The suffixes that the name of an office's file must not have. They mark logs, journals, shared
+/// memory and incomplete files.
 const RESERVED: [&'static str; 4] = ["-wal", "-journal", "-shm", ".part"];
 
-/// Returns whether a file or folder has this name. If the system cannot look up a name, the name
-/// counts as taken.
+/// Returns whether a file or folder exists at a path. If the system cannot look up the path, it
+/// counts as existing.
 pub fn is_there(rt: &HostRuntime, path: &str) -> bool {
     match fs::symlink_metadata(rt, path) {
         Ok(_) => true,
@@ -19,17 +19,18 @@ pub fn is_there(rt: &HostRuntime, path: &str) -> bool {
     }
 }
 
-/// Returns the name that a file has until it is complete.
+/// Returns the temporary name that a new file has until it is complete. This is its final name with
+/// the suffix `.part`.
 pub fn part_name(rt: &HostRuntime, to: &str) -> Result<String, AllocError> {
     format!(in rt.alloc(); "{to}.part")
 }
 
-// Returns whether a name has one of the reserved endings.
+// Returns whether a name has one of the reserved suffixes.
 fn is_reserved(path: &str) -> bool {
     RESERVED.iter().any(|end| path.ends_with(*end))
 }
 
-/// Rejects a reserved name for a new office.
+/// Rejects a name with a reserved suffix for a new office.
 pub(crate) fn check_name(to: &str) -> Result<(), Failure<'_>> {
     if is_reserved(to) {
         return Err(Failure::Uncopied {
@@ -40,7 +41,7 @@ pub(crate) fn check_name(to: &str) -> Result<(), Failure<'_>> {
     Ok(())
 }
 
-// Returns the names for an incomplete file and its log.
+// Returns the temporary names of an incomplete file and its log.
 fn pair_for<'a>(rt: &HostRuntime, to: &str) -> Result<Pair, Failure<'a>> {
     match (part_name(rt, to), format!(in rt.alloc(); "{to}.part-wal")) {
         (Ok(file), Ok(log)) => Ok(Pair { file, log }),
@@ -48,7 +49,8 @@ fn pair_for<'a>(rt: &HostRuntime, to: &str) -> Result<Pair, Failure<'a>> {
     }
 }
 
-// Rejects a name that has a reserved ending, that is taken, or whose log exists.
+// Rejects the name of a new file if it has a reserved suffix, if it exists, or if the name of its
+// log exists.
 fn check_free<'a>(rt: &HostRuntime, to: &'a str) -> Result<(), Failure<'a>> {
     check_name(to)?;
     let Ok(log) = format!(in rt.alloc(); "{to}-wal") else {
@@ -63,8 +65,8 @@ fn check_free<'a>(rt: &HostRuntime, to: &'a str) -> Result<(), Failure<'a>> {
     Ok(())
 }
 
-/// Returns the names for an incomplete file and its log. Fails if one of them is taken, or one of
-/// the final names.
+/// Returns the temporary names of an incomplete file and its log. Fails if one of these names, or a
+/// final name, already exists.
 pub(crate) fn part_of<'a>(rt: &HostRuntime, to: &'a str) -> Result<Pair, Failure<'a>> {
     check_free(rt, to)?;
     let part = pair_for(rt, to)?;
@@ -89,7 +91,7 @@ fn make_empty(rt: &HostRuntime, path: &str) -> io::Result<()> {
     Ok(())
 }
 
-/// Returns the failure of a new file that cannot be written.
+/// Returns the failure that reports that a new file cannot be written.
 pub(crate) fn unwritable(to: &str) -> Failure<'_> {
     Failure::Uncopied {
         path: to,
@@ -97,7 +99,7 @@ pub(crate) fn unwritable(to: &str) -> Failure<'_> {
     }
 }
 
-// Creates the incomplete file, which is still empty.
+// Creates an empty file under the temporary name.
 fn begin<'a>(rt: &HostRuntime, to: &'a str, part: Pair) -> Result<Pair, Failure<'a>> {
     match make_empty(rt, part.file.as_str()) {
         Ok(()) => Ok(part),
@@ -105,13 +107,14 @@ fn begin<'a>(rt: &HostRuntime, to: &'a str, part: Pair) -> Result<Pair, Failure<
     }
 }
 
-/// Begins a new file: creates it under its incomplete name. Fails if a name that it needs is taken.
+/// Creates an empty new file under its temporary name. Fails if its temporary or final name already
+/// exists.
 pub(crate) fn begin_part<'a>(rt: &HostRuntime, to: &'a str) -> Result<Pair, Failure<'a>> {
     let part = part_of(rt, to)?;
     begin(rt, to, part)
 }
 
-// Returns whether an incomplete file may be removed: it is a regular file, or only its log exists.
+// Returns whether an incomplete file may be removed. The file must be regular, or must not exist.
 fn is_left_over(rt: &HostRuntime, part: &Pair) -> bool {
     match fs::symlink_metadata(rt, part.file.as_str()) {
         Ok(found) => found.is_file(),
@@ -119,8 +122,8 @@ fn is_left_over(rt: &HostRuntime, part: &Pair) -> bool {
     }
 }
 
-// Removes the incomplete file that an interrupted command left. Returns false if it is not a
-// regular file, or if another process has it open.
+// Removes the incomplete file of an interrupted command. Returns false if the file is not regular,
+// or if another process has the file open.
 fn clear_left_over<D: Databases>(rt: &HostRuntime, databases: &D, part: &Pair) -> bool {
     if !is_left_over(rt, part) {
         return false;
@@ -132,7 +135,7 @@ fn clear_left_over<D: Databases>(rt: &HostRuntime, databases: &D, part: &Pair) -
     true
 }
 
-// Removes the incomplete file that an interrupted command left, and creates an empty one.
+// Removes the incomplete file of an interrupted command, and creates an empty file under its name.
 fn begin_again<'a, D: Databases>(
     rt: &HostRuntime,
     databases: &D,
@@ -149,7 +152,8 @@ fn begin_again<'a, D: Databases>(
     begin(rt, to, part)
 }
 
-/// Removes the incomplete file that an interrupted command left, and begins a new file.
+/// Removes the incomplete file of an interrupted command, and creates an empty new file under the
+/// same temporary name.
 pub(crate) fn begin_part_again<'a, D: Databases>(
     rt: &HostRuntime,
     databases: &D,
@@ -160,7 +164,8 @@ pub(crate) fn begin_part_again<'a, D: Databases>(
     begin_again(rt, databases, to, part)
 }
 
-/// Like [`begin_part_again`], but the final name may belong to an empty file whose log is empty.
+/// Creates an empty new file like [`begin_part_again`]. An empty file with an empty log may already
+/// have the final name.
 pub(crate) fn begin_new_part<'a, D: Databases>(
     rt: &HostRuntime,
     databases: &D,
@@ -171,20 +176,20 @@ pub(crate) fn begin_new_part<'a, D: Databases>(
     begin_again(rt, databases, to, part)
 }
 
-// Syncs the folder of a file, so that the names in it are on the disk.
+// Syncs the folder of a file, so that the folder's file names are on the disk.
 fn sync_folder(rt: &HostRuntime, path: &str) -> io::Result<()> {
     let mut folder = fs::canonicalize(rt, path)?;
     folder.pop();
     File::open(rt, folder.as_str())?.sync_all()
 }
 
-/// Renames a file to the name of another, which it replaces, and syncs their folder.
+/// Renames a file, replaces any file with the new name, and syncs the folder.
 pub(crate) fn rename_over(rt: &HostRuntime, part: &str, to: &str) -> io::Result<()> {
     fs::rename(rt, part, to)?;
     sync_folder(rt, to)
 }
 
-// Renames a file to a free name, on a file system without hard links. On failure the name stays
+// Renames a file to a free name on a file system without hard links. On failure, the name stays
 // free.
 fn claim_name(rt: &HostRuntime, part: &str, to: &str) -> io::Result<()> {
     drop(File::create_new(rt, to)?);
@@ -197,8 +202,8 @@ fn claim_name(rt: &HostRuntime, part: &str, to: &str) -> io::Result<()> {
     }
 }
 
-// Renames a file to a free name and syncs the folder, in one step if the file system has hard
-// links. This can fail although the file has its new name: if the old name cannot be removed, or
+// Renames a file to a free name, and syncs the folder. If the file system has hard links, the
+// renaming is one step. The call can fail after the renaming, if the old name cannot be removed or
 // the folder cannot be synced.
 fn link_name(rt: &HostRuntime, part: &str, to: &str) -> io::Result<()> {
     match fs::hard_link(rt, part, to) {
@@ -210,23 +215,22 @@ fn link_name(rt: &HostRuntime, part: &str, to: &str) -> io::Result<()> {
     sync_folder(rt, to)
 }
 
-/// Creates an empty log beside a new file, so that a log that is missing later is noticed. If this
-/// fails, nothing is lost.
+/// Creates an empty log beside a new file, so that a later loss of the log is noticed. Errors are
+/// ignored, because nothing is lost without the empty log.
 pub(crate) fn make_empty_log(rt: &HostRuntime, to: &str) {
     if let Ok(log) = format!(in rt.alloc(); "{to}-wal") {
         let _made = make_empty(rt, log.as_str());
     }
 }
 
-// Removes the log of an incomplete file, which was merged into it, and renames the file to its
-// final name.
+// Removes the merged log of an incomplete file, and renames the file to its final name.
 fn name_part(rt: &HostRuntime, to: &str, pair: &Pair) -> io::Result<()> {
     fs::remove_file(rt, pair.log.as_str())?;
     link_name(rt, pair.file.as_str(), to)
 }
 
-/// Renames a complete file, whose log was merged into it, to its final name. Fails if the name is
-/// taken. `link_name` may fail although the file has its new name.
+/// Renames a complete file, whose log is merged, to its final name. Fails if the final name already
+/// exists. May also fail after the renaming, like `link_name`.
 pub(crate) fn finish_part<'a>(
     rt: &HostRuntime,
     to: &'a str,

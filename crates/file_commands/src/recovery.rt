@@ -1,4 +1,4 @@
-//! Recovers what can be read of an office whose log is damaged, into a new file.
+//! Recovers the readable records of an office with a damaged log into a new file.
 use crate::backups::told_of;
 use crate::copies::{Pair, copy_settled, pair_at, remove};
 use crate::escaped::Escaped;
@@ -12,8 +12,8 @@ use stored_files::{
     write_recovered,
 };
 
-// Returns the paths of a file and its log, if the log has lost commits. Rejects a log that has lost
-// nothing.
+// Returns the paths of a file and its log, if the log has lost commits. Fails if the log is not
+// damaged.
 fn damaged_pair<'a>(rt: &HostRuntime, db: &'a str) -> Result<Pair, Failure<'a>> {
     let pair = match pair_at(rt, db) {
         Ok(pair) => pair,
@@ -26,7 +26,7 @@ fn damaged_pair<'a>(rt: &HostRuntime, db: &'a str) -> Result<Pair, Failure<'a>> 
     }
 }
 
-// Reports that every commit in the log of a file is lost.
+// Reports that all commits in the log of a file are lost.
 fn say_lost(rt: &HostRuntime, db: &str) {
     let mut errors = Escaped::new(rt.stderr());
     let db = Named(db);
@@ -55,7 +55,7 @@ fn recover_copy<'a>(
     }
 }
 
-// Copies a file and its log into an incomplete new file, and recovers them there.
+// Copies a file and its log to a new file with a temporary name, and recovers the copy.
 fn fill_part<'a>(
     rt: &HostRuntime,
     source: &Pair,
@@ -71,8 +71,8 @@ fn fill_part<'a>(
     }
 }
 
-// Audits the recovered office. If the audit finds nothing, prints what the office has, and returns
-// true. Otherwise prints the findings, and returns false.
+// Audits the recovered office, and returns whether no difference was found. In that case, prints a
+// report on the office's records, otherwise the differences.
 fn report_over<D: Databases>(
     rt: &HostRuntime,
     mut connection: Connection<D::Store>,
@@ -90,8 +90,8 @@ fn report_over<D: Databases>(
     Ok(true)
 }
 
-// Reports what was recovered. If the audit found nothing, renames the incomplete file to its final
-// name.
+// Audits the recovered file and prints a report. If the audit finds no difference, renames the file
+// to its final name.
 fn finish<'a, D: OfficeFiles>(
     rt: &HostRuntime,
     files: &D,
@@ -114,8 +114,8 @@ fn finish<'a, D: OfficeFiles>(
     Ok(true)
 }
 
-/// Recovers a file with a damaged log: writes the commits that recovery accepts into a new file,
-/// and prints what that file has. The damaged file and its log are only read.
+/// Recovers a file with a damaged log: writes the commits that SQLite's recovery accepts to a new
+/// file, and prints a report on that file. The damaged file and its log are only read.
 pub fn recover<'a, D: OfficeFiles>(
     rt: &HostRuntime,
     files: &D,

@@ -1,4 +1,4 @@
--- Worked examples: responses byte for byte.
+-- Worked examples of HTTP responses, byte for byte, computed from the definitions.
 use Rattle.std.proofs.Common.{◌≡◌, ℕ, List, [], ◌∷◌, Some, None, Ok, Err, pos, true, false, refl}
 use Rattle.std.specs.Prelude.{codes}
 use Rattle.std.specs.Fmt.{digits}
@@ -17,7 +17,7 @@ use Rattle.http_answer.specs.Replies.{fault_said, refused, reply_bytes, reply_of
 use Rattle.http_answer.specs.Requests.{kept_request, number_asked}
 use Rattle.http_answer.specs.Rows.{meter_text}
 
--- An office that knows no meter but has interval rows, and that executes an exchange.
+-- An example `Office` without meters, with interval rows, that accepts a meter exchange.
 abbrev office : Office
 office = record {
   meter = λ name. Err refusal.NotFound;

@@ -1,4 +1,4 @@
--- The faulty rows in the body of a response, appended one after another.
+-- Lemmas on the JSON of the faulty rows of a point list, which is appended row after row.
 use Rattle.std.proofs.Common.{◌≡◌, ◌∙◌, ℕ, ◌+◌, ◌<◌, List, [], ◌∷◌, ◌++◌, length, get_or, take, refl, sym, ap, append_assoc}
 use Rattle.std.specs.Prelude.{codes, decimal}
 use Rattle.std.proofs.lemmas.List.{append-nil, take_more}
@@ -13,7 +13,8 @@ more_rows-append (x ∷ xs) y = ap (λ t. codes "," ++ row_text x ++ t) (more_ro
 row_after : (old a b : List ℕ) → old ++ codes ",[" ++ a ++ codes "," ++ b ++ codes "]" ≡ old ++ (codes "," ++ (codes "[" ++ a ++ codes "," ++ b ++ codes "]"))
 row_after old a b = simp append_assoc refl
 
--- The step from the first `i` rows to one row more.
+-- If the JSON of row `i` is appended to the JSON of the first `i` faulty rows, the result has `i` +
+-- 1 rows.
 pub one_more : (before now next : List ℕ) (rows : List FaultyRow) (i : ℕ) (d : FaultyRow) → i < length rows → now ≡ before ++ more_rows (take i rows)
     → next ≡ now ++ codes ",[" ++ decimal (get_or rows i d).row ++ codes "," ++ decimal (fault_number (get_or rows i d).fault) ++ codes "]" → next ≡ before ++ more_rows (take (i + 1) rows)
 one_more before now next rows i d lt so_far is =

@@ -1,4 +1,4 @@
--- A point list has at most 513 faulty rows, and none of them comes after row 514.
+-- Lemmas: a point list has at most 513 faulty rows, each with a row number of at most 514.
 use Rattle.std.proofs.Common.{◌≡◌, ℕ, zero, suc, ◌+◌, ◌≤◌, Bool, true, false, List, [], ◌∷◌, length, Option, Some, None, refl, sym, subst, arith, length-append}
 use Rattle.std.specs.Prelude.{All, if◌then◌else◌}
 use Rattle.std.specs.Option.{option_to_list}
@@ -60,6 +60,6 @@ few_in : (rows : List (List (List ℕ))) → length rows ≤ 514 → AreFew (lis
 few_in [] h = few_no_header
 few_in (header ∷ rows) h = either_few (is_header header) (faults_below rows) no_header (few_below rows (omega arith)) few_no_header
 
--- The faulty rows that are reported for a text are within these bounds.
+-- The faulty rows that the program reports for a point list are within the bounds of `AreFew`.
 pub told_few : (text : List ℕ) (told : List FaultyRow) → AreFaults (list_faults (rows_read text)) told → AreFew told
 told_few text told is = subst AreFew (sym is.0) (few_in (rows_read text) (omega (arith, length-take 514 (csv_rows text))))

@@ -1,4 +1,4 @@
--- Which response belongs to the bytes that were read.
+-- Lemmas: which response belongs to the bytes of a request.
 use Rattle.std.proofs.Common.{◌≡◌, ◌∙◌, ◌≢◌, ◌⊎◌, ℕ, Bool, true, false, List, Option, Some, None, Result, Ok, Err, inl, inr, refl, sym, ap, subst}
 use Rattle.std.proofs.lemmas.Bool.{cond-true, cond-false}
 use Rattle.http_answer.specs.Commands.Given.{Gives}
@@ -26,7 +26,7 @@ use Rattle.http_answer.specs.Replies.{ask, command_reply, fault, found_reply, qu
 use Rattle.http_answer.specs.Requests.{name_asked}
 use Rattle.http_answer.specs.Whole.{BodyGives, IsCommand, IsReply, bad_head_status}
 
--- If a test of the head fails, the response does not depend on the body.
+-- If a test of the head fails, the response does not depend on the request's body.
 fails : (office : Office) (table : Table) (start : Start) (body : List ℕ) (given : Result Command CommandFault) (status : Status) → head_fault table start ≡ Some status
     → fault status ≡ reply_of office table start body given
 fails office table start body given status h = sym (ap (λ o. unless_failed o (found_reply office start body given (route_in table start.target) (name_in table start.target))) h)

@@ -1,23 +1,23 @@
--- The JSON of a list with faulty rows.
+-- The JSON body of the response to a point list with faulty rows.
 use Rattle.std.specs.Prelude.{ℕ, List, [], ◌∷◌, ◌++◌, codes, decimal}
 use Rattle.point_list.specs.declared.fault.FaultyRow.{FaultyRow}
 use Rattle.point_list.specs.Faults.{fault_number}
 
--- A faulty row as JSON: its row number and the number of its fault.
+-- The JSON of a faulty row: its row number and the number of its fault.
 abbrev pub row_text : FaultyRow → List ℕ
 row_text faulty =
     codes "[" ++ decimal faulty.row ++ codes "," ++ decimal (fault_number faulty.fault) ++ codes "]"
 
--- Each further row as JSON, with a comma before it.
+-- The JSON of faulty rows, each with a comma before it.
 abbrev pub more_rows : List FaultyRow → List ℕ
 more_rows [] = []
 more_rows (faulty ∷ rows) = codes "," ++ row_text faulty ++ more_rows rows
 
--- All rows as JSON, with commas between them.
+-- The JSON of faulty rows, with commas between them.
 abbrev pub rows_text : List FaultyRow → List ℕ
 rows_text [] = []
 rows_text (faulty ∷ rows) = row_text faulty ++ more_rows rows
 
--- The body of the response to a list with faulty rows.
+-- The body of the response to a point list with faulty rows.
 abbrev pub faults_text : List FaultyRow → List ℕ
 faults_text rows = codes "{\"faults\":[" ++ rows_text rows ++ codes "]}"

@@ -1,11 +1,11 @@
--- What a response reports of an executed command.
+-- The kind of an executed command, as the response reports it.
 use Rattle.std.specs.Prelude.{List, ℕ, ◌++◌, codes, Option, Some, None}
 use Rattle.office_events.specs.declared.answers.Answer.{Answer}
 use Rattle.office_events.specs.declared.answers.Answer.TheVariants.{Noted, Done, Again, Started}
 use Rattle.office_events.specs.declared.answers.CommandKind.{CommandKind}
 use Rattle.office_events.specs.declared.answers.CommandKind.TheVariants as kind
 
--- The name of this kind of command in a response.
+-- The name of a command's kind in a response.
 abbrev pub kind_name : CommandKind → List ℕ
 kind_name kind.Device = codes "device"
 kind_name kind.List = codes "list"
@@ -23,8 +23,8 @@ kind_name kind.Start = codes "start"
 abbrev pub done_text : CommandKind → List ℕ
 done_text k = codes "{\"done\":\"" ++ kind_name k ++ codes "\"}"
 
--- The kind of the executed command, which may have been executed for an earlier request with the
--- same idempotency key. None for an event that is no command.
+-- The kind of the executed command. For a duplicate request (same idempotency key), this is the
+-- kind of the earlier command. None if the event was no command.
 abbrev pub kind_answered : Answer → Option CommandKind
 kind_answered Noted = None
 kind_answered (Done k) = Some k

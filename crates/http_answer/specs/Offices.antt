@@ -1,4 +1,4 @@
--- The answers of an office from which responses are built.
+-- The program's answers to queries and commands, from which responses are built.
 use Rattle.std.specs.Prelude.{ℕ, List, Option, Result}
 use Rattle.interval_core.specs.declared.shares.Share.{Share}
 use Rattle.interval_core.specs.declared.totals.DayTotal.{DayTotal}
@@ -8,9 +8,8 @@ use Rattle.office_events.specs.declared.questions.Installation.{Installation}
 use Rattle.office_events.specs.declared.questions.PollRow.{PollRow}
 use Rattle.office_events.specs.declared.refusals.Refusal.{Refusal}
 
--- The answers of an office (the program's state over one store) at one time, to each query and to a
--- command. The answer to a command is its kind, also for an earlier request with the same
--- idempotency key. A name is None if the request has no valid name.
+-- The program's answers at one time, to each query and to a command. The answer to a command is its
+-- kind, even if it is a duplicate request. A name is None if the request has no valid name.
 pub record Office : Type 0 where
   pub meter : Option (List ℕ) → Result Installation Refusal
   pub poll : (number : ℕ) → Result PollRow Refusal

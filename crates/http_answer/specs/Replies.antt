@@ -1,5 +1,5 @@
--- The response to a request: the tests of its head in order, then its body, then the office's
--- answer.
+-- The response to a request. The first failed test of its head decides the response, then a fault
+-- of its body, and otherwise the program's answer.
 use Rattle.std.specs.Prelude.{ℕ, List, ◌++◌, if◌then◌else◌, Option, Some, None, Result, Ok, Err}
 use Rattle.http_answer.specs.declared.commands.fault.CommandFault.{CommandFault}
 use Rattle.http_answer.specs.declared.commands.fault.CommandFault.TheVariants.{Malformed, Negative, Faulty, Memory}
@@ -27,41 +27,42 @@ use Rattle.http_answer.specs.Requests.{kept_request, name_asked, number_asked}
 use Rattle.http_answer.specs.Rows.{meter_text, poll_text}
 use Rattle.http_answer.specs.Statuses.{status_of}
 
--- A response: a status with a JSON body, or lines of text.
+-- An HTTP response: a status with a JSON body, or lines of plain text.
 pub data Reply : Type 0 where
   Json : Status → List ℕ → Reply
   Lines : List ℕ → Reply
 
--- The bytes of a response.
+-- The bytes of an HTTP response.
 abbrev pub reply_bytes : Reply → List ℕ
 reply_bytes (Json status body) = json_reply status body
 reply_bytes (Lines lines) = text_head ++ lines
 
--- The JSON response with this status, for a request that fails before the office is asked.
+-- The JSON response with this status, for a request that fails a test before it is executed.
 abbrev pub fault : Status → Reply
 fault status = Json status (fault_text status)
 
--- The JSON response that reports a refusal of the office, by its number.
+-- The JSON response that reports the program's refusal by its number.
 abbrev pub refused : Refusal → Reply
 refused why = Json (status_of why) (refused_text (refusal_number why))
 
--- The response to a query with one row: the row as JSON, or the refusal.
+-- The response to a query for one object: the object as JSON, or the program's refusal.
 abbrev pub row_reply : {X : Type 0} → (X → List ℕ) → Result X Refusal → Reply
 row_reply text (Ok row) = Json Fine (text row)
 row_reply text (Err why) = refused why
 
--- The response to a query with many rows: the rows as lines of text, or the refusal.
+-- The response to a query for many rows: the rows as lines of text, or the program's refusal.
 abbrev pub lines_reply : {X : Type 0} → (X → List ℕ) → Result X Refusal → Reply
 lines_reply text (Ok rows) = Lines (text rows)
 lines_reply text (Err why) = refused why
 
--- The response to a query for the poll with this number. Without a number it is "not found".
+-- The response to a query for the poll with this number. Without a valid number, the response is
+-- "not found".
 abbrev pub poll_reply : Office → Option ℕ → Reply
 poll_reply office None = refused refusal.NotFound
 poll_reply office (Some number) = row_reply poll_text (office.poll number)
 
--- The response to a query, by its route and the route's parameter. A route that is no query gets
--- its response elsewhere.
+-- The response to a query, by its route and the route's parameter. Routes that are not listed get
+-- no query response from this definition.
 abbrev pub question_reply : Office → Route → Option (List ℕ) → Reply
 question_reply office route.Meter taken = row_reply meter_text (office.meter (name_asked taken))
 question_reply office route.Poll taken = poll_reply office (number_asked taken)
@@ -70,26 +71,26 @@ question_reply office route.Intervals taken =
 question_reply office route.Days taken = lines_reply days_text (office.days (name_asked taken))
 question_reply office _ taken = fault NotThere
 
--- The response to a body that gives no command. The office is not asked.
+-- The response to a request whose body contains no valid command. Nothing is executed.
 abbrev pub fault_said : CommandFault → Reply
 fault_said Malformed = fault BadRequest
 fault_said Negative = refused refusal.Limit
 fault_said (Faulty rows) = Json Unprocessable (faults_text rows)
 fault_said Memory = refused refusal.Memory
 
--- The response to a command: the office's answer if the body gives a command, or the fault of the
--- body.
+-- The response to a command: the program's answer if the body contains a valid command, otherwise
+-- the fault of the body.
 abbrev pub command_reply : (Command → Result CommandKind Refusal) → Result Command CommandFault
     → Reply
 command_reply ask (Ok command) = row_reply done_text (ask command)
 command_reply ask (Err why) = fault_said why
 
--- The request number that the headers give, or 0 without one.
+-- The request number in the headers, or 0 if the headers have no valid number.
 abbrev pub number_or_zero : Option ℕ → ℕ
 number_or_zero None = 0
 number_or_zero (Some number) = number
 
--- A command with its idempotency key, and the bytes that are stored of its request.
+-- A command with its idempotency key, and the bytes that the store records of its request.
 abbrev pub asked_with : PostHeaders → (request : List ℕ) → Command → Asked
 asked_with headers request command = record {
   caller = caller_in headers;
@@ -98,16 +99,17 @@ asked_with headers request command = record {
   command = command;
 }
 
--- The command of a request, with its idempotency key and the bytes that are stored of the request.
+-- A command with the idempotency key in its headers, and the bytes that the store records of its
+-- request.
 abbrev pub asked_of : Start → (body : List ℕ) → Command → Asked
 asked_of start body command =
     asked_with (post_headers_of start.headers) (kept_request start.method start.target body) command
 
--- The office's answer to the command that a request has.
+-- The program's answer to the command in a request.
 abbrev pub ask : Office → Start → (body : List ℕ) → Command → Result CommandKind Refusal
 ask office start body command = office.asked (asked_of start body command)
 
--- The response to a request of this route that passes all tests of its head.
+-- The response to a request with this route whose head passes all tests.
 abbrev pub route_reply : Office → Start → (body : List ℕ) → Result Command CommandFault → Route
     → Option (List ℕ) → Reply
 route_reply office start body given route.Meter taken = question_reply office route.Meter taken
@@ -117,20 +119,21 @@ route_reply office start body given route.Intervals taken =
 route_reply office start body given route.Days taken = question_reply office route.Days taken
 route_reply office start body given _ taken = command_reply (ask office start body) given
 
--- The response for the route of the target. Without a route it is 404.
+-- The response to a request with this route. Without a route, the response is 404.
 abbrev pub found_reply : Office → Start → (body : List ℕ) → Result Command CommandFault
     → Option Route → Option (List ℕ) → Reply
 found_reply office start body given None taken = fault NotThere
 found_reply office start body given (Some route) taken =
     route_reply office start body given route taken
 
--- The response with the status of the first failed test; this reply if no test failed.
+-- The error response with the status of the first failed test of a request, or `reply` if no test
+-- failed.
 abbrev pub unless_failed : Option Status → Reply → Reply
 unless_failed None reply = reply
 unless_failed (Some status) reply = fault status
 
--- The response to a request with this head and this body. `given` is the command or fault that the
--- body gives.
+-- The response to a request with this head and this body. `given` is the command in the body, or
+-- the fault of the body.
 abbrev pub reply_of : Office → Table → Start → (body : List ℕ) → Result Command CommandFault → Reply
 reply_of office table start body given =
     unless_failed (head_fault table start)

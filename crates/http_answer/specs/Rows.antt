@@ -25,14 +25,15 @@ meter_text row =
     ++ codes ",\"total\":\"" ++ decimal row.total
     ++ codes "\"}"
 
--- The end of a poll: its time, the number of its outcome, and the outcome's code. All are 0 while
--- the poll is pending.
+-- The end of a poll: its time, the number of its outcome, and the outcome's code. All fields are 0
+-- while the poll is pending.
 pub record Ending : Type 0 where
   pub moment : ℕ
   pub outcome : ℕ
   pub code : ℕ
 
--- The end of a poll; all fields are 0 while the poll is pending.
+-- The end of a poll, from the stored end if the poll has ended. All fields are 0 while the poll is
+-- pending.
 abbrev pub ending_of : Option EndedPoll → Ending
 ending_of None = record { moment = 0; outcome = 0; code = 0 }
 ending_of (Some ended) =
@@ -42,7 +43,7 @@ ending_of (Some ended) =
       code = outcome_code ended.outcome;
     }
 
--- The JSON of a poll, with these fields for its end.
+-- The JSON of a poll, with these values for its end.
 abbrev pub poll_text_with : Ending → PollRow → List ℕ
 poll_text_with ending row =
     codes "{\"code\":" ++ decimal ending.code

@@ -1,10 +1,10 @@
--- The status of each refusal.
+-- The HTTP status for each refusal of the program.
 use Rattle.http_request.specs.declared.status.Status.{Status}
 use Rattle.http_request.specs.declared.status.Status.TheVariants.{NotFound as NotThere, Conflict, Unprocessable, Unavailable}
 use Rattle.office_events.specs.declared.refusals.Refusal.{Refusal}
 use Rattle.office_events.specs.declared.refusals.Refusal.TheVariants as refusal
 
--- The status of the response that reports a refusal.
+-- The HTTP status of the response that reports a refusal.
 abbrev pub status_of : Refusal → Status
 status_of refusal.NotFound = NotThere
 status_of refusal.Exists = Conflict

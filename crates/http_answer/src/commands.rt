@@ -1,4 +1,4 @@
-//! The command that the body of a request gives, by its route.
+//! Parses the command in the body of a request, by the route of the request.
 
 mod fault;
 mod given;

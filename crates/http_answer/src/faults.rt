@@ -1,4 +1,4 @@
-//! The body of the response to a list with faulty rows.
+//! The JSON body of the response to a point list with faulty rows.
 ghost use Rattle.std.specs.Prelude.{◌≡◌, ◌≤◌, ◌+◌, ◌*◌, ◌++◌, length, codes, decimal, All};
 ghost use Rattle.point_list.specs.Faults.{fault_number};
 ghost use Rattle.http_answer.specs.Commands.Few.{AreFew};
@@ -7,7 +7,7 @@ ghost use Rattle.http_answer.specs.Faults.{faults_text, more_rows};
 use crate::sending::Text;
 use point_list::FaultyRow;
 
-// Appends `key` and a faulty row as JSON.
+// Appends `key`, a row number and the number of the row's fault as JSON.
 fn push_row(text: &mut Text, key: &[u8], faulty: FaultyRow)
     requires room { length text.old + length key.now + 60 ≤ 8192 }
     requires low { faulty.row ≤ 514 }
@@ -20,7 +20,7 @@ fn push_row(text: &mut Text, key: &[u8], faulty: FaultyRow)
     text.push(b"]");
 }
 
-// Appends faulty rows as JSON, each with a comma before it.
+// Appends row numbers and their faults as JSON, each with a comma before it.
 fn push_rows(text: &mut Text, rows: &[FaultyRow])
     requires room { length text.old + 12 * length rows.now ≤ 8000 }
     requires low { All (λ faulty. faulty.row ≤ 514) rows.now }
@@ -32,8 +32,8 @@ fn push_rows(text: &mut Text, rows: &[FaultyRow])
     }
 }
 
-/// Formats the body of the response to a list with faulty rows: each row number with the least
-/// number among its faults.
+/// Formats the body of the response to a point list with faulty rows: each row number with the
+/// least number among the row's faults.
 pub fn faults_body(rows: &[FaultyRow]) -> Text
     requires { AreFew rows.now }
     ensures { result ≡ faults_text rows.now }

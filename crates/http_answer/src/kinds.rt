@@ -1,10 +1,10 @@
-//! What responses report of executed commands.
+//! The kind of an executed command, as the response reports it.
 ghost use Rattle.std.specs.Prelude.{◌≡◌};
 ghost use Rattle.http_answer.specs.Kinds.{done_text, kind_answered};
 
 use office_events::{Answer, CommandKind};
 
-/// Returns the body of the response to an executed command.
+/// Returns the JSON body of the response to an executed command.
 pub fn done_body(kind: CommandKind) -> &'static [u8]
     ensures { result.now ≡ done_text kind }
 {
@@ -23,8 +23,8 @@ pub fn done_body(kind: CommandKind) -> &'static [u8]
     }
 }
 
-/// Returns the kind of the command that was executed, now or for an earlier request with the same
-/// idempotency key. An event that is no command has none.
+/// Returns the kind of the executed command. For a duplicate request (same idempotency key), this
+/// is the kind of the earlier command. `None` if the event was no command.
 pub fn kind_answered(answer: Answer) -> Option<CommandKind>
     ensures { result ≡ kind_answered answer }
 {

@@ -1,4 +1,4 @@
-//! Theorems: which response belongs to the bytes that were read.
+//! Theorems: which response belongs to the bytes of a request.
 ghost use Rattle.std.specs.Prelude.{◌≡◌, ◌≢◌, Ok, Err};
 ghost use Rattle.http_answer.specs.Commands.Given.{Gives};
 ghost use Rattle.http_answer.specs.declared.commands.fault.CommandFault.TheVariants.{Memory};
@@ -17,8 +17,8 @@ use http_request::{Found, Head, HeadState, Posted, Route, Status};
 use matchit::Router;
 use office_events::Command;
 
-/// Theorem: the response to a request with a failed test has the status of the first failed test.
-/// For a bad head that status is 400 or 431.
+/// Theorem: if a request fails a test, then its response has the status of the first failed test.
+/// If the request's head is invalid, then that status is 400 or 431.
 pub fn faults_are_replied_to(
     router: &Router<Route>,
     bytes: &[u8],
@@ -30,7 +30,7 @@ pub fn faults_are_replied_to(
     ensures { (office : Office) → IsReply office router.now bytes.now (reply_bytes (fault status)) }
 {}
 
-/// Theorem: the response to a query is the office's answer.
+/// Theorem: the response to a query is the result of the lookup in the store.
 pub fn questions_are_replied_to(
     router: &Router<Route>,
     bytes: &[u8],
@@ -43,8 +43,8 @@ pub fn questions_are_replied_to(
         (reply_bytes (question_reply office found.now.route (name_of found.now))) }
 {}
 
-/// Theorem: the response to a command is the office's answer to it, or reports the fault of its
-/// body.
+/// Theorem: the response to a command has the kind of the executed command or the refusal, or
+/// reports the fault of the request's body.
 pub fn commands_are_replied_to(
     router: &Router<Route>,
     bytes: &[u8],

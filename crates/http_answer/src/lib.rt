@@ -1,4 +1,4 @@
-//! Parses the commands of request bodies, and writes an office's answers as HTTP responses.
+//! Parses the commands in request bodies, and writes the program's answers as HTTP responses.
 #![tactic(auto)]
 
 mod commands;

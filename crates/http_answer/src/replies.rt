@@ -1,4 +1,4 @@
-//! Writes responses. No function here allocates.
+//! Writes HTTP responses. No function in this module allocates.
 ghost use Rattle.std.specs.Prelude.{Err};
 ghost use Rattle.http_answer.specs.Commands.Few.{HasFewRows};
 ghost use Rattle.http_answer.specs.Sending.Sending.{Puts};
@@ -16,7 +16,7 @@ use http_request::Status;
 use mb_wire::Link;
 use office_events::{CommandKind, Installation, PollRow, Refusal};
 
-/// Writes the response to a request that fails before the office is asked.
+/// Writes the error response to a request that fails a test before it is executed.
 pub fn put_fault<L: Link>(status: Status, writer: &mut ReplyWriter<'_, L>)
     ensures { Puts writer.old writer.new (reply_bytes (fault status)) }
 {
@@ -24,7 +24,7 @@ pub fn put_fault<L: Link>(status: Status, writer: &mut ReplyWriter<'_, L>)
     put_json(status, body.bytes(), writer);
 }
 
-/// Writes the response to a refusal.
+/// Writes the response that reports why the program refused a request.
 pub fn put_refusal<L: Link>(refusal: Refusal, writer: &mut ReplyWriter<'_, L>)
     ensures { Puts writer.old writer.new (reply_bytes (refused refusal)) }
 {
@@ -32,7 +32,7 @@ pub fn put_refusal<L: Link>(refusal: Refusal, writer: &mut ReplyWriter<'_, L>)
     put_json(status_of(refusal), body.bytes(), writer);
 }
 
-/// Writes the response to a command: the kind of the executed command, or the refusal.
+/// Writes the response to a command: the kind of the executed command, or the program's refusal.
 pub fn put_done<L: Link>(answer: Result<CommandKind, Refusal>, writer: &mut ReplyWriter<'_, L>)
     ensures { Puts writer.old writer.new (reply_bytes (row_reply done_text answer)) }
 {
@@ -42,8 +42,8 @@ pub fn put_done<L: Link>(answer: Result<CommandKind, Refusal>, writer: &mut Repl
     }
 }
 
-/// Writes the response to a body that gives no command. `Malformed` gets 400, `Negative` and
-/// `Faulty` get 422, and `Memory` gets 503.
+/// Writes the response to a request whose body contains no valid command. `Malformed` gets status
+/// 400, `Negative` and `Faulty` get 422, and `Memory` gets 503.
 pub fn put_command_fault<L: Link>(fault: &CommandFault, writer: &mut ReplyWriter<'_, L>)
     requires { HasFewRows (Err fault.now) }
     ensures { Puts writer.old writer.new (reply_bytes (fault_said fault.now)) }
@@ -59,7 +59,7 @@ pub fn put_command_fault<L: Link>(fault: &CommandFault, writer: &mut ReplyWriter
     }
 }
 
-/// Writes the response to the query for a meter.
+/// Writes the response to the query for a meter: the meter as JSON, or the refusal.
 pub fn put_meter<L: Link>(answer: &Result<Installation, Refusal>, writer: &mut ReplyWriter<'_, L>)
     ensures { Puts writer.old writer.new (reply_bytes (row_reply meter_text answer.now)) }
 {
@@ -72,7 +72,7 @@ pub fn put_meter<L: Link>(answer: &Result<Installation, Refusal>, writer: &mut R
     }
 }
 
-/// Writes the response to the query for a poll.
+/// Writes the response to the query for a poll: the poll as JSON, or the refusal.
 pub fn put_poll<L: Link>(answer: &Result<PollRow, Refusal>, writer: &mut ReplyWriter<'_, L>)
     ensures { Puts writer.old writer.new (reply_bytes (row_reply poll_text answer.now)) }
 {

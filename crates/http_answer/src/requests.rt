@@ -1,4 +1,4 @@
-//! What the office gets of a request besides its command.
+//! Parses the parameters of routes, and combines commands with their idempotency keys.
 ghost use Rattle.std.specs.Prelude.{◌≡◌, IfOk, option_map};
 ghost use Rattle.http_request.specs.Asking.{Says};
 ghost use Rattle.http_request.specs.Tests.{PostHeaders};
@@ -9,8 +9,8 @@ use http_request::{Posted, number};
 use office_events::{Asked, Command, Name, Piece};
 use std::alloc::{AllocError, Global};
 
-/// Returns the bytes that are stored of a command's request: the method, a space, the target, a
-/// line feed and the body.
+/// Returns the bytes that the store records of a command's request: the method, a space, the
+/// target, a line feed and the body.
 pub fn kept_request(
     alloc: Global,
     method: &[u8],
@@ -27,7 +27,7 @@ pub fn kept_request(
     Ok(Piece::new(bytes))
 }
 
-/// Returns the name that a route's parameter spells, if it is a name.
+/// Returns the value of a route's parameter as a name, if it is a valid name.
 pub fn name_asked(taken: Option<&str>) -> Option<Name>
     ensures { result ≡ name_asked (option_map (λ s. s.now) taken.entry) }
 {
@@ -37,8 +37,8 @@ pub fn name_asked(taken: Option<&str>) -> Option<Name>
     }
 }
 
-/// Returns the number of a poll that a route's parameter spells: one to nineteen digits, up to 2^63
-/// - 1.
+/// Returns the value of a route's parameter as the number of a poll. The number has one to nineteen
+/// digits and is at most 2^63 - 1.
 pub fn number_asked(taken: Option<&str>) -> Option<u64>
     ensures { result ≡ number_asked (option_map (λ s. s.now) taken.entry) }
 {
@@ -48,7 +48,7 @@ pub fn number_asked(taken: Option<&str>) -> Option<u64>
     }
 }
 
-/// Joins a command with its idempotency key and the bytes that are stored of its request.
+/// Combines a command with its idempotency key and the bytes that the store records of its request.
 pub fn asked(posted: &Posted, request: Piece, command: Command) -> Asked
     ensures { (headers : PostHeaders) → Says headers posted.now
         → result ≡ asked_with headers request command }

@@ -1,4 +1,4 @@
-//! The bodies of the responses to queries.
+//! The JSON bodies of the responses to queries for a meter or a poll.
 ghost use Rattle.std.specs.Prelude.{◌≡◌, ◌≤◌, ◌+◌, ◌++◌, length, codes};
 ghost use Rattle.std.specs.Fmt.{signed_decimal};
 ghost use Rattle.http_answer.specs.Rows.{bool_text, ending_of, meter_text, poll_text};
@@ -21,8 +21,8 @@ fn push_scale(text: &mut Text, sf: i16)
     text.push_number(b"\",\"sf\":", i64::from(sf));
 }
 
-/// Formats the body for a meter: its last entry, its range, and its total energy in mWh. The energy
-/// is a string of digits, since it may exceed the numbers that many JSON readers keep exactly.
+/// Formats the JSON of a meter: its last entry, its range, and its total energy in mWh. The energy
+/// is a string of digits, since JSON numbers lose precision above 2^53 in many clients.
 pub fn meter_body(row: &Installation) -> Text
     ensures { result ≡ meter_text row.now }
 {
@@ -42,7 +42,7 @@ pub fn meter_body(row: &Installation) -> Text
     text
 }
 
-// How a poll ended. All fields are 0 while the poll is pending.
+// The end of a poll: its time, outcome and code. All fields are 0 while the poll is pending.
 #[derive(Clone, Copy)]
 struct Ending {
     moment: u64,
@@ -69,8 +69,8 @@ fn ending_of(ended: &Option<EndedPoll>) -> Ending
     }
 }
 
-/// Formats the body for a poll. The numbers of its outcome and of the outcome's code are 0 while
-/// the poll is pending.
+/// Formats the JSON of a poll. The numbers of its outcome and of the outcome's code are 0 while the
+/// poll is pending.
 pub fn poll_body(row: &PollRow) -> Text
     ensures { result ≡ poll_text row.now }
 {

@@ -1,4 +1,4 @@
-//! Formats responses, and sends them to a link. No function here allocates.
+//! Formats HTTP responses, and sends them to a link. No function in this module allocates.
 
 mod bodies;
 mod outbox;

@@ -1,11 +1,11 @@
-//! The status of each refusal.
+//! The HTTP status for each refusal of the program.
 ghost use Rattle.std.specs.Prelude.{◌≡◌};
 ghost use Rattle.http_answer.specs.Statuses.{status_of};
 
 use http_request::Status;
 use office_events::Refusal;
 
-/// Returns the status of the response that reports a refusal.
+/// Returns the HTTP status of the response that reports a refusal.
 pub fn status_of(refusal: Refusal) -> Status
     ensures { result ≡ status_of refusal }
 {

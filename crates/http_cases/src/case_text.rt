@@ -1,8 +1,9 @@
-//! The text of a golden test: its requests, and where two texts differ.
+//! Decodes the requests of golden tests, and finds where two texts differ.
 use std::alloc::{AllocError, Global};
 
 /// Decodes a request from the text of a golden test. Each line of the text ends with CR LF, unless
-/// its last character is `~`. In a line, `~N;` is the byte N, and `~N*COUNT;` is COUNT such bytes.
+/// the line's last character is `~`. In a line, `~N;` is the byte N, and `~N*COUNT;` is the byte N,
+/// COUNT times.
 pub(crate) fn decode(alloc: Global, text: &str) -> Result<Vec<u8>, AllocError> {
     let mut bytes = Vec::new(alloc);
     for line in text.split('\n') {
@@ -37,7 +38,7 @@ fn repeat_byte(escape: &str, bytes: &mut Vec<u8>) -> Result<(), AllocError> {
     Ok(())
 }
 
-/// Returns the number of the first line in which two texts differ. Lines are numbered from 1.
+/// Returns the number of the first line in which two texts differ. The first line has number 1.
 pub(crate) fn differs_at(left: &[u8], right: &[u8]) -> Option<u64> {
     if left == right {
         return None;

@@ -1,6 +1,6 @@
-//! Runs the golden tests below the folder that the first argument names, by default the working
-//! directory. Each golden test is a text with requests, and the responses that they must get. The
-//! program reports each test that differs, and at the end how many agree.
+//! Runs the golden tests below a folder: the first argument, by default the working directory. Each
+//! golden test is a text with requests, and a text with the expected responses. The program reports
+//! each test that differs, and at the end how many tests agree.
 #![tactic(auto)]
 
 mod case_text;
@@ -14,7 +14,7 @@ use crate::playing::play;
 use std::process::ExitCode;
 use std::{env, fs, io};
 
-/// How many golden tests agree, and how many differ.
+/// The number of golden tests that agree, and the number that differ.
 #[derive(Clone, Copy)]
 struct Tally {
     agree: u64,
@@ -62,8 +62,8 @@ fn play_subject(rt: &HostRuntime, subject: &str, tally: &mut Tally) -> io::Resul
     Ok(())
 }
 
-// Runs the golden test in a file twice: with requests that arrive at once, and byte by byte. If the
-// responses differ from the expected ones, reports where.
+// Runs a golden test twice: with requests that arrive at once, and with requests that arrive byte
+// by byte. Reports where the responses differ from the expected responses.
 fn agrees(rt: &HostRuntime, input: &str, wanted: &str) -> io::Result<bool> {
     let text = fs::read_to_string(rt, input)?;
     let wanted = fs::read(rt, wanted)?;

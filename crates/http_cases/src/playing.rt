@@ -1,4 +1,4 @@
-//! Runs a golden test over an office in memory.
+//! Runs the requests of a golden test with a store in memory.
 use crate::case_text::decode;
 use crate::replies::{run, serve};
 use interval_core::Zone;
@@ -11,8 +11,8 @@ use std::alloc::{AllocError, Global};
 
 type MemoryOffice = Office<ListBooks>;
 
-/// Returns the responses to the requests of a golden test, each followed by a line feed. `serve`
-/// reads a request in pieces of `piece` bytes.
+/// Returns the responses to the requests of a golden test, each followed by a line feed. The
+/// command `serve` reads a request in pieces of `piece` bytes.
 pub(crate) fn play(alloc: Global, text: &str, piece: usize) -> Result<Vec<u8>, AllocError> {
     match open_office(alloc) {
         Some(mut office) => play_blocks(alloc, &mut office, text, piece),
@@ -39,8 +39,8 @@ fn play_blocks(
     Ok(printed)
 }
 
-// Runs a block of the text. A block that begins with `serve MOMENT` or `run MOMENT` has a request.
-// Any other block has lines of a script.
+// Runs one block of a golden test. A block that begins with `serve MOMENT` or `run MOMENT` contains
+// a request. Any other block contains lines of a setup script.
 fn play_block(
     alloc: Global,
     office: &mut MemoryOffice,
@@ -66,7 +66,8 @@ fn play_block(
     Ok(())
 }
 
-// Executes the lines of a script, which set up the office. The office must accept each of them.
+// Executes the lines of a setup script. Appends `rejected: LINE` for each line that is not
+// accepted.
 fn set_up(
     alloc: Global,
     office: &mut MemoryOffice,

@@ -1,4 +1,4 @@
-//! The responses of the commands `serve` and `run`.
+//! Makes the responses of the commands `serve` and `run` in golden tests.
 use http_peers::reply_site_over;
 use mb_wire::MemoryLink;
 use memory_books::ListBooks;
@@ -11,14 +11,13 @@ use run_http::{
 use run_status::Counts;
 use std::alloc::{AllocError, Global};
 
-// The host name that the option `--host-name` would give.
+// The host name that the option `--host-name` would add.
 static NAMES: [&str; 1] = ["office.example"];
 
-// The text that is printed if there is no response.
+// The text that golden tests expect instead of a response.
 static NO_REPLY: &[u8] = b"no reply";
 
-/// Appends the response of the command `serve` to a request, which it reads in pieces of `piece`
-/// bytes.
+/// Appends the response of `sunreg serve` to a request, which is read in pieces of `piece` bytes.
 pub(crate) fn serve(
     alloc: Global,
     office: &mut Office<ListBooks>,
@@ -37,8 +36,8 @@ pub(crate) fn serve(
     }
 }
 
-/// Appends the response of the command `run` to the bytes of a client, with the headers for
-/// browsers. The response comes from the run's own routes or from its office.
+/// Appends the response that `sunreg run` sends to a request, with the headers for browsers. Either
+/// a route of `sunreg run` or `office_http` makes the response.
 pub(crate) fn run(
     alloc: Global,
     office: &mut Office<ListBooks>,
@@ -58,7 +57,7 @@ pub(crate) fn run(
     printed.extend_from_slice(&told)
 }
 
-// Appends the response of one of the run's own routes. The run has counted no event, and has no
+// Appends the response of a route of `sunreg run`. All counts of events are 0, and there are no
 // earlier files.
 fn reply_of_run(
     alloc: Global,

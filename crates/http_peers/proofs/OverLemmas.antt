@@ -1,4 +1,4 @@
--- Lemmas on the energy of an accounting register over earlier files.
+-- Lemmas on the energy of an accounting register over earlier files of the store.
 use Rattle.std.proofs.Common.{◌≡◌, ℕ, inl, inr, List, [], ◌∷◌, ◌++◌, map, Some, Result, Ok, Err, IsErr, refl, sym, ap, subst, ◌∙◌}
 use Rattle.std.specs.Prelude.{OnOk}
 use Rattle.std.specs.declared.alloc.Global.{Global}
@@ -32,12 +32,12 @@ use Rattle.carried_books.proofs.JoiningLemmas.Reports.{report_with, with_number}
 use Rattle.run_http.specs.RegisterReplies.{with_energy_reply}
 use Rattle.http_peers.specs.EnergyOver.{AsksEnergyOver, RepliesEnergyOver, ReportsOver, TellsReportOver}
 
--- If the status is `Fine`, the complete text was written.
+-- If the status of a write to the output is `Fine`, then the complete text was written.
 pub put_whole : (text : List ℕ) (status : ExitStatus) (had holds : List ℕ) → status ≡ Fine → IsTold text Fine status (Some had) (Some holds) → holds ≡ had ++ text
 put_whole text status had holds fine (inl told) = told.1
 put_whole text status had holds fine (inr failed) = absurd (let e : Fine ≡ Failed = sym fine ∙ failed.0 in cc e)
 
--- ---- the sums of days
+-- ---- The sums of days over several files.
 
 module _ {B : Type 0} (ledger : B → Ledger) (a b : Office B) (zone : Zone) (earlier : EarlierDays) (register : List ℕ) (form : ReportForm) where
   abbrev asked : Span
@@ -85,7 +85,7 @@ module _ {B : Type 0} (ledger : B → Ledger) (a b : Office B) (zone : Zone) (ea
     puts = puts;
   }
 
-  -- If memory ran out for the report, the postcondition does not define its text.
+  -- If memory ran out for the energy report, the postcondition allows any text.
   pub unwritten : {E : Type 0} (had holds : List ℕ) (days : Vec DayTotal Global) (result : Result (Result (Unit {0}) Refusal) E) → OnlyAsks ledger a b (Ok days)
       → IsErr result → AsksEnergyOver ledger a b zone earlier register form had holds result
   unwritten had holds days (Ok told) asks fault = cc fault
@@ -98,7 +98,7 @@ module _ {B : Type 0} (ledger : B → Ledger) (a b : Office B) (zone : Zone) (ea
     puts = tt;
   }
 
-  -- ---- the reply
+  -- ---- The response with the energy report.
 
   put_as : (answer told : Result (Unit {0}) Refusal) (body report from to : List ℕ) → told ≡ answer → OnOk answer (body ≡ report)
       → to ≡ with_energy_reply told body from → to ≡ with_energy_reply answer report from

@@ -1,4 +1,4 @@
--- Lemmas on the requests of clients to the office, one after the other.
+-- Lemmas on the HTTP requests that the program executes, one after the other.
 use Rattle.std.proofs.Common.{◌≡◌, inl, inr, ℕ, true, false, Bool, List, [], ◌∷◌, ◌++◌, Option, None, Result, refl, sym, ap, ◌∙◌, subst}
 use Rattle.std.specs.declared.alloc.Global.{Global}
 use Rattle.std.specs.declared.vec.Vec.{Vec}
@@ -66,13 +66,14 @@ both_ask names at ledger a b c first next = record {
   zone = next.zone ∙ first.zone;
 }
 
--- ---- A request
+-- ---- Requests that `office_http` serves.
 
 may_of : (may : Bool) (bytes : List ℕ) (head_state : HeadState) → IsRunRoute may bytes head_state None → may ≡ true
 may_of true bytes head_state is = refl
 may_of false bytes head_state is = cc is
 
--- A request that the run's own routes leave to the office has passed the test of its host.
+-- If no route of `sunreg run` matches a request, then the request's Host header was already
+-- accepted.
 pub may_ask_of : (names : List (List ℕ)) (request : List ℕ) → IsFor names request None → (left read : List ℕ) → request ≡ read ++ left → MayAsk names read
 may_ask_of names request for left read is = record {
   tested = request;
@@ -103,7 +104,7 @@ one_asks names ledger at old new request asked may asks lasts = record {
   zone = lasts.zone;
 }
 
--- ---- A question of the run itself leaves the office as it was
+-- ---- Queries of `sunreg run` leave the program's state unchanged.
 
 pub only_asks : {B T : Type 0} (names : List (List ℕ)) (ledger : B → Ledger) (at : ℕ) (old new : Office B) (answer : Result T Refusal)
     → OnlyAsks ledger old new answer → PeersAsk names at ledger old new

@@ -1,5 +1,5 @@
--- The report on the energy of an accounting register over earlier files and an office. The days of
--- the earlier files are summed up, one file after the other.
+-- The energy report on an accounting register over earlier files of the store and the current file.
+-- The days of the earlier files are summed up, one file after the other.
 use Rattle.std.specs.Prelude.{◌≡◌, ◌⊎◌, ℕ, List, ◌∷◌, ◌++◌, Some, Result, Ok, Err, IfOk, OnOk}
 use Rattle.energy_report.specs.declared.form.ReportForm.{ReportForm}
 use Rattle.interval_core.specs.declared.zone.Zone.{Zone}
@@ -23,9 +23,10 @@ use Rattle.carried_books.specs.Joining.Reports.{IsReportOver}
 use Rattle.carried_books.specs.declared.joining.days.EarlierDays.{EarlierDays}
 use Rattle.run_http.specs.RegisterReplies.{with_energy_reply}
 
--- The reply reports the days of all files of an office, the latest first. There is no report if the
--- latest file has no such register, its store or memory failed, or the office had stopped. The same
--- holds if a quarter hour within the form's range is out of order.
+-- The response reports the days of all files of the store, the latest file first. There is no
+-- report if the current file has no such register, or the store or memory failed. There is also no
+-- report if the program refuses all events since an earlier failure, or if a quarter hour within
+-- the report's range is out of order.
 abbrev pub ReportsOver : Zone → (facts : List Fact) → (files : List (List Fact))
     → (register : List ℕ) → ReportForm → (before after : Failures)
     → Result (Unit {0}) Refusal → (text : List ℕ) → Type 0
@@ -38,8 +39,8 @@ ReportsOver zone facts files register form before after (Err why) text =
     ⊎ ((why ≡ refusal.Store store.NoDay) × (after ≡ before)
     × AreOutOfTurn (rows_of_both (span_of form.range) (rows_over register files) facts register))
 
--- The reported days are the sums of the energy that the office accepted and that of the earlier
--- files. This holds if the energy of all of them fits in 128 bits.
+-- The reported days are the sums of the energy in the current file and in the earlier files. The
+-- sums are exact if the total energy in mWh fits in 128 bits.
 abbrev pub TellsReportOver : {B : Type 0} → (B → Ledger) → (old new : Office B) → Zone
     → (earlier : EarlierDays) → (register : List ℕ) → ReportForm → Result (Unit {0}) Refusal
     → (text : List ℕ) → Type 0
@@ -50,7 +51,7 @@ TellsReportOver ledger old new zone earlier register form answer text =
     → ReportsOver zone (facts_of past) files register form
     (failures_of ledger old) (failures_of ledger new) answer text)
 
--- The office is queried once, and its report is appended unless memory ran out.
+-- The call queries the store once, and appends the energy report unless memory ran out.
 pub record AsksEnergyOver {B : Type 0} (ledger : B → Ledger) (old new : Office B)
     (zone : Zone) (earlier : EarlierDays) (register : List ℕ) (form : ReportForm) (had holds : List ℕ)
     {E : Type 0} (result : Result (Result (Unit {0}) Refusal) E) : Type 0 where
@@ -62,7 +63,8 @@ pub record AsksEnergyOver {B : Type 0} (ledger : B → Ledger) (old new : Office
       (TellsReportOver ledger old new zone earlier register form answer report)
   pub puts : OnOk result (OnOk answer (holds ≡ had ++ report))
 
--- The office is queried once, and its report or refusal is the reply unless memory ran out.
+-- The call queries the store once, and appends the response with the energy report or the refusal,
+-- unless memory ran out.
 pub record RepliesEnergyOver {B : Type 0} (ledger : B → Ledger) (old new : Office B)
     (zone : Zone) (earlier : EarlierDays) (register : List ℕ) (form : ReportForm) (from to : List ℕ)
     {E : Type 0} (result : Result (Unit {0}) E) : Type 0 where

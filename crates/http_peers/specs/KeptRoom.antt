@@ -1,4 +1,4 @@
--- How many bytes of commands the office may still store.
+-- Limits the bytes of commands that clients may add to the store.
 use Rattle.std.specs.Prelude.{◌≡◌, ◌==◌, ◌&&◌, ◌||◌, ◌-◌, if◌then◌else◌, List, ℕ, Bool, false, Option, Some, None, length, nat_lt, codes}
 use Rattle.std.specs.List.{starts_with}
 use Rattle.std.specs.Str.{bytes_eq}
@@ -9,52 +9,55 @@ use Rattle.http_request.specs.declared.head.head.HeadState.TheVariants.{Open, To
 use Rattle.run_http.specs.declared.answer.PeerReply.{PeerReply}
 use Rattle.run_http.specs.declared.answer.PeerReply.TheVariants as reply
 
--- The bytes hold a complete head whose method is POST, so the request is a command.
+-- True if the bytes hold a complete head with the method POST. The request is then a command.
 abbrev pub is_command_in : (bytes : List ℕ) → HeadState → Bool
 is_command_in bytes Open = false
 is_command_in bytes TooLarge = false
 is_command_in bytes NoHead = false
 is_command_in bytes (Whole at) = bytes_eq (span_bytes bytes at.method) (codes "POST")
 
--- The result says whether the bytes hold a command, by parsing their head.
+-- The result says whether the bytes hold the head of a command.
 pub record IsCommand (bytes : List ℕ) (result : Bool) : Type 0 where
   pub head_state : HeadState
   pub looks : Looks bytes head_state
   pub is : result ≡ is_command_in bytes head_state
 
--- The reply has status 200: the office executed the command, now or for an earlier request with the
--- same idempotency key.
+-- True if the response has status 200. Then the command was executed, now or for an earlier request
+-- with the same idempotency key.
 abbrev pub has_acted : PeerReply → Bool
 has_acted reply.Open = false
 has_acted (reply.Replied text) = starts_with (λ a b. a == b) text.items (codes "HTTP/1.1 200 ")
 has_acted reply.Failed = false
 
--- The bytes that the limit leaves after `taken`. Without a limit, more than any client can send.
+-- The bytes that remain of the limit `most` after `taken` bytes. Without a limit, 2^64 - 1 bytes
+-- remain.
 abbrev pub room_of : (most : Option ℕ) → (taken : ℕ) → ℕ
 room_of None taken = 18446744073709551615
 room_of (Some most) taken = most - taken
 
--- The bytes are a command that is longer than the room that is left.
+-- The result says whether the bytes are a command with more than `left` bytes, which is how many
+-- bytes may still be stored.
 pub record Lacks (left : ℕ) (bytes : List ℕ) (result : Bool) : Type 0 where
   pub is_command : Bool
   pub finds : IsCommand bytes is_command
   pub is : result ≡ (is_command && nat_lt left (length bytes))
 
--- A command is rejected if it is longer than the room, or if a file of the office is gone.
+-- The result says whether the port rejects a request. It rejects a command that exceeds the bytes
+-- that may still be stored, and any command while a file of the store is missing.
 pub record Rejects (left : ℕ) (is_lost : Bool) (bytes : List ℕ) (result : Bool) : Type 0 where
   pub is_command : Bool
   pub finds : IsCommand bytes is_command
   pub is : result ≡ (is_command && (nat_lt left (length bytes) || is_lost))
 
--- A command that acted reduces the room by the length of its request. Other requests leave the room
--- as it is.
+-- An executed command reduces the remaining bytes by the length of its request. Other requests
+-- leave the remaining bytes unchanged.
 pub record Counts (left later : ℕ) (bytes : List ℕ) (reply : PeerReply) : Type 0 where
   pub is_command : Bool
   pub finds : IsCommand bytes is_command
   pub is : later ≡ if is_command && has_acted reply then left - length bytes else left
 
--- A reply acknowledges its request exactly if the request is a command and the reply has status
--- 200.
+-- The result says whether a response acknowledges a command. A response does so exactly if the
+-- request is a command and the response has status 200.
 pub record Acknowledges (bytes : List ℕ) (reply : PeerReply) (result : Bool) : Type 0 where
   pub is_command : Bool
   pub finds : IsCommand bytes is_command

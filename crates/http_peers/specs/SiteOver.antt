@@ -1,4 +1,4 @@
--- The registers and meters of an office and of earlier files.
+-- The content of `/site`: the accounting registers, with meters of the current and earlier files.
 use Rattle.std.specs.Prelude.{◌≡◌, ℕ, List, [], map, Option, Some, None, Result, Ok, Err, codes}
 use Rattle.std.specs.declared.alloc.Global.{Global}
 use Rattle.std.specs.declared.vec.Vec.{Vec}
@@ -15,7 +15,8 @@ use Rattle.run_http.specs.StatusRoute.{with_reply}
 use Rattle.run_http.specs.Texts.SiteText.{with_site}
 use Rattle.run_http.specs.declared.texts.site.SiteLine.{SiteLine}
 
--- The line of a register, with the latest of its meters over all files, if there is one.
+-- The line of an accounting register with its latest meter in the current and earlier files, if it
+-- has a meter.
 abbrev pub line_of : Register → Option LatestMeter → SiteLine
 line_of register None =
     record { row = record { register = register; meter = None }; earlier = None }
@@ -24,15 +25,17 @@ line_of register (Some told) = record {
   earlier = told.earlier;
 }
 
--- The line of a register, with the meters that earlier files have at it.
+-- The line of an accounting register with the latest of its meters in the current and earlier
+-- files. `earlier` are its meters in earlier files.
 abbrev pub line_after : (earlier : List Installation) → SiteRow → SiteLine
 line_after earlier row = line_of row.register (latest_meter earlier row.meter)
 
--- The line of a register, with its latest meter over the office and the earlier files.
+-- The line of an accounting register with its latest meter in the current file and the earlier
+-- files.
 abbrev pub line_over : List EarlierRegister → SiteRow → SiteLine
 line_over earlier row = line_after (earlier_meters earlier row.register.name) row
 
--- The lines of the office's answer, or the office's refusal.
+-- The lines of all accounting registers, or the program's refusal of the query.
 abbrev pub IsTold : List EarlierRegister → Result (Vec SiteRow Global) Refusal
     → Result (Vec SiteLine Global) Refusal → Type 0
 IsTold earlier (Ok rows) (Ok lines) = lines.items ≡ map (line_over earlier) rows.items
@@ -40,7 +43,8 @@ IsTold earlier (Ok rows) (Err why) = ⊥
 IsTold earlier (Err why) (Ok lines) = ⊥
 IsTold earlier (Err why) (Err told) = told ≡ why
 
--- The reply with the office's answer. A refusal is reported as for any other query.
+-- The response of `/site` with the accounting registers, or with the program's refusal of the
+-- query.
 abbrev pub with_site_over : List EarlierRegister → (at : ℕ) → Result (Vec SiteRow Global) Refusal
     → List ℕ → List ℕ
 with_site_over earlier at (Ok rows) text =

@@ -1,4 +1,4 @@
-//! The connection of a client: its request so far, and its reply.
+//! The connection of an HTTP client: the bytes of its request so far, and its response.
 use crate::outbox::{MOST_CALLS, Outbox, Went, went_by};
 use http_request::{MOST_ROOM, Route, is_whole};
 use matchit::Router;
@@ -8,25 +8,26 @@ use std::alloc::Global;
 use std::io::Read;
 use std::net::Shutdown;
 
-/// A connection of a client, for one request and its reply.
+/// The connection of an HTTP client, for one request and its response.
 #[derive(Drop)]
 pub(crate) struct Client {
     alloc: Global,
     pub(crate) stream: TcpStream,
-    /// The bytes of its request that have arrived.
+    /// The bytes of the client's request that have arrived.
     pub(crate) request: Vec<u8>,
-    /// Whether its socket may have unread input or room for output.
+    /// Whether the socket may have unread input or room for output.
     pub(crate) ready: bool,
-    /// The run's time in seconds until which further input is dropped, once the reply is written.
+    /// The time in seconds until which the connection discards further input, after the response
+    /// was written.
     pub(crate) lingers: Option<u64>,
     reply: Outbox,
-    /// The rows of its reply that are not yet made.
+    /// The rows of the response that are still to be queried.
     pub(crate) rows: Option<RowsLeft>,
     ended: bool,
     over: bool,
 }
 
-// Returns the part of a piece that fits into the buffer for a request. No request needs more room.
+// Returns the part of `piece` that fits into a buffer of the size that suffices for any request.
 fn fitting<'p>(request: &[u8], piece: &'p [u8]) -> &'p [u8] {
     let room = MOST_ROOM.saturating_sub(request.len());
     piece.get(..room).unwrap_or(piece)
@@ -47,28 +48,29 @@ impl Client {
         }
     }
 
-    /// Returns whether the connection can be dropped.
+    /// Returns whether the connection has ended and can be dropped.
     pub(crate) fn is_over(&self) -> bool {
         self.over
     }
 
-    /// Returns whether its request has a reply, complete or in part.
+    /// Returns whether the request has a response, complete or in part.
     pub(crate) fn has_reply(&self) -> bool {
         !self.reply.is_empty() || self.rows.is_some() || self.lingers.is_some()
     }
 
-    /// Returns whether the next piece of its reply can be made: the earlier pieces were written,
-    /// and rows are left.
+    /// Returns whether the next chunk of the response is due: the earlier chunks were written, and
+    /// rows are left.
     pub(crate) fn wants_rows(&self) -> bool {
         !self.over && self.rows.is_some() && self.reply.is_written()
     }
 
-    /// Returns how many bytes of its reply are in memory.
+    /// Returns how many bytes of the response are in memory.
     pub(crate) fn held_bytes(&self) -> usize {
         self.reply.len()
     }
 
-    // Appends a piece to the request. If the request already has a reply, the piece is dropped.
+    // Appends a piece of input to the request. Drops the piece if the request already has a
+    // response.
     fn keep_piece(&mut self, piece: &[u8]) -> Went {
         if self.has_reply() {
             return Went::On;
@@ -82,7 +84,7 @@ impl Client {
         }
     }
 
-    // Reads a piece of at most 4,096 bytes from the socket.
+    // Reads at most 4,096 bytes from the client's socket.
     fn read(&mut self) -> Went {
         let mut room = [0u8; 4096];
         match self.stream.read(&mut room) {
@@ -95,7 +97,7 @@ impl Client {
         }
     }
 
-    // Reads until the socket has no more input, at most 16 pieces.
+    // Reads until the client's socket has no more input, at most 16 times.
     fn read_all(&mut self) -> Went {
         for _read in 0..MOST_CALLS {
             let went = self.read();
@@ -106,13 +108,13 @@ impl Client {
         Went::On
     }
 
-    // Returns whether its reply is still being sent.
+    // Returns whether the response is still being sent.
     fn is_replying(&self) -> bool {
         self.has_reply() && self.lingers.is_none()
     }
 
-    /// Reads input, and returns whether a reply is due: the request is complete, or its head is
-    /// bad.
+    /// Reads input from the client, and returns whether a response is due: the request is complete,
+    /// or its head is invalid.
     pub(crate) fn read_request(&mut self, router: &Router<Route>) -> bool {
         if self.is_replying() {
             self.ready = false;
@@ -129,8 +131,8 @@ impl Client {
         false
     }
 
-    /// Starts the reply. `rows` are the rows that are sent after it. The request is dropped, since
-    /// it is no longer needed.
+    /// Starts to send the response. `rows` are the rows that follow in later chunks. The bytes of
+    /// the request are freed.
     pub(crate) fn start_reply(&mut self, asked: PeerReply, rows: Option<RowsLeft>) {
         match asked {
             PeerReply::Open => self.over = self.ended,
@@ -144,7 +146,7 @@ impl Client {
         }
     }
 
-    /// Replaces the piece of the reply that was written by the next piece.
+    /// Replaces the chunk of the response that was written by the next chunk.
     pub(crate) fn append_rows(&mut self, more: Vec<u8>, is_last: bool) {
         self.reply = Outbox::of(more);
         if is_last {
@@ -152,14 +154,15 @@ impl Client {
         }
     }
 
-    /// Ends the connection before the reply is complete, so the client sees an incomplete body.
+    /// Ends the connection before the response is complete, so that the client detects an
+    /// incomplete body.
     pub(crate) fn cut_reply(&mut self) {
         self.over = true;
     }
 
-    /// Writes as much of the reply as the socket accepts, and shuts the output once the reply is
-    /// complete. Further input is dropped for a second or two: closing a socket with unread input
-    /// resets the connection, and the client may then lose its reply.
+    /// Writes as much of the response as the socket accepts, and shuts down the output after the
+    /// complete response. Further input is discarded for a second or two. Closing a socket with
+    /// unread input would reset the connection, and the client could lose the response.
     pub(crate) fn write_reply(&mut self, time: u64) {
         if self.over || self.lingers.is_some() || !self.has_reply() {
             return;
@@ -171,7 +174,7 @@ impl Client {
         }
     }
 
-    // Shuts the output once the reply is complete.
+    // Shuts down the socket's output if the response is complete.
     fn close(&mut self, time: u64) {
         self.ready = true;
         if self.reply.is_written() && self.rows.is_none() {
@@ -181,7 +184,8 @@ impl Client {
         }
     }
 
-    /// Returns whether the reply is complete, and the time for dropping further input is over.
+    /// Returns whether the response is complete and the time for discarding further input has
+    /// passed.
     pub(crate) fn is_done(&self, time: u64) -> bool {
         match self.lingers {
             Some(until) => until <= time,

@@ -1,4 +1,4 @@
-//! The energy of a register over earlier files and an office.
+//! The energy of an accounting register over earlier files of the store and the current file.
 ghost use Rattle.std.specs.Prelude.{◌≡◌, ◌++◌, ◌<◌, IfSome, OnOk, length, position};
 ghost use Rattle.energy_report.specs.Texts.{report_text};
 ghost use Rattle.office_rules.specs.Facts.{is_named};
@@ -14,14 +14,14 @@ use office_events::{Name, Refusal};
 use run_http::put_energy_reply;
 use std::alloc::{AllocError, Global};
 
-/// The registers of earlier files, and the zone of their days.
+/// The accounting registers of earlier files of the store, and the time zone of their days.
 #[derive(Clone, Copy)]
 pub struct EarlierFiles<'a> {
     pub zone: Zone,
     pub registers: &'a [EarlierRegister],
 }
 
-// Writes the report on days. It fails only if memory runs out.
+// Writes the energy report on these days. Fails only if memory runs out.
 fn put_days(days: &[DayTotal], form: &ReportForm, output: &mut Vec<u8>) -> Result<(), AllocError>
     ensures { OnOk result (output.new.items
         ≡ output.old.items ++ report_text form.now days.now) }
@@ -32,7 +32,7 @@ fn put_days(days: &[DayTotal], form: &ReportForm, output: &mut Vec<u8>) -> Resul
     }
 }
 
-// Writes the report on the days of a register over earlier files and an office.
+// Writes the energy report on an accounting register over earlier files and the current file.
 fn put_energy_over<B: Books>(
     office: &mut Office<B>,
     zone: Zone,
@@ -54,10 +54,10 @@ fn put_energy_over<B: Books>(
     }
 }
 
-/// Appends the reply with the report on a register's days: those of earlier files, then those of
-/// the office. All days are in the site's time zone. If the form's range has both ends, only the
-/// quarter hours of its days and of two more days at each end are read. If memory runs out, a part
-/// of the reply is appended.
+/// Appends the response with the energy report on an accounting register. The report covers the
+/// days of earlier files and of the current file, in the site's time zone. If the report's range
+/// has both ends, only the quarter hours of the range and of two days on each side are read. If
+/// memory runs out, a part of the response is appended.
 pub fn reply_energy_over<B: Books>(
     alloc: Global,
     text: &mut Vec<u8>,
@@ -75,8 +75,8 @@ pub fn reply_energy_over<B: Books>(
     put_energy_reply(text, &answer, &body)
 }
 
-// Returns whether an earlier file's register has this name. `None` is a name that no register can
-// have.
+// Returns whether the accounting register of an earlier file has this name. `None` is an invalid
+// name, which no register has.
 fn is_of(it: &EarlierRegister, register: &Option<Name>) -> bool
     ensures { result ≡ is_named register.now it.now.name }
 {
@@ -86,15 +86,16 @@ fn is_of(it: &EarlierRegister, register: &Option<Name>) -> bool
     }
 }
 
-// Returns the first index of a register with this name among those of earlier files.
+// Returns the index of the first accounting register with this name among the registers of earlier
+// files.
 fn first_of(registers: &[EarlierRegister], register: &Option<Name>) -> Option<usize>
     ensures { result ≡ position (λ it. is_named register.now it.name) registers.now }
 {
     registers.iter().position(|it| is_of(it, register))
 }
 
-/// Returns the first index of a register with this name among those of earlier files, if they have
-/// it.
+/// Returns the index of the first accounting register with this name among the registers of earlier
+/// files. Returns `None` if the earlier files do not have the register.
 pub fn place_among(registers: &[EarlierRegister], register: &Option<Name>) -> Option<usize>
     ensures first { result ≡ position (λ it. is_named register.now it.name) registers.now }
     ensures within { IfSome result (λ place. place < length registers.now) }

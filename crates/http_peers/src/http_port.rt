@@ -1,4 +1,4 @@
-//! The HTTP port of a run, and its connections.
+//! The HTTP port of `sunreg run`, and its connections.
 ghost use Rattle.std.specs.Prelude.{◌≡◌, ◌⊎◌, ℕ, false, true, List};
 ghost use Rattle.http_request.specs.Hosts.{texts};
 ghost use Rattle.http_peers.specs.PeersAsk.{PeersAsk};
@@ -31,15 +31,16 @@ use std::alloc::{AllocError, Global};
 use std::io::ErrorKind;
 use std::mem;
 
-// The most pieces of a reply that are sent to one client in a row. The turn's share of responses
-// ends sooner.
+// The most chunks of a response that are sent to one client in a row. The limits of one iteration
+// of the main loop are usually reached earlier.
 const MOST_PIECES: u32 = 64;
 
-/// The token of the listener. The token of a connection is its slot, which is lower.
+/// The event token of the listening socket. The token of a connection is its slot number, which is
+/// lower.
 pub const PORT_TOKEN: usize = MOST_PEERS;
 
-/// A listener and up to 64 connections. The event loop marks ready connections, and serves one slot
-/// after the other.
+/// A listening socket and up to 64 connections. The event loop marks the connections that are
+/// ready, and serves one slot after the other.
 #[derive(Drop)]
 pub struct HttpPort {
     alloc: Global,
@@ -48,19 +49,20 @@ pub struct HttpPort {
     router: Router<Route>,
     peers: Peers,
     connections: Vec<Option<Client>>,
-    /// The part of this turn's share of responses that is left.
+    /// The limits on responses that this iteration of the main loop has not used up yet.
     share: TurnShare,
-    /// The slot that is served first.
+    /// The slot that is served first in this iteration of the main loop.
     first: usize,
     room: KeptRoom,
     repeats: Repeats,
-    /// Whether a command was rejected for want of room, and that was not logged yet.
+    /// Whether a command was rejected because the limit for stored commands was reached, and this
+    /// was not logged yet.
     is_full: bool,
-    /// Whether a file of the office is gone. If it is, every command is rejected.
+    /// Whether a file of the store is missing. Then every command is rejected.
     is_lost: bool,
 }
 
-// Returns the number of bytes of a reply.
+// Returns the number of bytes of a response.
 fn size_of(asked: &PeerReply) -> usize {
     match asked {
         PeerReply::Replied(reply) => reply.len(),
@@ -69,9 +71,9 @@ fn size_of(asked: &PeerReply) -> usize {
 }
 
 impl HttpPort {
-    /// Makes a port without connections. The caller has registered the listener under
-    /// [`PORT_TOKEN`]. The port accepts `clients` connections at once, at most 64. Fails if memory
-    /// runs out.
+    /// Makes a port without connections. The caller must have registered the listening socket with
+    /// the token [`PORT_TOKEN`]. The port accepts `clients` connections at the same time, at most
+    /// 64. Fails if memory runs out.
     pub fn new(
         alloc: Global,
         listener: TcpListener,
@@ -96,26 +98,28 @@ impl HttpPort {
         })
     }
 
-    /// Begins a turn with its full share of responses. The share bounds how long HTTP keeps devices
-    /// waiting.
+    /// Begins an iteration of the main loop, with its full limits on responses. The limits bound
+    /// how long HTTP delays the polling of devices.
     pub fn begin_turn(&mut self) {
         self.share = TurnShare::whole();
     }
 
-    /// Returns the slot that is served first: the slot after that of the last reply.
+    /// Returns the slot that is served first, which follows the slot that was answered last.
     pub fn first(&self) -> usize
         ensures { result ≡ self.now.first }
     {
         self.first
     }
 
-    // Subtracts a reply from the turn's share, and lets the next turn begin with the next slot.
+    // Subtracts a response from the limits of this iteration of the main loop. The next iteration
+    // then begins with the next slot.
     fn record_reply(&mut self, slot: usize, bytes: usize, milliseconds: u64) {
         self.share = self.share.after(bytes, milliseconds);
         self.first = place_at(slot, 1);
     }
 
-    /// Returns whether a command was rejected for want of room since the last call.
+    /// Returns whether a command was rejected since the last call because the limit for stored
+    /// commands was reached.
     pub fn take_full(&mut self) -> bool
         ensures taken { result ≡ self.old.is_full }
         ensures later { self.new.is_full ≡ false }
@@ -123,28 +127,28 @@ impl HttpPort {
         mem::replace(&mut self.is_full, false)
     }
 
-    /// Drops the reply that was kept for a repeated request. Call it when the office may have
-    /// recorded something.
+    /// Drops the stored response for repeated requests. The caller must do so when the program may
+    /// have recorded something.
     pub fn forget_replies(&mut self) {
         self.repeats.forget();
     }
 
-    /// Rejects every later command by fault 503, since a file of the office is gone.
+    /// Rejects every later command with status 503, since a file of the store is missing.
     pub fn lose_files(&mut self)
         ensures { self.new.is_lost ≡ true }
     {
         self.is_lost = true;
     }
 
-    /// Returns whether a file of the office is gone. Each acknowledgement of a command checks this
-    /// first.
+    /// Returns whether a file of the store is missing. The port checks the files before each
+    /// acknowledgement of a command.
     pub fn has_lost(&self) -> bool
         ensures { result ≡ self.now.is_lost }
     {
         self.is_lost
     }
 
-    /// Marks the listener or a connection as ready by its token.
+    /// Marks the listening socket or a connection as ready, by its event token.
     pub fn mark(&mut self, token: usize) {
         if token == PORT_TOKEN {
             self.waiting = true;
@@ -155,8 +159,8 @@ impl HttpPort {
         }
     }
 
-    // Returns whether another reply may be made. It may not while clients have too many bytes of
-    // replies unread.
+    // Returns whether the port may make another response. The result is false while the unread
+    // responses of clients have too many bytes.
     fn may_reply(&self) -> bool {
         let mut held = 0usize;
         for connection in &self.connections {
@@ -165,20 +169,20 @@ impl HttpPort {
         may_reply(held)
     }
 
-    /// Returns whether a connection can be served without waiting.
+    /// Returns whether any connection can be served without waiting.
     pub fn is_ready(&self) -> bool {
         let may_reply = self.may_reply();
         self.connections.iter().any(|it| is_ready(it, may_reply))
     }
 
-    /// Returns whether a new connection may be waiting at the listener.
+    /// Returns whether a new connection may be waiting at the listening socket.
     pub fn is_waiting(&self) -> bool
         ensures { result ≡ self.now.waiting }
     {
         self.waiting
     }
 
-    // Drops the connection of a slot, and frees the slot.
+    // Drops the connection in a slot, and frees the slot.
     fn drop_client(&mut self, slot: usize) {
         if slot < MOST_PEERS && slot < self.connections.len() {
             self.peers.end(slot);
@@ -186,8 +190,8 @@ impl HttpPort {
         }
     }
 
-    /// Drops connections whose deadline has passed, and those that got their complete reply. `time`
-    /// is in seconds of the run's time.
+    /// Drops connections whose deadline has passed or whose client got the complete response.
+    /// `time` is in seconds since 1970-01-01 UTC.
     pub fn sweep(&mut self, time: u64) {
         for slot in 0..MOST_PEERS {
             let is_late = self.peers.is_over(slot, time);
@@ -197,8 +201,8 @@ impl HttpPort {
         }
     }
 
-    // Returns whether a new connection can get a slot: a free slot, that of a client that has its
-    // reply, or that of a client that has sent no request for a second.
+    // Returns whether a new connection can get a slot. The slot is free, or its client got the
+    // response, or its client has sent no request for a second.
     fn has_room(&self, time: u64) -> bool {
         let Some(slot) = place_for(&self.peers.places) else {
             return false;
@@ -212,7 +216,7 @@ impl HttpPort {
         }
     }
 
-    // Puts a new connection into a slot.
+    // Assigns a slot to a new connection.
     fn admit(&mut self, mut stream: TcpStream, registry: &Registry, time: u64) {
         let Some(admission) = self.peers.admit(time, PEER_SECONDS) else {
             return;
@@ -234,7 +238,7 @@ impl HttpPort {
         }
     }
 
-    /// Accepts connections that wait at the listener, as many as get a slot.
+    /// Accepts the connections that wait at the listening socket, as many as can get a slot.
     pub fn accept(&mut self, registry: &Registry, time: u64) {
         for _connection in 0..MOST_PEERS {
             if !self.waiting || !self.has_room(time) {
@@ -250,8 +254,8 @@ impl HttpPort {
         }
     }
 
-    // Routes a complete request and makes its reply. `rows` gets the rows that later pieces send.
-    // The host is checked first, and then the room for commands.
+    // Routes a complete request and makes its response. `rows` receives the rows that later chunks
+    // send. The host is tested first, and then the limit for stored commands.
     #[tactic(auto, using(crate::proofs::PeersAsking::nobody_asks, crate::proofs::PeersAsking::both_ask))]
     fn reply<B: Books>(
         &self,
@@ -290,8 +294,8 @@ impl HttpPort {
         }
     }
 
-    // Sends the kept reply if the request equals the kept one and nothing was recorded since.
-    // Otherwise makes a reply.
+    // Returns the stored response if the request is equal to the stored request and nothing was
+    // recorded since. Otherwise makes a new response.
     #[tactic(auto, using(crate::proofs::PeersAsking::nobody_asks))]
     fn reply_again<B: Books>(
         &mut self,
@@ -312,8 +316,8 @@ impl HttpPort {
         asked
     }
 
-    // Keeps a reply about energy for a repeated request. A command may have changed the energy, so
-    // it drops the kept reply.
+    // Stores a response about energy for repeated requests. A command drops the stored response,
+    // since it may change the energy.
     fn keep_reply(&mut self, names: &[&str], request: &[u8], asked: &PeerReply) {
         if is_command(request) {
             self.repeats.forget();
@@ -325,7 +329,7 @@ impl HttpPort {
         }
     }
 
-    // Adds the headers for browsers to a reply.
+    // Adds the response headers that protect users of browsers.
     fn add_browser_headers(&self, names: &[&str], request: &[u8], asked: PeerReply) -> PeerReply {
         match asked {
             PeerReply::Replied(reply) => match for_browsers(self.alloc, names, request, &reply) {
@@ -337,7 +341,7 @@ impl HttpPort {
         }
     }
 
-    // Returns whether the connection of a slot is served now.
+    // Returns whether the connection in a slot is served in this iteration of the main loop.
     fn has_turn(&self, slot: usize) -> bool {
         match self.connections.get(slot) {
             Some(connection) => {
@@ -347,7 +351,7 @@ impl HttpPort {
         }
     }
 
-    // Removes the connection from its slot, if it is served now.
+    // Removes the connection from its slot, if the connection is served now.
     fn take_ready(&mut self, slot: usize) -> Option<Client> {
         if self.has_turn(slot) && slot < self.connections.len() {
             return self.connections[slot].take();
@@ -355,8 +359,8 @@ impl HttpPort {
         None
     }
 
-    // Writes what the socket accepts, and puts the connection back into its slot unless it has
-    // ended.
+    // Writes as much of the response as the socket accepts, and returns the connection to its slot
+    // unless the connection has ended.
     fn return_client(&mut self, slot: usize, mut client: Client, time: u64) {
         client.write_reply(time);
         if client.is_over() {
@@ -367,7 +371,8 @@ impl HttpPort {
         }
     }
 
-    // Cuts off the replies that have rows left, because a void may have changed these rows.
+    // Cuts off all responses with rows still to be sent, because a void may have changed these
+    // rows.
     fn cut_replies(&mut self) {
         for slot in 0..MOST_PEERS {
             if slot < self.connections.len() && has_rows_left(&self.connections[slot]) {
@@ -376,16 +381,17 @@ impl HttpPort {
         }
     }
 
-    // If the reply of a slot has rows left, lets the next turn begin with this slot. Replies end
-    // one after the other, so no client waits for all of them.
+    // Lets the next iteration of the main loop begin with this slot if the response in this slot
+    // has more rows. Responses then end one after the other, and no client waits for all other
+    // responses.
     fn keep_first(&mut self, slot: usize, has_more: bool) {
         if has_more {
             self.first = slot;
         }
     }
 
-    // Accounts for a reply: its part of the turn's share, the room of its command, and the rows
-    // that a void may change.
+    // Updates the counts after a response: the limits of this iteration, the limit for stored
+    // commands, and the responses that a void may change.
     fn count_reply(&mut self, slot: usize, request: &[u8], asked: &PeerReply, milliseconds: u64) {
         self.record_reply(slot, size_of(asked), milliseconds);
         self.is_full = self.is_full || self.room.lacks(request);
@@ -395,7 +401,7 @@ impl HttpPort {
         }
     }
 
-    // Replaces the acknowledgement of a command by fault 503 if a file of the office is gone.
+    // Replaces the acknowledgement of a command by status 503 if a file of the store is missing.
     fn confirmed<R: RunSystem>(
         &mut self,
         rt: &R,
@@ -412,7 +418,7 @@ impl HttpPort {
         answer_status(self.alloc, StatusRoute::Rejected(Status::Unavailable), told)
     }
 
-    // Makes the reply to the complete request of a client.
+    // Makes the response to the complete request of a client.
     fn answer_request<R: RunSystem, B: Books>(
         &mut self,
         rt: &R,
@@ -436,7 +442,7 @@ impl HttpPort {
         client.start_reply(asked, rows);
     }
 
-    // Sends the next piece of a client's reply.
+    // Sends the next chunk of a client's response.
     #[tactic(auto, using(crate::proofs::PeersAsking::nobody_asks))]
     fn send_piece<R: std::rt::Clock, B: Books>(
         &mut self,
@@ -462,7 +468,8 @@ impl HttpPort {
         }
     }
 
-    // Sends pieces of a reply while the socket accepts them and the turn has some share left.
+    // Sends chunks of a response while the socket accepts them and the limits of this iteration
+    // allow more.
     fn send_pieces<R: std::rt::Clock, B: Books>(
         &mut self,
         rt: &R,
@@ -482,7 +489,7 @@ impl HttpPort {
         }
     }
 
-    // Reads from a client and answers its request, or sends more of its reply.
+    // Reads from a client and answers its request, or sends more of its response.
     fn serve_client<R: RunSystem, B: Books>(
         &mut self,
         rt: &R,
@@ -502,7 +509,8 @@ impl HttpPort {
         self.send_pieces(rt, slot, client, office, now);
     }
 
-    /// Serves the connection of a slot, if the connection is ready and the turn's share allows it.
+    /// Serves the connection in a slot, if the connection is ready and the limits of this iteration
+    /// allow it.
     #[tactic(auto, using(crate::proofs::PeersAsking::nobody_asks, crate::proofs::PeersAsking::both_ask))]
     pub fn attend<R: RunSystem, B: Books>(
         &mut self,

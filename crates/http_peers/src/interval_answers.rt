@@ -1,4 +1,4 @@
-//! Replies with many quarter hours, which are written in pieces.
+//! Makes responses with many quarter hours, which are sent in chunks.
 ghost use Rattle.std.specs.Prelude.{ℕ, List};
 ghost use Rattle.http_peers.specs.PeersAsk.{PeersAsk};
 
@@ -13,11 +13,11 @@ use run_http::{
 };
 use std::alloc::{AllocError, Global};
 
-/// The length in seconds of the quarter hours in one piece: a thousand lines of at most 32 bytes
+/// The time span in seconds of the quarter hours in one chunk: 1,000 lines of at most 32 bytes
 /// each.
 const PIECE_SECONDS: u64 = 900_000;
 
-// Makes the reply with the quarter hours of a span, in one piece.
+// Makes the complete response with the quarter hours of a time span.
 #[tactic(auto, using(crate::proofs::PeersAsking::asks_rows))]
 fn answer_intervals<B: Books>(
     alloc: Global,
@@ -34,8 +34,8 @@ fn answer_intervals<B: Books>(
     }
 }
 
-// Returns the reply whose first piece was written. If the office refused the query, there is no
-// such reply, and the caller makes the complete one.
+// Returns the response whose first chunk was written. Returns `None` if the program refused the
+// query; the caller then makes a complete response.
 fn begun_answer(
     text: Vec<u8>,
     begun: Result<Result<RowsLeft, Refusal>, AllocError>,
@@ -51,7 +51,7 @@ fn begun_answer(
     }
 }
 
-// Begins the reply with the quarter hours of a span, if they fill more than one piece.
+// Begins the response with the quarter hours of a time span, if they exceed one chunk.
 #[tactic(auto, using(crate::proofs::PeersAsking::nobody_asks, crate::proofs::PeersAsking::only_asks))]
 fn begin_span<B: Books>(
     alloc: Global,
@@ -76,7 +76,7 @@ fn begin_span<B: Books>(
     begun_answer(text, begun, rows)
 }
 
-/// Makes the reply with the quarter hours of a span, or its first piece.
+/// Makes the response with the quarter hours of a time span: complete, or its first chunk.
 pub(crate) fn answer_span<B: Books>(
     alloc: Global,
     office: &mut Office<B>,
@@ -92,8 +92,8 @@ pub(crate) fn answer_span<B: Books>(
     }
 }
 
-/// Begins the office's own reply with all quarter hours of a meter, if the request asks for them
-/// and they fill more than one piece.
+/// Begins the response with all quarter hours of a meter, if the request asks for them and they
+/// exceed one chunk.
 #[tactic(auto, using(crate::proofs::PeersAsking::nobody_asks, crate::proofs::PeersAsking::only_asks))]
 pub(crate) fn begin_all<B: Books>(
     alloc: Global,
@@ -118,8 +118,8 @@ pub(crate) fn begin_all<B: Books>(
     begun_answer(text, begun, rows)
 }
 
-/// Appends the next piece of a reply, or its end, and returns whether it was the end. `None` if the
-/// store failed or memory ran out.
+/// Appends the next chunk of a response or the end of the response, and returns whether it was the
+/// end. Returns `None` if the store failed or memory ran out.
 #[tactic(auto, using(crate::proofs::PeersAsking::nobody_asks, crate::proofs::PeersAsking::asks_told))]
 pub(crate) fn append_piece<B: Books>(
     alloc: Global,

@@ -1,4 +1,4 @@
-//! The room that is left for stored commands.
+//! Limits the bytes of commands that clients may add to the store.
 ghost use Rattle.std.specs.Prelude.{◌≡◌};
 ghost use Rattle.http_peers.specs.KeptRoom as kept;
 ghost use Rattle.http_peers.specs.KeptRoom.{Acknowledges, Counts, IsCommand, Lacks, Rejects};
@@ -6,15 +6,15 @@ ghost use Rattle.http_peers.specs.KeptRoom.{Acknowledges, Counts, IsCommand, Lac
 use http_request::{HeadState, parse_head};
 use run_http::PeerReply;
 
-/// The number of bytes of requests that may still be stored. The office stores each executed
-/// command permanently, and reads all of them whenever it opens its file.
+/// The number of bytes of commands that may still be stored. The store records each executed
+/// command permanently, and reads all of them whenever it is opened.
 #[derive(Clone, Copy, Debug, PartialEq, Eq)]
 pub struct KeptRoom {
     left: u64,
 }
 
-/// Returns whether a request is a command (POST). The head is parsed as the office parses it: empty
-/// lines may precede it (RFC 9112, section 2.2).
+/// Returns whether a request is a command (POST). Empty lines may precede its head (RFC 9112,
+/// section 2.2).
 pub(crate) fn is_command(request: &[u8]) -> bool
     ensures { IsCommand request.now result }
 {
@@ -25,7 +25,7 @@ pub(crate) fn is_command(request: &[u8]) -> bool
     }
 }
 
-// Returns whether a reply has status 200: the office executed the command, now or for an earlier
+// Returns whether a response has status 200. Then the command was executed, now or for an earlier
 // request with the same idempotency key.
 fn has_acted(reply: &PeerReply) -> bool
     ensures { result ≡ kept.has_acted reply.now }
@@ -36,8 +36,8 @@ fn has_acted(reply: &PeerReply) -> bool
     }
 }
 
-/// Returns whether a reply acknowledges a command. The client may then rely on the record of the
-/// command.
+/// Returns whether a response acknowledges a command. The client may then rely on the command being
+/// stored.
 pub(crate) fn is_acknowledged(request: &[u8], reply: &PeerReply) -> bool
     ensures { Acknowledges request.now reply.now result }
 {
@@ -45,7 +45,8 @@ pub(crate) fn is_acknowledged(request: &[u8], reply: &PeerReply) -> bool
 }
 
 impl KeptRoom {
-    /// Returns the room that `taken` bytes leave of `most`. If `most` is `None`, there is no limit.
+    /// Returns the bytes that remain of the limit `most` after `taken` bytes. If `most` is `None`,
+    /// there is no limit.
     pub fn new(most: Option<u64>, taken: u64) -> KeptRoom
         ensures { result.left ≡ kept.room_of most taken }
     {
@@ -56,23 +57,23 @@ impl KeptRoom {
         KeptRoom { left }
     }
 
-    /// Returns whether a request is a command that is longer than the room.
+    /// Returns whether a request is a command with more bytes than may still be stored.
     pub fn lacks(&self, request: &[u8]) -> bool
         ensures { Lacks self.now.left request.now result }
     {
         is_command(request) && request.len() as u64 > self.left
     }
 
-    /// Returns whether to reject a request: it is a command, and longer than the room, or a file of
-    /// the office is gone.
+    /// Returns whether to reject a request. A command is rejected if it exceeds the bytes that may
+    /// still be stored, or if a file of the store is missing.
     pub fn rejects(&self, request: &[u8], is_lost: bool) -> bool
         ensures { Rejects self.now.left is_lost request.now result }
     {
         is_command(request) && (request.len() as u64 > self.left || is_lost)
     }
 
-    /// Subtracts a command that acted from the room, by the length of its complete request. The
-    /// office stores less: it stores no head, and no retry.
+    /// Subtracts an executed command from the remaining bytes, by the length of its complete
+    /// request. The store records less: no head, and no retry.
     pub fn count(&mut self, request: &[u8], reply: &PeerReply)
         ensures { Counts self.old.left self.new.left request.now reply.now }
     {

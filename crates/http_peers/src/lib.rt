@@ -1,5 +1,5 @@
-//! The HTTP port of a run: its connections, the order in which clients are served, and the answers
-//! to its routes.
+//! The HTTP port of `sunreg run`: its connections, the order in which clients are served, and the
+//! responses of its routes.
 #![tactic(auto)]
 
 mod clients;

@@ -1,15 +1,15 @@
-//! The time of an event.
+//! The time at which a request is served: for timeouts, and for the store's records.
 
-/// The time of an event, by two clocks.
+/// The time at which a request is served, as the program's own time and as a timestamp.
 #[derive(Clone, Copy)]
 pub struct Now {
-    /// The time of the run in seconds, by which it measures waits.
+    /// The program's own time in seconds since 1970-01-01 UTC, which measures timeouts.
     pub time: u64,
-    /// The timestamp that the office gets, in seconds since 1970-01-01 UTC.
+    /// The timestamp for the store's records, in seconds since 1970-01-01 UTC.
     pub moment: u64,
 }
 
-/// Reads the monotonic clock, in milliseconds. A clock that can't be read stays at 0.
+/// Reads the monotonic clock, in milliseconds. Returns 0 if the clock cannot be read.
 pub fn even_milliseconds<R: std::rt::Clock>(rt: &R) -> u64 {
     match rt.monotonic() {
         Ok(since) => since

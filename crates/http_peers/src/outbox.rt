@@ -1,4 +1,4 @@
-//! Bytes that wait to be written to a socket.
+//! Bytes of a response that wait to be written to a socket.
 ghost use Rattle.std.specs.Prelude.{◌≡◌, ◌==◌, ◌≤◌, ◌++◌, [], drop, length, nat_le, OnOk};
 ghost use Rattle.http_peers.specs.Outbox.{went_of};
 
@@ -6,15 +6,15 @@ use mio::net::TcpStream;
 use std::alloc::{AllocError, Global};
 use std::io::{ErrorKind, Write};
 
-/// The most reads in a row from a socket, and the most writes in a row.
+/// The most reads from a socket in a row, and the most writes to a socket in a row.
 pub(crate) const MOST_CALLS: u32 = 16;
 
-/// The outcome of a read or a write.
+/// The outcome of a read from a socket or a write to it.
 #[derive(Clone, Copy, Debug, PartialEq, Eq)]
 pub enum Went {
     /// Some bytes were read or written, or the call was interrupted.
     On,
-    /// The socket has no input, or no room for output, for now.
+    /// The socket has no input or no room for output now.
     Waits,
     /// The connection has ended or failed.
     Over,
@@ -31,7 +31,7 @@ pub fn went_by(kind: ErrorKind) -> Went
     }
 }
 
-/// Bytes, and how many of them the socket has accepted.
+/// The bytes of a response, and how many of them the socket has accepted.
 #[derive(Drop)]
 pub struct Outbox {
     bytes: Vec<u8>,
@@ -39,7 +39,7 @@ pub struct Outbox {
 }
 
 impl Outbox {
-    /// Queues unsent bytes.
+    /// Makes an output buffer with these unsent bytes.
     pub fn of(bytes: Vec<u8>) -> Outbox
         ensures bytes { result.bytes.items ≡ bytes.items }
         ensures written { result.written ≡ 0 }
@@ -47,7 +47,7 @@ impl Outbox {
         Outbox { bytes, written: 0 }
     }
 
-    /// Returns an empty outbox.
+    /// Makes an empty output buffer.
     pub fn empty(alloc: Global) -> Outbox
         ensures bytes { result.bytes.items ≡ [] }
         ensures written { result.written ≡ 0 }
@@ -55,28 +55,28 @@ impl Outbox {
         Outbox::of(Vec::new(alloc))
     }
 
-    /// Returns whether the outbox holds no bytes. Bytes that were already written count.
+    /// Returns whether the output buffer has no bytes, sent or unsent.
     pub fn is_empty(&self) -> bool
         ensures { result ≡ (length self.now.bytes.items == 0) }
     {
         self.bytes.is_empty()
     }
 
-    /// Returns the number of its bytes. Bytes that were already written count.
+    /// Returns the number of bytes in the output buffer, sent and unsent.
     pub fn len(&self) -> usize
         ensures { result ≡ length self.now.bytes.items }
     {
         self.bytes.len()
     }
 
-    /// Returns whether all bytes were written.
+    /// Returns whether all bytes of the output buffer were written.
     pub fn is_written(&self) -> bool
         ensures { result ≡ nat_le (length self.now.bytes.items) self.now.written }
     {
         self.written >= self.bytes.len()
     }
 
-    /// Appends bytes to the unsent ones. Fails if memory runs out.
+    /// Appends bytes to the unsent bytes. Fails if memory runs out.
     pub fn put(&mut self, bytes: &[u8]) -> Result<(), AllocError>
         ensures { OnOk result (drop self.new.written self.new.bytes.items
             ≡ drop self.old.written self.old.bytes.items ++ bytes.now) }
@@ -88,7 +88,7 @@ impl Outbox {
         self.bytes.extend_from_slice(bytes)
     }
 
-    // Writes unsent bytes to the socket, with one call.
+    // Writes unsent bytes to the socket with one system call.
     fn write(&mut self, stream: &TcpStream) -> Went
         ensures bytes { self.new.bytes ≡ self.old.bytes }
         ensures written { self.old.written ≤ self.new.written }
@@ -107,8 +107,8 @@ impl Outbox {
         }
     }
 
-    /// Writes until the socket accepts no more, at most 16 times. Returns [`Went::On`] if all bytes
-    /// were written, or if the socket may accept more at once.
+    /// Writes until the socket accepts no more bytes, at most 16 times. Returns [`Went::On`] if all
+    /// bytes were written, or if the socket may accept more bytes at once.
     pub fn write_all(&mut self, stream: &TcpStream) -> Went
         ensures bytes { self.new.bytes ≡ self.old.bytes }
         ensures written { self.old.written ≤ self.new.written }

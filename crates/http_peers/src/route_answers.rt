@@ -1,4 +1,4 @@
-//! Makes the reply of each route of a run, except those with many quarter hours.
+//! Makes the response of each route of `sunreg run`, except routes with many quarter hours.
 ghost use Rattle.std.specs.Prelude.{ℕ, List};
 ghost use Rattle.http_peers.specs.PeersAsk.{PeersAsk};
 
@@ -17,7 +17,7 @@ use run_http::{
 };
 use std::alloc::Global;
 
-/// Makes the reply of a route that does not ask the office.
+/// Makes the response of a route that needs no data of the store, such as `/status`.
 pub(crate) fn answer_status(alloc: Global, route: StatusRoute, told: &RunTold<'_>) -> PeerReply {
     let mut text = Vec::new(alloc);
     let monitor = told.monitor;
@@ -34,7 +34,8 @@ pub(crate) fn answer_status(alloc: Global, route: StatusRoute, told: &RunTold<'_
     }
 }
 
-/// Answers with the counts of the run and the energy of the meters, for Prometheus.
+/// Makes the response of `/metrics`: the counts of events and the energy of the meters, for
+/// Prometheus.
 #[tactic(auto, using(crate::proofs::PeersAsking::asks_site))]
 pub(crate) fn answer_metrics<B: Books>(
     alloc: Global,
@@ -51,7 +52,8 @@ pub(crate) fn answer_metrics<B: Books>(
     }
 }
 
-/// Answers with the registers and their meters, those of earlier files included.
+/// Makes the response of `/site`: the accounting registers and their meters, including meters of
+/// earlier files.
 #[tactic(auto, using(crate::proofs::PeersAsking::asks_site))]
 pub(crate) fn answer_site<B: Books>(
     alloc: Global,
@@ -68,7 +70,7 @@ pub(crate) fn answer_site<B: Books>(
     }
 }
 
-/// Answers with the entries of a meter, beginning with a given sequence number.
+/// Makes the response with the entries of a meter, beginning with a given sequence number.
 #[tactic(auto, using(crate::proofs::PeersAsking::asks_rows))]
 pub(crate) fn answer_entries<B: Books>(
     alloc: Global,
@@ -85,7 +87,7 @@ pub(crate) fn answer_entries<B: Books>(
     }
 }
 
-/// Answers with the voided entries of a meter.
+/// Makes the response with the voided entries of a meter.
 #[tactic(auto, using(crate::proofs::PeersAsking::asks_rows))]
 pub(crate) fn answer_voids<B: Books>(
     alloc: Global,
@@ -101,7 +103,7 @@ pub(crate) fn answer_voids<B: Books>(
     }
 }
 
-// Answers with the energy of a register that earlier files do not have.
+// Makes the response with the energy of an accounting register that earlier files do not have.
 #[tactic(auto, using(crate::proofs::PeersAsking::asks_energy))]
 fn answer_energy<B: Books>(
     alloc: Global,
@@ -118,7 +120,8 @@ fn answer_energy<B: Books>(
     }
 }
 
-// Answers with the energy of a register over earlier files and the office.
+// Makes the response with the energy of an accounting register over earlier files and the current
+// file.
 #[tactic(auto, using(crate::proofs::PeersAsking::asks_energy_over))]
 fn answer_energy_over<B: Books>(
     alloc: Global,
@@ -136,7 +139,8 @@ fn answer_energy_over<B: Books>(
     }
 }
 
-/// Answers with the energy of a register, together with earlier files that have the register.
+/// Makes the response with the energy of an accounting register, including earlier files that have
+/// the register.
 pub(crate) fn answer_days<B: Books>(
     alloc: Global,
     office: &mut Office<B>,
@@ -154,7 +158,7 @@ pub(crate) fn answer_days<B: Books>(
     }
 }
 
-/// Answers with the meters at a register, closed ones included.
+/// Makes the response with the meters at an accounting register, including closed meters.
 #[tactic(auto, using(crate::proofs::PeersAsking::asks_rows))]
 pub(crate) fn answer_meters<B: Books>(
     alloc: Global,

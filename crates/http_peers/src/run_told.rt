@@ -1,9 +1,9 @@
-//! What the replies of a run depend on besides the office.
+//! The data besides the store from which HTTP responses are made.
 use crate::energy_over::EarlierFiles;
 use run_status::{DeviceLack, RunMonitor};
 
-/// The counts and states of a run, what its devices lacked when it began, and the registers of
-/// earlier files.
+/// The counts and device states of `sunreg run`, what the devices lacked at the start, and the
+/// accounting registers of earlier files.
 #[derive(Clone, Copy)]
 pub struct RunTold<'a> {
     pub monitor: &'a RunMonitor,
@@ -11,8 +11,8 @@ pub struct RunTold<'a> {
     pub earlier: &'a EarlierFiles<'a>,
 }
 
-/// The clock, and the latest check of the office's files.
+/// The monotonic clock, and the latest check that the store's files exist.
 pub trait RunSystem: std::rt::Clock {
-    /// Returns whether, at the latest check, the paths of the office's files led to its open files.
+    /// Returns whether, at the latest check, the paths of the store's files led to the open files.
     fn are_files_there(&self) -> bool;
 }

@@ -1,4 +1,4 @@
-//! The registers and meters of an office and of earlier files.
+//! The response of `/site`: the accounting registers, with meters of the current and earlier files.
 ghost use Rattle.std.specs.Prelude.{◌≡◌, IfOk, OnOk, map};
 ghost use Rattle.run_http.specs.SiteReply.{RepliesSite};
 ghost use Rattle.http_peers.specs.SiteOver as site;
@@ -10,7 +10,8 @@ use office_events::{Installation, Refusal};
 use run_http::{SiteLine, put_site_reply};
 use std::alloc::{AllocError, Global};
 
-// Returns the line of a register, with the meters that earlier files have at it.
+// Returns the line of an accounting register with the latest of its meters in the current and
+// earlier files. `earlier` are its meters in earlier files.
 fn line_after(earlier: &[Installation], row: &SiteRow) -> SiteLine
     ensures { result ≡ site.line_after earlier.now row.now }
 {
@@ -29,7 +30,8 @@ fn line_after(earlier: &[Installation], row: &SiteRow) -> SiteLine
     }
 }
 
-// Returns the lines of registers.
+// Returns the lines of accounting registers, each with its latest meter in the current and earlier
+// files.
 fn lines_over(
     alloc: Global,
     earlier: &[EarlierRegister],
@@ -45,7 +47,7 @@ fn lines_over(
     Ok(lines)
 }
 
-// Returns the lines, or the refusal of the office.
+// Returns the lines of all accounting registers, or the program's refusal of the query.
 fn told_of(
     alloc: Global,
     earlier: &[EarlierRegister],
@@ -62,7 +64,7 @@ fn told_of(
     }
 }
 
-// Writes the reply to the office's answer.
+// Writes the response with the lines of the accounting registers, or with the program's refusal.
 fn put_answer(
     alloc: Global,
     text: &mut Vec<u8>,
@@ -77,9 +79,9 @@ fn put_answer(
     put_site_reply(alloc, text, moment, &told)
 }
 
-/// Appends the reply with the registers of the office, each with its latest meter in the office and
-/// in earlier files. `moment` is in seconds since 1970-01-01 UTC. If memory runs out, a part of the
-/// reply is appended.
+/// Appends the response of `/site`: each accounting register with its latest meter in the current
+/// and earlier files. `moment` is in seconds since 1970-01-01 UTC. If memory runs out, a part of
+/// the response is appended.
 pub fn reply_site_over<B: Books>(
     alloc: Global,
     text: &mut Vec<u8>,

@@ -1,12 +1,13 @@
--- Worked examples, computed from the definitions.
+-- Worked examples of the tests of the Host and Sec-Fetch-Site headers, computed from the
+-- definitions.
 use Rattle.std.proofs.Common.{◌≡◌, ℕ, List, [], ◌∷◌, map, true, false, refl}
 use Rattle.std.specs.Prelude.{codes}
 use Rattle.http_request.specs.HeadTests.{Start}
 use Rattle.http_request.specs.Hosts.{is_known, may_ask}
 use Rattle.http_request.specs.Sites.{is_cross_site}
 
--- ---- Which hosts may ask (RFC 9110, section 7.2): the names of this machine, as names or
--- addresses, in any case.
+-- ---- Accepted Host values (RFC 9110, section 7.2): the names and addresses of this machine, in
+-- any case.
 
 by_number : is_known [] (codes "127.0.0.1") ≡ true
 by_number = refl
@@ -14,7 +15,7 @@ by_number = refl
 with_a_port : is_known [] (codes "127.0.0.1:8080") ≡ true
 with_a_port = refl
 
--- Any port is accepted, because a port may be forwarded.
+-- A Host value with any port is accepted, because a port may be forwarded.
 with_another_port : is_known [] (codes "127.0.0.1:8081") ≡ true
 with_another_port = refl
 
@@ -27,7 +28,7 @@ in_capitals = refl
 in_brackets : is_known [] (codes "[::1]:8080") ≡ true
 in_brackets = refl
 
--- Another name is rejected.
+-- A Host value that names another host is rejected.
 
 another_name : is_known [] (codes "evil.example:8080") ≡ false
 another_name = refl
@@ -50,7 +51,7 @@ nothing = refl
 a_port_alone : is_known [] (codes ":8080") ≡ false
 a_port_alone = refl
 
--- A name among the given names is accepted.
+-- A Host value among the given names is accepted.
 
 a_given_name : is_known (codes "Office.example" ∷ []) (codes "office.Example:443") ≡ true
 a_given_name = refl
@@ -58,7 +59,7 @@ a_given_name = refl
 another_than_given : is_known (codes "office.example" ∷ []) (codes "evil.example:443") ≡ false
 another_than_given = refl
 
--- ---- The Host headers of a head.
+-- ---- Heads with no, one or two Host headers.
 
 abbrev head_with : List (List ℕ) → Start
 head_with values = record {
@@ -79,12 +80,12 @@ with_a_foreign_one = refl
 with_an_empty_one : may_ask [] (head_with ([] ∷ [])) ≡ false
 with_an_empty_one = refl
 
--- Two Host headers are rejected, also for the same name (RFC 9112, section 3.2).
+-- Two Host headers are rejected, even if their values are equal (RFC 9112, section 3.2).
 with_two : may_ask [] (head_with (codes "localhost" ∷ codes "localhost" ∷ [])) ≡ false
 with_two = refl
 
--- ---- Which requests a page of another site sent (W3C, Fetch Metadata Request Headers, section
--- 2.3).
+-- ---- Requests that a page of another site sent, by Sec-Fetch-Site (W3C, Fetch Metadata Request
+-- Headers, section 2.3).
 
 abbrev from_site : List (List ℕ) → Start
 from_site values = record {

@@ -1,4 +1,4 @@
--- Lemmas on how the definitions of the tests express what the program found of a header.
+-- Lemmas: the program's result for a header agrees with the type that the header tests use.
 use Rattle.std.proofs.Common.{◌≡◌, ◌≤◌, ℕ, List, [], ◌∷◌, length, refl, sym, ap, arith}
 use Rattle.std.specs.Prelude.{codes}
 use Rattle.http_request.specs.Head.Headers.{Gives, values_of}

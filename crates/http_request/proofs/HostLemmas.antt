@@ -1,9 +1,9 @@
--- Lemmas on known hosts.
+-- Lemmas on the accepted values of the Host header.
 use Rattle.std.proofs.Common.{◌≡◌, ℕ, Bool, ◌||◌, List, [], ◌∷◌, map, refl, ap}
 use Rattle.std.specs.Borrow.{Bor}
 use Rattle.std.specs.List.{list_any}
 
--- A test of borrowed names gives the same result as the test of their bytes.
+-- Testing a list of borrowed host names equals testing the list of their bytes.
 pub any_after : (test : List ℕ → Bool) (names : List (Bor (List ℕ))) → list_any (λ name. test name.now) names ≡ list_any test (map (λ name. name.now) names)
 any_after test [] = refl
 any_after test (name ∷ names) = ap (λ rest. test name.now || rest) (any_after test names)

@@ -1,4 +1,5 @@
--- The tests of a POST's headers: a table whose first failed test gives the status.
+-- The tests of a POST's headers, in a table. The first failed test determines the status of the
+-- response.
 use Rattle.std.specs.Prelude.{ℕ, nat_lt, Bool, true, false, not, ◌||◌, if◌then◌else◌, List, [], ◌∷◌, codes, is_none, Option, Some, None, option_and_then}
 use Rattle.http_request.specs.Head.Headers.{values_of}
 use Rattle.office_events.specs.Names.{named}
@@ -6,37 +7,37 @@ use Rattle.http_request.specs.Values.{digits_in, number_in}
 use Rattle.http_request.specs.declared.status.Status.{Status}
 use Rattle.http_request.specs.declared.status.Status.TheVariants.{BadRequest, LengthRequired, ContentTooLarge}
 
--- The status of the first test that failed. Each pair has whether its test failed, and the status
--- for that.
+-- The status of the first failed test in a list. Each pair is a flag that the test failed, and the
+-- status for that failure.
 abbrev pub first_failed : List (Bool × Status) → Option Status
 first_failed [] = None
 first_failed (row ∷ rows) = if row.0 then Some row.1 else first_failed rows
 
--- How often a header is given, with its value if it is given once.
+-- How often a request has a header: never, once with its value, or more than once.
 pub data Times : Type 0 where
   Missing : Times
   Alone : List ℕ → Times
   Repeated : Times
 
--- How often a header with these values is given.
+-- The count of a header, from the list of its values.
 abbrev pub times : List (List ℕ) → Times
 times [] = Missing
 times (value ∷ []) = Alone value
 times (value ∷ other ∷ values) = Repeated
 
--- The header is missing.
+-- The request does not have the header.
 abbrev pub is_missing : Times → Bool
 is_missing Missing = true
 is_missing (Alone value) = false
 is_missing Repeated = false
 
--- The header is given more than once.
+-- The request has the header more than once.
 abbrev pub is_repeated : Times → Bool
 is_repeated Missing = false
 is_repeated (Alone value) = false
 is_repeated Repeated = true
 
--- The value of a header that is given once.
+-- The value of a header that the request has exactly once, otherwise none.
 abbrev pub value_in : Times → Option (List ℕ)
 value_in Missing = None
 value_in (Alone value) = Some value
@@ -49,7 +50,7 @@ pub record PostHeaders : Type 0 where
   pub caller : Times
   pub number : Times
 
--- The headers of a POST, from all headers of its head.
+-- The headers that the tests of a POST read, taken from all headers of its head.
 abbrev pub post_headers_of : List (List ℕ × List ℕ) → PostHeaders
 post_headers_of headers = record {
   transfer = times (values_of (codes "transfer-encoding") headers);
@@ -66,11 +67,11 @@ size_in headers = option_and_then digits_in (value_in headers.size)
 abbrev pub caller_in : PostHeaders → Option (List ℕ)
 caller_in headers = option_and_then named (value_in headers.caller)
 
--- The value of Office-Request: the caller's number of this request.
+-- The value of Office-Request: the number that the client gave this command.
 abbrev pub request_in : PostHeaders → Option ℕ
 request_in headers = option_and_then number_in (value_in headers.number)
 
--- The size is a number above the limit.
+-- The Content-Length is a number above the limit `most`, in bytes.
 abbrev pub is_over : ℕ → Option ℕ → Bool
 is_over most None = false
 is_over most (Some size) = nat_lt most size

@@ -1,4 +1,4 @@
-//! The request of a head: a query or a command.
+//! The parsed request of an HTTP head: a query (GET) or a command (POST).
 ghost use Rattle.std.specs.Prelude.{◌≡◌, IsUtf8};
 ghost use Rattle.httparse.specs.Spans.{span_bytes};
 ghost use Rattle.http_request.specs.Head.Heads.{IsPlaced};
@@ -11,12 +11,12 @@ use crate::routing::{Found, Route, route_of};
 use crate::status::Status;
 use matchit::Router;
 
-/// A request whose head passed all tests: a query or a command.
+/// An HTTP request whose head passed all tests: a query (GET) or a command (POST).
 #[derive(Clone, Copy)]
 pub enum Ask<'b> {
-    /// A query. Its body is not read.
+    /// A query (GET), with its route. The program ignores its body.
     Question(Found<'b>),
-    /// A command, with what its headers say. Its body follows the head.
+    /// A command (POST), with its route and its parsed headers. Its body follows the head.
     Command(Found<'b>, Posted),
 }
 
@@ -26,10 +26,11 @@ fn has_method(route: Route, method: &[u8]) -> bool
     method == route.method()
 }
 
-/// Tests a head in a fixed order, and returns its request or the status of the first failed test.
+/// Tests a request's head, and returns the query or command, or the status of the first failed
+/// test.
 ///
-/// The order is the route (404), the method (405), and for a command the headers of
-/// [`post_headers`].
+/// The tests are in this order: the route (404), the method (405), and for a command the headers
+/// that [`post_headers`] tests.
 pub fn ask_of<'b>(router: &Router<Route>, bytes: &'b [u8], head: &Head) -> Result<Ask<'b>, Status>
     requires text { IsUtf8 (span_bytes bytes.now head.now.target) }
     requires placed { IsPlaced bytes.now head.now }

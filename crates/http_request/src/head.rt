@@ -1,4 +1,4 @@
-//! The head of a request: how it is found in bytes, and how its headers are read.
+//! Finds the head of an HTTP request in bytes, and reads the headers in it.
 
 mod head;
 mod headers;

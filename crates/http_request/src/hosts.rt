@@ -1,4 +1,4 @@
-//! Which hosts a request may name in its `Host` header.
+//! Accepts or rejects requests by their `Host` header.
 ghost use Rattle.std.specs.Prelude.{◌≡◌, length, take, drop};
 ghost use Rattle.std.specs.Char.{is_ascii_digit};
 ghost use Rattle.std.specs.List.{list_all, list_any};
@@ -45,7 +45,7 @@ fn is_port(text: &[u8]) -> bool
     }
 }
 
-// Returns whether a value is the name in any case, with or without a port.
+// Returns whether a `Host` value is the host `name`, in any case, with or without a port.
 fn is_host(name: &str, value: &[u8]) -> bool
     ensures { result ≡ hosts.is_host name.now value.now }
 {
@@ -71,8 +71,8 @@ fn is_given(given: &[&str], value: &[u8]) -> bool
     is_one_of(given, value)
 }
 
-// Returns whether the Host header of a head lets the request be served: it is missing, or given
-// once with a known name.
+// Returns whether the `Host` header of a head lets the program serve the request. The header is
+// either missing, or given once with an accepted name.
 fn names_known(given: &[&str], bytes: &[u8], head: &Head) -> bool
     requires placed { IsPlaced bytes.now head.now }
     ensures { result ≡ hosts.may_ask (texts given.now) (start_at bytes.now head.now) }
@@ -84,12 +84,12 @@ fn names_known(given: &[&str], bytes: &[u8], head: &Head) -> bool
     }
 }
 
-/// Returns whether a request may be served, by its `Host` header (RFC 9110, section 7.2).
+/// Returns whether the program serves a request, by its `Host` header (RFC 9110, section 7.2).
 ///
-/// The header may be missing. Otherwise it must be given once, and name `127.0.0.1`, `localhost`,
-/// `[::1]` or a name in `given`, in any case, with or without a port. The test rejects pages of
-/// another host name that was made to resolve to this machine (DNS rebinding). Bytes without a
-/// complete head pass this test.
+/// The header may be missing. Otherwise the request has it once, with the value `127.0.0.1`,
+/// `localhost`, `[::1]` or a name in `given`. The value may have any case and any port. This test
+/// rejects requests from web pages of a foreign host name that resolves to this machine (DNS
+/// rebinding). Bytes without a complete head pass this test.
 pub fn may_ask(given: &[&str], bytes: &[u8], head_state: &HeadState) -> bool
     requires { Looks bytes.now head_state.now }
     ensures { result ≡ hosts.may_ask_in (texts given.now) bytes.now head_state.now }

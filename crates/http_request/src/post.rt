@@ -1,4 +1,4 @@
-//! The tests of a POST's headers.
+//! The tests of the headers of a POST request.
 ghost use Rattle.std.specs.Prelude.{◌≡◌, length, map, All};
 ghost use Rattle.httparse.specs.Spans.{IsHeaderWithin, header_bytes};
 ghost use Rattle.http_request.specs.Asking.{TestsPost};
@@ -11,18 +11,18 @@ use crate::status::Status;
 use httparse::spans::HeaderSpan;
 use office_events::Name;
 
-/// The most bytes that a body may have.
+/// The most bytes of a request's body.
 pub const MOST_BODY: usize = 65_536;
 
-/// The parsed headers of a command.
+/// The parsed headers of a command (a POST request).
 #[derive(Clone, Copy)]
 pub struct Posted {
     /// The size of the body in bytes, from `Content-Length`.
     pub size: u64,
-    /// The caller, from `Office-Caller`.
+    /// The name of the client that sends the command, from `Office-Caller`.
     pub caller: Name,
-    /// The caller's number of this request, from `Office-Request`. With the caller it is the
-    /// idempotency key.
+    /// The number that the client gave this command, from `Office-Request`. The client's name and
+    /// this number form the idempotency key.
     pub number: u64,
 }
 
@@ -82,15 +82,15 @@ fn test_headers(
     })
 }
 
-/// Parses the headers of a command, or returns the status of the first failed test.
+/// Parses the headers of a POST request, or returns the status of the first failed test.
 ///
 /// The tests, in order:
 ///
 /// - 400 for `Transfer-Encoding`, or for a repeated `Content-Length`, `Office-Caller` or
 ///   `Office-Request`;
 /// - 411 without `Content-Length`;
-/// - 400 for a `Content-Length` that is no number of at most 19 digits;
-/// - 413 above 65,536 bytes;
+/// - 400 for a `Content-Length` that is not a number of at most 19 digits;
+/// - 413 for a `Content-Length` above 65,536 bytes;
 /// - 400 for a missing or malformed `Office-Caller` or `Office-Request`.
 pub fn post_headers(bytes: &[u8], headers: &[HeaderSpan]) -> Result<Posted, Status>
     requires within { All (IsHeaderWithin (length bytes.now)) headers.now }

@@ -1,4 +1,4 @@
-//! Reads from a link until the head has arrived, and then the body.
+//! Reads an HTTP request from a link: first its head, then its body.
 
 mod head_and_body;
 mod inbox;

@@ -1,4 +1,4 @@
-//! The table of routes, and the route of a target in it, by `matchit`.
+//! The routes of the HTTP server, and the lookup of a request target's route with `matchit`.
 
 mod routes;
 mod targets;

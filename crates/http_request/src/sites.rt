@@ -1,4 +1,4 @@
-//! Whether a page of another site sent a request.
+//! Detects requests that a page of another site sent, by `Sec-Fetch-Site`.
 ghost use Rattle.std.specs.Prelude.{◌≡◌};
 ghost use Rattle.http_request.specs.Head.Heads.{IsPlaced, Looks};
 ghost use Rattle.http_request.specs.HeadTests.{start_at};
@@ -6,7 +6,7 @@ ghost use Rattle.http_request.specs.Sites as sites;
 
 use crate::head::{Given, Head, HeadState, header_value};
 
-// Returns whether the `Sec-Fetch-Site` header of a head says that a page of another site sent the
+// Returns whether a request's `Sec-Fetch-Site` header says that a page of another site sent the
 // request.
 fn says_cross_site(bytes: &[u8], head: &Head) -> bool
     requires placed { IsPlaced bytes.now head.now }
@@ -22,8 +22,8 @@ fn says_cross_site(bytes: &[u8], head: &Head) -> bool
 /// Returns whether a page of another site made a browser send the request, by `Sec-Fetch-Site`
 /// (W3C, Fetch Metadata Request Headers, section 2.3).
 ///
-/// A repeated header counts as a page of another site, since no browser repeats it. Bytes without a
-/// head do not.
+/// The result is true for a repeated header, since no browser repeats `Sec-Fetch-Site`. The result
+/// is false for bytes without a complete head.
 pub fn is_cross_site(bytes: &[u8], head_state: &HeadState) -> bool
     requires { Looks bytes.now head_state.now }
     ensures { result ≡ sites.is_cross_site_in bytes.now head_state.now }

@@ -1,9 +1,9 @@
-//! The statuses of responses.
+//! The HTTP status codes of responses, and their reason phrases.
 
 ghost use Rattle.std.specs.Prelude.{◌≡◌};
 ghost use Rattle.http_request.specs.Status.Statuses.{number_of_status, reason_of_status};
 
-/// The status of a response.
+/// The HTTP status of a response.
 #[derive(Clone, Copy, Debug, PartialEq, Eq)]
 pub enum Status {
     Fine,
@@ -41,7 +41,7 @@ impl Status {
         }
     }
 
-    /// Returns the reason phrase that follows the code.
+    /// Returns the reason phrase that follows the status code in a response.
     pub fn reason(self) -> &'static [u8]
         ensures { result.now ≡ reason_of_status self }
     {

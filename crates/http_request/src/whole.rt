@@ -1,4 +1,4 @@
-//! A complete request, read from a link: its head, and the body that belongs to it.
+//! Reads a complete HTTP request from a link: its head, and the body that belongs to this head.
 
 ghost use Rattle.std.specs.Prelude.{◌≡◌, ◌≤◌, ◌+◌, IsUtf8, MatchBool, OnOk, Ok, drop, length, take};
 ghost use Rattle.std.specs.Io.KnownBytes.{Keeps};
@@ -20,10 +20,11 @@ use crate::{Ask, Found, MOST_BODY, Posted, ask_of};
 use matchit::Router;
 use mb_wire::Link;
 
-/// The room in bytes that suffices for any request.
+/// The size in bytes of a buffer that suffices for any request.
 pub const MOST_ROOM: usize = MOST_BYTES + MOST_BODY;
 
-// Returns the size in bytes of the body that belongs to a head: 0 for a query or a failed test.
+// Returns the size in bytes of the body that follows a head: 0 for a query or a head that fails a
+// test.
 fn body_size(router: &Router<Route>, bytes: &[u8], head: &Head) -> usize
     requires text { IsUtf8 (span_bytes bytes.now head.now.target) }
     requires placed { IsPlaced bytes.now head.now }
@@ -36,10 +37,10 @@ fn body_size(router: &Router<Route>, bytes: &[u8], head: &Head) -> usize
     }
 }
 
-/// Reads until the inbox holds a complete request or a bad head. The returned state is never
-/// `Open`.
+/// Reads from a link until the buffer holds a complete request or an invalid head. The returned
+/// state is never `Open`.
 ///
-/// Fails with the cause if a read fails, the input ends, or 100,000 reads were made.
+/// Fails with the cause if a read fails, the input ends, or the buffer has made 100,000 reads.
 pub fn read_request<L: Link>(
     router: &Router<Route>,
     inbox: &mut Inbox<'_>,
@@ -63,7 +64,8 @@ pub fn read_request<L: Link>(
     Ok(head_state)
 }
 
-/// Returns whether bytes hold a complete request or a bad head, so that nothing remains to be read.
+/// Returns whether bytes hold a complete request or an invalid head. Then no more bytes have to be
+/// read.
 pub fn is_whole(router: &Router<Route>, bytes: &[u8]) -> bool
     ensures { MatchBool result (IsReadWhole router.now bytes.now)
         (IsUnfinished router.now bytes.now) }
@@ -75,9 +77,10 @@ pub fn is_whole(router: &Router<Route>, bytes: &[u8]) -> bool
     }
 }
 
-/// Returns the query or command of a complete request, or the status that rejects it.
+/// Returns the query or command of a complete request, or the status that rejects the request.
 ///
-/// A head past the limits gets 431, and a malformed head 400. [`ask_of`] tests any other head.
+/// A head past the limits gets status 431, and a malformed head gets 400. [`ask_of`] tests any
+/// other head.
 pub fn ask_in<'b>(
     router: &Router<Route>,
     bytes: &'b [u8],
@@ -94,7 +97,7 @@ pub fn ask_in<'b>(
     }
 }
 
-/// Returns the body of a complete request that asks for a command.
+/// Returns the body of a complete command (POST): the bytes that follow its head.
 pub fn body_in<'b>(bytes: &'b [u8], head: &Head, posted: &Posted) -> &'b [u8]
     requires whole { head.now.len + posted.now.size ≤ length bytes.now }
     ensures { result.now ≡ take posted.now.size (drop head.now.len bytes.now) }
@@ -103,7 +106,7 @@ pub fn body_in<'b>(bytes: &'b [u8], head: &Head, posted: &Posted) -> &'b [u8]
     &bytes[head.len..head.len + size]
 }
 
-/// Theorem: the body of a complete command has as many bytes as its head says.
+/// Theorem: the body of a complete command has as many bytes as its `Content-Length` says.
 pub fn a_command_tells_its_size(
     router: &Router<Route>,
     bytes: &[u8],
@@ -130,7 +133,7 @@ pub fn no_request(router: &Router<Route>, bytes: &[u8], head: &Head)
     ensures { IsWhole router.now bytes.now head.now → ⊥ }
 {}
 
-/// Theorem: a complete head and body are the one request that the bytes hold.
+/// Theorem: bytes with a complete head and body hold the request with this head and this body.
 pub fn a_look_finds_the_request(router: &Router<Route>, bytes: &[u8], head: &Head)
     requires { IsWhole router.now bytes.now head.now }
     ensures { HoldsRequest router.now bytes.now (start_at bytes.now head.now)

@@ -1,4 +1,4 @@
-//! The statuses and bodies of responses that no request gets in other tests.
+//! Tests of the statuses and bodies of those responses that no other test produces.
 use energy_core::Cause;
 use http_answer::{done_body, fault_body, kind_answered, refused_body, status_of};
 use http_request::Status;
@@ -50,8 +50,8 @@ static KINDS: [(CommandKind, &[u8]); 11] = [
     (CommandKind::Start, b"{\"done\":\"start\"}"),
 ];
 
-// The body of a response names the kind of the command, whether the command acts or the request is
-// a retry.
+// The response body has the kind of the command, whether the command was executed now or for an
+// earlier request.
 #[test]
 fn each_kind_of_command_has_a_body(rt: HostRuntime) {
     for (kind, body) in &KINDS {

@@ -1,4 +1,4 @@
-//! Requests to an office of whose store one call fails, each in turn.
+//! Tests of HTTP requests while one call of the store fails, for each call in turn.
 use crate::cases::{Case, Served, assert_reply, serve};
 use crate::office::polled_store;
 use crate::tables::{COMMANDS, QUESTIONS};
@@ -8,11 +8,11 @@ use office_core::Office;
 use std::alloc::{AllocError, Global};
 use std::process::Abort;
 
-// The response if the store fails.
+// The response to a request during which the store fails.
 static FAILED: &[u8] =
     b"HTTP/1.1 503 Service Unavailable\r\nContent-Type: application/json\r\nContent-Length: 14\r\nConnection: close\r\n\r\n{\"refused\":13}";
 
-// Opens an office. If the store fails, the office is opened again over the returned store.
+// Opens an `Office` over a store. If the store fails, tries again with the returned store.
 fn opened<B: Books>(rt: &impl Abort, alloc: Global, books: B) -> Office<B> {
     let books = match Office::open(alloc, books, 1900) {
         Ok(office) => return office,
@@ -24,7 +24,7 @@ fn opened<B: Books>(rt: &impl Abort, alloc: Global, books: B) -> Office<B> {
     }
 }
 
-// Serves a request. If the store fails, the request is served again.
+// Serves a request. If the store fails, serves the request a second time.
 fn serve_again<B: Books>(
     alloc: Global,
     office: &mut Office<B>,
@@ -47,7 +47,8 @@ fn serve_all<B: Books>(rt: &impl Abort, alloc: Global, books: B, cases: &[Case<'
     office.into_books()
 }
 
-// Makes each call of the store fail in turn, until the requests make no more calls.
+// Serves the requests repeatedly. Repetition N makes call N of the store fail. The repetitions end
+// when the requests make fewer than N calls.
 fn fail_each(rt: &impl Abort, alloc: Global, cases: &[Case<'_>]) {
     for failing in 1..1000 {
         let books = FailingBooks::new(polled_store(rt, alloc), failing);
@@ -59,7 +60,7 @@ fn fail_each(rt: &impl Abort, alloc: Global, cases: &[Case<'_>]) {
     panic!(rt; "a call fails each time")
 }
 
-// A request gets 503 if a call of the store fails, and its usual response when it is sent again.
+// A request gets 503 if a call of the store fails, and its usual response when the client retries.
 #[test]
 fn each_call_of_the_store_may_fail(rt: HostRuntime) {
     fail_each(&rt, rt.alloc(), &QUESTIONS);

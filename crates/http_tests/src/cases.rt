@@ -1,4 +1,4 @@
-//! HTTP requests that tests serve, and the bytes of their responses.
+//! Requests that the tests of HTTP serve, and the bytes of their responses.
 use mb_wire::MemoryLink;
 use office_books::Books;
 use office_core::Office;
@@ -6,8 +6,8 @@ use office_http::{HandleFault, handle};
 use std::alloc::{AllocError, Global};
 use std::process::Abort;
 
-/// A request, the time at which it is served, and its response: the status with its reason, and the
-/// body.
+/// A request, the timestamp at which it is served, and its response: the status with its reason,
+/// and the body.
 #[derive(Clone, Copy)]
 pub(crate) struct Case<'c> {
     pub(crate) at: u64,
@@ -23,7 +23,7 @@ pub(crate) struct Served {
     pub(crate) given: Vec<u8>,
 }
 
-/// Returns the bytes of a response whose head has the length of its body, which is JSON or text.
+/// Returns the bytes of a response with Content-Length, whose body is JSON or plain text.
 pub(crate) fn sized_reply(alloc: Global, status: &str, body: &str) -> Result<String, AllocError> {
     let size = body.len();
     let kind = if body.starts_with('{') {
@@ -36,7 +36,7 @@ pub(crate) fn sized_reply(alloc: Global, status: &str, body: &str) -> Result<Str
     )
 }
 
-/// Returns the bytes of an office's response. For a text, the head has no length.
+/// Returns the bytes of a response: JSON with Content-Length, or plain text without Content-Length.
 pub(crate) fn reply(alloc: Global, status: &str, body: &str) -> Result<String, AllocError> {
     if body.starts_with('{') {
         return sized_reply(alloc, status, body);
@@ -46,7 +46,7 @@ pub(crate) fn reply(alloc: Global, status: &str, body: &str) -> Result<String, A
     )
 }
 
-/// Serves a request over a link that reads and writes this number of bytes in a call, and fails at
+/// Serves a request over a link that transfers at most this number of bytes in a call, and fails at
 /// one call.
 pub(crate) fn serve_over<B: Books>(
     alloc: Global,
@@ -75,15 +75,15 @@ pub(crate) fn serve<B: Books>(
     serve_over(alloc, office, at, request, 400, None)
 }
 
-/// Asserts that a request got the response of its case.
+/// Asserts that a served request got the expected response.
 pub(crate) fn assert_reply(rt: &impl Abort, alloc: Global, case: &Case<'_>, served: &Served) {
     assert!(rt; served.handled == Ok(()));
     let want = reply(alloc, case.status, case.body).expect(rt, "no memory");
     assert!(rt; served.given.as_slice() == want.as_bytes());
 }
 
-/// Serves the request of a case over a link that reads and writes this number of bytes in a call.
-/// Asserts its response.
+/// Serves a request over a link that transfers at most this number of bytes in a call. Asserts the
+/// expected response.
 pub(crate) fn assert_served<B: Books>(
     rt: &impl Abort,
     alloc: Global,

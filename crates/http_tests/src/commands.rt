@@ -1,20 +1,21 @@
-//! Point lists in the bodies of requests, and the commands to which they parse.
+//! Tests of point lists in the bodies of requests, and of the commands to which they parse.
 use http_answer::{CommandFault, command_in};
 use http_request::Route;
 use office_events::{Command, Name};
 
-// The CSV text of a point list, how many points it has, and how many reads its plan has.
+// The CSV text of a point list, the number of its points, and the number of reads in its reading
+// plan.
 static LISTS: [(&[u8], usize, usize); 2] = [
     (
         b"name,function,area,address,type,scale\nwh,3,0,40094,acc32,whsf\nwhsf,3,0,40096,sunssf,\n",
         2,
         1,
     ),
-    // A point list may have no points.
+    // A point list without points is accepted.
     (b"name,function,area,address,type,scale\n", 0, 0),
 ];
 
-// A point list parses to a command with the plan of its reads. The body of a query parses to no
+// A point list parses to a command with the list's reading plan. The body of a query parses to no
 // command.
 #[test]
 fn lists_parse_with_their_plans(rt: HostRuntime) {

@@ -1,4 +1,4 @@
-//! HTTP clients in the same process, which connect to a blocking listener.
+//! Tests of HTTP clients in the same process, which connect to a blocking listening socket.
 use crate::office::metered;
 use memory_books::ListBooks;
 use office_core::Office;
@@ -12,21 +12,22 @@ use std::net::{Shutdown, TcpListener, TcpStream};
 use std::test::Fail;
 use std::time::Duration;
 
-/// The bytes that a client writes, whether it then ends its stream, and its response.
+/// The bytes that a client sends, whether it then ends its stream, and the response that it
+/// expects.
 struct Client {
     bytes: &'static [u8],
     ends: bool,
     reply: &'static [u8],
 }
 
-/// A request that exchanges the meter `m1` for `m2`.
+/// A request to exchange the meter `m1` for the meter `m2`.
 pub(crate) const REQUEST: &[u8] =
     b"POST /registers/main/exchange HTTP/1.1\r\nContent-Length: 68\r\nOffice-Caller: desk\r\nOffice-Request: 7\r\n\r\n{\"ceiling\":100000,\"last\":5300,\"meter\":\"m2\",\"raw\":0,\"rolls\":0,\"sf\":0}";
 
 const REPLY: &[u8] =
     b"HTTP/1.1 200 OK\r\nContent-Type: application/json\r\nContent-Length: 19\r\nConnection: close\r\n\r\n{\"done\":\"exchange\"}";
 
-// The second client retries the request of the first client. The third client sends another last
+// Three clients. The second client retries the request of the first. The third sends another last
 // value under the same idempotency key.
 static ASKING: [Client; 3] = [
     Client {
@@ -46,8 +47,8 @@ static ASKING: [Client; 3] = [
     },
 ];
 
-// The first client ends its stream inside its request, the second times out, and the third is
-// served.
+// Three clients. The first ends its stream inside the request, the second times out, and the third
+// is served.
 static FAILING: [Client; 3] = [
     Client {
         bytes: b"POST /registers/main",
@@ -69,8 +70,8 @@ static FAILING: [Client; 3] = [
 const TURNED_AWAY: &[u8] =
     b"HTTP/1.1 421 Misdirected Request\r\nContent-Type: application/json\r\nContent-Length: 13\r\nConnection: close\r\n\r\n{\"fault\":421}";
 
-// The first request comes from a page of an unauthorized host, and the second from a page of the
-// given host. The third client retries the second request.
+// Three clients. The first request comes from a page of an unauthorized host, and the second from a
+// page of an accepted host. The third client retries the second request.
 static NAMED: [Client; 3] = [
     Client {
         bytes: b"POST /registers/main/exchange HTTP/1.1\r\nHost: evil.example:80\r\nContent-Length: 68\r\nOffice-Caller: desk\r\nOffice-Request: 7\r\n\r\n{\"ceiling\":100000,\"last\":5301,\"meter\":\"m2\",\"raw\":0,\"rolls\":0,\"sf\":0}",
@@ -89,7 +90,7 @@ static NAMED: [Client; 3] = [
     },
 ];
 
-/// Connects a client to a listener, and writes these bytes.
+/// Connects a client to a listening socket, and sends these bytes.
 pub(crate) fn client_of(
     rt: &HostRuntime,
     listener: &TcpListener,
@@ -100,7 +101,7 @@ pub(crate) fn client_of(
     Ok(client)
 }
 
-// Connects several clients to a listener.
+// Connects several clients to a listening socket.
 fn streams_of(
     rt: &HostRuntime,
     listener: &TcpListener,
@@ -117,7 +118,7 @@ fn streams_of(
     Ok(streams)
 }
 
-// Returns whether each client gets its response, and its stream then ends.
+// Returns whether each client gets its expected response, and its stream then ends.
 fn are_replied(alloc: Global, streams: &mut [TcpStream], clients: &[Client]) -> Result<bool, Fail> {
     for (stream, client) in streams.iter_mut().zip(clients) {
         let mut got = Vec::new(alloc);
@@ -129,7 +130,7 @@ fn are_replied(alloc: Global, streams: &mut [TcpStream], clients: &[Client]) -> 
     Ok(true)
 }
 
-/// Returns the energy of `m1`, if the meter was closed.
+/// Returns the energy of the meter `m1` in mWh, if the meter was closed.
 pub(crate) fn energy_of_ended(office: &mut Office<ListBooks>) -> Option<u64> {
     match office.meter(&Name::new(b"m1")) {
         Ok(row) if row.ended => Some(row.total),
@@ -165,8 +166,9 @@ impl std::rt::Clock for Stepping {
     }
 }
 
-// Returns whether an office serves this number of clients. The clock of their time limits advances
-// by `step` seconds each time that it is read. Without a step, `serve_on` serves them.
+// Returns whether this number of clients are served without an error. The clock for their deadlines
+// advances by `step` seconds each time that it is read. Without `step`, `serve_on` serves the
+// clients.
 fn serves(
     alloc: Global,
     listener: &TcpListener,
@@ -185,7 +187,7 @@ fn serves(
     }
 }
 
-// Returns whether the clients get their responses, and the meter is exchanged once.
+// Returns whether the clients get their expected responses, and the meter is exchanged once.
 fn are_served(
     rt: &HostRuntime,
     office: &mut Office<ListBooks>,
@@ -202,7 +204,7 @@ fn are_served(
     are_replied(rt.alloc(), &mut streams, clients)
 }
 
-// Clients are served one after another. A fault of one client does not affect the others.
+// Clients are served one after another. A client that fails does not affect other clients.
 #[test]
 fn clients_are_served(rt: HostRuntime) -> Result<(), Fail> {
     let served: [(&str, &[Client], Option<u64>); 4] = [

@@ -1,4 +1,4 @@
-//! The lines of reports at the limits of their numbers, and the texts of days.
+//! Tests of report lines with the greatest numbers, and of the texts of days.
 use energy_report::read_day;
 use http_answer::{ReplyWriter, put_day, put_end, put_share};
 use interval_core::{Day, DayRange, DayTotal, Share};
@@ -19,7 +19,7 @@ static QUARTERS: [Share; 2] = [
 static LINES: &[u8] =
     b"900 177777\n1800 0\nend 2\n2024-03-31  92                   920000\n1969-12-31   4 79228162514264337593543950336\nend 10\n";
 
-// A report has a line for each quarter hour and each day. Its last line has their number.
+// A report has a line for each quarter hour and each day, and a last line with the number of rows.
 #[test]
 fn reports_have_lines(rt: HostRuntime) {
     let mut output = [0; 200];
@@ -67,8 +67,8 @@ static MISSPELLED: [&str; 12] = [
     "-000001-01-01",
 ];
 
-// A day from the year 0 to 9999 is read from a date of ISO 8601. A range without a first and an end
-// day has every day.
+// A day from the year 0 to 9999 is parsed from an ISO 8601 date. A range without a first day and an
+// end contains every day.
 #[test]
 fn days_are_spelled(rt: HostRuntime) {
     for (text, year, month, number) in &SPELLED {

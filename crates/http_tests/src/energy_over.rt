@@ -1,5 +1,5 @@
-//! The energy of an accounting register by day and month, merged with the energy that earlier files
-//! of the office have.
+//! Tests of the energy of an accounting register by day and month, over earlier files of the store
+//! and the current file.
 use crate::cases::sized_reply;
 use crate::office::{polled, unmetered, utc};
 use carried_books::{EarlierDays, EarlierRegister, JoinedDays};
@@ -12,7 +12,7 @@ use run_http::{RunRoute, run_route};
 use std::alloc::Global;
 use std::process::Abort;
 
-// Adds the energy of quarter hours up by day.
+// Returns the daily sums of the energy of quarter hours.
 fn days_of(rt: &impl Abort, alloc: Global, rows: &[Share]) -> EarlierDays {
     let mut days = JoinedDays::new(alloc, utc(rt));
     for row in rows {
@@ -35,7 +35,8 @@ pub(crate) fn earlier_register(
     }
 }
 
-// Appends the response of an office to a request, merged with the days of earlier files.
+// Appends the response to a request for energy, over the current file and these days of earlier
+// files.
 fn put_energy<B: Books>(
     rt: &impl Abort,
     alloc: Global,
@@ -51,10 +52,11 @@ fn put_energy<B: Books>(
     reply_energy_over(alloc, text, office, utc(rt), earlier, &name, &form).expect(rt, "no memory");
 }
 
-// A request, and the status and the body of its response.
+// A request for energy, and the status and the body of its response.
 type Asked = (&'static [u8], &'static str, &'static str);
 
-// Asserts the responses of an office, merged with these quarter hours of earlier files.
+// Asserts the responses to requests for energy, over the current file and these quarter hours of an
+// earlier file.
 fn assert_energy<B: Books>(
     rt: &impl Abort,
     alloc: Global,
@@ -73,8 +75,9 @@ fn assert_energy<B: Books>(
 
 static EARLIER: [Share; 2] = [Share { start: 0, mwh: 5 }, Share { start: 900, mwh: 7 }];
 
-// Requests and their responses. The office has energy in the quarter hours from 900 and 1800. The
-// one from 900 is also in the earlier file, and counts once.
+// Requests for energy and their responses. The current file has energy in the quarter hours from
+// 900 and 1800 s. The earlier file also has the quarter hour from 900 s: the two energies are
+// added, and the quarter hour counts once.
 static OF_BOTH: [Asked; 5] = [
     (
         b"GET /registers/main/days/1970-01-01/1970-01-02 HTTP/1.1\r\n\r\n",
@@ -109,7 +112,8 @@ static OF_EARLIER: [Asked; 1] = [(
     "1970-01    2                       12\nend 1\n",
 )];
 
-// A quarter hour of the earlier file. The first one of the office, from 900, begins before it.
+// A quarter hour of the earlier file that starts at 901 s, after the first quarter hour of the
+// current file (900 s).
 static LATE: [Share; 1] = [Share { start: 901, mwh: 1 }];
 
 static OF_LATE: [Asked; 1] = [(
@@ -118,8 +122,8 @@ static OF_LATE: [Asked; 1] = [(
     "{\"refused\":13}",
 )];
 
-// The days of an accounting register are those of all files. Damaged rows, whose times go back, get
-// 503.
+// The daily energy of an accounting register is summed over all files. Damaged rows, whose times go
+// back, get 503.
 #[test]
 fn days_are_those_of_all_files(rt: HostRuntime) {
     let files: [(bool, &[Share], &[Asked]); 3] = [
@@ -137,7 +141,7 @@ fn days_are_those_of_all_files(rt: HostRuntime) {
     }
 }
 
-// The first accounting register with a name is found among others.
+// The first accounting register with a name is found among several registers.
 #[test]
 fn a_register_is_found_among_others(rt: HostRuntime) {
     let names: [&[u8]; 3] = [b"spare", b"main", b"main"];

@@ -1,4 +1,5 @@
-//! Commands of the program over a store that fails, and the exit statuses of rounds.
+//! Tests of the program's commands over a store that fails, and of the exit statuses of polling
+//! rounds.
 use crate::office::metered;
 use command_io::ExitStatus;
 use failing_books::FailingBooks;
@@ -9,7 +10,7 @@ use office_rounds::RoundFault;
 use socket_link::FixedClock;
 use std::alloc::{AllocError, Global};
 
-/// A source without files and without counters.
+/// A source of input that has no files and no counter values.
 #[derive(Clone, Copy)]
 pub(crate) struct NoFiles;
 
@@ -23,8 +24,8 @@ impl NamedFiles for NoFiles {
     }
 }
 
-// If the store fails while the office is opened, or while an entry above the meter's ceiling is
-// checked, the line is refused. The command does not ask for confirmation of the entry.
+// If the store fails while it is opened or while an entry above the meter's ceiling is checked, the
+// line is refused. The command does not ask for confirmation of the entry.
 #[test]
 fn a_line_over_a_failing_store_is_refused(rt: HostRuntime) {
     for failing in 1..12 {
@@ -51,7 +52,7 @@ fn a_line_over_a_failing_store_is_refused(rt: HostRuntime) {
     }
 }
 
-// A round that is not refused ends with exit status 0 or 3.
+// A polling round that is not refused ends with exit status 0 or 3.
 #[test]
 fn each_end_of_a_round_has_its_status(rt: HostRuntime) {
     assert!(rt; round_status(Ok(())).number() == 0);

@@ -1,4 +1,4 @@
-//! The texts of faults of requests.
+//! Tests of the error texts of HTTP requests.
 use http_answer::{BodyFault, CommandFault};
 use http_request::TakeFault;
 use point_list::{FaultyRow, FaultyRows, RowFault};
@@ -6,7 +6,7 @@ use std::alloc::Global;
 use std::fmt::Display;
 use std::process::Abort;
 
-// Asserts that each fault has the text beside it, without a full stop.
+// Asserts that the text of each fault equals the text paired with it, and has no full stop.
 fn assert_texts<F: Display>(rt: &impl Abort, alloc: Global, texts: &[(F, &str)]) {
     for (fault, text) in texts {
         let printed = format!(in alloc; "{fault}").expect(rt, "no memory");
@@ -42,7 +42,7 @@ fn faulty(rt: &impl Abort, alloc: Global) -> CommandFault {
     CommandFault::Faulty(FaultyRows::new(vec![in alloc; row].expect(rt, "no memory")))
 }
 
-// Each fault of a body, of a read and of a command has its text.
+// Each fault of a request body, of a read and of a command has its error text.
 #[test]
 fn faults_have_sentences(rt: HostRuntime) {
     assert_texts(&rt, rt.alloc(), &BODIES);

@@ -1,10 +1,10 @@
-//! Theorems whose functions no other code calls.
+//! Calls the theorems about copies, chunks and inputs that no other code calls.
 use crate::failing_commands::NoFiles;
 use office_program::{MOST_FILE, inputs_act_once, requests_are_repeated};
 use run_http::{entries_come_after, pieces_are_whole, rows_before_stay, text_stays};
 
-// Code can call the theorems about chunks of responses, about copies of rows, and about inputs that
-// are entered.
+// The theorems about chunks of responses, copies of rows, and entered inputs can be called as
+// functions.
 #[test]
 fn theorems_are_called(rt: HostRuntime) {
     rows_before_stay();

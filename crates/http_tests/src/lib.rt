@@ -1,6 +1,5 @@
-//! Tests of HTTP, of an office that is served by HTTP, and of the program's commands, where no text
-//! shows the result. These are links and stores that fail, sockets, damaged rows, and numbers that
-//! no office reaches.
+//! Tests of HTTP and of the program's commands, for cases that golden tests cannot show. These
+//! cases are links and stores that fail, sockets, damaged rows, and numbers that no store reaches.
 #![tactic(auto)]
 
 #[cfg(test)]

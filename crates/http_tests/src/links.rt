@@ -1,4 +1,4 @@
-//! Requests that are cut off, and responses over links that fail.
+//! Tests of requests that are cut off, and of responses over links that fail.
 use http_answer::{ReplyWriter, put_json};
 use http_request::{Inbox, Route, Status, TakeFault, is_whole, read_request, router};
 use matchit::Router;
@@ -10,11 +10,11 @@ use std::process::Abort;
 static REQUEST: &[u8] =
     b"POST /devices HTTP/1.1\r\nContent-Length: 4\r\nOffice-Caller: anna\r\nOffice-Request: 7\r\n\r\n{ } and more";
 
-// The length of the request in bytes, with its body.
+// The length in bytes of the tested request, including its body.
 const WHOLE: usize = 89;
 
-// Reads a number of bytes of the request in chunks of ten, or a read fails. Asserts whether the
-// request is complete, its fault, and which bytes were read.
+// Reads a part of the request in chunks of ten bytes, over a link that ends or fails. Asserts that
+// the request is incomplete, the fault, and the bytes that were read.
 fn assert_unread(
     rt: &impl Abort,
     alloc: Global,
@@ -58,8 +58,8 @@ fn a_request_may_end_or_fail_anywhere(rt: HostRuntime) {
 static JSON: &[u8] =
     b"HTTP/1.1 404 Not Found\r\nContent-Type: application/json\r\nContent-Length: 13\r\nConnection: close\r\n\r\n{\"refused\":1}";
 
-// Each write of a response fails in turn. The bytes that were written before the failure are a
-// prefix of the response.
+// Any write of a response may fail. The bytes that were written before the failure are a prefix of
+// the response.
 #[test]
 fn each_write_of_a_reply_may_fail(rt: HostRuntime) {
     for call in 1..12u64 {
@@ -75,7 +75,7 @@ fn each_write_of_a_reply_may_fail(rt: HostRuntime) {
 
 static BLOCK: [u8; 300] = [b'x'; 300];
 
-// After a write that fails, nothing more of the response is written.
+// After a failed write, no more bytes of the response are written.
 #[test]
 fn nothing_is_written_after_a_failed_write(rt: HostRuntime) {
     let mut output = [0; 2000];
@@ -89,7 +89,7 @@ fn nothing_is_written_after_a_failed_write(rt: HostRuntime) {
     assert!(rt; link.failures() == 1);
 }
 
-// A client of an unauthorized host gets no response if the link fails.
+// If the link fails, then a client of an unauthorized host gets no response.
 #[test]
 fn a_link_that_fails_rejects_nobody(rt: HostRuntime) {
     let mut output = [0; 400];

@@ -1,5 +1,5 @@
-//! Offices over stores in memory. Their device is `inv`, its accounting register is `main`, and the
-//! meter there is `m1`.
+//! `Office` values over stores in memory, for tests. Their device is `inv`, its accounting register
+//! is `main`, and the meter at this register is `m1`.
 use crate::cases::serve;
 use interval_core::Zone;
 use mb_wire::ReadSpan;
@@ -10,28 +10,29 @@ use office_events::{Command, Event, Name, Piece, StartPoll};
 use std::alloc::Global;
 use std::process::Abort;
 
-// Requests that add a device, an accounting register and a meter.
+// Requests that add a device, add an accounting register, and install a meter.
 static REQUESTS: [&[u8]; 3] = [
     b"POST /devices HTTP/1.1\r\nContent-Length: 46\r\nOffice-Caller: desk\r\nOffice-Request: 1\r\n\r\n{\"name\":\"inv\",\"unit\":1,\"timeout\":5,\"window\":1}",
     b"POST /registers HTTP/1.1\r\nContent-Length: 76\r\nOffice-Caller: desk\r\nOffice-Request: 2\r\n\r\n{\"name\":\"main\",\"device\":\"inv\",\"function\":3,\"address\":40094,\"scale_at\":40096}",
     b"POST /registers/main/install HTTP/1.1\r\nContent-Length: 49\r\nOffice-Caller: desk\r\nOffice-Request: 3\r\n\r\n{\"meter\":\"m1\",\"raw\":5000,\"sf\":0,\"ceiling\":100000}",
 ];
 
-// A Modbus response with 3 registers from 40094: the counter's value 5200, and the scale factor 0.
+// A Modbus response with three registers from address 40094: the counter value 5200, and the scale
+// factor 0.
 static FRAME: &[u8] = b"\x00\x00\x00\x00\x00\x09\x01\x03\x06\x00\x00\x14\x50\x00\x00";
 
-/// Returns the time zone of the offices.
+/// Returns the time zone of the test values of `Office`.
 pub(crate) fn utc(rt: &impl Abort) -> Zone {
     Zone::read("UTC0").expect(rt, "no zone")
 }
 
-// Returns the name of the device.
+// Returns the name of the test device.
 fn inv() -> Option<Name> {
     Name::new(b"inv")
 }
 
 /// Returns the events of a poll: a connection to the device, the start of the poll, and the
-/// response.
+/// device's response.
 pub(crate) fn poll(rt: &impl Abort, alloc: Global) -> [Event; 3] {
     let span = ReadSpan::new(3, 40_094, 3).expect(rt, "no span");
     let frame = FRAME.to_vec(alloc).expect(rt, "no memory");
@@ -44,8 +45,8 @@ pub(crate) fn poll(rt: &impl Abort, alloc: Global) -> [Event; 3] {
     ]
 }
 
-// Returns an office over an empty store, after these requests at time 1000 and the events of a poll
-// at these times.
+// Returns an `Office` over an empty store, after these requests at time 1000 and the events of a
+// poll at these times, in seconds.
 fn built<B: Books>(
     rt: &impl Abort,
     alloc: Global,
@@ -68,7 +69,8 @@ fn built<B: Books>(
     office
 }
 
-// Returns an office as `built` does, over a store in memory.
+// Returns an `Office` over a store in memory, after these requests at time 1000 and the events of a
+// poll at these times, in seconds.
 fn built_in_memory(
     rt: &impl Abort,
     alloc: Global,
@@ -78,23 +80,23 @@ fn built_in_memory(
     built(rt, alloc, ListBooks::new(alloc, utc(rt)), requests, times)
 }
 
-/// Returns an office with a device and an accounting register, at which no meter is installed.
+/// Returns an `Office` with a device and an accounting register, at which no meter is installed.
 pub(crate) fn unmetered(rt: &impl Abort, alloc: Global) -> Office<ListBooks> {
     built_in_memory(rt, alloc, &REQUESTS[..2], &[])
 }
 
-/// Returns an office whose meter showed 5000 at time 1000.
+/// Returns an `Office` whose meter had the counter value 5000 at time 1000 s.
 pub(crate) fn metered(rt: &impl Abort, alloc: Global) -> Office<ListBooks> {
     built_in_memory(rt, alloc, &REQUESTS, &[])
 }
 
-/// Returns an office that has polled its device. The meter went from 5000 at time 1000 to 5200 at
-/// 1900, which is 200 Wh.
+/// Returns an `Office` that has polled its device. The meter's counter advanced from 5000 at time
+/// 1000 s to 5200 at 1900 s, which is 200 Wh.
 pub(crate) fn polled(rt: &impl Abort, alloc: Global) -> Office<ListBooks> {
     built_in_memory(rt, alloc, &REQUESTS, &[1898, 1898, 1900])
 }
 
-/// Returns the store of the office that has polled its device.
+/// Returns the store of the `Office` that has polled its device.
 pub(crate) fn polled_store(rt: &impl Abort, alloc: Global) -> ListBooks {
     polled(rt, alloc).into_books()
 }

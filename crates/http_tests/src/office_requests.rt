@@ -1,4 +1,4 @@
-//! Requests to an office that arrive in chunks, are cut off, or whose link fails.
+//! Tests of requests that arrive in chunks, are cut off, or whose link fails.
 use crate::cases::{Case, assert_served, reply, serve, serve_over};
 use crate::office::polled;
 use crate::tables::{COMMANDS, QUESTIONS};
@@ -8,7 +8,7 @@ use office_http::HandleFault;
 use std::alloc::Global;
 use std::process::Abort;
 
-// A request after whose body more bytes follow.
+// A request with more bytes after its body.
 static LONGER: Case<'static> = Case {
     at: 2800,
     request: b"POST /devices HTTP/1.1\r\nContent-Length: 45\r\nOffice-Caller: anna\r\nOffice-Request: 7\r\n\r\n{\"name\":\"b\",\"unit\":2,\"timeout\":5,\"window\":16} and more",
@@ -16,8 +16,8 @@ static LONGER: Case<'static> = Case {
     body: "{\"done\":\"device\"}",
 };
 
-// Cuts a request off at each byte. The office then writes nothing. After that it serves the
-// complete request.
+// Cuts a request off at each byte, and asserts that nothing is written. Then serves the complete
+// request.
 fn cut_off<B: Books>(rt: &impl Abort, alloc: Global, office: &mut Office<B>, case: &Case<'_>) {
     for end in 0..case.request.len() {
         let cut = case.request.get(..end).unwrap_or(case.request);
@@ -28,8 +28,8 @@ fn cut_off<B: Books>(rt: &impl Abort, alloc: Global, office: &mut Office<B>, cas
     assert_served(rt, alloc, office, case, 400);
 }
 
-// Returns whether a fault is that of a failed call of the link. If a read fails, nothing is
-// written. If a write fails, the response is cut off.
+// Returns whether a fault reports a failed read or write of the link. After a failed read, nothing
+// is written. After a failed write, the response is cut off.
 fn is_reported(fault: HandleFault, given: &[u8], reply: &[u8]) -> bool {
     match fault {
         HandleFault::Read => given.is_empty(),
@@ -38,8 +38,8 @@ fn is_reported(fault: HandleFault, given: &[u8], reply: &[u8]) -> bool {
     }
 }
 
-// Makes each call of the link fail in turn, until the request makes no more calls. A retry of a
-// command that acted gets the kept response.
+// Makes each call of the link fail in turn, until the request makes no more calls. A retry of an
+// executed command gets the stored response.
 fn fail_each<B: Books>(rt: &impl Abort, alloc: Global, office: &mut Office<B>, case: &Case<'_>) {
     let want = reply(alloc, case.status, case.body).expect(rt, "no memory");
     for call in 1..100 {
@@ -59,8 +59,8 @@ fn fail_each<B: Books>(rt: &impl Abort, alloc: Global, office: &mut Office<B>, c
     panic!(rt; "it fails each time")
 }
 
-// A request may arrive in chunks of any size, or end at any byte. The office gives a retry the same
-// response as the request.
+// A request may arrive in chunks of any size, or end at any byte. A retry gets the same response as
+// the first request.
 #[test]
 fn requests_come_in_chunks_or_are_cut_off(rt: HostRuntime) {
     let mut office = polled(&rt, rt.alloc());
@@ -72,7 +72,7 @@ fn requests_come_in_chunks_or_are_cut_off(rt: HostRuntime) {
     }
 }
 
-// Any call of the link may fail, and a command then acts only once.
+// Any call of the link may fail, and a command is still executed only once.
 #[test]
 fn each_call_of_the_link_may_fail(rt: HostRuntime) {
     let tables: [&[Case<'static>]; 2] = [&QUESTIONS, &COMMANDS];

@@ -1,4 +1,4 @@
-//! HTTP clients of a run, over nonblocking sockets.
+//! Tests of the HTTP clients of `sunreg run`, over nonblocking sockets.
 use crate::connections::{REQUEST, Stepping, client_of, energy_of_ended};
 use crate::office::{metered, utc};
 use http_peers::{
@@ -17,7 +17,7 @@ use std::net::{TcpListener, TcpStream};
 use std::test::Fail;
 use std::time::Duration;
 
-// The clock of a test, and whether the files of the office still exist.
+// The clock of a test, and whether the store's files still exist.
 #[derive(Drop)]
 struct System {
     clock: Stepping,
@@ -40,7 +40,7 @@ impl RunSystem for System {
     }
 }
 
-// A listening port, and the other parts of a run.
+// A listening HTTP port, with the event queue and the counts that it needs.
 #[derive(Drop)]
 struct Listening {
     system: System,
@@ -50,7 +50,7 @@ struct Listening {
     monitor: RunMonitor,
 }
 
-// Registers a nonblocking listener with `poll`, and returns it as the listener of a port.
+// Registers a nonblocking listening socket with `poll`, and returns the socket.
 fn registered(listener: TcpListener, poll: &Poll) -> io::Result<mio::net::TcpListener> {
     listener.set_nonblocking(true)?;
     let mut listener = mio::net::TcpListener::from_std(listener);
@@ -84,7 +84,7 @@ impl Listening {
         Ok(Listening::of(rt.alloc(), poll, listener, room)?)
     }
 
-    // Accepts the clients that wait, attends to each client, and drops those that have their
+    // Accepts the clients that wait, serves each client, and drops the clients that got their
     // responses.
     fn turn(&mut self, earlier: &EarlierFiles<'_>, office: &mut Office<ListBooks>, time: u64) {
         let now = Now { time, moment: 2800 };
@@ -104,7 +104,7 @@ impl Listening {
         self.port.sweep(time);
     }
 
-    // Waits at most a tenth of a second, and marks the clients that are ready.
+    // Waits at most a tenth of a second, and marks the connections that are ready.
     fn look(&mut self) -> io::Result<()> {
         self.poll
             .poll(&mut self.events, Some(Duration::from_millis(100)))?;
@@ -135,8 +135,9 @@ fn read_all(alloc: Global, mut stream: TcpStream) -> Result<Vec<u8>, Fail> {
     Ok(got)
 }
 
-// A request of a client. `most` is the limit of kept bytes, and `kept` is their number. `energy` is
-// that of the meter, if the request closed the meter.
+// A client with its request. `most` is the limit in bytes for stored commands, and `kept` is the
+// number of bytes already stored. `energy` is the meter's energy in mWh, if the request closes the
+// meter.
 struct Client {
     are_there: bool,
     most: Option<u64>,
@@ -147,8 +148,8 @@ struct Client {
     energy: Option<u64>,
 }
 
-// Returns whether the client of a listener is served, and does not wait if the files exist. The
-// port reports the limit once, and reports lost files.
+// Returns whether a client is served, and without waiting if the store's files exist. The port
+// reports a reached limit once, and reports missing files.
 fn serves(
     rt: &HostRuntime,
     listener: TcpListener,
@@ -167,7 +168,7 @@ fn serves(
     Ok(is_reported && !(client.are_there && is_busy))
 }
 
-// Returns the response to a client.
+// Returns the response that a client gets.
 fn replied(
     rt: &HostRuntime,
     client: &Client,
@@ -196,9 +197,9 @@ const EXCHANGED: &[u8] =
 const UNAVAILABLE: &[u8] =
     b"HTTP/1.1 503 Service Unavailable\r\nX-Content-Type-Options: nosniff\r\nCross-Origin-Resource-Policy: same-origin\r\nCache-Control: no-store\r\nContent-Type: application/json\r\nContent-Length: 13\r\nConnection: close\r\n\r\n{\"fault\":503}";
 
-// Requests of clients. `REQUEST` has 170 bytes.
+// Clients with their requests. `REQUEST` has 170 bytes.
 static CLIENTS: [Client; 4] = [
-    // There is room for the command.
+    // The limit for stored commands leaves room for the command.
     Client {
         are_there: true,
         most: Some(170),
@@ -208,7 +209,7 @@ static CLIENTS: [Client; 4] = [
         reply: EXCHANGED,
         energy: Some(300_000),
     },
-    // There is no room for the command, even if empty lines come before it.
+    // The limit for stored commands leaves no room for the command, which begins with empty lines.
     Client {
         are_there: true,
         most: Some(300),
@@ -218,7 +219,7 @@ static CLIENTS: [Client; 4] = [
         reply: UNAVAILABLE,
         energy: None,
     },
-    // The office acted, but its files are gone, so the command is not acknowledged.
+    // The command is executed, but not acknowledged, because the store's files are missing.
     Client {
         are_there: false,
         most: None,
@@ -228,7 +229,7 @@ static CLIENTS: [Client; 4] = [
         reply: UNAVAILABLE,
         energy: Some(300_000),
     },
-    // For a query, the run does not check that the files exist.
+    // A query does not check that the store's files exist.
     Client {
         are_there: false,
         most: None,
@@ -240,7 +241,8 @@ static CLIENTS: [Client; 4] = [
     },
 ];
 
-// A run acknowledges a command only if there is room for it and the files of the office exist.
+// A command is acknowledged only if the limit for stored commands allows it and the store's files
+// exist.
 #[test]
 fn clients_have_their_replies(rt: HostRuntime) -> Result<(), Fail> {
     let earlier = EarlierFiles {
@@ -262,11 +264,11 @@ fn clients_have_their_replies(rt: HostRuntime) -> Result<(), Fail> {
 
 static GET: &[u8] = b"GET /meters/m1 HTTP/1.1\r\n\r\n";
 
-// A command of 28 bytes, with the empty line before it.
+// A command of 28 bytes, including the empty line before its head.
 static POST: &[u8] = b"\r\nPOST /devices HTTP/1.1\r\n\r\n";
 
-// A command that acted uses room. A query, a refused command and an incomplete command use none.
-// Without a limit there is always room.
+// An executed command counts toward the limit for stored commands. A query, a refused command and
+// an incomplete command do not count. Without a limit there is always room.
 #[test]
 fn commands_that_acted_take_room(rt: HostRuntime) {
     let refused = b"HTTP/1.1 409 Conflict"
@@ -291,13 +293,13 @@ fn commands_that_acted_take_room(rt: HostRuntime) {
     assert!(rt; KeptRoom::new(Some(10), 11).lacks(POST));
 }
 
-// Returns whether all bytes of an outbox are written to a connection, which then ends.
+// Returns whether all bytes of an output buffer are written to a connection, which then ends.
 fn is_taken(stream: TcpStream, outbox: &mut Outbox) -> bool {
     let stream = mio::net::TcpStream::from_std(stream);
     outbox.write_all(&stream) == Went::On && outbox.is_written()
 }
 
-// Returns the bytes that arrive through a connection to which an outbox is written.
+// Returns the bytes that arrive through a connection to which an output buffer is written.
 fn written(rt: &HostRuntime, outbox: &mut Outbox) -> Result<Vec<u8>, Fail> {
     let listener = TcpListener::bind(rt, "127.0.0.1:0")?;
     if !is_taken(client_of(rt, &listener, b"")?, outbox) {
@@ -306,7 +308,7 @@ fn written(rt: &HostRuntime, outbox: &mut Outbox) -> Result<Vec<u8>, Fail> {
     read_all(rt.alloc(), listener.accept()?.0)
 }
 
-// The bytes in an outbox are written once, and then make room for others.
+// The bytes in an output buffer are written once, and then make room for other bytes.
 #[test]
 fn bytes_that_are_put_are_written_once(rt: HostRuntime) -> Result<(), Fail> {
     let mut empty = Outbox::empty(rt.alloc());
@@ -325,7 +327,7 @@ fn bytes_that_are_put_are_written_once(rt: HostRuntime) -> Result<(), Fail> {
     Ok(())
 }
 
-// Each error of a socket means one of three things: wait, try again, or the connection is over. The
+// Each error of a socket means one of three actions: wait, retry, or end the connection. The
 // milliseconds of the monotonic clock are exact.
 #[test]
 fn errors_of_sockets_have_a_meaning(rt: HostRuntime) {

@@ -1,4 +1,4 @@
-//! Responses with the quarter hours of a meter that are written in chunks, and requests for them.
+//! Tests of responses with quarter hours that are sent in chunks, and of the requests for them.
 use crate::cases::{serve, sized_reply};
 use crate::office::polled;
 use http_request::router;
@@ -12,7 +12,7 @@ use run_http::{
 use std::alloc::Global;
 use std::process::Abort;
 
-// Returns the installation of a meter that was read at times 1000 and 1900.
+// Returns the meter as the program reports it, after readings at times 1000 and 1900 s.
 fn meter<B: Books>(rt: &impl Abort, office: &mut Office<B>) -> Installation {
     match office.meter(&Name::new(b"m1")) {
         Ok(it) => it,
@@ -20,8 +20,8 @@ fn meter<B: Books>(rt: &impl Abort, office: &mut Office<B>) -> Installation {
     }
 }
 
-// Writes the head of a response with the rows that start in a time span, or with all rows. Returns
-// what is left of the response.
+// Writes the head of a response with the rows in a time span, or with all rows. Returns the
+// remaining part of the response.
 fn begun<B: Books>(
     rt: &impl Abort,
     alloc: Global,
@@ -40,8 +40,8 @@ fn begun<B: Books>(
     }
 }
 
-// Writes the rest of a response in chunks, each with the rows of a number of seconds. Returns how
-// many chunks there were.
+// Writes the rest of a response in chunks, each with the rows of a number of seconds. Returns the
+// number of chunks.
 fn write_rest<B: Books>(
     rt: &impl Abort,
     alloc: Global,
@@ -85,8 +85,8 @@ static SPANS: [(u64, u64); 6] = [
     (1801, 900),
 ];
 
-// Chunks of one quarter hour, of less and of more have the same bytes together as the response that
-// is written at once.
+// Asserts that the chunks of a response together are the response that is written at once. The
+// chunks have one quarter hour, less than one quarter hour, or several quarter hours.
 fn assert_spans<B: Books>(rt: &impl Abort, alloc: Global, office: &mut Office<B>) {
     for (from, till) in SPANS {
         let mut whole = Vec::new(alloc);
@@ -104,12 +104,13 @@ fn assert_spans<B: Books>(rt: &impl Abort, alloc: Global, office: &mut Office<B>
 
 static ALL_ROWS: &[u8] = b"GET /meters/m1/intervals HTTP/1.1\r\nHost: localhost\r\n\r\n";
 
-// The counter advances after the response was begun. So a later response has more energy in the
-// last row, and one more row.
+// A reading by hand that is entered after the response began. A later response then has more energy
+// in the last row, and one more row.
 static LATER: &[u8] =
     b"POST /registers/main/manual HTTP/1.1\r\nContent-Length: 22\r\nOffice-Caller: desk\r\nOffice-Request: 4\r\n\r\n{\"raw\":5500,\"rolls\":0}";
 
-// A response has the rows of the time at which it was begun, here in one chunk.
+// Asserts that a response has the rows as of its beginning, although a reading is entered before
+// its only chunk.
 fn assert_earlier_rows<B: Books>(rt: &impl Abort, alloc: Global, office: &mut Office<B>) {
     let mut text = Vec::new(alloc);
     let mut left = begun(rt, alloc, &mut text, office, Some((0, 9000)));
@@ -124,7 +125,7 @@ fn assert_earlier_rows<B: Books>(rt: &impl Abort, alloc: Global, office: &mut Of
 }
 
 // Asserts the chunks of a response for each time span, and for all rows. The rows reach from the
-// quarter hour of the opening, 900, to that of the last entry, 1800.
+// quarter hour of the opening entry (900 s) to that of the last entry (1800 s).
 fn assert_chunks<B: Books>(rt: &impl Abort, alloc: Global, office: &mut Office<B>) {
     assert_spans(rt, alloc, office);
     let text = in_chunks(rt, alloc, office, None, 900);
@@ -140,8 +141,8 @@ fn assert_chunks<B: Books>(rt: &impl Abort, alloc: Global, office: &mut Office<B
     assert_earlier_rows(rt, alloc, office);
 }
 
-// The chunks of a response have the same bytes together as the response that is written at once.
-// This is also true if the meter is read between chunks.
+// The chunks of a response together are the response that is written at once, even if the meter is
+// read between chunks.
 #[test]
 fn chunks_make_up_the_reply(rt: HostRuntime) {
     let mut office = polled(&rt, rt.alloc());
@@ -166,7 +167,7 @@ static VOIDS: [(&[u8], bool); 6] = [
     (b"", false),
 ];
 
-// A request for all rows, and a request that may void an entry, are recognized by their request
+// Requests for all rows, and requests that may void an entry, are recognized by their request
 // lines.
 #[test]
 fn requests_are_recognized(rt: HostRuntime) {

@@ -1,4 +1,4 @@
-//! The lines of entries, sites and meters at the limits of their numbers.
+//! Tests of the lines of entries, accounting registers and meters with the greatest numbers.
 use crate::office::polled;
 use energy_core::{Entry, Last};
 use meter_journal::{EntryKind, EntryRow};
@@ -9,7 +9,7 @@ use run_http::{SiteLine, put_entries, put_register_meters, put_site};
 use std::alloc::Global;
 use std::process::Abort;
 
-// The state of the counter at the opening: the greatest value and the least scale factor.
+// The opening entry of the test meter: the greatest counter value and a negative scale factor.
 const OPENING: Last = Last {
     at: 7,
     raw: u32::MAX,
@@ -77,7 +77,7 @@ static ENTRIES: [MeterEntry; 5] = [
 static ENTRY_LINES: &str =
     "1 opening 7 4294967295 0 0 -3 stands\n2 manual 18446744073709551615 4294967295 255 0 3 void\n3 rescale 9 5 0 6 -1 stands\n4 reset 10 6 0 0 -1 stands\n5 closing 11 2 1 0 -1 stands\nend 5\n";
 
-// Each kind of entry has its line.
+// Each kind of entry has a line with the word for that kind.
 #[test]
 fn each_kind_of_entry_has_its_line(rt: HostRuntime) {
     let mut text = Vec::new(rt.alloc());
@@ -91,7 +91,7 @@ static SITE: &str =
 static METERS: &str =
     "m1 1000 18446744073709551615 4294967295 -10 18446744073709551615 ended\nm1 18446744073709551615 0 0 10 0 open\nend 2\n";
 
-// Returns the row of the accounting register in an office that has polled its device.
+// Returns the accounting register with its meter, in an `Office` that has polled its device.
 fn polled_row(rt: &impl Abort, alloc: Global) -> SiteRow {
     let mut office = polled(rt, alloc);
     let Ok(rows) = office.site() else {
@@ -100,7 +100,7 @@ fn polled_row(rt: &impl Abort, alloc: Global) -> SiteRow {
     rows.first().copied().expect(rt, "no row")
 }
 
-// Returns the meter of a row, closed with the greatest numbers.
+// Returns the meter of an accounting register, closed and with the greatest numbers.
 fn closed_in(rt: &impl Abort, row: &SiteRow, last: Last) -> Installation {
     let mut closed = row.meter.expect(rt, "no meter");
     closed.last = last;
@@ -109,8 +109,8 @@ fn closed_in(rt: &impl Abort, row: &SiteRow, last: Last) -> Installation {
     closed
 }
 
-// A site's line is right for the greatest numbers, for a negative scale factor, and for an
-// accounting register without a meter.
+// The JSON of an accounting register is exact for the greatest numbers, for a negative scale
+// factor, and without a meter.
 #[test]
 fn a_site_has_its_line(rt: HostRuntime) {
     let mut row = polled_row(&rt, rt.alloc());
@@ -137,7 +137,7 @@ fn a_site_has_its_line(rt: HostRuntime) {
     assert!(rt; text.as_slice() == SITE.as_bytes());
 }
 
-// The lines of an accounting register's meters are right for the greatest numbers and for 0.
+// The lines of an accounting register's meters are exact for the greatest numbers and for 0.
 #[test]
 fn each_number_of_a_meter_may_be_the_greatest(rt: HostRuntime) {
     let row = polled_row(&rt, rt.alloc());

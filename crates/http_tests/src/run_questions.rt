@@ -1,5 +1,5 @@
-//! The responses of a run whose store fails, and the entries from an index that no HTTP target can
-//! have.
+//! Tests of the responses of `sunreg run` while its store fails, and of a query for entries from
+//! the greatest index on.
 use crate::cases::sized_reply;
 use crate::office::{polled, polled_store};
 use failing_books::FailingBooks;
@@ -12,7 +12,7 @@ use run_status::Counts;
 use std::alloc::{AllocError, Global};
 use std::process::Abort;
 
-// Appends the response to one of the requests at time 2800.
+// Appends the response to one of the tested requests at time 2800 s.
 fn put_reply<B: Books>(
     alloc: Global,
     text: &mut Vec<u8>,
@@ -27,7 +27,7 @@ fn put_reply<B: Books>(
     }
 }
 
-// Returns the response of an office over a store, if the office is opened.
+// Returns the response of an `Office` over a store, if the `Office` can be opened.
 fn replied_over<B: Books>(
     rt: &impl Abort,
     alloc: Global,
@@ -42,14 +42,13 @@ fn replied_over<B: Books>(
     Some(text)
 }
 
-// Returns the response over a store that refuses the call with number `failing`. With 0 it refuses
-// no call.
+// Returns the response over a store whose call number `failing` fails. For 0, no call fails.
 fn replied(rt: &impl Abort, alloc: Global, failing: u64, request: &[u8]) -> Option<Vec<u8>> {
     let books = FailingBooks::new(polled_store(rt, alloc), failing);
     replied_over(rt, alloc, books, request)
 }
 
-// A request, and how many calls of the store lead to 503 if they fail.
+// A request, and the number of store calls whose failure leads to 503.
 static FAILING: [(&[u8], u8); 3] = [
     // One call each for the devices, for the accounting registers of the device, and for the meter.
     (b"GET /site HTTP/1.1\r\n\r\n", 3),
@@ -58,8 +57,8 @@ static FAILING: [(&[u8], u8); 3] = [
     (b"GET /registers/main/meters HTTP/1.1\r\n\r\n", 2),
 ];
 
-// Counts the calls of the store that lead to 503 if they fail. If any other call fails, the
-// response is complete, or the office is not opened.
+// Counts the calls of the store whose failure leads to 503. If any other call fails, the response
+// is complete, or the `Office` cannot be opened.
 fn calls_that_fail(rt: &impl Abort, alloc: Global, request: &[u8]) -> u8 {
     let failure = sized_reply(alloc, "503 Service Unavailable", "{\"refused\":13}").expect(
         rt,
@@ -77,7 +76,7 @@ fn calls_that_fail(rt: &impl Abort, alloc: Global, request: &[u8]) -> u8 {
     count
 }
 
-// If its store fails, a run responds with 503, and never with a part of a response.
+// If the store fails, the response is 503, and never a part of a response.
 #[test]
 fn a_failing_store_is_unavailable(rt: HostRuntime) {
     for (request, wanted) in &FAILING {
@@ -85,7 +84,8 @@ fn a_failing_store_is_unavailable(rt: HostRuntime) {
     }
 }
 
-// There are no entries from the greatest index on. No HTTP target can have this index.
+// A query for entries from the greatest index on returns no entries. No request target can have
+// this index.
 #[test]
 fn entries_from_the_greatest_index_on_are_none(rt: HostRuntime) {
     let mut office = polled(&rt, rt.alloc());

@@ -1,4 +1,4 @@
-//! The meters of a site, merged with the meters that earlier files of the office have.
+//! Tests of `/site` over earlier files of the store and the current file.
 use crate::cases::sized_reply;
 use crate::energy_over::earlier_register;
 use crate::office::{polled, unmetered};
@@ -10,11 +10,11 @@ use office_events::{Installation, Name, Opening};
 use std::alloc::Global;
 use std::process::Abort;
 
-// A meter of earlier files: its name, its energy in mWh, and whether it was closed.
+// A meter in earlier files: its name, its energy in mWh, and whether it was closed.
 type Earlier = (&'static [u8], u64, bool);
 
-// What a case shows, an accounting register of earlier files, its meters there, and the JSON
-// members of the meter in the response.
+// A test case: its description, an accounting register of earlier files, the meters at that
+// register, and the meter's JSON in the response.
 type Case = (
     &'static str,
     &'static [u8],
@@ -22,7 +22,7 @@ type Case = (
     &'static str,
 );
 
-// Cases for the meter m1 of the office, which shows 5200 after 200 Wh.
+// Cases for the meter `m1` of the current file, whose counter shows 5200 after 200 Wh.
 static OF_A_METER: [Case; 7] = [
     (
         "an open meter has the energy of all files",
@@ -78,7 +78,7 @@ static OF_NO_METER: [Case; 2] = [
     ("no file may have a meter", b"main", &[], "null"),
 ];
 
-// Returns the installation of a meter as earlier files have it.
+// Returns the meter as earlier files have it.
 fn earlier_meter(rt: &impl Abort, it: &Earlier) -> Installation {
     let (meter, total, ended) = *it;
     let opening = Opening {
@@ -103,8 +103,8 @@ fn earlier_meter(rt: &impl Abort, it: &Earlier) -> Installation {
     }
 }
 
-// Returns the response of an office at time 2800, merged with these meters of earlier files at an
-// accounting register.
+// Returns the response of `/site` at time 2800 s, over the current file and these meters of earlier
+// files.
 fn replied<B: Books>(
     rt: &impl Abort,
     alloc: Global,
@@ -122,7 +122,7 @@ fn replied<B: Books>(
     text
 }
 
-// Asserts the response of an office in each case.
+// Asserts the response of `/site` in each case.
 fn assert_sites<B: Books>(rt: &impl Abort, alloc: Global, office: &mut Office<B>, cases: &[Case]) {
     for (name, register, meters, meter) in cases {
         let body = format!(in alloc;

@@ -1,4 +1,4 @@
-//! Links over sockets, links with a deadline, and clocks.
+//! Tests of links over sockets, links with a deadline, and clocks.
 use crate::connections::client_of;
 use mb_wire::{Link, LinkFailed, MemoryLink, Took};
 use socket_link::{Clock, DeadlineLink, FixedClock, SocketLink, SystemClock};
@@ -6,7 +6,7 @@ use std::io::{self, Read};
 use std::net::{TcpListener, TcpStream};
 use std::test::Fail;
 
-// Returns a link to the next client of a listener.
+// Accepts the next client of a listening socket, and returns a link to the client.
 fn link_of(listener: &TcpListener) -> io::Result<SocketLink<TcpStream>> {
     SocketLink::new(listener.accept()?.0)
 }
@@ -24,8 +24,8 @@ fn is_read_and_written(link: &mut SocketLink<TcpStream>, mut client: TcpStream) 
         && &answer == b"you"
 }
 
-// A link over a socket reads, times out and writes. It ends when the client closes the connection,
-// and no read fails.
+// A link over a socket reads, times out and writes. It reports the end of input when the client
+// closes the connection, and no read fails.
 #[test]
 fn a_socket_reads_writes_times_out_and_ends(rt: HostRuntime) -> Result<(), Fail> {
     let listener = TcpListener::bind(&rt, "127.0.0.1:0")?;
@@ -44,7 +44,7 @@ fn works_once<L: Link>(link: &mut L) -> bool {
     link.take(&mut piece) == Ok(Took::Bytes(3)) && link.give(b"you") == Ok(3)
 }
 
-// Returns whether a further read and a further write of a link fail.
+// Returns whether another read and another write of a link fail.
 fn fails_twice<L: Link>(link: &mut L) -> bool {
     let mut piece = [0; 16];
     link.take(&mut piece) == Err(LinkFailed)
@@ -52,8 +52,8 @@ fn fails_twice<L: Link>(link: &mut L) -> bool {
         && [link.takes(), link.failures()] == [2, 2]
 }
 
-// A link with a deadline fails when the deadline has passed. Its calls then do not reach the link
-// below.
+// A link with a deadline fails when the deadline has passed. Its calls then do not reach the
+// underlying link.
 #[test]
 fn a_link_fails_after_its_deadline(rt: HostRuntime) {
     let mut given = [0; 8];
@@ -65,8 +65,8 @@ fn a_link_fails_after_its_deadline(rt: HostRuntime) {
     assert!(rt; inner.given() == b"you".as_slice());
 }
 
-// A fixed clock keeps the last of its times. The system's clock shows a time after the first second
-// of 2020.
+// A fixed clock repeats the last of its times. The system's clock shows a time after the first
+// second of 2020.
 #[test]
 fn clocks_have_times(rt: HostRuntime) {
     let mut clock = FixedClock::new(&[5, 3]);

@@ -1,4 +1,4 @@
-//! An office whose store fails while rows are written, or while a poll is settled.
+//! Tests of an `Office` whose store fails while rows are written, or while a poll ends.
 use crate::cases::{Case, assert_served, serve};
 use crate::office::{poll, polled_store};
 use crate::tables::{COMMANDS, QUESTIONS};
@@ -27,8 +27,8 @@ fn cut<B: Books>(rt: &impl Abort, alloc: Global, books: B) -> Option<Vec<u8>> {
 static ROWS: &[u8] =
     b"HTTP/1.1 200 OK\r\nContent-Type: text/plain\r\nConnection: close\r\n\r\n900 177777\n1800 22223\n";
 
-// If the store fails after the last row of a text, the text has no last line. Exactly one call of
-// the store can fail there.
+// If the store fails after the last row of a report, the response has no last line. Exactly one
+// call of the store can fail at that point.
 #[test]
 fn a_text_that_is_cut_off_has_no_end(rt: HostRuntime) {
     let mut cuts = 0u8;
@@ -42,7 +42,7 @@ fn a_text_that_is_cut_off_has_no_end(rt: HostRuntime) {
     assert!(rt; cuts == 1);
 }
 
-// Returns an office that has stopped, because its store failed while a poll was settled.
+// Returns an `Office` that has stopped, because its store failed while a poll ended.
 fn stopped<B: Books>(rt: &impl Abort, alloc: Global, books: B) -> Option<Office<B>> {
     let Ok(mut office) = Office::open(alloc, books, 1900) else {
         return None;
@@ -57,7 +57,7 @@ fn stopped<B: Books>(rt: &impl Abort, alloc: Global, books: B) -> Option<Office<
     None
 }
 
-// Returns whether the office over a store stops, and each request then gets 503.
+// Returns whether an `Office` over this store stops, and each request then gets 503.
 fn is_unavailable<B: Books>(rt: &impl Abort, alloc: Global, books: B) -> bool {
     let Some(mut office) = stopped(rt, alloc, books) else {
         return false;
@@ -74,7 +74,7 @@ fn is_unavailable<B: Books>(rt: &impl Abort, alloc: Global, books: B) -> bool {
     true
 }
 
-// An office that has stopped responds to each request with 503.
+// An `Office` that has stopped responds to each request with 503.
 #[test]
 fn a_stopped_office_is_unavailable(rt: HostRuntime) {
     for failing in 1..20 {

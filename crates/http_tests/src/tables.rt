@@ -1,8 +1,8 @@
-//! Requests that are served one after another, each with its response. The golden tests
-//! `office/questions` and `office/commands` of `http_cases` have the same requests.
+//! Requests that tests serve one after another, each with its response. The golden tests
+//! `http/office/questions` and `http/office/commands` of `golden_cases` have the same requests.
 use crate::cases::Case;
 
-/// Queries, requests whose heads fail a test, and an exchange that is retried.
+/// Queries, requests whose heads fail a test, and a meter exchange with its retry.
 pub(crate) static QUESTIONS: [Case<'static>; 22] = [
     Case {
         at: 2800,
@@ -138,7 +138,7 @@ pub(crate) static QUESTIONS: [Case<'static>; 22] = [
     },
 ];
 
-/// A command of each kind. When a refused command is retried, the office judges it again.
+/// A command of each kind. A retry of a refused command is not answered from a stored response.
 pub(crate) static COMMANDS: [Case<'static>; 19] = [
     Case {
         at: 2000,

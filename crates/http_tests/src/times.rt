@@ -1,8 +1,8 @@
-//! The time that a run uses.
+//! Tests of the program's own time, which advances with the monotonic clock.
 use run_schedule::RunTime;
 
-// The milliseconds of the monotonic clock, the seconds of the run's time, and the milliseconds to
-// the next second. The run began at 1,000.999 s, when the monotonic clock showed 50 s.
+// Readings of the monotonic clock in ms, the program's time in s, and the ms to the next second.
+// The program began at 1,000.999 s, when the monotonic clock showed 50 s.
 static READ: [(u64, u64, u64); 6] = [
     (50_000, 1000, 1),
     (50_001, 1001, 1000),
@@ -12,7 +12,7 @@ static READ: [(u64, u64, u64); 6] = [
     (3_651_000, 4601, 1),
 ];
 
-// The time of a run advances with the monotonic clock, and never goes back.
+// The program's time advances with the monotonic clock, and never goes back.
 #[test]
 fn a_run_goes_on_evenly(rt: HostRuntime) {
     let mut time = RunTime::new(1_000_999, 50_000);

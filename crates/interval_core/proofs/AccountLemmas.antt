@@ -1,4 +1,4 @@
--- The accounts of rows, after one more row.
+-- The day accounts of a list of interval rows after one more row is added.
 use Rattle.std.proofs.Common.{◌≡◌, ◌≢◌, ℕ, ◌+◌, ◌-◌, ◌^◌, ◌<◌, ◌≤◌, min, Bool, false, if◌then◌else◌, List, [], ◌∷◌, ◌++◌, length, get_or, refl, sym, ap, subst, ◌∙◌, inl, inr, ◌==◌, arith}
 use Rattle.std.specs.Prelude.{ℤ, ◌↔◌, All, Contains, Option, Some, None}
 use Rattle.std.specs.Option.{ForSome}
@@ -19,11 +19,12 @@ use Rattle.interval_core.proofs.OrderLemmas.{Earlier, Later, All-split, in_order
 use Rattle.interval_core.proofs.PlaceLemmas.{Other, same_day, other_day, absent, not_contained}
 use Rattle.interval_core.proofs.CountLemmas.{among, rows_on-same, rows_on-other, distinct_count-push, present, missing, energy-rows_on}
 
--- The account is exactly that of the rows of its day.
+-- An account equals `account_on` of its day, computed from all rows of the day.
 abbrev pub IsExact : Zone → List Share → DayAccount → Type 0
 IsExact zone rows account = account ≡ account_on zone rows account.day
 
--- A row of the same day has this start, so the day counts its interval already.
+-- Whether a row of the same day already has the start `start`, so that the day's account already
+-- counts its interval.
 abbrev pub is_known : Zone → List Share → ℕ → Bool
 is_known zone rows start = among start (starts_of (rows_on zone rows (day_at zone start)))
 
@@ -48,7 +49,7 @@ ap_account : {count count' mwh mwh' : ℕ} (day : ℤ) → count ≡ count' → 
     → ◌≡◌ {A = DayAccount} (record { day = day; count = count; mwh = mwh }) (record { day = day; count = count'; mwh = mwh' })
 ap_account day same_count same_mwh = rw (same_count, same_mwh)
 
--- The accounts of other days stay exact.
+-- Adding a row leaves the accounts of all other days equal to `account_on` of their days.
 others-exact : (zone : Zone) (rows : List Share) (row : Share) (accounts : List DayAccount) → All (IsExact zone rows) accounts → All (Other (day_at zone row.start)) accounts
     → All (IsExact zone (rows ++ row ∷ [])) accounts
 others-exact zone rows row accounts exact others = λ k d lt. exact k d lt ∙ sym (account-other zone rows row (get_or accounts k d).day (others k d lt))
@@ -56,20 +57,20 @@ others-exact zone rows row accounts exact others = λ k d lt. exact k d lt ∙ s
 days-between : (before : List DayAccount) (a : DayAccount) (after : List DayAccount) → days_of (before ++ a ∷ after) ≡ days_of before ++ a.day ∷ days_of after
 days-between before a after = map-append (λ (x : DayAccount). x.day) before (a ∷ after)
 
--- A day other than that of the row has rows if it had rows.
+-- Adding a row leaves the number of rows of all other days unchanged.
 same_rows : (zone : Zone) (rows : List Share) (row : Share) (day : ℤ) → day ≢ day_at zone row.start → length (rows_on zone (rows ++ row ∷ []) day) ≡ length (rows_on zone rows day)
 same_rows zone rows row day other = ap length (rows_on-other zone rows row day other)
 
--- The day of an added row has at least one row.
+-- The civil day of an added row has at least one row.
 more_rows : (zone : Zone) (rows : List Share) (row : Share) → 0 < length (rows_on zone (rows ++ row ∷ []) (day_at zone row.start))
 more_rows zone rows row =
     rw rows_on-same (omega (arith, length-append (rows_on zone rows (day_at zone row.start)) (row ∷ [])))
 
--- A list that has a day in its middle contains that day.
+-- A list that consists of a front part, an element and a rest contains this element.
 here-contained : (xs : List ℤ) (y : ℤ) (ys : List ℤ) → Contains (xs ++ y ∷ ys) y
 here-contained xs y ys = Contains-append_right xs (y ∷ ys) y (0, omega arith, refl)
 
--- A further element makes no other element a member.
+-- Inserting an element into a list does not change which other elements the list contains.
 between-iff : (xs : List ℤ) (y : ℤ) (ys : List ℤ) (d : ℤ) → d ≢ y → Contains (xs ++ y ∷ ys) d ↔ Contains (xs ++ ys) d
 between-iff xs y ys d other = (
   λ contains. elim (Contains-append_cases xs (y ∷ ys) d contains) [
@@ -88,7 +89,7 @@ between-iff xs y ys d other = (
   ],
 )
 
--- A property of one day and of every other day is a property of all days.
+-- A property of a given day and of every other day is a property of all days.
 by_day_of : (P : ℤ → Type 0) (day : ℤ) → P day → ((d : ℤ) → d ≢ day → P d) → (d : ℤ) → P d
 by_day_of P day same other d =
     elim (cases_Bool (int_eq d day)) [
@@ -102,7 +103,8 @@ earlier-other day accounts earlier = λ k d lt same. let before = earlier k d lt
 later-other : (day : ℤ) (accounts : List DayAccount) → All (Later day) accounts → All (Other day) accounts
 later-other day accounts later = λ k d lt same. let after = later k d lt in omega (arith, signed_arith, after, same)
 
--- The account of the row's day is replaced by that of its rows now.
+-- Adding a row to a day with an account replaces this account by the account of all rows of the
+-- day.
 pub replaced : (zone : Zone) (rows : List Share) (row : Share) (before : List DayAccount) (a b : DayAccount) (after : List DayAccount)
     → AreAccounts zone rows (before ++ a ∷ after) → a.day ≡ day_at zone row.start → b ≡ account_on zone (rows ++ row ∷ []) (day_at zone row.start)
     → AreAccounts zone (rows ++ row ∷ []) (before ++ b ∷ after)
@@ -129,7 +131,7 @@ replaced zone rows row before a b after was same exact =
           (others-exact zone rows row after (All-tail (IsExact zone rows) a after parts.1) (later-other day after later)));
     }
 
--- A day without rows gets the account of its one row.
+-- Adding a row to a day without rows inserts the account of this row.
 pub inserted : (zone : Zone) (rows : List Share) (row : Share) (before : List DayAccount) (b : DayAccount) (after : List DayAccount)
     → AreAccounts zone rows (before ++ after) → All (Earlier (day_at zone row.start)) before → All (Later (day_at zone row.start)) after
     → b ≡ account_on zone (rows ++ row ∷ []) (day_at zone row.start) → AreAccounts zone (rows ++ row ∷ []) (before ++ b ∷ after)
@@ -190,7 +192,7 @@ begun zone rows row old new accounts begins =
     ap_account day refl (omega arith) ∙ sym (ap of_rows (rows_on-same zone rows row ∙ ap (λ (rs : List Share). rs ++ row ∷ []) none)) in
     rw begins.new_is (inserted zone rows row before b after was begins.earlier begins.later exact)
 
--- A start is known if and only if it is the latest.
+-- Whether a start equals the latest start of all rows before. False if there are no rows before.
 abbrev pub is_latest : Option ℕ → ℕ → Bool
 is_latest None start = false
 is_latest (Some latest) start = latest == start

@@ -1,4 +1,4 @@
--- The rows of a day, and the number of their different starts, after one more row.
+-- The rows of a day, and the number of their different starts, after one more row is added.
 use Rattle.std.proofs.Common.{◌≡◌, ◌≢◌, ℕ, ◌+◌, ◌<◌, ◌≤◌, ◌||◌, ◌==◌, if◌then◌else◌, cond, Bool, true, false, List, [], ◌∷◌, ◌++◌, refl, sym, ap, subst, ◌∙◌, inl, inr, arith}
 use Rattle.std.specs.Prelude.{ℤ, All, Contains, filter}
 use Rattle.std.specs.List.{list_any}
@@ -14,14 +14,14 @@ use Rattle.interval_core.specs.Account.{starts_of, energy_of}
 use Rattle.interval_core.specs.Zone.{day_at}
 use Rattle.interval_core.specs.Days.{rows_on, distinct_count}
 
--- The start is in the list.
+-- Whether a start is in a list of starts.
 abbrev pub among : ℕ → List ℕ → Bool
 among start starts = list_any (λ n. n == start) starts
 
 abbrev one_if_new : Bool → ℕ
 one_if_new known = if known then 0 else 1
 
--- A day's rows, with one more row.
+-- Adding a row appends it to the rows of its civil day.
 pub rows_on-same : (zone : Zone) (rows : List Share) (row : Share) → rows_on zone (rows ++ row ∷ []) (day_at zone row.start) ≡ rows_on zone rows (day_at zone row.start) ++ row ∷ []
 rows_on-same zone rows row =
     let day = day_at zone row.start in
@@ -38,7 +38,7 @@ rows_on-other zone rows row day other =
     ] in
     filter-append p rows (row ∷ []) ∙ ap (λ (l : List Share). filter p rows ++ l) (ap (λ b. cond b (row ∷ []) []) test) ∙ append-nil (filter p rows)
 
--- Comparisons of numbers.
+-- Equal numbers compare as equal.
 eq_true : (m n : ℕ) → m ≡ n → (m == n) ≡ true
 eq_true m n e = (Decides-eqb m n).1 e
 
@@ -75,7 +75,7 @@ distinct_count-push (n ∷ starts) m =
           (count-other (among n starts) (among m starts) (distinct_count starts))
     ]
 
--- A start that a row has is among those of its day.
+-- The start of a row is among the starts of the rows of its civil day.
 pub present : (zone : Zone) (rows : List Share) (start : ℕ) → Contains (starts_of rows) start → among start (starts_of (rows_on zone rows (day_at zone start))) ≡ true
 present zone [] start contains = absurd (omega (arith, contains.1))
 present zone (row ∷ rows) start contains =
@@ -96,7 +96,7 @@ present zone (row ∷ rows) start contains =
           ]
     ]
 
--- A start later than all is not in the list.
+-- A start that is later than the starts of all rows is not among the starts of a day's rows.
 pub missing : (zone : Zone) (rows : List Share) (day : ℤ) (start : ℕ) → All (λ (row : Share). row.start < start) rows → among start (starts_of (rows_on zone rows day)) ≡ false
 missing zone [] day start earlier = refl
 missing zone (row ∷ rows) day start earlier =
@@ -109,7 +109,7 @@ missing zone (row ∷ rows) day start earlier =
       | false ↦ none
     ]
 
--- The energy of a day is at most the energy of all rows.
+-- The energy of the rows of a day is at most the energy of all rows.
 pub energy-rows_on : (zone : Zone) (rows : List Share) (day : ℤ) → energy_of (rows_on zone rows day) ≤ energy_of rows
 energy-rows_on zone [] day = omega arith
 energy-rows_on zone (row ∷ rows) day =

@@ -1,5 +1,4 @@
--- Worked examples of both ends of each limit, computed from the definitions: the last good value
--- and the first bad one.
+-- Worked examples of both ends of each limit: the last allowed value and the first refused value.
 use native.Mathlib.Omega.{arith}
 use Rattle.std.proofs.Common.{◌≡◌, [], Some, refl, lit≤, true, false}
 use Rattle.std.specs.Prelude.{nat_le}
@@ -8,7 +7,8 @@ use Rattle.interval_core.specs.declared.limits.TheConstants.{MAX_STEP_SECONDS, M
 use Rattle.interval_core.specs.Account.{Touches}
 use Rattle.interval_core.specs.Fold.{IsSoundFold}
 
--- A step to the end of its 3,000th interval, and a step that is one second longer.
+-- A step that ends with its 3,000th interval touches 3,000 intervals, and a step one second longer
+-- touches 3,001.
 longest_step : intervals_touched 0 2700000 ≡ 3000
 longest_step = refl
 
@@ -18,21 +18,21 @@ step_too_long = refl
 most_seconds : MAX_STEP_SECONDS ≡ 2700000
 most_seconds = refl
 
--- An interval has its last second, and not the first of the next.
+-- An interval includes its last second, and excludes the first second of the next interval.
 last_second : Touches (record { from = 899; till = 900; mwh = 1 }) 0
 last_second = (refl, omega arith, omega arith)
 
 first_second_of_the_next : Touches (record { from = 900; till = 901; mwh = 1 }) 0 → ⊥
 first_second_of_the_next touches = omega (arith, touches.2)
 
--- A row may begin up to the beginning of 2100.
+-- The latest row of a fold may begin up to the beginning of 2100.
 last_moment : IsSoundFold [] (Some 4102444800)
 last_moment = record { in_order = tt; counts = λ k d lt. absurd (omega (arith, lt)); moments = lit≤ tt }
 
 past_the_last_moment : IsSoundFold [] (Some 4102444801) → ⊥
 past_the_last_moment fold = omega (arith, fold.moments)
 
--- A zone's text has at most 64 bytes.
+-- The text of a zone has at most 64 bytes.
 longest_zone_text : nat_le 64 MAX_ZONE_TEXT ≡ true
 longest_zone_text = refl
 

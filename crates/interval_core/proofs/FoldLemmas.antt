@@ -1,4 +1,4 @@
--- The invariant and the model of a fold after one more row.
+-- The invariant and the model of `DayFold` after one more row is pushed.
 use Rattle.std.proofs.Common.{◌≡◌, ◌≢◌, ℕ, ◌+◌, ◌-◌, ◌^◌, ◌<◌, ◌≤◌, min, Bool, true, false, not, if◌then◌else◌, List, [], ◌∷◌, ◌++◌, map, length, get_or, take, refl, sym, ap, subst, ◌∙◌, inl, inr, ◌==◌, nat_eq, arith}
 use Rattle.std.specs.Prelude.{ℤ, All, Option, Some, None}
 use Rattle.std.specs.Option.{ForSome, option_eq}
@@ -18,18 +18,18 @@ use Rattle.interval_core.specs.Fold.{no_rows, HasTaken, IsSoundFold, IsAdded, Is
 use Rattle.interval_core.proofs.OrderLemmas.{All-split, in_order-changed, in_order-inserted}
 use Rattle.interval_core.proofs.AccountLemmas.{grown, begun, known-is, is_known, is_latest, latest-push}
 
--- A property of every mapped element is a property of the elements that were mapped.
+-- A property of all elements of a mapped list holds for the image of each original element.
 pub All-of_map : {X Y : Type 0} (P : Y → Type 0) (f : X → Y) (xs : List X) → All P (map f xs) → All (λ x. P (f x)) xs
 All-of_map P f xs all = λ k d lt. rw (← get_or-map f xs k d (f d) lt) (all k (f d) (rw (length-map xs f) lt))
 
--- No count of a day exceeds the number of starts so far.
+-- As long as the invariant of a fold holds, no day's number of intervals reaches 2^32 - 1.
 pub count-fits : (latest : Option ℕ) (totals : List DayTotal) → IsSoundFold (map account_of totals) latest → All (λ (total : DayTotal). total.count < 2 ^ 32 - 1) totals
 count-fits latest totals sound = λ k d lt.
     let P : DayAccount → Type 0 = λ a. a.count ≤ most_intervals latest in
     let small = All-of_map P account_of totals sound.counts k d lt in
     omega (arith, small, sound.moments)
 
--- The comparison of the latest start with another.
+-- The program's comparison of the latest start with a start computes `is_latest`.
 pub is_latest-eq : (latest : Option ℕ) (start : ℕ) → option_eq nat_eq latest (Some start) ≡ is_latest latest start
 is_latest-eq None start = refl
 is_latest-eq (Some latest) start = refl
@@ -37,8 +37,8 @@ is_latest-eq (Some latest) start = refl
 abbrev IsUpTo : ℕ → DayAccount → Type 0
 IsUpTo most account = account.count ≤ most
 
--- A day that counts one more interval at a new start, and none at a known start, stays within its
--- greatest count.
+-- A day's number of intervals stays within its upper bound. A row at a new start adds one interval,
+-- and a row at the latest start adds none.
 count-more : (latest : Option ℕ) (start had : ℕ) → ForSome latest (λ l. l ≤ start) → had ≤ most_intervals latest → had + (if not (is_latest latest start) then 1 else 0) ≤ start + 1
 count-more None start had order bound = omega (arith, bound)
 count-more (Some latest) start had order bound =
@@ -106,7 +106,7 @@ taken-added zone rows row latest old new taken order fits (inr begins) = record 
   latest = latest-push rows latest row taken.latest order;
 }
 
--- A new fold has added up no rows.
+-- A new fold has added up the empty list of rows.
 pub taken-none : (zone : Zone) → HasTaken zone [] no_rows
 taken-none zone = record {
   accounts = record {
@@ -117,7 +117,8 @@ taken-none zone = record {
   latest = refl;
 }
 
--- Rows in order continue at or after the latest start of the earlier ones.
+-- In a list of rows ordered by start, each row starts at or after the latest start of the rows
+-- before it.
 pub latest-before : (rows : List Share) (i latest : ℕ) (d : Share) → IsNonDecreasingBy (λ (row : Share). row.start) rows → i < length rows
     → IsLatest (take i rows) (Some latest) → latest ≤ (get_or rows i d).start
 latest-before rows i latest d order within at =
@@ -130,6 +131,6 @@ latest-before rows i latest d order within at =
     let le : (get_or rows k d).start ≤ (get_or rows i d).start = order k i d (omega (arith, before)) within in
     omega (arith, le, is, ap start same)
 
--- The energy of the first rows grows by that of the next row.
+-- The energy of the first rows of a list grows by the energy of the next row.
 pub energy-more : (rows : List Share) (i : ℕ) (d : Share) → i < length rows → energy_of (take (i + 1) rows) ≡ energy_of (take i rows) + (get_or rows i d).mwh
 energy-more rows i d within = sum_by_more (λ (row : Share). row.mwh) rows i d within

@@ -1,4 +1,4 @@
--- There is exactly one list of accounts.
+-- Each list of interval rows has exactly one list of day accounts.
 use Rattle.std.proofs.Common.{◌≡◌, List, [], ◌∷◌, ◌++◌, refl, sym, ap, subst, ◌∙◌, inl, inr, append_assoc, arith}
 use Rattle.std.specs.Prelude.{ℤ, ◌<ℤ◌, ◌⊎◌, All, Contains}
 use Rattle.std.specs.Cmp.{int_ranks}
@@ -16,12 +16,12 @@ use Rattle.interval_core.proofs.PlaceLemmas.{Other, not_contained}
 use Rattle.interval_core.proofs.AccountLemmas.{IsExact, replaced, inserted}
 use Rattle.interval_core.proofs.FoldLemmas.{taken-none}
 
--- Of two days, one is earlier than the other, or they are the same.
+-- Two days are equal, or one of them is earlier than the other.
 by_order : {P : Type 0} (x y : ℤ) → (x <ℤ y → P) → (x ≡ y → P) → (y <ℤ x → P) → P
 by_order {P} x y less equal greater =
     elim (int_cmp x y) as (λ r. MatchOrdering r (x <ℤ y) (x ≡ y) (y <ℤ x) → P) [ Less ↦ less | Equal ↦ equal | Greater ↦ greater ] (int_ranks x y)
 
--- ---- a list exists: a day has its account among others, or none
+-- ---- a list of accounts exists: each day either has an account in the list or has none
 
 record Among (day : ℤ) (accounts : List DayAccount) : Type 0 where
   pub before : List DayAccount
@@ -86,12 +86,12 @@ more zone done (row ∷ rows) so_far =
 pub exists_for : (zone : Zone) (rows : List Share) → (accounts : List DayAccount) × AreAccounts zone rows accounts
 exists_for zone rows = more zone [] rows ([], (taken-none zone).accounts)
 
--- ---- no other list exists
+-- ---- no second list of accounts exists
 
 first-contained : (a : DayAccount) (accounts : List DayAccount) → Contains (days_of (a ∷ accounts)) a.day
 first-contained a accounts = (0, omega arith, refl)
 
--- A day before all has no account.
+-- A day before all days of a list of accounts has no account.
 before-all : (day : ℤ) (a : DayAccount) (accounts : List DayAccount) → AreInOrder (a ∷ accounts) → day <ℤ a.day → Contains (days_of (a ∷ accounts)) day → ⊥
 before-all day a accounts order lt =
     not_contained day (a ∷ accounts) (All-cons (Other day) a accounts
@@ -101,7 +101,8 @@ before-all day a accounts order lt =
 none-contained : (day : ℤ) → Contains (days_of []) day → ⊥
 none-contained day contains = omega (arith, contains.1)
 
--- The days after the first are those of the rest.
+-- Suppose that two lists of accounts begin with the same day, and that the second list contains all
+-- days of the first. Then this also holds without their first accounts.
 following : (a b : DayAccount) (xs ys : List DayAccount) → a.day ≡ b.day → AreInOrder (a ∷ xs) → (d : ℤ)
     → (Contains (days_of (a ∷ xs)) d → Contains (days_of (b ∷ ys)) d) → Contains (days_of xs) d → Contains (days_of ys) d
 following a b xs ys same order d into contains =

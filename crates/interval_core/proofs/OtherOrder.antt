@@ -1,4 +1,4 @@
--- Rows in another order have the same accounts.
+-- The order of interval rows does not change their day accounts.
 use Rattle.std.proofs.Common.{◌≡◌, ℕ, zero, suc, ◌+◌, ◌<◌, ◌≤◌, ◌==◌, ◌||◌, Bool, true, false, cond, List, [], ◌∷◌, length, refl, sym, ap, ◌∙◌, inl, inr, arith}
 use Rattle.std.specs.Prelude.{ℤ, filter, sum_by}
 use Rattle.std.specs.List.{list_any}
@@ -49,7 +49,7 @@ abbrev counted : (bound : ℕ) → List Share → ℕ
 counted zero rows = 0
 counted (suc start) rows = one_if_some (sum_by (is_at start) rows) + counted start rows
 
--- A start is in the list if and only if a row has it.
+-- A start is in the list of starts if and only if at least one row has this start.
 there_or_not : (start : ℕ) (rows : List Share) → one_if_some (sum_by (is_at start) rows) ≡ cond (list_any (λ m. m == start) (starts_of rows)) 1 0
 there_or_not start [] = refl
 there_or_not start (row ∷ rows) =
@@ -109,7 +109,7 @@ counted_alike : (bound : ℕ) (rows others : List Share) → ((n : ℕ) → sum_
 counted_alike zero rows others h = refl
 counted_alike (suc n) rows others h = omega (arith, ap one_if_some (h n), counted_alike n rows others h)
 
--- ---- the account of a day
+-- ---- the account of a civil day
 
 count_moved : (p : Share → Bool) (rows others : List Share) → IsPermutation rows others
     → distinct_count (starts_of (filter p rows)) ≡ distinct_count (starts_of (filter p others))

@@ -1,4 +1,4 @@
--- The rows of a list of steps add up to the energy of the steps.
+-- The interval rows of a list of steps add up to the energy of the steps.
 use Rattle.std.proofs.Common.{◌≡◌, ℕ, ◌+◌, ◌-◌, ◌*◌, ◌/◌, ◌%◌, ◌<◌, ◌≤◌, min, max, List, [], ◌∷◌, get_or, sum_by, refl, sym, ap, ◌∙◌, inl, inr, arith}
 use Rattle.std.specs.Prelude.{All, Contains}
 use Rattle.std.proofs.lemmas.Bool.{cases_lt}
@@ -12,12 +12,13 @@ use Rattle.interval_core.specs.Account.{Touches, IsAscending, IsAccount, starts_
 use Rattle.interval_core.proofs.ShareLemmas.{running_mono}
 use Rattle.interval_core.proofs.SumLemmas.{running-from, running-till}
 
--- ---- one step
+-- ---- the interval rows of one step
 
 abbrev IsStartFrom : ℕ → ℕ → Type 0
 IsStartFrom bound start = (bound ≤ start) × (start % 900 ≡ 0)
 
--- The first interval at or after a bound that the step touches, unless it has ended there.
+-- The start of the first interval at or after `bound` that the step touches, if the step does not
+-- end before it.
 abbrev first_from : Step → ℕ → ℕ
 first_from step bound = max bound (step.from / 900 * 900)
 
@@ -28,13 +29,13 @@ touched-first step bound forward whole before =
       | inr ge ↦ let is : first_from step bound ≡ bound = omega (arith, ge) in rw is (whole, before, omega (arith, ge))
     ]
 
--- All starts of a list are at or after the first.
+-- All starts of an ascending list are at or after its first start.
 not_before : (x : ℕ) (xs : List ℕ) (t : ℕ) → IsAscending (x ∷ xs) → Contains (x ∷ xs) t → x ≤ t
 not_before x xs t order contains =
     let P : ℕ → Type 0 = λ y. x ≤ y in
     All-contains P (x ∷ xs) t (All-cons P x xs (omega arith) (λ k d lt. let later = order.0 k d lt in omega (arith, later))) contains
 
--- A start that is not the first is among the others.
+-- A start in an ascending list that is later than the first start is among the other starts.
 in_rest : (x : ℕ) (xs : List ℕ) (t : ℕ) → x < t → Contains (x ∷ xs) t → Contains xs t
 in_rest x xs t lt contains =
     elim (Contains-append_cases (x ∷ []) xs t contains) [
@@ -45,8 +46,8 @@ in_rest x xs t lt contains =
       | inr there ↦ there
     ]
 
--- If rising starts contain all touched ones from a bound on, their shares are what the running
--- energy gains from there.
+-- The shares of all touched intervals from `bound` on add up to the running energy at the step's
+-- end less the running energy at `bound`.
 energy-from : (step : Step) (xs : List ℕ) (bound : ℕ) → step.from < step.till → bound % 900 ≡ 0 → IsAscending xs → All (IsStartFrom bound) xs
     → ((t : ℕ) → bound ≤ t → Touches step t → Contains xs t)
     → sum_by (share_at step) xs ≡ running_energy step step.till - running_energy step (min (max bound step.from) step.till)
@@ -100,7 +101,7 @@ energy-from step (x ∷ xs) bound forward whole order starts has =
       ]
     ]
 
--- ---- all steps
+-- ---- the interval rows of all steps
 
 same_sums : {X : Type 0} (f g : X → ℕ) (xs : List X) → All (λ x. f x ≡ g x) xs → sum_by f xs ≡ sum_by g xs
 same_sums f g [] all = refl
@@ -121,7 +122,7 @@ sum-plus {X} f g (x ∷ xs) =
     let rest = sum-plus f g xs in
     omega (arith, sum_by-cons both x xs, sum_by-cons f x xs, sum_by-cons g x xs, rest)
 
--- A sum of sums does not depend on the order of summation.
+-- A double sum does not depend on the order of summation.
 swapped : {X Y : Type 0} (f : X → Y → ℕ) (xs : List X) (ys : List Y) → sum_by (λ x. sum_by (f x) ys) xs ≡ sum_by (λ y. sum_by (λ x. f x y) xs) ys
 swapped f [] ys = sym (sum-zero ys)
 swapped {X} {Y} f (x ∷ xs) ys =

@@ -1,4 +1,4 @@
--- The offsets of a rule follow from its text.
+-- The text of a POSIX rule determines the UTC offsets of its zone.
 use Rattle.std.proofs.Common.{◌≡◌, ℕ, Bool, true, false, Option, Some, None, List, sym, ap, ◌∙◌, unwrap_or}
 use Rattle.std.specs.Prelude.{ℤ, pos, ◌+ℤ◌, ◌*ℤ◌, cond}
 use Rattle.std.specs.Int.{int_div_euclid}

@@ -1,30 +1,31 @@
--- The energy of a list of steps by interval of a quarter hour.
+-- The energy of a list of steps, added up by quarter-hour interval.
 use Rattle.std.specs.Prelude.{◌≡◌, ◌↔◌, ℕ, ◌+◌, ◌%◌, ◌<◌, ◌≤◌, ◌⊎◌, List, [], ◌∷◌, map, All, Any, Contains, sum_by}
 use Rattle.energy_core.specs.declared.entries.Step.{Step}
 use Rattle.energy_core.specs.declared.limits.TheConstants.{INTERVAL_SECONDS}
 use Rattle.interval_core.specs.declared.shares.Share.{Share}
 use Rattle.interval_core.specs.Share.{share_at, shares_of}
 
--- The step touches the interval from `start`: they have a second in common.
+-- A step touches the quarter-hour interval from `start`: the step and the interval have a second in
+-- common.
 abbrev pub Touches : Step → ℕ → Type 0
 Touches step start = (start % INTERVAL_SECONDS ≡ 0) × (start < step.till)
     × (step.from < start + INTERVAL_SECONDS)
 
--- The starts of the intervals of these rows.
+-- The start times of the intervals of a list of rows.
 abbrev pub starts_of : List Share → List ℕ
 starts_of rows = map (λ row. row.start) rows
 
--- The energy of interval rows in mWh.
+-- The sum of the energies of interval rows, in mWh.
 abbrev pub energy_of : List Share → ℕ
 energy_of rows = sum_by (λ row. row.mwh) rows
 
--- The numbers ascend strictly: each is less than all after it.
+-- The numbers of a list ascend strictly: each number is less than all numbers after it.
 abbrev pub IsAscending : List ℕ → Type 0
 IsAscending [] = Unit {0}
 IsAscending (n ∷ ns) = All (λ later. n < later) ns × IsAscending ns
 
--- One share for each interval that the step touches, in order. The shares add up to the energy of
--- the step. Before and after the step, a share is 0.
+-- A list has one share for each interval that the step touches, in order. The shares add up to the
+-- energy of the step. An interval that the step does not touch has a share of 0.
 pub record IsSpread (step : Step) (shares : List Share) : Type 0 where
   pub in_order : IsAscending (starts_of shares)
   pub touched : (start : ℕ) → Contains (starts_of shares) start ↔ Touches step start
@@ -37,8 +38,8 @@ pub record IsSpread (step : Step) (shares : List Share) : Type 0 where
 abbrev pub SharesAddUp : Type 0
 SharesAddUp = (step : Step) → step.from < step.till → IsSpread step (shares_of step)
 
--- `rows` has one row for each interval that a step touches, in order. Each row is the sum of the
--- shares of all steps in that interval.
+-- `rows` contains one row for each interval that a step touches, in order. Each row is the sum of
+-- the shares of all steps in its interval.
 pub record IsAccount (steps : List Step) (rows : List Share) : Type 0 where
   pub in_order : IsAscending (starts_of rows)
   pub touched : (start : ℕ)

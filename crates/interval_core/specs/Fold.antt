@@ -1,4 +1,4 @@
--- The model of `DayFold`, which adds up rows that arrive one by one.
+-- The model of `DayFold`, which adds up interval rows by civil day as they arrive.
 use Rattle.std.specs.Prelude.{◌≡◌, ℕ, ℤ, ◌+◌, ◌-◌, ◌≤◌, ◌<◌, ◌<ℤ◌, ◌≤ℤ◌, ◌^◌, min, Option, Some, None, MatchOption, List, [], ◌∷◌, ◌++◌, length, take, drop, All, Contains, Bool, if◌then◌else◌, ◌⊎◌, Result, OnOk}
 use Rattle.std.specs.List.{HoldsAt}
 use Rattle.interval_core.specs.declared.day.DayFault.{DayFault}
@@ -8,64 +8,67 @@ use Rattle.interval_core.specs.declared.zone.Zone.{Zone}
 use Rattle.interval_core.specs.Account.{energy_of, starts_of}
 use Rattle.interval_core.specs.Days.{DayAccount, AreAccounts, AreInOrder}
 
--- The accounts of the rows so far, and the start of the latest row, or `None` without rows.
+-- The state of a fold: the day accounts of all pushed rows, and the start of the latest row. The
+-- start is `None` if no row was pushed.
 pub record FoldState : Type 0 where
   pub accounts : List DayAccount
   pub latest : Option ℕ
 
--- A fold without rows.
+-- The state of a fold to which no row was pushed.
 abbrev pub no_rows : FoldState
 no_rows = record { accounts = []; latest = None }
 
--- The latest start of these rows, or `None` if there are no rows.
+-- `latest` is the latest start of a list of interval rows, or `None` if the list is empty.
 abbrev pub IsLatest : List Share → Option ℕ → Type 0
 IsLatest rows latest =
     MatchOption latest (rows ≡ [])
     (λ start. Contains (starts_of rows) start × All (λ row. row.start ≤ start) rows)
 
--- The fold has added up exactly these rows, each on its day in the zone.
+-- The fold has added up exactly the rows of a list, each on its civil day in the zone.
 pub record HasTaken (zone : Zone) (rows : List Share) (fold : FoldState) : Type 0 where
   pub accounts : AreAccounts zone rows fold.accounts
   pub latest : IsLatest rows fold.latest
 
--- A successful `push` adds this row to the rows that the fold added up before.
+-- A successful `push` adds a row to the rows that the fold added up before. The energy of all rows
+-- must be less than 2^128 mWh.
 abbrev pub TakesRow : Zone → Share → (old : FoldState) → Result (Unit {0}) DayFault
     → (new : FoldState) → Type 0
 TakesRow zone row old answer new = (rows : List Share) → HasTaken zone rows old
     → energy_of rows + row.mwh < 2 ^ 128
     → OnOk answer (HasTaken zone (rows ++ row ∷ []) new)
 
--- The greatest number of intervals that a day can have so far: one for each second.
+-- An upper bound of the number of intervals of a day: one for each second up to the start of the
+-- latest row.
 abbrev pub most_intervals : Option ℕ → ℕ
 most_intervals None = 0
 most_intervals (Some start) = start + 1
 
--- The invariant of a `DayFold`, by its accounts and the start of its latest row.
+-- The invariant of a `DayFold`, over its day accounts and the start of its latest row.
 pub record IsSoundFold (accounts : List DayAccount) (latest : Option ℕ) : Type 0 where
   pub in_order : AreInOrder accounts
   pub counts : All (λ account. account.count ≤ most_intervals latest) accounts
   pub moments : most_intervals latest ≤ LAST_MOMENT + 1
 
--- `place` is where the day belongs among the accounts: those before it are of earlier days, and
--- the others are not.
+-- `place` is the index at which a day belongs in a list of accounts. Accounts before this index are
+-- of earlier days, and the other accounts are not.
 pub record IsPlace (day : ℤ) (accounts : List DayAccount) (place : ℕ) : Type 0 where
   pub earlier : All (λ account. account.day <ℤ day) (take place accounts)
   pub others : All (λ account. day ≤ℤ account.day) (drop place accounts)
 
--- The account at index `place` is that of the day.
+-- The account at the index `place` of a list is the account of a given day.
 abbrev pub HoldsDay : ℤ → List DayAccount → ℕ → Type 0
 HoldsDay day accounts place =
     (place < length accounts) × HoldsAt (λ account. account.day ≡ day) accounts place
 
--- The day has no account. Accounts before index `place` are of earlier days, and the others are
--- of later ones.
+-- The day has no account. Accounts before the index `place` are of earlier days, and the other
+-- accounts are of later days.
 pub record IsGap (day : ℤ) (accounts : List DayAccount) (place : ℕ) : Type 0 where
   pub within : place ≤ length accounts
   pub earlier : All (λ account. account.day <ℤ day) (take place accounts)
   pub later : All (λ account. day <ℤ account.day) (drop place accounts)
 
--- The day had an account, to which `count` intervals and `mwh` of energy are added. Its energy
--- saturates at 2^128 - 1 mWh.
+-- Between the lists `old` and `new`, the account of a day grows by `count` intervals and `mwh` of
+-- energy. The energy saturates at 2^128 - 1 mWh.
 pub record Grows (day : ℤ) (count mwh : ℕ) (old new : List DayAccount) : Type 0 where
   pub before : List DayAccount
   pub after : List DayAccount
@@ -79,7 +82,7 @@ pub record Grows (day : ℤ) (count mwh : ℕ) (old new : List DayAccount) : Typ
         mwh = min (had_mwh + mwh) (2 ^ 128 - 1);
       } ∷ after
 
--- The day had no account, and now has one.
+-- The day has no account in the list `old`, and has an account in the list `new`.
 pub record Begins (day : ℤ) (mwh : ℕ) (old new : List DayAccount) : Type 0 where
   pub before : List DayAccount
   pub after : List DayAccount
@@ -88,8 +91,8 @@ pub record Begins (day : ℤ) (mwh : ℕ) (old new : List DayAccount) : Type 0 w
   pub old_is : old ≡ before ++ after
   pub new_is : new ≡ before ++ record { day = day; count = 1; mwh = mwh } ∷ after
 
--- A row of this energy was added to the day's account, or began that account. The `Bool` says
--- whether an existing account counts another interval.
+-- A row of `mwh` energy was added to the account of its day, or began this account. If `is_new`, an
+-- existing account counts another interval.
 abbrev pub IsAdded : ℤ → Bool → ℕ → List DayAccount → List DayAccount → Type 0
 IsAdded day is_new mwh old new =
     Grows day (if is_new then 1 else 0) mwh old new ⊎ Begins day mwh old new

@@ -1,24 +1,25 @@
--- The lines of a report: a line for each interval row or day, in order, and a last line with
--- their number.
+-- The text of a report: a line for each interval row or day, in order, and a last line with the
+-- number of these lines.
 use Rattle.std.specs.Prelude.{ℕ, List, [], ◌∷◌, ◌++◌, length, flat_map, codes}
 use Rattle.std.specs.Fmt.{decimal}
 pub use Rattle.interval_core.specs.Report.{day_line}
 use Rattle.interval_core.specs.declared.shares.Share.{Share}
 use Rattle.interval_core.specs.declared.totals.DayTotal.{DayTotal}
 
--- A line with the start of an interval, in seconds since 1970-01-01 UTC, a space (32), its energy
--- in mWh, and a line feed (10).
+-- A line of a report: the interval's start in seconds since 1970-01-01 UTC, a space (32), its
+-- energy in mWh, and a line feed (10).
 abbrev pub share_line : Share → List ℕ
 share_line row = decimal row.start ++ 32 ∷ (decimal row.mwh ++ 10 ∷ [])
 
--- The last line, with the number of rows.
+-- The last line of a report, with the number of rows.
 abbrev pub end_line : ℕ → List ℕ
 end_line count = codes "end " ++ decimal count ++ codes "\n"
 
--- The interval rows of a meter as lines of text, and a last line with their number.
+-- The text of a report of interval rows: a line for each row, and a last line with the number of
+-- rows.
 abbrev pub intervals_text : List Share → List ℕ
 intervals_text rows = flat_map share_line rows ++ end_line (length rows)
 
--- The days of an accounting register as lines of text, and a last line with their number.
+-- The text of a report of civil days: a line for each day, and a last line with the number of days.
 abbrev pub days_text : List DayTotal → List ℕ
 days_text days = flat_map day_line days ++ end_line (length days)

@@ -4,12 +4,12 @@ use Rattle.std.specs.Fmt.{decimal}
 use Rattle.jiff.specs.Words.{date_text}
 use Rattle.interval_core.specs.declared.totals.DayTotal.{DayTotal}
 
--- A text, right-aligned in this width with spaces.
+-- A text, right-aligned with spaces to a width in columns.
 abbrev pub right : ℕ → List ℕ → List ℕ
 right width text = replicate (width - length text) 32 ++ text
 
--- A line with the day, its count right-aligned in 3 columns, and its energy right-aligned in 24.
--- Spaces (32) separate them, and a line feed (10) ends the line.
+-- A line with the day, the number of its intervals right-aligned in 3 columns, and its energy in
+-- mWh right-aligned in 24. Spaces (32) separate the fields, and a line feed (10) ends the line.
 abbrev pub day_line : DayTotal → List ℕ
 day_line total =
     date_text total.day ++ 32

@@ -1,5 +1,5 @@
--- How the energy of a step is spread over the intervals that it touches. The interval with the
--- number n begins at n times the seconds of an interval.
+-- The spread of a step's energy over the quarter-hour intervals that the step touches. Interval
+-- number n begins n * 900 seconds after 1970-01-01 UTC.
 use Rattle.std.specs.Prelude.{ℕ, ◌+◌, ◌-◌, ◌*◌, ◌/◌, min, max, List, map}
 use Rattle.std.specs.List.{range_with_len}
 use Rattle.energy_core.specs.Account.{intervals_touched}
@@ -11,14 +11,15 @@ use Rattle.interval_core.specs.declared.shares.Share.{Share}
 abbrev pub running_energy : Step → ℕ → ℕ
 running_energy step moment = step.mwh * (moment - step.from) / (step.till - step.from)
 
--- The share of the interval from `start`: the running energy at its end less the running energy
--- at `start`.
+-- The energy of a step in the interval from `start`: the running energy at the interval's end less
+-- the running energy at `start`.
 abbrev pub share_at : Step → ℕ → ℕ
 share_at step start =
     running_energy step (min (start + INTERVAL_SECONDS) step.till)
     - running_energy step (max start step.from)
 
--- The share of the interval with this number: its start and its energy.
+-- The share of a step in the interval with a number: the interval's start and the step's energy in
+-- it.
 abbrev pub share_of : Step → ℕ → Share
 share_of step interval = let start = interval * INTERVAL_SECONDS in
     record { start = start; mwh = share_at step start }

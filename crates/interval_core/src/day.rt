@@ -1,4 +1,4 @@
-//! Civil days of a time zone.
+//! The civil day of a timestamp in a time zone.
 ghost use Rattle.std.specs.Prelude.{◌≡◌, ◌≤◌, IsOk, IfOk};
 ghost use Rattle.jiff.specs.Words.{epoch_day};
 ghost use Rattle.interval_core.specs.Zone.{day_at};
@@ -13,17 +13,17 @@ use std::error::Error;
 use std::fmt;
 use std::fmt::{Display, Formatter};
 
-/// Why a time has no civil day.
+/// The reason why a timestamp has no civil day.
 #[derive(Clone, Copy, Debug, PartialEq, Eq)]
 pub enum DayFault {
-    /// The calendar has no such instant. Never returned for a time up to `LAST_MOMENT`.
+    /// The calendar has no such instant. A timestamp up to `LAST_MOMENT` never causes this fault.
     Zone,
-    /// Out of memory.
+    /// The process is out of memory.
     Memory,
 }
 
 impl DayFault {
-    /// Returns the fault's number, from 1. The program does not print or store it.
+    /// Returns the number of the fault, from 1. The program does not print or store this number.
     pub fn number(self) -> u8
         ensures { result ≡ day_fault_number self }
     {
@@ -55,7 +55,7 @@ impl Display for DayFault {
 
 impl Error for DayFault {}
 
-/// Returns the civil day of `start` in the zone, in seconds since 1970-01-01 UTC.
+/// Returns the civil day of a timestamp in the zone. `start` is in seconds since 1970-01-01 UTC.
 pub fn day_of(zone: &Zone, start: u64) -> Result<Date, DayFault>
     requires { start ≤ LAST_MOMENT }
     ensures succeeds { IsOk result }

@@ -1,4 +1,4 @@
-//! Ranges of civil days.
+//! Ranges of civil days, with an optional first day and an optional end.
 ghost use Rattle.std.specs.Prelude.{◌≡◌};
 ghost use Rattle.interval_core.specs.Ranges.{all_days, begins_by, ends_after, has_moment, is_backward, is_in};
 
@@ -7,7 +7,8 @@ use crate::limits::LAST_MOMENT;
 use crate::zone::Zone;
 use jiff::civil::Date;
 
-/// The civil days from `from` on, before `till`. `None` as a bound means no bound on that side.
+/// A range of civil days that begins with `from` and ends before `till`. `None` as a bound means no
+/// bound on that side.
 #[derive(Clone, Copy, Debug, PartialEq, Eq)]
 pub struct DayRange {
     pub from: Option<Date>,
@@ -15,7 +16,7 @@ pub struct DayRange {
 }
 
 impl DayRange {
-    /// Returns the range of all days.
+    /// Returns the range of all civil days.
     pub fn all() -> DayRange
         ensures { result ≡ all_days }
     {
@@ -25,15 +26,15 @@ impl DayRange {
         }
     }
 
-    /// Returns whether the day is in the range.
+    /// Returns whether a civil day is in the range.
     pub fn has(&self, day: Date) -> bool
         ensures { result ≡ is_in self.now day }
     {
         begins_by_day(self.from, day) && ends_after_day(self.till, day)
     }
 
-    /// Returns whether the range has the day of a time in a zone, in seconds since 1970-01-01 UTC.
-    /// No time after `LAST_MOMENT` has a day.
+    /// Returns whether the range contains the civil day of a timestamp in a zone. `moment` is in
+    /// seconds since 1970-01-01 UTC. A timestamp after `LAST_MOMENT` has no day.
     pub fn has_moment(&self, zone: &Zone, moment: u64) -> bool
         ensures { result ≡ has_moment zone.now self.now moment }
     {
@@ -46,8 +47,8 @@ impl DayRange {
         }
     }
 
-    /// Returns whether the range ends before it begins. Such a range has no day. A range that ends
-    /// on the day on which it begins has none either.
+    /// Returns whether the end of the range is before its first day. Such a range contains no day.
+    /// A range whose end is its first day is not backward, but contains no day either.
     pub fn is_backward(&self) -> bool
         ensures { result ≡ is_backward self.now }
     {
@@ -58,7 +59,8 @@ impl DayRange {
     }
 }
 
-// Returns whether the day is not before `from`. A range without a first day has no such bound.
+// Returns whether a day is not before `from`, the first day of a range. `None` means a range
+// without a first day.
 fn begins_by_day(from: Option<Date>, day: Date) -> bool
     ensures { result ≡ begins_by from day }
 {
@@ -68,7 +70,7 @@ fn begins_by_day(from: Option<Date>, day: Date) -> bool
     }
 }
 
-// Returns whether the day is before `till`. A range without an end has no such bound.
+// Returns whether a day is before `till`, the end of a range. `None` means a range without an end.
 fn ends_after_day(till: Option<Date>, day: Date) -> bool
     ensures { result ≡ ends_after till day }
 {

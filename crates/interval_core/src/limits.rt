@@ -1,12 +1,12 @@
-//! The limits of days, steps and zones.
+//! The limits of timestamps, steps and texts of zones.
 
 use energy_core::{INTERVAL_SECONDS, MAX_INTERVALS};
 
-/// The last time that has a civil day, in seconds since 1970-01-01 UTC: the beginning of 2100.
+/// The last timestamp that has a civil day, in seconds since 1970-01-01 UTC: the beginning of 2100.
 pub const LAST_MOMENT: u64 = 4_102_444_800;
 
 /// The greatest length of a step, in seconds.
 pub const MAX_STEP_SECONDS: u64 = MAX_INTERVALS * INTERVAL_SECONDS;
 
-/// The greatest length of a zone's text, in bytes.
+/// The greatest length of the text of a zone, in bytes.
 pub const MAX_ZONE_TEXT: usize = 64;

@@ -1,4 +1,4 @@
-//! The shares of a step in the intervals that it touches.
+//! The shares of a step's energy in the quarter-hour intervals that the step touches.
 ghost use Rattle.std.specs.Prelude.{◌≡◌, ◌<◌, ◌≤◌};
 ghost use Rattle.std.specs.Iterator.{YieldsFirst, item_count};
 ghost use Rattle.energy_core.specs.Account.{intervals_touched};
@@ -9,15 +9,15 @@ pub use energy_core::INTERVAL_SECONDS as INTERVAL;
 use energy_core::{MAX_INTERVALS, MAX_TOTAL, Step};
 use std::marker::Model;
 
-/// The energy in mWh of the interval that begins at `start`, in seconds since 1970-01-01 UTC.
+/// The energy in mWh in the quarter hour from `start`, which is in seconds since 1970-01-01 UTC.
 #[derive(Clone, Copy, Debug, PartialEq, Eq)]
 pub struct Share {
     pub start: u64,
     pub mwh: u64,
 }
 
-/// An iterator over the shares of a step, one for each interval that it touches, in order. It
-/// allocates nothing.
+/// An iterator over the shares of a step, one for each interval that the step touches, in order.
+/// The iterator allocates nothing.
 #[derive(Debug, Drop)]
 pub struct Shares {
     spread: Spread,
@@ -40,7 +40,7 @@ impl Model for Shares {
 }
 
 impl Shares {
-    /// Returns the shares of a step.
+    /// Returns an iterator over the shares of a step.
     pub fn of(step: &Step) -> Shares
         requires forward { step.now.from < step.now.till }
         requires intervals { intervals_touched step.now.from step.now.till ≤ MAX_INTERVALS }

@@ -1,4 +1,4 @@
-//! Interval rows added up by civil day.
+//! The interval rows of an accounting register, added up by civil day.
 ghost use Rattle.std.specs.Prelude.{◌≡◌, ◌+◌, ◌-◌, ◌≤◌, ◌<◌, ◌^◌, ◌++◌, ◌∷◌, [], List, Option};
 ghost use Rattle.std.specs.Prelude.{Some, None, map, length, All, Contains, IsOk, IfOk, IfErr};
 ghost use Rattle.std.specs.Prelude.{OnOk, OnErr};
@@ -16,7 +16,8 @@ use jiff::civil::Date;
 use std::alloc::{AllocError, Global};
 use std::marker::Model;
 
-/// A civil day, the number of its intervals with a row, each counted once, and their energy in mWh.
+/// A civil day, the number of its intervals that have a row, and their energy in mWh. An interval
+/// with several rows counts once.
 #[derive(Clone, Copy, Debug, PartialEq, Eq)]
 pub struct DayTotal {
     pub day: Date,
@@ -24,7 +25,8 @@ pub struct DayTotal {
     pub mwh: u128,
 }
 
-/// Adds up interval rows by day. The rows arrive one by one, in order of their starts.
+/// Adds up interval rows by civil day. The caller pushes the rows one by one, in order of their
+/// starts.
 #[derive(Debug, Drop)]
 pub struct DayFold {
     totals: Vec<DayTotal>,
@@ -47,7 +49,7 @@ impl DayFold {
     ghost use Rattle.interval_core.specs.Fold.{no_rows, HasTaken, TakesRow};
     ghost use Rattle.interval_core.specs.Zone.{day_at};
 
-    /// Creates a fold without rows. It keeps the allocator for `push`, and allocates nothing.
+    /// Creates a fold without rows. The fold stores the allocator, which only `push` uses.
     pub fn new(alloc: Global) -> DayFold
         ensures empty { result ≡ no_rows }
         ensures taken { (zone : Zone) → HasTaken zone [] result }
@@ -58,7 +60,7 @@ impl DayFold {
         }
     }
 
-    /// Returns the days so far, in order. Allocates nothing.
+    /// Returns the days of all pushed rows, in order. This function allocates nothing.
     pub fn rows(&self) -> &[DayTotal]
         ensures accounts { map account_of result.now ≡ self.now.accounts }
         ensures in_order { AreInOrder self.now.accounts }
@@ -66,7 +68,7 @@ impl DayFold {
         self.totals.as_slice()
     }
 
-    /// Turns the fold into a list of its days, in order. Allocates nothing.
+    /// Converts the fold to the list of its days, in order. This function allocates nothing.
     pub fn into_rows(self) -> Vec<DayTotal>
         ensures { map account_of result.items ≡ self.accounts }
     {
@@ -74,11 +76,12 @@ impl DayFold {
         totals
     }
 
-    /// Adds a row: `mwh` in the interval from `start`. Its day is that of `start` in the zone.
+    /// Adds a row with `mwh` of energy in the interval from `start`. The row belongs to the civil
+    /// day of `start` in the zone.
     ///
-    /// A row with the same start as the latest row is not counted as another interval. The energy
-    /// of a day saturates at 2^128 - 1 mWh. The only error is out of memory, which leaves the
-    /// fold unchanged.
+    /// A row with the same start as the latest row does not count as another interval. The energy
+    /// of a day saturates at 2^128 - 1 mWh. The only error is out of memory, which leaves the fold
+    /// unchanged.
     pub fn push(&mut self, start: u64, mwh: u64, zone: &Zone) -> Result<(), DayFault>
         requires moment { start ≤ LAST_MOMENT }
         requires not_back { ForSome self.old.latest (λ latest. latest ≤ start) }
@@ -97,7 +100,7 @@ impl DayFold {
     }
 }
 
-/// Copies the days so far. Rows that are added to the copy leave the original unchanged.
+/// Copies the days of all pushed rows. Pushing rows to the copy leaves the original unchanged.
 impl Clone for DayFold {
     ghost use Rattle.std.specs.Prelude.{◌≡◌};
 
@@ -112,8 +115,8 @@ impl Clone for DayFold {
     }
 }
 
-/// Returns the civil days of interval rows, which are in order of their starts. Each day has the
-/// number of its intervals, each counted once, and its energy in mWh.
+/// Returns the civil days of interval rows, which must be in order of their starts. Each day has
+/// the number of its intervals and their energy in mWh. An interval with several rows counts once.
 pub fn by_day(alloc: Global, rows: &[Share], zone: &Zone) -> Result<Vec<DayTotal>, DayFault>
     requires never_back { IsNonDecreasingBy (λ row. row.start) rows.now }
     requires moments { All (λ row. row.start ≤ LAST_MOMENT) rows.now }
@@ -128,8 +131,8 @@ pub fn by_day(alloc: Global, rows: &[Share], zone: &Zone) -> Result<Vec<DayTotal
     Ok(fold.into_rows())
 }
 
-/// Returns the index of the first day that is not before `day`. The search begins at the end of
-/// the list, because rows that arrive in order belong there.
+/// Returns the index of the first day in the list that is not before `day`. The search begins at
+/// the end of the list, because rows that arrive in order belong there.
 fn place_of(totals: &[DayTotal], day: Date) -> usize
     ensures within { result ≤ length totals.now }
     ensures place { AreInOrder (map account_of totals.now)
@@ -142,7 +145,8 @@ fn place_of(totals: &[DayTotal], day: Date) -> usize
     place
 }
 
-/// Returns the index of the day as `Ok`, or the index at which to insert it as `Err`.
+/// Returns the index of a day in the list as `Ok`, or the index at which to insert the day as
+/// `Err`.
 fn find_day(totals: &[DayTotal], day: Date) -> Result<usize, usize>
     requires { AreInOrder (map account_of totals.now) }
     ensures found { IfOk result (HoldsDay (epoch_day day) (map account_of totals.now)) }
@@ -156,8 +160,8 @@ fn find_day(totals: &[DayTotal], day: Date) -> Result<usize, usize>
     }
 }
 
-/// Adds a row with `mwh` of energy to its day, or begins that day. An existing day counts another
-/// interval if `is_new`.
+/// Adds a row with `mwh` of energy to its day, or inserts the day if it is missing. If `is_new`, an
+/// existing day counts another interval.
 fn add(totals: &mut Vec<DayTotal>, day: Date, is_new: bool, mwh: u64) -> Result<(), AllocError>
     requires in_order { AreInOrder (map account_of totals.old.items) }
     requires counts { All (λ total. total.count < 2 ^ 32 - 1) totals.old.items }

@@ -1,4 +1,4 @@
-//! Time zones, and the texts that name them.
+//! Time zones, each described by a POSIX rule such as `UTC0`.
 ghost use Rattle.std.specs.Prelude.{◌↔◌, IsOk, IfOk, IfErr, ◌≡◌, Ok, Err};
 ghost use Rattle.interval_core.specs.Zone.{HasRule, IsZoneText, rule_of};
 ghost use Rattle.interval_core.specs.Faults.{zone_fault_number};
@@ -9,17 +9,18 @@ use std::error::Error;
 use std::fmt;
 use std::fmt::{Display, Formatter};
 
-/// Why a text is no zone.
+/// The reason why a text does not describe a time zone.
 #[derive(Clone, Copy, Debug, PartialEq, Eq)]
 pub enum ZoneFault {
-    /// The text is no POSIX rule of at most 64 bytes.
+    /// The text is not a POSIX rule of at most 64 bytes.
     Text,
-    /// Out of memory. Never returned, since a zone allocates nothing.
+    /// The process is out of memory. No function returns this fault, since a zone allocates
+    /// nothing.
     Memory,
 }
 
 impl ZoneFault {
-    /// Returns the fault's number, from 1. The program does not print or store it.
+    /// Returns the number of the fault, from 1. The program does not print or store this number.
     pub fn number(self) -> u8
         ensures { result ≡ zone_fault_number self }
     {
@@ -42,7 +43,7 @@ impl Display for ZoneFault {
 
 impl Error for ZoneFault {}
 
-/// A time zone: its UTC offset at each time.
+/// A time zone, which determines the UTC offset at each timestamp.
 #[derive(Clone, Copy, Debug)]
 pub struct Zone {
     rule: TimeZone<'static>,
@@ -64,7 +65,7 @@ impl Zone {
         }
     }
 
-    /// Returns the zone as a value of `jiff`.
+    /// Returns the zone as a `TimeZone` of the crate `jiff`.
     pub(crate) fn rule(&self) -> &TimeZone<'static>
         ensures { result.now ≡ rule_of self.now }
     {

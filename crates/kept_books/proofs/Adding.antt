@@ -1,4 +1,4 @@
--- The cache after one more record.
+-- Lemmas that the cache agrees with the records after one more record.
 use Rattle.std.proofs.Common.{◌≡◌, ℕ, ◌+◌, ◌<◌, Bool, false, cond, List, ◌∷◌, ◌++◌, reverse, take, length, get_or, Option, Some, None, refl, sym, ap, subst, ◌∙◌}
 use Rattle.std.specs.List.{find, filter}
 use Rattle.std.specs.Option.{option_and_then}
@@ -29,13 +29,14 @@ use Rattle.kept_books.proofs.Answering.{each_same, each_left, none_kept}
 use Rattle.kept_books.proofs.Latest.{latest_stays, moved_latest}
 use Rattle.kept_books.proofs.Waiting.{polls_come}
 
--- A list changes only that of its device.
+-- After a point list of one device is recorded, the point lists of all other devices are unchanged.
 other_list : (put : DeviceList) (facts : List Fact) (device : List ℕ) → same put.device device ≡ false
     → list_of (fact.List put ∷ facts) device ≡ list_of facts device
 other_list put facts device apart =
     ap (λ (b : Bool). option_and_then (λ (p : DeviceList). if_some p.list.points p.list) (cond b (Some put) (find (λ (p : DeviceList). same p.device device) (lists_in facts)))) apart
 
--- A register changes only those of its device.
+-- After an accounting register of one device is recorded, the accounting registers of all other
+-- devices are unchanged.
 other_registers : (r : Register) (facts : List Fact) (device : List ℕ) → same r.device device ≡ false
     → registers_of (fact.Register r ∷ facts) device ≡ registers_of facts device
 other_registers r facts device apart =
@@ -44,7 +45,7 @@ other_registers r facts device apart =
 no_line : (line : journal.Line) (b : Bool) → b ≡ false → let o : Option journal.Line = cond b (Some line) None in o ≡ None
 no_line line b is = cond-false _ _ _ is
 
--- The installation of another meter.
+-- After an entry of one meter is recorded, the installations of all other meters are unchanged.
 other_entry : OtherMetersStay → (b : BookedEntry) (facts : List Fact) (meter : List ℕ) (row : Installation) → same b.meter meter ≡ false
     → IsLatest facts meter row → IsLatest (fact.Entry b ∷ facts) meter row
 other_entry law b facts meter row apart is =
@@ -67,13 +68,14 @@ entry_comes stay move ranges b facts old new lawful goes are meter row there =
     (moved_latest move ranges facts b own.0 row lawful (are b.meter own.0 own.1) own.2))
     (λ apart. other_entry stay b facts meter row apart (are meter row (sym (goes.others meter apart) ∙ there)))
 
--- The results that are cached under names are true. Polls are separate.
+-- True if each cached point list, register list and installation agrees with the records.
 pub record NamesAreTrue (kept : Known) (facts : List Fact) : Type 0 where
   pub lists : EachIs (λ device list. list_of facts device ≡ Some list) kept.lists
   pub registers : EachIs (λ device v. v.items ≡ registers_of facts device) kept.registers
   pub standing : EachIs (IsLatest facts) kept.standing
 
--- A record that changes no result under a name.
+-- If a record changes no point list, register list or installation, then an unchanged cache agrees
+-- with the new records.
 quiet : (f : Fact) (facts : List Fact) (old new : Known) → ((device : List ℕ) → list_of (f ∷ facts) device ≡ list_of facts device)
     → ((device : List ℕ) → registers_of (f ∷ facts) device ≡ registers_of facts device)
     → ((meter : List ℕ) (row : Installation) → IsLatest facts meter row → IsLatest (f ∷ facts) meter row)
@@ -123,7 +125,8 @@ comes stay hold move ranges (fact.Outcome e) facts old new lawful changes are =
 comes stay hold move ranges (fact.Reply r) facts old new lawful changes are =
     quiet (fact.Reply r) facts old new (λ device. refl) (λ device. refl) (λ meter row is. latest_stays stay (fact.Reply r) facts meter row refl refl is) changes are
 
--- The complete cache: first the results under names change, and then the polls.
+-- After one more record, the point lists, registers, installations and polls in the cache agree
+-- with the records.
 pub all_comes : OtherMetersStay → HoldsChangeNothing → EntriesMoveOn → InstallationsAreInRange → (f : Fact) (facts : List Fact) (old mid new : Known) (polls : Polls)
     → AreLawful (f ∷ facts) → Changes f old mid → mid.polls ≡ old.polls → PollsChange f mid.polls polls
     → new.lists ≡ mid.lists → new.registers ≡ mid.registers → new.standing ≡ mid.standing → new.polls ≡ polls
@@ -138,7 +141,8 @@ all_comes stay hold move ranges f facts old mid new polls lawful changes same_po
       polls = subst (λ (p : Polls). PollsAreTrue p (f ∷ facts)) (sym own) there;
     }
 
--- One more of the added records.
+-- If the cache agreed with the first `i` new records, then it agrees with the first `i + 1` new
+-- records.
 pub one_more : (old now new : Known) (known facts : List Fact) (i : ℕ) (f : Fact) → i < length facts → f ≡ get_or facts i f
     → ((known : List Fact) → AreLawful (f ∷ known) → AreTrue now known → AreTrue new (f ∷ known))
     → (AreLawful (with_facts (take i facts) known) → AreTrue old known → AreTrue now (with_facts (take i facts) known))

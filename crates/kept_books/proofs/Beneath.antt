@@ -1,4 +1,4 @@
--- A store with a cache is in the state of the store below.
+-- The lemma that a store with an empty cache has the same model as the store below the cache.
 use Rattle.std.proofs.Common.{List, refl}
 use Rattle.office_events.specs.declared.facts.Fact.{Fact}
 use Rattle.office_books.specs.Ledgers.{Ledger}

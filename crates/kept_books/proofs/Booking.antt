@@ -1,4 +1,4 @@
--- Records that are added to a store with a cache.
+-- Lemmas about adding records to a store with a cache.
 use Rattle.std.proofs.Common.{◌≡◌, true, false, List, [], refl, sym, subst, Result, Ok, Err}
 use Rattle.office_events.specs.declared.facts.Fact.{Fact}
 use Rattle.office_rules.specs.Lawful.{AreLawful}
@@ -8,7 +8,7 @@ use Rattle.kept_books.specs.declared.known.Known.{Known}
 use Rattle.kept_books.specs.Known.{AreTrue}
 use Rattle.kept_books.specs.Keeping.{keeping}
 
--- To add no records concerns only the store below.
+-- If no records are added, then the records of the store with a cache are unchanged.
 keeps : (old new : Ledger) (kept : Known) → (new.is_clean → old.is_clean) → KeepsFacts old new → KeepsFacts (keeping kept old) (keeping kept new)
 keeps old new kept clean k = record {
   facts = λ known holds. (k.facts known holds.0, λ c. holds.1 (clean c));
@@ -31,7 +31,7 @@ nothing_booked old new kept facts (Ok done) none books = record {
 nothing_booked old new kept facts (Err why) none books =
     let wrong : false ≡ true = (books.nothing none).0 in absurd (cc)
 
--- The cache is true after the records.
+-- True if the cache agrees with the records after the records `facts` are added.
 abbrev Comes : (kept after : Known) (facts : List Fact) → Type 0
 Comes kept after facts =
     (known : List Fact) → AreLawful (with_facts facts known) → AreTrue kept known → AreTrue after (with_facts facts known)
@@ -48,7 +48,8 @@ booked old new kept after given facts done some same comes books = record {
   goes = record { clean = books.goes.clean; faults = books.goes.faults; zone = books.goes.zone };
 }
 
--- After a failure the cache is empty.
+-- If adding records fails and the cache is emptied, then the store with a cache satisfies the
+-- guarantees of `book`.
 pub failed : (old new : Ledger) (kept after : Known) (facts : List Fact) (why : BooksFault) → (facts ≡ [] → ⊥)
     → ((known : List Fact) → AreTrue after known)
     → Books old new facts (Err why) → Books (keeping kept old) (keeping after new) facts (Err why)

@@ -1,4 +1,4 @@
--- Results that must not be cached.
+-- Worked examples of results that a cache cannot have if it agrees with the records.
 use Rattle.std.proofs.Common.{◌≡◌, ◌≢◌, ℕ, List, Some, None, sym, ◌∙◌}
 use Rattle.office_events.specs.declared.facts.Fact.{Fact}
 use Rattle.office_events.specs.declared.questions.Installation.{Installation}
@@ -10,17 +10,20 @@ use Rattle.kept_books.specs.Answers.{answer_to}
 use Rattle.kept_books.specs.Known.{AreTrue}
 use Rattle.kept_books.proofs.Answering.{none_and_some, some_one}
 
--- A list of a device without one.
+-- If a device has no recorded point list, then a cache with a point list of this device disagrees
+-- with the records.
 no_list : (kept : Known) (facts : List Fact) (device : List ℕ) (list : Planned) → list_of facts device ≡ None
     → answer_to kept.lists device ≡ Some list → AreTrue kept facts → ⊥
 no_list kept facts device list none there are = none_and_some (list_of facts device) list none (are.lists device list there)
 
--- The earlier list of a device with a later one.
+-- If a device has a later, different point list, then a cache with the earlier point list disagrees
+-- with the records.
 other_list : (kept : Known) (facts : List Fact) (device : List ℕ) (list later : Planned) → later ≢ list → list_of facts device ≡ Some later
     → answer_to kept.lists device ≡ Some list → AreTrue kept facts → ⊥
 other_list kept facts device list later apart is there are = apart (some_one later list (sym is ∙ are.lists device list there))
 
--- The state of an installation before a later entry.
+-- If a later entry changed an installation, then a cache with the earlier state of the installation
+-- disagrees with the records.
 earlier : (kept : Known) (facts : List Fact) (meter : List ℕ) (row : Installation) → row ≢ installation_of facts row.opening
     → answer_to kept.standing meter ≡ Some row → AreTrue kept facts → ⊥
 earlier kept facts meter row apart there are = apart (are.standing meter row there).stands

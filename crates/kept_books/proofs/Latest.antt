@@ -1,4 +1,4 @@
--- The latest installations at their registers, and one more record.
+-- Lemmas about the latest installation at an accounting register after one more record.
 use Rattle.std.proofs.Common.{◌≡◌, ℕ, List, ◌∷◌, Option, Some, None, refl, sym, ap, subst, ◌∙◌, Result, Ok, Bor, IfSome}
 use Rattle.std.specs.Option.{option_map, option_copied}
 use Rattle.energy_core.specs.declared.entries.Last.{Last}
@@ -22,7 +22,8 @@ use Rattle.kept_books.specs.declared.answers.Answers.{Answers}
 use Rattle.kept_books.specs.Answers.{answer_to, EachIs}
 use Rattle.kept_books.specs.Known.{IsLatest}
 
--- A record that is no line of the meter, and no opening at its register.
+-- If a record concerns another meter and another accounting register, then the latest installation
+-- at the register is unchanged.
 pub latest_stays : OtherMetersStay → (f : Fact) (facts : List Fact) (meter : List ℕ) (row : Installation) → line_of row.opening.meter f ≡ None
     → installed_at (f ∷ facts) row.opening.register ≡ installed_at facts row.opening.register
     → IsLatest facts meter row → IsLatest (f ∷ facts) meter row
@@ -32,20 +33,23 @@ latest_stays law f facts meter row none same_one is = record {
   stands = is.stands ∙ sym (law f facts row.opening none).installation;
 }
 
--- The cached installation of a meter is what a lookup by its accounting register finds.
+-- If a cached installation agrees with the records, then a lookup by its accounting register
+-- returns this installation.
 pub at_register : (facts : List Fact) (meter : List ℕ) (row : Installation) → IsLatest facts meter row
     → installation_at facts row.opening.register ≡ Some row
 at_register facts meter row is =
     ap (option_map (installation_of facts)) is.there ∙ ap (λ (r : Installation). let o : Option Installation = Some r in o) (sym is.stands)
 
--- A cached installation of a meter is the one at its register.
+-- If an installation is found in a cache that agrees with the records, then it is the latest at its
+-- accounting register.
 pub at_its_register : (facts : List Fact) (rows : Answers Installation) (meter : List ℕ) (row : Option (Bor Installation))
     → option_copied row ≡ answer_to rows meter → EachIs (IsLatest facts) rows
     → IfSome row (λ r. installation_at facts r.now.opening.register ≡ Some r.now)
 at_its_register facts rows meter None is are = tt
 at_its_register facts rows meter (Some row) is are = at_register facts meter row.now (are meter row.now (sym is))
 
--- The installation at a register is the latest there.
+-- If a lookup by accounting register finds an installation, then the installation may be cached
+-- under its meter's name.
 found_so : (facts : List Fact) (register : List ℕ) (row : Installation) (found : Option Opening) → installed_at facts register ≡ found
     → option_map (installation_of facts) found ≡ Some row → IsLatest facts row.opening.meter row
 found_so facts register row None at is = absurd (cc)
@@ -63,7 +67,8 @@ pub found_latest : (facts : List Fact) (register : List ℕ) (row : Installation
     → IsLatest facts row.opening.meter row
 found_latest facts register row is = found_so facts register row (installed_at facts register) refl is
 
--- An entry.
+-- After an entry advances the cached installation of its meter, the installation agrees with the
+-- records.
 sound_so : (row : Installation) → IsSound row → IsSound row
 sound_so row h = record { range = h.range; ceiling = h.ceiling; raw = h.raw; scale = h.scale; total = h.total }
 

@@ -1,4 +1,4 @@
--- Lookups in the store below, or in the cache.
+-- Lemmas about lookups in a cache, or in the store below the cache.
 use Rattle.std.proofs.Common.{refl, Result, Ok, List}
 use Rattle.office_events.specs.declared.facts.Fact.{Fact}
 use Rattle.office_books.specs.declared.faults.BooksFault.{BooksFault}
@@ -7,7 +7,8 @@ use Rattle.kept_books.specs.declared.known.Known.{Known}
 use Rattle.kept_books.specs.Known.{AreTrue}
 use Rattle.kept_books.specs.Keeping.{keeping}
 
--- The store below was queried. The cache is unchanged, or agrees with the records of that store.
+-- If a lookup queries the store below and the cache still agrees with the records, then the
+-- guarantees of a lookup hold.
 pub asked : {T : Type 0} (old new : Ledger) (kept after : Known) (result : Result T BooksFault)
     → ((facts : List Fact) → old.holds facts → new.is_clean → AreTrue kept facts → AreTrue after facts)
     → OnlyReads old new result → OnlyReads (keeping kept old) (keeping after new) result
@@ -24,14 +25,15 @@ pub passed_on : {T : Type 0} (old new : Ledger) (kept : Known) (result : Result 
     → OnlyReads old new result → OnlyReads (keeping kept old) (keeping kept new) result
 passed_on old new kept result reads = asked old new kept kept result (λ facts holds clean are. are) reads
 
--- A part of the result is returned.
+-- If a lookup satisfies its guarantees, then it also satisfies them with any other `Ok` result.
 pub answered_with : {T S : Type 0} (old new : Ledger) (x : T) (y : S) → OnlyReads old new (Ok x) → OnlyReads old new (Ok y)
 answered_with old new x y reads = record {
   goes = record { clean = reads.goes.clean; faults = reads.goes.faults; zone = reads.goes.zone };
   keeps = reads.keeps;
 }
 
--- The store below was not queried.
+-- If a lookup is answered from the cache, then the guarantees of a lookup hold, because the store
+-- below is unchanged.
 pub unasked : {T : Type 0} (ledger : Ledger) (x : T) → OnlyReads ledger ledger (Ok x)
 unasked ledger x = record {
   goes = record { clean = λ clean. clean; faults = refl; zone = refl };

@@ -1,4 +1,4 @@
--- Cached pending polls, and one more record.
+-- Lemmas that the cached pending polls agree with the records after one more record.
 use Rattle.std.proofs.Common.{◌≡◌, ◌⊎◌, inl, inr, ℕ, ◌<◌, ◌≤◌, ◌==◌, true, false, List, [], ◌∷◌, length, is_some, Option, Some, None, refl, sym, ap, subst, ◌∙◌, Result, Ok, Err, OnOk, OnErr, arith}
 use Rattle.std.specs.BTreeMap.{BTreeMap, get, Updates, IsUnchanged, is_at}
 use Rattle.std.specs.Map.{lookup}
@@ -21,7 +21,7 @@ use Rattle.kept_books.specs.declared.polls.Polls.{Polls}
 use Rattle.kept_books.specs.Polls.{waiting_at, waits, PollsAreTrue, PollsChange}
 use Rattle.kept_books.proofs.Answering.{none_and_some, some_one}
 
--- Polls are numbered from 1.
+-- In lawful records, polls are numbered consecutively from 1.
 numbered : (facts : List Fact) → AreLawful facts → AreNumbered (polls_in facts)
 numbered [] h = tt
 numbered (fact.Device d ∷ facts) h = numbered facts h.1
@@ -43,7 +43,7 @@ within n (p ∷ polls) h there =
       | inr e ↦ let rest = within n polls h.1 (sym (ap is_some (cond-false _ _ _ e)) ∙ there) in omega (arith, rest)
     ]
 
--- A poll that was not started has not ended.
+-- If a poll was not started, then it has no outcome.
 no_end : (facts : List Fact) (n : ℕ) → AreLawful facts → length (polls_in facts) < n → end_of facts n ≡ None
 no_end [] n h beyond = refl
 no_end (fact.Device d ∷ facts) n h beyond = no_end facts n h.1 beyond
@@ -63,20 +63,20 @@ no_end (fact.Reply r ∷ facts) n h beyond = no_end facts n h.1 beyond
 abbrev row_so : Poll → Option EndedPoll → Option PollRow
 row_so poll ended = Some (record { poll = poll; ended = ended })
 
--- A recorded poll was started.
+-- If a lookup finds a poll, then the poll was started.
 was_started : (facts : List Fact) (n : ℕ) (found : Option Poll) (row : PollRow) → poll_of facts n ≡ found → option_map (poll_row facts) found ≡ Some row
     → is_some (poll_of facts n) ≡ true
 was_started facts n None row at is = absurd (cc)
 was_started facts n (Some p) row at is = ap is_some at
 
--- A started poll is pending.
+-- Directly after a poll is started, it is pending.
 starts : (p : Poll) (facts : List Fact) → AreLawful (fact.Poll p ∷ facts) → poll_row_of (fact.Poll p ∷ facts) p.number ≡ Some (waits p)
 starts p facts h =
     let fits : PollFits facts p = h.0.0 in
     let own : (p.number == p.number) ≡ true = grind (arith, nat_tests) in
     ap (option_map (poll_row (fact.Poll p ∷ facts))) (cond-true _ _ _ own) ∙ ap (row_so p) (no_end facts p.number h.1 (omega (arith, fits.number)))
 
--- The other polls are unchanged.
+-- After one poll is started, all other polls are unchanged.
 others : (p : Poll) (facts : List Fact) (n : ℕ) → (p.number == n) ≡ false → poll_row_of (fact.Poll p ∷ facts) n ≡ poll_row_of facts n
 others p facts n apart = ap (option_map (poll_row facts)) (cond-false _ _ _ apart)
 
@@ -106,7 +106,7 @@ poll_comes p facts old new h changes are = record {
       omega (arith, was, more);
 }
 
--- Another poll ends.
+-- If another poll ends, then a pending poll is still pending.
 still_waits : (e : EndedPoll) (facts : List Fact) (n : ℕ) (found : Option Poll) → (e.poll == n) ≡ false
     → ((poll : Poll) → found ≡ Some poll → poll.number ≡ n)
     → option_map (poll_row (fact.Outcome e ∷ facts)) found ≡ option_map (poll_row facts) found
@@ -138,7 +138,8 @@ end_comes e facts old new changes are = record {
   started = λ count is. are.started count (sym changes.1 ∙ is);
 }
 
--- A record that changes nothing of the polls.
+-- If a record is neither a start nor an outcome of a poll, then the unchanged cached polls agree
+-- with the new records.
 quiet : (f : Fact) (facts : List Fact) (old new : Polls) → ((n : ℕ) → poll_row_of (f ∷ facts) n ≡ poll_row_of facts n)
     → polls_in (f ∷ facts) ≡ polls_in facts → new ≡ old → PollsAreTrue old facts → PollsAreTrue new (f ∷ facts)
 quiet f facts old new rows polls same_one are =
@@ -158,7 +159,8 @@ polls_come (fact.Hold b) facts old new lawful changes are = quiet (fact.Hold b) 
 polls_come (fact.Void v) facts old new lawful changes are = quiet (fact.Void v) facts old new (λ n. refl) refl changes are
 polls_come (fact.Reply r) facts old new lawful changes are = quiet (fact.Reply r) facts old new (λ n. refl) refl changes are
 
--- A poll is cached, or memory ran out.
+-- After a started poll is cached, at most the cached poll with its number has changed, even if
+-- memory ran out.
 pub poll_in : {E : Type 0} (r : Result (Option Poll) E) (old new : BTreeMap ℕ Poll) (p : Poll)
     → OnOk r (Updates nat_cmp old new p.number (Some p)) → OnErr r (IsUnchanged old new) → (n : ℕ)
     → (get nat_cmp new n ≡ get nat_cmp old n) ⊎ ((n ≡ p.number) × (get nat_cmp new n ≡ Some p))
@@ -169,7 +171,7 @@ poll_in (Ok was) old new p ok err n =
     ]
 poll_in (Err e) old new p ok err n = inl (ap (λ (es : List (ℕ × Poll)). lookup (is_at (nat_cmp n)) es) err)
 
--- The count of a lookup is cached.
+-- After a lookup's number of polls is cached, the cached polls still agree with the records.
 pub count_kept : (old new : Polls) (facts : List Fact) (count : ℕ) → new.waiting ≡ old.waiting → new.started ≡ Some count
     → count ≡ length (polls_in facts) → PollsAreTrue old facts → PollsAreTrue new facts
 count_kept old new facts count waiting started is are = record {

@@ -1,4 +1,4 @@
--- The cached results of one kind of lookup, each by the name that the lookup is for.
+-- A cache of the results of one kind of lookup, by name.
 use Rattle.std.specs.Prelude.{◌≡◌, ◌⊎◌, ℕ, false, List, Option, Some, None}
 use Rattle.std.specs.BTreeMap.{get}
 use Rattle.std.specs.Cmp.Lexicographic.{slice_cmp}
@@ -8,25 +8,25 @@ use Rattle.office_rules.specs.Facts.{same}
 use Rattle.kept_books.specs.declared.keys.Key.{Key}
 use Rattle.kept_books.specs.declared.answers.Answers.{Answers}
 
--- Orders names by their bytes.
+-- The order of keys in a cache, by the bytes of their names.
 abbrev pub key_cmp : Key → Key → Ordering
 key_cmp = on (λ k. k.name) (slice_cmp nat_cmp)
 
--- The cached result for a name; `None` if none is cached.
+-- The cached result for a name, or `None` if no result is cached for the name.
 abbrev pub answer_to : {T : Type 0} → Answers T → List ℕ → Option T
 answer_to answers name = get key_cmp answers.rows (record { name = name })
 
--- The property `so` holds for each cached result and its name.
+-- True if each cached result has the property `so`, which may depend on the result's name.
 abbrev pub EachIs : {T : Type 0} → (List ℕ → T → Type 0) → Answers T → Type 0
 EachIs {T} so answers = (name : List ℕ) (x : T) → answer_to answers name ≡ Some x → so name x
 
--- The cache is unchanged, except that it may now have the result `x` for `name`.
+-- True if the cache is unchanged, or changed only by adding the result `x` for `name`.
 abbrev pub MayAnswer : {T : Type 0} → (name : List ℕ) → T → (before after : Answers T) → Type 0
 MayAnswer name x before after = (other : List ℕ)
     → (answer_to after other ≡ answer_to before other)
     ⊎ ((other ≡ name) × (answer_to after other ≡ Some x))
 
--- The cache has no result for this name any more, and its results for other names are unchanged.
+-- True if the cache no longer has a result for `name`, and all other results are unchanged.
 pub record Forgets {T : Type 0} (name : List ℕ) (before after : Answers T) : Type 0 where
   pub gone : answer_to after name ≡ None
   pub others : (other : List ℕ) → same name other ≡ false

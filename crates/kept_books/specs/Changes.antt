@@ -1,4 +1,4 @@
--- How the cache changes when records are added to the store.
+-- The effect of new records on the cache of lookup results.
 use Rattle.std.specs.Prelude.{◌≡◌, ℕ, false, List, Some, None}
 use Rattle.office_events.specs.declared.facts.BookedEntry.{BookedEntry}
 use Rattle.office_events.specs.declared.facts.Fact.{Fact}
@@ -12,8 +12,8 @@ use Rattle.kept_books.specs.declared.answers.Answers.{Answers}
 use Rattle.kept_books.specs.declared.known.Known.{Known}
 use Rattle.kept_books.specs.Answers.{answer_to, Forgets}
 
--- If the cache still has an installation for the entry's meter, it is the one from before, advanced
--- by the entry. The installations of other meters are unchanged.
+-- The effect of an entry on the cached installations. The installation of the entry's meter is
+-- advanced by the entry or removed. All other installations are unchanged.
 pub record EntryKeepsAnswers (booked : BookedEntry) (old new : Answers Installation) : Type 0 where
   pub own : (row : Installation) → answer_to new booked.meter ≡ Some row
       → (before : Installation) × (answer_to old booked.meter ≡ Some before)
@@ -22,29 +22,29 @@ pub record EntryKeepsAnswers (booked : BookedEntry) (old new : Answers Installat
   pub others : (other : List ℕ) → same booked.meter other ≡ false
       → answer_to new other ≡ answer_to old other
 
--- The cached point lists are unchanged.
+-- True if the cached point lists are unchanged.
 abbrev pub SameLists : (old new : Known) → Type 0
 SameLists old new = new.lists ≡ old.lists
 
--- The cached accounting registers are unchanged.
+-- True if the cached accounting registers are unchanged.
 abbrev pub SameRegisters : (old new : Known) → Type 0
 SameRegisters old new = new.registers ≡ old.registers
 
--- The cached installations are unchanged.
+-- True if the cached installations are unchanged.
 abbrev pub SameStanding : (old new : Known) → Type 0
 SameStanding old new = new.standing ≡ old.standing
 
--- The cached point lists, accounting registers and installations are unchanged.
+-- True if the cached point lists, accounting registers and installations are unchanged.
 pub record StaysKept (old new : Known) : Type 0 where
   pub lists : SameLists old new
   pub registers : SameRegisters old new
   pub standing : SameStanding old new
 
--- How a new record changes the cache. A point list removes that of its device from the cache, and
--- an accounting register removes those of its device.
+-- The effect of a new record on the cache. A new point list removes the old point list of its
+-- device, and a new accounting register removes the register list of its device.
 --
--- An opening removes all installations, and a void that of its meter. An entry advances the
--- installation of its meter.
+-- An opening removes all installations from the cache, and a void removes the installation of its
+-- meter. An entry advances the installation of its meter.
 abbrev pub Changes : Fact → (old new : Known) → Type 0
 Changes (fact.List put) old new =
     Forgets put.device old.lists new.lists × SameRegisters old new × SameStanding old new

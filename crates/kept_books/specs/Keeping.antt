@@ -1,4 +1,4 @@
--- The model of a store that caches the results of lookups in another store, the store below.
+-- The model of a store with a cache over another store. The other store is called the store below.
 use Rattle.std.specs.Prelude.{◌≡◌, ◌↔◌, List}
 use Rattle.office_events.specs.declared.facts.Fact.{Fact}
 use Rattle.office_books.specs.Ledgers.{Ledger}
@@ -6,8 +6,8 @@ use Rattle.kept_books.specs.declared.known.Known.{Known}
 use Rattle.kept_books.specs.declared.kept.KeptBooks.{KeptBooks}
 use Rattle.kept_books.specs.Known.{AreTrue}
 
--- The store with a cache holds the records of the store below. The cache agrees with these records
--- as long as the store below is clean. Everything else is as in the store below.
+-- The model of a store with a cache. It equals the model of the store below, and in addition the
+-- cache agrees with the records while the store below is clean.
 abbrev pub keeping : Known → Ledger → Ledger
 keeping kept under = record {
   holds = λ facts. under.holds facts × (under.is_clean → AreTrue kept facts);
@@ -22,12 +22,12 @@ keeping kept under = record {
 abbrev pub beneath : {B : Type 0} → KeptBooks B → B
 beneath kept = kept.books
 
--- The model of a store with a cache, given a model of the store below.
+-- The model of a store with a cache, given the model of the store below.
 abbrev pub ledger_over : {B : Type 0} → (B → Ledger) → KeptBooks B → Ledger
 ledger_over ledger kept = keeping kept.known (ledger kept.books)
 
--- The store is in the same state as before: it holds the same records, a crash may still leave what
--- it could leave, and all other properties are equal.
+-- True if two stores have the same state. They have the same records, a crash may leave the same
+-- lists of records, and all other properties are equal.
 pub record StandsAs (before after : Ledger) : Type 0 where
   pub facts : (facts : List Fact) → before.holds facts → after.holds facts
   pub left : (left : List (List Fact)) → before.may_leave left → after.may_leave left

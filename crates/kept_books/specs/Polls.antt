@@ -1,4 +1,5 @@
--- The cached pending polls and number of polls, and how records change them.
+-- The cached pending polls, the cached number of polls, and the effect of new records on these
+-- caches.
 use Rattle.std.specs.Prelude.{◌≡◌, ◌⊎◌, ◌+◌, ◌==◌, ℕ, false, List, length, Option, Some, None}
 use Rattle.std.specs.BTreeMap.{get}
 use Rattle.std.specs.Ordering.{nat_cmp}
@@ -10,40 +11,42 @@ use Rattle.office_rules.specs.Facts.{polls_in}
 use Rattle.office_rules.specs.Readings.{poll_row_of}
 use Rattle.kept_books.specs.declared.polls.Polls.{Polls}
 
--- The cached pending poll with this number; `None` if none is cached.
+-- The cached pending poll with this number, or `None` if no such poll is cached.
 abbrev pub waiting_at : Polls → ℕ → Option Poll
 waiting_at polls number = get nat_cmp polls.waiting number
 
--- The row of a poll without an outcome.
+-- The row of a poll that is pending.
 abbrev pub waits : Poll → PollRow
 waits poll = record { poll = poll; ended = None }
 
--- The cache of polls agrees with these records: each cached poll is pending, and a cached count is
--- the number of started polls.
+-- True if each cached poll is pending in these records, and the cached number of polls, if any,
+-- equals the number of recorded polls.
 pub record PollsAreTrue (polls : Polls) (facts : List Fact) : Type 0 where
   pub waiting : (number : ℕ) (poll : Poll) → waiting_at polls number ≡ Some poll
       → poll_row_of facts number ≡ Some (waits poll)
   pub started : (count : ℕ) → polls.started ≡ Some count → count ≡ length (polls_in facts)
 
--- The cached pending polls are unchanged, except that the cache may now have this poll.
+-- True if the cached pending polls are unchanged, or changed only by adding this poll.
 abbrev pub MayWait : Poll → (before after : Polls) → Type 0
 MayWait poll before after = (number : ℕ)
     → (waiting_at after number ≡ waiting_at before number)
     ⊎ ((number ≡ poll.number) × (waiting_at after number ≡ Some poll))
 
--- The poll with this number is no longer cached as pending, and the other polls are unchanged.
+-- True if the poll with this number is not cached as pending, and all other polls are unchanged.
 pub record WaitsNoMore (number : ℕ) (before after : Polls) : Type 0 where
   pub gone : waiting_at after number ≡ None
   pub others : (other : ℕ) → (number == other) ≡ false
       → waiting_at after other ≡ waiting_at before other
 
--- If the count of polls is cached after a start, it was cached before it and grew by one.
+-- The effect of a poll's start on the cached number of polls. The number is increased by one, or is
+-- no longer cached.
 abbrev pub GoesUp : (before after : Option ℕ) → Type 0
 GoesUp before after = (count : ℕ) → after ≡ Some count
     → (less : ℕ) × (before ≡ Some less) × (count ≡ less + 1)
 
--- How a new record changes the cached polls. A started poll may be cached as pending, and is
--- counted. A poll with an outcome is removed. Other records change nothing.
+-- The effect of a new record on the cached polls. The start of a poll increases the cached number
+-- of polls, and may cache the poll. An outcome removes its poll from the cache. Other records
+-- change nothing.
 abbrev pub PollsChange : Fact → (before after : Polls) → Type 0
 PollsChange (fact.Poll poll) before after =
     MayWait poll before after × GoesUp before.started after.started

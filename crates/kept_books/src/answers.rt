@@ -1,4 +1,4 @@
-//! Caches results of one kind of lookup, by the name in the query.
+//! A cache of the results of one kind of lookup, by name.
 ghost use Rattle.std.specs.Prelude.{◌≡◌, ℕ, None, List};
 ghost use Rattle.std.specs.Option.{option_copied};
 
@@ -7,7 +7,7 @@ use office_events::Name;
 use std::alloc::Global;
 use std::collections::BTreeMap;
 
-/// The cached results by name. `most` is the maximum number of names.
+/// The cached results by name, at most `most` of them.
 #[derive(Drop)]
 pub(crate) struct Answers<T> {
     rows: BTreeMap<Key, T>,
@@ -17,7 +17,7 @@ pub(crate) struct Answers<T> {
 impl<T: Drop> Answers<T> {
     ghost use Rattle.kept_books.specs.Answers.{answer_to, Forgets, MayAnswer};
 
-    /// Creates an empty cache.
+    /// Creates an empty cache of at most `most` results.
     pub(crate) fn new(alloc: Global, most: usize) -> Answers<T>
         ensures { (name : List ℕ) → answer_to result name ≡ None }
     {
@@ -35,7 +35,7 @@ impl<T: Drop> Answers<T> {
         self.rows.get(&key)
     }
 
-    /// Caches a result, unless the cache is full or memory runs out.
+    /// Caches the result for a name, unless the cache is full or memory runs out.
     pub(crate) fn put(&mut self, name: &Name, answer: T)
         ensures { MayAnswer name.now answer self.old self.new }
     {

@@ -1,4 +1,4 @@
-//! A store that caches the results of lookups.
+//! A store with a cache of lookup results over another store.
 ghost use Rattle.std.specs.Prelude.{◌≡◌};
 ghost use Rattle.kept_books.specs.Keeping.{StandsAs, beneath, ledger_over};
 
@@ -11,9 +11,9 @@ use office_events::{
 };
 use std::alloc::Global;
 
-/// A store over another store. It caches the results of lookups, and answers repeated lookups
-/// without the store below. New records update the cache, or remove results from it. A booking that
-/// fails empties the cache.
+/// A store over another store that caches the results of lookups. A repeated lookup does not query
+/// the store below. New records update the cache or remove results from it, and a failed write
+/// empties the cache.
 #[derive(Drop)]
 pub struct KeptBooks<B> {
     alloc: Global,
@@ -22,7 +22,7 @@ pub struct KeptBooks<B> {
 }
 
 impl<B: Books> KeptBooks<B> {
-    /// Creates a store with an empty cache.
+    /// Creates a store with an empty cache over the store `books`.
     pub fn new(alloc: Global, books: B) -> KeptBooks<B>
         ensures books { beneath result ≡ books }
         ensures stands { StandsAs (B.ledger books) (ledger_over B.ledger result) }
@@ -34,7 +34,7 @@ impl<B: Books> KeptBooks<B> {
         }
     }
 
-    /// Returns the store below.
+    /// Returns the store below the cache.
     pub fn into_books(self) -> B
         ensures books { result ≡ beneath self }
         ensures stands { StandsAs (ledger_over B.ledger self) (B.ledger result) }

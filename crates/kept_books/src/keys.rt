@@ -1,4 +1,4 @@
-//! The keys of cached results.
+//! The keys of cached results, which are names.
 ghost use Rattle.std.specs.Prelude.{nat_eq};
 ghost use Rattle.std.proofs.Common.{rules};
 ghost use Rattle.std.specs.Str.{bytes_eq};
@@ -10,7 +10,7 @@ ghost use Rattle.std.specs.Ordering.{nat_cmp, on, as_partial_cmp};
 use office_events::Name;
 use std::cmp::Ordering;
 
-/// A name, ordered by its bytes.
+/// The key of a cached result. Keys have a name and are ordered by its bytes.
 #[derive(Clone, Copy)]
 pub(crate) struct Key {
     pub(crate) name: Name,

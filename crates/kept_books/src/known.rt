@@ -24,20 +24,20 @@ use office_rules::{
 };
 use std::alloc::Global;
 
-/// The cached results of lookups.
+/// The cached results of all kinds of lookups.
 #[derive(Drop)]
 pub(crate) struct Known {
     alloc: Global,
-    /// Point lists, each by the name of its device.
+    /// The point list of each device, by the device's name.
     lists: Answers<PlannedList>,
-    /// Accounting registers, each list by the name of their device.
+    /// The accounting registers of each device, by the device's name.
     registers: Answers<Vec<Register>>,
-    /// The latest installation at an accounting register, by the name of its meter.
+    /// The latest installation at each accounting register, by the name of the installed meter.
     standing: Answers<Installation>,
-    /// The name of the meter that was the latest at an accounting register when it was cached. A
-    /// later meter may have replaced it.
+    /// The name of the latest meter at each accounting register, by the register's name. The name
+    /// may be outdated if a later meter was installed.
     meters: Answers<Name>,
-    /// Pending polls, and the number of started polls.
+    /// The pending polls, and the number of started polls.
     polls: Polls,
 }
 
@@ -45,7 +45,7 @@ impl Known {
     ghost use Rattle.kept_books.specs.Changes.{Changes};
     ghost use Rattle.kept_books.specs.Known.{AreTrue};
 
-    /// Creates an empty cache.
+    /// Creates an empty cache for all kinds of lookups.
     pub(crate) fn new(alloc: Global) -> Known
         ensures { (known : List Fact) → AreTrue result known }
     {
@@ -59,8 +59,8 @@ impl Known {
         }
     }
 
-    /// Returns a copy of the cached point list of a device; `None` if it is not cached or memory
-    /// runs out.
+    /// Returns a copy of the cached point list of a device, or `None` if no list is cached or
+    /// memory runs out.
     pub(crate) fn list(&self, device: &Name) -> Option<PlannedList>
         ensures { (known : List Fact) → AreTrue self.now known
             → IfSome result (λ list. list_of known device.now ≡ Some list) }
@@ -74,7 +74,8 @@ impl Known {
         }
     }
 
-    /// Returns the number of reads in the plan of a device; `None` if its point list is not cached.
+    /// Returns the number of reads in the plan of a device, or `None` if the device's point list is
+    /// not cached.
     pub(crate) fn read_count(&self, device: &Name) -> Option<usize>
         ensures { (known : List Fact) → AreTrue self.now known
             → IfSome result (λ n. read_count_of (list_of known device.now) ≡ Some n) }
@@ -85,8 +86,8 @@ impl Known {
         }
     }
 
-    /// Returns at most `most` reads of the device's plan from index `from` on; `None` if its point
-    /// list is not cached or memory runs out.
+    /// Returns at most `most` reads of the device's plan from index `from` on, or `None` if the
+    /// point list is not cached or memory runs out.
     pub(crate) fn reads(&self, device: &Name, from: u64, most: usize) -> Option<Vec<ReadSpan>>
         ensures { (known : List Fact) → AreTrue self.now known
             → IfSome result (λ v. v.items ≡ reads_from from most (list_of known device.now)) }
@@ -100,7 +101,7 @@ impl Known {
         }
     }
 
-    /// Caches the point list of a device, unless it has none or memory runs out.
+    /// Caches the point list of a device, unless the device has no point list or memory runs out.
     pub(crate) fn keep_list(&mut self, device: &Name, found: &Option<PlannedList>)
         ensures { (known : List Fact) → found.now ≡ list_of known device.now
             → AreTrue self.old known → AreTrue self.new known }
@@ -113,8 +114,8 @@ impl Known {
         }
     }
 
-    /// Returns a copy of the cached accounting registers of a device; `None` if they are not cached
-    /// or memory runs out.
+    /// Returns a copy of the cached accounting registers of a device, or `None` if they are not
+    /// cached or memory runs out.
     pub(crate) fn registers(&self, device: &Name) -> Option<Vec<Register>>
         ensures { (known : List Fact) → AreTrue self.now known
             → IfSome result (λ v. v.items ≡ registers_of known device.now) }
@@ -128,8 +129,8 @@ impl Known {
         }
     }
 
-    /// Returns those of the cached accounting registers of a device that a read of the span covers.
-    /// The others are not copied.
+    /// Returns copies of only those cached accounting registers of a device that the Modbus read
+    /// covers.
     ///
     /// Returns `None` if the registers are not cached or memory runs out.
     pub(crate) fn registers_read(&self, device: &Name, span: ReadSpan) -> Option<Vec<Register>>
@@ -146,7 +147,8 @@ impl Known {
         }
     }
 
-    /// Returns the number of accounting registers of a device; `None` if they are not cached.
+    /// Returns the number of accounting registers of a device, or `None` if the registers are not
+    /// cached.
     pub(crate) fn register_count(&self, device: &Name) -> Option<usize>
         ensures { (known : List Fact) → AreTrue self.now known
             → IfSome result (λ n. n ≡ length (registers_of known device.now)) }
@@ -157,7 +159,7 @@ impl Known {
         }
     }
 
-    /// Caches the accounting registers of a device, unless it has none or memory runs out.
+    /// Caches the accounting registers of a device, unless the device has none or memory runs out.
     pub(crate) fn keep_registers(&mut self, device: &Name, found: &[Register])
         ensures { (known : List Fact) → found.now ≡ registers_of known device.now
             → AreTrue self.old known → AreTrue self.new known }
@@ -170,8 +172,8 @@ impl Known {
         }
     }
 
-    /// Returns the cached installation of the meter that was the latest at an accounting register.
-    /// The caller must check whether it is still at this register.
+    /// Returns the installation that was the latest at an accounting register when it was cached.
+    /// The caller must check that the installation is at this register.
     fn standing_at(&self, register: &Name) -> Option<&Installation>
         ensures { (known : List Fact) → AreTrue self.now known
             → IfSome result (λ row. installation_at known row.now.opening.register ≡ Some row.now) }
@@ -182,7 +184,7 @@ impl Known {
         }
     }
 
-    /// Returns the latest installation at an accounting register; `None` if it is not cached.
+    /// Returns the latest installation at an accounting register, or `None` if it is not cached.
     pub(crate) fn installation(&self, register: &Name) -> Option<Installation>
         ensures found { (known : List Fact) → AreTrue self.now known
             → IfSome result (λ row. installation_at known register.now ≡ Some row) }
@@ -200,8 +202,8 @@ impl Known {
         }
     }
 
-    /// Caches the latest installation at an accounting register, unless there is none or memory
-    /// runs out.
+    /// Caches the latest installation at an accounting register, unless no meter was installed
+    /// there or memory runs out.
     pub(crate) fn keep_installation(&mut self, register: &Name, found: &Option<Installation>)
         ensures { (known : List Fact) → found.now ≡ installation_at known register.now
             → AreTrue self.old known → AreTrue self.new known }
@@ -213,7 +215,7 @@ impl Known {
         }
     }
 
-    /// Returns the poll with this number; `None` if it is not cached as pending.
+    /// Returns the pending poll with this number, or `None` if the poll is not cached.
     pub(crate) fn poll(&self, number: u64) -> Option<PollRow>
         ensures { (known : List Fact) → AreTrue self.now known
             → IfSome result (λ row. poll_row_of known number ≡ Some row) }
@@ -227,7 +229,7 @@ impl Known {
         }
     }
 
-    /// Returns how many polls were started; `None` if the count is not cached.
+    /// Returns the number of started polls, or `None` if the number is not cached.
     pub(crate) fn poll_count(&self) -> Option<u64>
         ensures { (known : List Fact) → AreTrue self.now known
             → IfSome result (λ n. n ≡ length (polls_in known)) }
@@ -243,7 +245,7 @@ impl Known {
         self.polls.keep_started(found);
     }
 
-    /// Updates the cache of point lists, registers and installations for one more record.
+    /// Updates the cached point lists, registers and installations after one more record.
     fn change(&mut self, fact: &Fact)
         ensures changes { Changes fact.now self.old self.new }
         ensures polls { self.new.polls ≡ self.old.polls }
@@ -277,7 +279,7 @@ impl Known {
         self.polls.go_on(fact);
     }
 
-    /// Updates the cache for records that were added to the store.
+    /// Updates the cache after these records were added to the store.
     pub(crate) fn add_all(&mut self, facts: &[Fact])
         ensures { (known : List Fact) → AreLawful (with_facts facts.now known)
             → AreTrue self.old known → AreTrue self.new (with_facts facts.now known) }

@@ -1,4 +1,4 @@
-//! A store over any store that caches the results of lookups.
+//! A store with a cache of lookup results over any other store.
 #![tactic(auto)]
 
 mod answers;

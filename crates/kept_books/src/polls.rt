@@ -8,7 +8,7 @@ use poll_core::MAX_WINDOW;
 use std::alloc::Global;
 use std::collections::BTreeMap;
 
-/// The cached pending polls, and the number of started polls if it is known.
+/// The cached pending polls, and the number of started polls if it is cached.
 #[derive(Drop)]
 pub(crate) struct Polls {
     waiting: BTreeMap<u64, Poll>,
@@ -16,7 +16,7 @@ pub(crate) struct Polls {
 }
 
 impl Polls {
-    /// Creates an empty cache.
+    /// Creates an empty cache of polls.
     pub(crate) fn new(alloc: Global) -> Polls
         ensures waiting { (number : ℕ) → waiting_at result number ≡ None }
         ensures started { result.started ≡ None }
@@ -27,14 +27,14 @@ impl Polls {
         }
     }
 
-    /// Returns the poll with this number; `None` if it is not cached as pending.
+    /// Returns the pending poll with this number, or `None` if the poll is not cached.
     pub(crate) fn get(&self, number: u64) -> Option<&Poll>
         ensures { option_copied result ≡ waiting_at self.now number }
     {
         self.waiting.get(&number)
     }
 
-    /// Returns the number of started polls; `None` if it is not known.
+    /// Returns the number of started polls, or `None` if the number is not cached.
     pub(crate) fn started(&self) -> Option<u64>
         ensures { result ≡ self.now.started }
     {
@@ -49,8 +49,8 @@ impl Polls {
         self.started = Some(count);
     }
 
-    /// Caches a started poll as pending, unless the cache is full or memory runs out. In any case
-    /// the count of started polls, if known, grows by one.
+    /// Caches a started poll as pending, unless the cache is full or memory runs out. The number of
+    /// started polls, if cached, is increased by one.
     fn start(&mut self, poll: &Poll)
         ensures waiting { MayWait poll.now self.old self.new }
         ensures started { GoesUp self.old.started self.new.started }
@@ -71,7 +71,7 @@ impl Polls {
         let _ = self.waiting.remove(&number);
     }
 
-    /// Updates the cache for one more record.
+    /// Updates the cached polls after one more record.
     pub(crate) fn go_on(&mut self, fact: &Fact)
         ensures { PollsChange fact.now self.old self.new }
     {

@@ -1,11 +1,12 @@
-//! Advances cached installations when entries are added.
+//! Updates the cached installations when an entry is added.
 ghost use Rattle.kept_books.specs.Changes.{EntryKeepsAnswers};
 
 use crate::answers::Answers;
 use office_books::moved;
 use office_events::{BookedEntry, Installation};
 
-/// Advances the cached installation of the entry's meter; does nothing if it is not cached.
+/// Advances the cached installation of the entry's meter by the entry. Does nothing if the
+/// installation is not cached.
 pub(crate) fn go_on(rows: &mut Answers<Installation>, booked: &BookedEntry)
     ensures { EntryKeepsAnswers booked.now rows.old rows.new }
 {

@@ -1,4 +1,4 @@
-//! Point lists that are written to writers which fail, accept nothing, or are interrupted.
+//! Tests writing point lists to writers that fail, accept no byte, or are interrupted.
 
 use crate::given::list_of;
 use crate::narrow::Narrow;
@@ -8,14 +8,14 @@ use std::alloc::Global;
 static TEXT: &[u8] = b"name,function,area,address,type,scale\na,3,0,5,int16,0\n";
 
 // Returns whether the writer received exactly the first `room` bytes of the list's text, and the
-// fault is `Write`.
+// result is the fault `Write`.
 fn is_told(alloc: Global, list: &PointList, room: usize, fails: bool) -> bool {
     let mut output = Narrow::new(alloc, room, fails);
     write_list(alloc, list, &mut output) == Err(WriteListFault::Write)
         && Some(output.taken.as_slice()) == TEXT.get(..room)
 }
 
-// A writer that fails, or accepts nothing, after any number of bytes has received exactly the first
+// A writer that fails or accepts no byte after `room` bytes has received exactly the first `room`
 // bytes of the list's text.
 #[test]
 fn fails_at_each_byte(rt: HostRuntime) {
@@ -29,7 +29,7 @@ fn fails_at_each_byte(rt: HostRuntime) {
     }
 }
 
-// A list is written completely even if each write is interrupted once.
+// A point list is written completely even if each write is interrupted once.
 #[test]
 fn a_list_is_written_after_an_interruption(rt: HostRuntime) {
     let list = list_of(&rt, rt.alloc(), TEXT);

@@ -1,11 +1,11 @@
-//! The identity of devices, which their SunSpec common model 1 has.
+//! Tests the identity of a device, which SunSpec model 1 (common) contains.
 use crate::given::{Line, assert_same, chain_of, image_of, put};
 use std::alloc::Global;
 use std::io::{self, Write};
 use std::process::Abort;
 use sun_chain::{Common, Image};
 
-// A common model 1 at address 2, with two letters in each of four texts, and the device address 3.
+// A model 1 at address 2, with two letters in each of four texts, and the device address 3.
 const LINES: [Line; 7] = [
     Line {
         address: 0,
@@ -37,7 +37,7 @@ const LINES: [Line; 7] = [
     },
 ];
 
-// A common model 1 at address 2, whose points all have the value for absent.
+// A model 1 at address 2 whose points are all absent.
 const ABSENT: [Line; 3] = [
     Line {
         address: 0,
@@ -53,7 +53,7 @@ const ABSENT: [Line; 3] = [
     },
 ];
 
-// Returns the image of a device whose model 1 has this length and is the last model.
+// Returns the image of a device whose last model is a model 1 of this length.
 fn device(rt: &impl Abort, alloc: Global, lines: &[Line], length: u16) -> Image {
     let mut image = image_of(rt, alloc, lines);
     put(rt, &mut image, 3, &[length]);
@@ -61,7 +61,7 @@ fn device(rt: &impl Abort, alloc: Global, lines: &[Line], length: u16) -> Image 
     image
 }
 
-// Prints the texts of a common model, each after its number of registers, and the device address.
+// Prints each text of a model 1 after its number of registers, and the device address.
 fn print_common(common: &Common<'_>, output: &mut Vec<u8>) -> io::Result<()> {
     let texts = [
         common.manufacturer,
@@ -89,8 +89,8 @@ fn said(rt: &impl Abort, alloc: Global, image: &Image) -> Vec<u8> {
     output
 }
 
-// The lines of an image, the length of its model 1, and the printed identity of the device. The
-// additional register of length 66 is padding.
+// The lines of an image, the length of model 1 in registers, and the expected identity of the
+// device. A length of 66 includes a padding register.
 static SAYINGS: [(&[Line], u16, &str); 4] = [
     (&LINES, 66, "16 AB/16 CD/8 EF/8 GH/0 /3"),
     (&LINES, 65, "16 AB/16 CD/8 EF/8 GH/0 /3"),

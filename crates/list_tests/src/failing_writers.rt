@@ -1,13 +1,13 @@
-//! Points and texts that are written to writers which accept a few bytes at a time, are
-//! interrupted, and then fail or accept nothing.
+//! Tests writing points and texts to writers that accept a few bytes at a time, are interrupted,
+//! and then fail or accept no byte.
 use crate::narrow::Narrow;
 use std::alloc::Global;
 use std::io::{self, ErrorKind};
 use std::process::Abort;
 use sun_points::{Point, Scale, Text, write_scaled};
 
-// Returns whether the writer received as much of the text as it had room for. If the text is cut
-// off, the error must be the right one.
+// Returns whether the writer received the first `room` bytes of the text, and the result is the
+// right error if the text is longer.
 fn is_cut(output: &Narrow, outcome: io::Result<()>, room: usize, text: &str) -> bool {
     let all = text.as_bytes();
     let told = match outcome {
@@ -25,7 +25,7 @@ fn cut_value(rt: &impl Abort, alloc: Global, room: usize, fails: bool) -> bool {
     is_cut(&output, outcome, room, "-12.34")
 }
 
-// A scaled value is written as far as the writer has room, and the failure is reported.
+// A scaled value is written until the writer is full, and then the error is returned.
 #[test]
 fn a_scaled_value_is_cut(rt: HostRuntime) {
     for room in 0..8usize {
@@ -35,7 +35,7 @@ fn a_scaled_value_is_cut(rt: HostRuntime) {
     }
 }
 
-// Points, and their texts at the scale factor -1.
+// Points of each kind, and their texts at the scale factor -1.
 static POINTS: [(Point<'static>, &str); 6] = [
     (Point::Absent, "absent"),
     (Point::Signed(-15), "-1.5"),
@@ -50,7 +50,8 @@ static POINTS: [(Point<'static>, &str); 6] = [
     (Point::Text(Text { words: &[0, 0, 0] }), ""),
 ];
 
-// Returns whether a writer received as much of a point as it had room for.
+// Returns whether a writer with room for `room` bytes received that part of a point's text, and the
+// result is right.
 fn cut_point(
     rt: &impl Abort,
     alloc: Global,
@@ -65,7 +66,7 @@ fn cut_point(
     is_cut(&output, outcome, room, text)
 }
 
-// A point of each kind is written as far as the writer has room, and the failure is reported.
+// A point of each kind is written until the writer is full, and then the error is returned.
 #[test]
 fn a_point_is_cut(rt: HostRuntime) {
     for (point, text) in &POINTS {

@@ -1,4 +1,4 @@
-//! The texts and numbers of faults of images, scans, chains and point lists.
+//! Tests the texts and numbers of the faults of images, scans, chains and point lists.
 use crate::texts::assert_texts;
 use device_scan::ScanFault;
 use point_list::{FaultyRow, FaultyRows, ListFault, RowFault, WriteListFault};
@@ -17,7 +17,10 @@ const IMAGES: [(ImageFault, &str); 2] = [
 const SCANS: [(ScanFault, &str); 4] = [
     (ScanFault::Gone, "the device closed the connection"),
     (ScanFault::Failed, "the connection failed"),
-    (ScanFault::Garbled, "the device sent what is no Modbus"),
+    (
+        ScanFault::Garbled,
+        "the device sent bytes that are not Modbus",
+    ),
     (ScanFault::Memory, "memory ran out"),
 ];
 
@@ -76,7 +79,7 @@ const WRITES: [(WriteListFault, &str); 2] = [
     (WriteListFault::Memory, "memory ran out"),
 ];
 
-// Each fault has the text beside it.
+// Each fault of an image, a scan, a chain or a point list is printed as its expected text.
 #[test]
 fn faults_say_their_texts(rt: HostRuntime) {
     assert_texts(&rt, rt.alloc(), &IMAGES);
@@ -106,7 +109,7 @@ fn faulty(rt: &impl Abort, alloc: Global, count: usize) -> FaultyRows {
     FaultyRows::new(rows)
 }
 
-// The text about a list's faults has the first faulty row and the number of faulty rows.
+// The text for the faults of a point list has the first faulty row and the number of faulty rows.
 #[test]
 fn lists_tell_their_first_row(rt: HostRuntime) {
     let lists = [
@@ -127,7 +130,7 @@ fn lists_tell_their_first_row(rt: HostRuntime) {
     assert_texts(&rt, rt.alloc(), &lists)
 }
 
-// The faults that no golden test shows have their numbers.
+// Faults that no golden test covers have their numbers.
 #[test]
 fn faults_have_numbers(rt: HostRuntime) {
     assert!(rt; ImageFault::PastEnd.number() == 1);

@@ -1,12 +1,12 @@
-//! The image of a device with three full SunSpec models.
+//! The image of a device with complete SunSpec models 1, 103 and 203.
 use crate::given::{Line, image_of};
 use std::alloc::Global;
 use std::process::Abort;
 use sun_chain::Image;
 
-// The SunSpec mark, full models 1, 103 and 203, and the end model. Each register of model 1 has the
-// two digits of its offset. Each register of the other models has its offset, except the scale
-// points. The golden test `full_models` has the same words.
+// The SunSpec mark, complete models 1, 103 and 203, and the end model. Each register of model 1 has
+// the two digits of its offset, and each other register except scale points has its offset. The
+// golden test `full_models` uses the same words.
 static LINES: [Line; 5] = [
     Line {
         address: 40000,
@@ -47,7 +47,7 @@ static LINES: [Line; 5] = [
     },
 ];
 
-/// Returns the image of a device with full models 1, 103 and 203.
+/// Returns the image of a device with complete models 1, 103 and 203.
 pub(crate) fn full_image(rt: &impl Abort, alloc: Global) -> Image {
     image_of(rt, alloc, &LINES)
 }

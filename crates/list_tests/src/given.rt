@@ -1,4 +1,4 @@
-//! Images, texts and lists that the tests share.
+//! Images, texts and point lists that several tests use.
 
 use point_list::{PointList, PointName, read_list, write_list};
 use std::alloc::Global;
@@ -13,7 +13,7 @@ pub fn put(rt: &impl Abort, image: &mut Image, address: u16, words: &[u16]) {
     image.put(address, words).ok().expect(rt, "not put");
 }
 
-/// The words of consecutive registers, beginning at an address.
+/// The words of consecutive registers, from a first address.
 pub struct Line {
     pub address: u16,
     pub words: &'static [u16],

@@ -1,4 +1,4 @@
-//! Words that are written into images of a device's registers.
+//! Tests writing words into the memory image of a device.
 use crate::given::put;
 use sun_chain::{Image, ImageFault};
 
@@ -9,8 +9,8 @@ static WORDS: [(u16, Option<u16>); 4] = [
     (65535, Some(5)),
 ];
 
-// Words can be written at the last two addresses, and the last word can be replaced. Words past the
-// last address change nothing.
+// Words can be written at the last two addresses, and the last word can be replaced. Words past
+// address 65535 are refused and change nothing.
 #[test]
 fn words_are_put_up_to_the_last_address(rt: HostRuntime) {
     let mut image = Image::new(rt.alloc());

@@ -1,4 +1,4 @@
-//! Tests of SunSpec points, chains of models, scans, point lists, and the plans of their reads.
+//! Tests SunSpec points, chains of models, scans, point lists, and the plans of their reads.
 #![tactic(auto)]
 
 #[cfg(test)]

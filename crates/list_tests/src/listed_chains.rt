@@ -1,4 +1,4 @@
-//! Point lists that are made from a device's chain of SunSpec models.
+//! Tests the point lists of devices' chains of SunSpec models.
 
 use crate::full_models::full_image;
 use crate::given::{Line, assert_same, chain_of, image_of, put, written};
@@ -7,7 +7,7 @@ use std::alloc::Global;
 use std::process::Abort;
 use sun_chain::Image;
 
-// The lines of an image, and the text of the point list of its chain.
+// The lines of an image, and the expected CSV text of the point list of its chain.
 struct Listed {
     lines: &'static [Line],
     text: &'static str,
@@ -83,14 +83,14 @@ fn list_in(rt: &impl Abort, alloc: Global, image: &Image) -> PointList {
     from_chain(alloc, &chain).ok().expect(rt, "no list")
 }
 
-// Asserts the text of the point list of an image's chain.
+// Asserts the CSV text of the point list of an image's chain.
 fn assert_listed(rt: &impl Abort, alloc: Global, image: &Image, text: &str) {
     let list = list_in(rt, alloc, image);
     assert_same(rt, written(rt, alloc, &list).as_slice(), text);
 }
 
-// The list of a chain has the points that were read, also absent ones. If the scale point of a
-// point was not read, the scale in the list is empty.
+// The point list of a chain has all points that were read, including absent points. The scale of a
+// point is empty if its scale point was not read.
 #[test]
 fn lists_of_chains(rt: HostRuntime) {
     for chain in &CHAINS {
@@ -100,8 +100,8 @@ fn lists_of_chains(rt: HostRuntime) {
     assert_listed(&rt, rt.alloc(), &full_image(&rt, rt.alloc()), FULL);
 }
 
-// The list of the full models: the name, address, type and scale point of each point of SunSpec
-// models 1, 103 and 203.
+// The point list of the complete models 1, 103 and 203: the name, address, type and scale point of
+// each point.
 static FULL: &str = "\
 name,function,area,address,type,scale
 m1.Mn,3,0,40004,string16,
@@ -227,8 +227,8 @@ m3.TotVArh_SF,3,0,40226,sunssf,
 m3.Evt,3,0,40227,bitfield32,
 ";
 
-// Returns the image of `count` meters with all words. If there are words in `more`, they begin one
-// more meter.
+// Returns the image of `count` complete meter models. The words in `more`, if any, begin one more
+// model.
 fn meters(rt: &impl Abort, alloc: Global, count: u16, more: &[u16]) -> Image {
     let mut image = Image::new(alloc);
     put(rt, &mut image, 0, &[0x5375, 0x6E53]);
@@ -258,9 +258,9 @@ fn put_meter(rt: &impl Abort, image: &mut Image, model: u16, words: &[u16]) {
     put(rt, image, address_of(model).saturating_add(2), words)
 }
 
-// The number of full meters in an image, and how many words of one more were read. Then the number
-// of points in the list, or None if there are too many. Each meter has 72 points, and each of its
-// first nine registers is a point.
+// The number of complete meter models, the words of one more model, and the expected number of
+// points, or `None` for more than 512. Each model has 72 points, and each of its first nine
+// registers is a point.
 static COUNTS: [(u16, &[u16], Option<usize>); 4] = [
     (7, &[], Some(504)),
     (7, &[0; 8], Some(512)),
@@ -282,7 +282,7 @@ fn count_in(rt: &impl Abort, alloc: Global, image: &Image) -> Option<usize> {
     }
 }
 
-// The list of a chain has at most 512 points.
+// The point list of a chain has at most 512 points.
 #[test]
 fn chains_have_512_points_at_most(rt: HostRuntime) {
     for (count, more, points) in COUNTS {
@@ -292,7 +292,7 @@ fn chains_have_512_points_at_most(rt: HostRuntime) {
     }
 }
 
-// Returns the names of the first and the last point in the list of an image's chain.
+// Returns the names of the first and the last point in the point list of an image's chain.
 fn ends_of(rt: &impl Abort, alloc: Global, image: &Image) -> Vec<u8> {
     let list = list_in(rt, alloc, image);
     let mut names = Vec::new(alloc);
@@ -307,7 +307,7 @@ fn ends_of(rt: &impl Abort, alloc: Global, image: &Image) -> Vec<u8> {
     names
 }
 
-// The list of a long chain has the points of its first and its last model.
+// The point list of a long chain has the points of its first and its last model.
 #[test]
 fn many_points(rt: HostRuntime) {
     let image = meters(&rt, rt.alloc(), 7, &[]);

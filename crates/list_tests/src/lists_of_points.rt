@@ -1,4 +1,4 @@
-//! Points that form a list, and points that don't because they break a rule.
+//! Tests which points form a valid point list.
 
 use crate::given::name;
 use mb_wire::ReadFunction;
@@ -8,8 +8,8 @@ use std::alloc::Global;
 use std::process::Abort;
 use sun_points::{PointType, Scale};
 
-// A point at address 0, whose type may or may not allow a scale. Then the name of its scale point,
-// and the address of the sunssf point `s`.
+// A point at address 0, whose type may or may not allow a scale, and the name of its scale point.
+// The sunssf point `s` is at `address`, and `is_list` is true if both points form a list.
 struct Group {
     takes_scale: bool,
     scale: &'static str,
@@ -96,8 +96,8 @@ fn points_of(rt: &impl Abort, alloc: Global, group: &Group) -> Vec<ListedPoint> 
     Vec::from_array(alloc, [first, scale]).expect(rt, "no memory")
 }
 
-// A scale point must exist and be a sunssf point. One read must cover it and its point, whose type
-// must allow a scale.
+// A scale point must exist and be a sunssf point. One read must contain both points, and the type
+// of the scaled point must allow a scale.
 #[test]
 fn groups(rt: HostRuntime) {
     for group in &GROUPS {
@@ -111,14 +111,14 @@ fn groups(rt: HostRuntime) {
     }
 }
 
-// Returns a counter at this address, with a fixed scale.
+// Returns a list of one counter at this address, with a fixed scale.
 fn counter(rt: &impl Abort, alloc: Global, address: u16) -> Vec<ListedPoint> {
     let scale = PointScale::Fixed(Scale::new(0).expect(rt, "no scale"));
     let point = listed(rt, alloc, "a", address, PointType::Acc32, scale);
     Vec::from_array(alloc, [point]).expect(rt, "no memory")
 }
 
-// A counter may end at the last address, and not past it.
+// A counter may end at address 65535, and not after it.
 #[test]
 fn counters_end_at_the_last_register(rt: HostRuntime) {
     for (address, is_list) in [(65534, true), (65535, false)] {
@@ -127,7 +127,7 @@ fn counters_end_at_the_last_register(rt: HostRuntime) {
     }
 }
 
-// Points with the same name are not accepted as a list, and are returned to the caller.
+// Points with the same name are refused as a list, and are returned to the caller.
 #[test]
 fn points_with_double_names_are_handed_back(rt: HostRuntime) {
     let list = PointList::new(counter(&rt, rt.alloc(), 65534));
@@ -145,7 +145,7 @@ fn points_with_double_names_are_handed_back(rt: HostRuntime) {
     assert!(rt; back.len() == 2);
 }
 
-// The scale point of a point is found by its name. A point of another type is not found.
+// A scale point is found by its name. A point of another type with that name is not found.
 #[test]
 fn finds_a_scale(rt: HostRuntime) {
     texts_spell_one_list();

@@ -1,9 +1,9 @@
-//! Names of points.
+//! Tests the names of points.
 use point_list::PointName;
 use std::alloc::Global;
 use std::process::Abort;
 
-// Texts, and whether they are valid names of points.
+// Texts, and whether each is a valid point name.
 static TEXTS: [(&str, bool); 11] = [
     ("wh", true),
     ("m2.WH_SF", true),
@@ -18,7 +18,7 @@ static TEXTS: [(&str, bool); 11] = [
     ("a23456789.123456789_123456789.123", false),
 ];
 
-// Asserts whether a text is a valid name of a point. Its bytes are returned in either case.
+// Asserts whether a text is a valid point name, and that its bytes are returned in either case.
 fn assert_name(rt: &impl Abort, alloc: Global, text: &str, is_name: bool) {
     let bytes = text.as_bytes().to_vec(alloc).expect(rt, "no memory");
     let back = match PointName::new(bytes) {
@@ -34,7 +34,7 @@ fn assert_name(rt: &impl Abort, alloc: Global, text: &str, is_name: bool) {
     assert!(rt; back.as_slice() == text.as_bytes(), "{text}");
 }
 
-// A name has 1 to 32 letters, digits, `_` and `.`, with a letter first.
+// A point name has 1 to 32 letters, digits, `_` and `.`, with a letter first.
 #[test]
 fn names_are_told_from_other_texts(rt: HostRuntime) {
     for (text, is_name) in &TEXTS {

@@ -1,12 +1,12 @@
 //! A writer for tests that accepts a few bytes at a time, is interrupted, and then fails or accepts
-//! nothing.
+//! no byte.
 ghost use Rattle.std.specs.Prelude.{◌≤◌, IfOk, length};
 
 use std::alloc::Global;
 use std::io::{self, ErrorKind};
 
-/// A writer that accepts up to three bytes at a time while it has room. Each write is interrupted
-/// once before it succeeds. Without room the writer fails, or accepts nothing.
+/// A writer that accepts up to three bytes at a time until it is full. Each write is interrupted
+/// once before it succeeds. A full writer fails or accepts no byte.
 #[derive(Drop)]
 pub struct Narrow {
     pub taken: Vec<u8>,

@@ -1,11 +1,11 @@
-//! The values of points, read from Modbus registers.
+//! Tests the values of points, decoded from Modbus registers.
 use point_list::point_type;
 use std::alloc::Global;
 use std::test::Fail;
 use sun_points::{Point, PointType, Scale, read_point};
 
-// The type of a point, two registers, the value of the point and its text. A type with one register
-// reads the first.
+// A point type, two registers, the expected value of the point and its expected text. A type with
+// one register uses only the first register.
 static READINGS: [(&[u8], u16, u16, Point<'static>, &str); 33] = [
     (b"int16", 0xFFFF, 0, Point::Signed(-1), "-1"),
     (b"int16", 0x8001, 0, Point::Signed(-32767), "-32767"),
@@ -84,7 +84,7 @@ static READINGS: [(&[u8], u16, u16, Point<'static>, &str); 33] = [
     (b"sunssf", 0x8000, 0, Point::Absent, "absent"),
 ];
 
-// Returns whether registers that are read as this type give this value and this text.
+// Returns whether two registers, read as a point of a type, have the expected value and text.
 fn is_read(
     alloc: Global,
     ty: PointType,
@@ -99,7 +99,7 @@ fn is_read(
     Ok(point == value && text.as_slice() == shown.as_bytes())
 }
 
-// For each type, registers give the values at both ends of its range, and `absent`.
+// For each type, registers decode to the values at both ends of the type's range, and to `absent`.
 #[test]
 fn registers_are_read_by_type(rt: HostRuntime) -> Result<(), Fail> {
     for (i, (name, high, low, value, shown)) in READINGS.iter().enumerate() {

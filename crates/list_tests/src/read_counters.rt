@@ -1,4 +1,4 @@
-//! Counters of a device that are read over a link.
+//! Tests the reading of a device's counters over a link.
 use crate::stand_in_link::StandInLink;
 use device_scan::{CounterScale, ScanFault, Shown, read_counter};
 use mb_device::{Area, Bank, Kind, Trick};
@@ -19,8 +19,8 @@ static AREAS: [Area; 2] = [
     },
 ];
 
-// A counter of input registers with scales after and before it, a counter of holding registers, and
-// scales that no counter has.
+// Registers of a device: a counter of input registers with scales before and after it, a counter of
+// holding registers, and invalid scales.
 static WORDS: [(Kind, u16, u16); 9] = [
     (Kind::Holding, 40000, 1),
     (Kind::Holding, 40001, 2),
@@ -45,11 +45,11 @@ const HOLDING: ReadFunction = ReadFunction::HoldingRegisters;
 
 const INPUT: ReadFunction = ReadFunction::InputRegisters;
 
-// The value and the scale factor of a counter, if it can be read.
+// The value of a counter and its power of ten, or `None` if the counter cannot be read.
 type Count = Option<(u32, i16)>;
 
-// The function, address and scale of a counter. Then the result of reading it, and the number of
-// requests.
+// The function, address and scale of a counter, the expected result of reading the counter, and the
+// expected number of requests.
 static COUNTERS: [(ReadFunction, u16, CounterScale, Count, u64); 13] = [
     (HOLDING, 40000, CounterScale::Fixed(0), Some((65538, 0)), 1),
     (
@@ -75,14 +75,16 @@ static COUNTERS: [(ReadFunction, u16, CounterScale, Count, u64); 13] = [
         1,
     ),
     (INPUT, 40005, CounterScale::Register(40129), Some((0, 0)), 1),
-    // A scale factor that is not implemented, and scale factors out of range.
+    // A scale factor that is not implemented, and scale factors that are out of range for a
+    // counter.
     (INPUT, 40010, CounterScale::Register(40015), None, 1),
     (INPUT, 40010, CounterScale::Register(40016), None, 1),
     (INPUT, 40010, CounterScale::Register(40017), None, 1),
     (INPUT, 40010, CounterScale::Fixed(4), None, 1),
-    // Registers that the device does not have.
+    // A counter whose registers the device does not have.
     (HOLDING, 40129, CounterScale::Fixed(0), None, 2),
-    // A read of 126 registers, and a counter of which only half is below the last address.
+    // A counter and a scale that need a read of 126 registers, and a counter that extends past
+    // address 65535.
     (INPUT, 40004, CounterScale::Register(40129), None, 0),
     (INPUT, 65535, CounterScale::Fixed(0), None, 0),
 ];
@@ -92,8 +94,7 @@ fn shown(count: Count) -> Option<Shown> {
     Some(Shown { raw, sf })
 }
 
-// A counter is read together with its scale in one request. The request is sent once more if no
-// words arrive.
+// A counter and its scale are read by one request, which is sent once more if no words arrive.
 #[test]
 fn a_counter_is_read_with_its_scale(rt: HostRuntime) {
     let mut link = StandInLink::new(meter(&rt, rt.alloc()), &[]);
@@ -108,7 +109,7 @@ fn a_counter_is_read_with_its_scale(rt: HostRuntime) {
     }
 }
 
-// Reads the counter whose scale is after it, from a simulator with injected faults.
+// Reads the counter whose scale register follows it, from a simulated device with injected faults.
 fn tricked(
     rt: &impl Abort,
     alloc: Global,
@@ -127,7 +128,7 @@ static ONCE: [Trick; 5] = [
     Trick::Unit,
 ];
 
-// If a response fails once, the request is sent again. After two timeouts there is no value, and a
+// If one response fails, the request is sent again. After two timeouts there is no value, and a
 // broken connection is a fault.
 #[test]
 fn a_counter_is_asked_for_twice(rt: HostRuntime) {
@@ -143,18 +144,19 @@ fn a_counter_is_asked_for_twice(rt: HostRuntime) {
     assert!(rt; garbled == Err(ScanFault::Garbled));
 }
 
-// An exception response to the first request, and the registers as the response to the second.
+// An exception response to the first request, followed by a response with registers to the second
+// request.
 static EXCEPTION_THEN_WORDS: [u8; 22] = [
     0, 1, 0, 0, 0, 3, 7, 0x84, 6, 0, 2, 0, 0, 0, 7, 7, 4, 4, 0, 1, 0, 2,
 ];
 
-// Both requests: two input registers from 40010, of unit 7.
+// The frames of both requests: two input registers from address 40010 of unit 7.
 static REQUESTS: [u8; 24] = [
     0, 1, 0, 0, 0, 6, 7, 4, 0x9C, 0x4A, 0, 2, 0, 2, 0, 0, 0, 6, 7, 4, 0x9C, 0x4A, 0, 2,
 ];
 
 // Asserts the result of reading a counter over a link of which one call may fail. Returns the bytes
-// that were written.
+// written to the link.
 fn assert_read(
     rt: &impl Abort,
     alloc: Global,
@@ -169,8 +171,8 @@ fn assert_read(
     link.given().to_vec(alloc).expect(rt, "no memory")
 }
 
-// The second request may succeed after an exception. Then the first write, the second write and the
-// first read fail, each in turn.
+// The second request may succeed after an exception response. A failure of the first write, the
+// second write or the first read is a fault.
 #[test]
 fn words_may_come_after_an_exception(rt: HostRuntime) {
     let wanted = Ok(shown(Some((65538, -1))));

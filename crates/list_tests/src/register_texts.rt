@@ -1,4 +1,4 @@
-//! Texts in Modbus registers.
+//! Tests the printing of texts in Modbus registers.
 use std::alloc::Global;
 use std::process::Abort;
 use sun_points::Text;
@@ -9,8 +9,7 @@ fn length(rt: &impl Abort, alloc: Global, words: &[u16]) -> usize {
     output.len()
 }
 
-// The longest text has 1,000 bytes when printed. A text of 126 registers is printed up to register
-// 125.
+// The longest printed text has 1,000 characters. Only the first 125 of 126 registers are printed.
 #[test]
 fn the_longest_text(rt: HostRuntime) {
     assert!(rt; length(&rt, rt.alloc(), &[0xFFFF; 125]) == 1000);

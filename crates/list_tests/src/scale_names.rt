@@ -1,4 +1,4 @@
-//! The names of scale points, by the definitions of SunSpec models.
+//! Tests the names of scale points in the SunSpec model tables.
 use sun_chain::scale_name;
 
 static NAMES: [(u16, &str, Option<&str>); 8] = [

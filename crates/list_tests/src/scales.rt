@@ -1,7 +1,7 @@
-//! SunSpec scale factors.
+//! Tests SunSpec scale factors.
 use sun_points::Scale;
 
-// The register of a scale point, and its scale factor.
+// The register value of a scale point, and the expected scale factor, or `None` if it is not valid.
 static REGISTERS: [(u16, Option<i8>); 8] = [
     (0, Some(0)),
     (10, Some(10)),

@@ -1,4 +1,5 @@
-//! Scans of a simulated device for SunSpec models, without faults and with each injected fault.
+//! Tests scans of a simulated device for SunSpec models, without faults and with each injected
+//! fault.
 use crate::full_models::full_image;
 use crate::stand_in_link::StandInLink;
 use device_scan::{ScanFault, ScanObserver, scan_over};
@@ -7,7 +8,7 @@ use std::alloc::Global;
 use std::process::Abort;
 use sun_chain::{ChainFault, Image, Model, walk};
 
-// A listener that counts the models which a scan reports.
+// An observer that counts the models which a scan reports.
 #[derive(Drop)]
 struct Shown(u64);
 
@@ -23,7 +24,7 @@ static WHOLE: [Area; 1] = [Area {
     count: 230,
 }];
 
-// Returns a device with the words of the full models. Its last register is the ID of the end model.
+// Returns a device with complete models. Its last register is the ID of the end model.
 fn full_bank(rt: &impl Abort, alloc: Global) -> Bank {
     let image = full_image(rt, alloc);
     let mut bank = Bank::new(alloc, &WHOLE).ok().expect(rt, "no bank");
@@ -33,7 +34,7 @@ fn full_bank(rt: &impl Abort, alloc: Global) -> Bank {
     bank
 }
 
-// Asserts that an image has the words of the full models and no others.
+// Asserts that an image has exactly the words of the complete models.
 fn assert_full(rt: &impl Abort, alloc: Global, found: &Image) {
     let image = full_image(rt, alloc);
     for address in 39990..40240u16 {
@@ -41,7 +42,7 @@ fn assert_full(rt: &impl Abort, alloc: Global, found: &Image) {
     }
 }
 
-// The result of a scan, its number of requests, and the number of models that it reported.
+// The result of a scan, the number of requests, and the number of models reported.
 #[derive(Drop)]
 struct Scanned {
     found: Result<Image, ScanFault>,
@@ -61,7 +62,7 @@ fn scan_bank(alloc: Global, bank: Bank, tricks: &[(u64, Trick)]) -> Scanned {
     }
 }
 
-// Scans the full models with injected faults.
+// Scans a simulated device that has complete models, with injected faults.
 fn scanned_full(
     rt: &impl Abort,
     alloc: Global,
@@ -70,16 +71,15 @@ fn scanned_full(
     scan_bank(alloc, full_bank(rt, alloc), tricks).found
 }
 
-// Scans a simulated device, and asserts the number of requests.
+// Scans a simulated device, asserts the number of requests, and returns the image.
 fn assert_image(rt: &impl Abort, alloc: Global, bank: Bank, requests: u64) -> Image {
     let scanned = scan_bank(alloc, bank, &[]);
     assert!(rt; scanned.requests == requests, "{requests}");
     scanned.found.ok().expect(rt, "no scan")
 }
 
-// Full models are read in ten requests. One is for the mark, three are for the models' registers,
-// and one is for each of the first three heads. The last head is requested twice, and then its ID
-// alone.
+// Complete models are read with ten requests. One is for the mark, three are for heads, and three
+// for the models' registers. Two are for the last head, and one is for its ID alone.
 #[test]
 fn full_models_are_read(rt: HostRuntime) {
     let scanned = scan_bank(rt.alloc(), full_bank(&rt, rt.alloc()), &[]);
@@ -88,7 +88,7 @@ fn full_models_are_read(rt: HostRuntime) {
     assert_full(&rt, rt.alloc(), &scanned.found.ok().expect(&rt, "no scan"));
 }
 
-// Injected faults that lose or change the response to one frame. The second attempt succeeds.
+// Injected faults that drop or change the response to one frame, after which a retry succeeds.
 static ONCE: [Trick; 5] = [
     Trick::Drop,
     Trick::Twice,
@@ -97,7 +97,7 @@ static ONCE: [Trick; 5] = [
     Trick::Unit,
 ];
 
-// If a response fails once, the request is sent again. This is tested for each fault on each frame.
+// If a response fails once, the request is sent again. The test injects each fault at each frame.
 #[test]
 fn a_reply_that_fails_once_is_asked_for_again(rt: HostRuntime) {
     for trick in &ONCE {
@@ -108,7 +108,7 @@ fn a_reply_that_fails_once_is_asked_for_again(rt: HostRuntime) {
     }
 }
 
-// A broken connection or a garbled frame ends the scan.
+// A connection that is closed, or a response with an invalid length field, ends the scan.
 #[test]
 fn a_connection_that_breaks_ends_the_scan(rt: HostRuntime) {
     let cut = scanned_full(&rt, rt.alloc(), &[(3, Trick::Cut(5))]);
@@ -117,8 +117,8 @@ fn a_connection_that_breaks_ends_the_scan(rt: HostRuntime) {
     assert!(rt; garbled.err() == Some(ScanFault::Garbled));
 }
 
-// If a read fails twice, its registers are missing from the image. Here these are the registers of
-// the inverter.
+// If a read fails twice, its registers are missing from the image. In this test they are the
+// registers of the inverter model.
 #[test]
 fn what_fails_twice_is_unread(rt: HostRuntime) {
     let tricks = [(5, Trick::Drop), (6, Trick::Drop)];
@@ -137,7 +137,7 @@ static UPPER: [Area; 1] = [Area {
     count: 15536,
 }];
 
-// Returns a device with these words, all above address 50000.
+// Returns a device with these registers, all at or above address 50000.
 fn upper_bank(rt: &impl Abort, alloc: Global, words: &[(u16, u16)]) -> Bank {
     let mut bank = Bank::new(alloc, &UPPER).ok().expect(rt, "no bank");
     for (address, word) in words {
@@ -146,7 +146,7 @@ fn upper_bank(rt: &impl Abort, alloc: Global, words: &[(u16, u16)]) -> Bank {
     bank
 }
 
-// The SunSpec mark, an unknown model, and the end model at the last address.
+// The SunSpec mark, an unknown model, and the end model at address 65535.
 static TO_THE_LAST: [(u16, u16); 5] = [
     (50000, 0x5375),
     (50001, 0x6E53),
@@ -155,8 +155,8 @@ static TO_THE_LAST: [(u16, u16); 5] = [
     (65535, 0xFFFF),
 ];
 
-// A chain may end at the last address. The scan needs five requests: 40000 twice, 50000, and two
-// heads. It does not read the registers of an unknown model.
+// A chain may end at address 65535. The scan sends five requests: two for the mark at 40000, one
+// for the mark at 50000, and two for heads. It does not read the registers of the unknown model.
 #[test]
 fn a_chain_may_end_at_the_last_address(rt: HostRuntime) {
     let bank = upper_bank(&rt, rt.alloc(), &TO_THE_LAST);
@@ -166,7 +166,7 @@ fn a_chain_may_end_at_the_last_address(rt: HostRuntime) {
     assert!(rt; chain.end() == 65535);
 }
 
-// A model 1 of 126 registers, and the end model.
+// A model 1 of 126 registers, followed by the end model.
 static LONG: [(u16, u16); 6] = [
     (50000, 0x5375),
     (50001, 0x6E53),
@@ -176,8 +176,8 @@ static LONG: [(u16, u16); 6] = [
     (50130, 0xFFFF),
 ];
 
-// A long model needs several reads. The scan needs seven requests: 40000 twice, 50000, two heads,
-// 125 registers, and one more register.
+// A long model needs several reads. The scan sends seven requests: two for the mark at 40000, one
+// for the mark at 50000, two for heads, one for 125 registers, and one for the last register.
 #[test]
 fn a_long_model_takes_several_reads(rt: HostRuntime) {
     let image = assert_image(&rt, rt.alloc(), upper_bank(&rt, rt.alloc(), &LONG), 7);
@@ -185,7 +185,7 @@ fn a_long_model_takes_several_reads(rt: HostRuntime) {
     assert!(rt; image.word(50129) == Some(7));
 }
 
-// Scans a device with `count` models without registers, and then the end model.
+// Scans a device with `count` models without registers, followed by the end model.
 fn many_models(rt: &impl Abort, alloc: Global, count: u16) -> Image {
     let mut bank = upper_bank(rt, alloc, &TO_THE_LAST);
     for place in 0..count {

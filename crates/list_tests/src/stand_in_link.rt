@@ -1,20 +1,20 @@
-//! A link to a simulator in the same process.
+//! A link to a simulated device in the same process.
 ghost use Rattle.std.specs.Prelude.{◌≤◌, ◌<◌, length};
 
 use mb_device::{Bank, Server, Trick};
 use mb_wire::{LastTake, Link, LinkFailed, MemoryLink, Took};
 
-/// The greatest number of response bytes that wait to be read.
+/// The greatest number of response bytes that the link can buffer.
 const ROOM: usize = 1024;
 
-/// A link to a simulated device that responds to each write at once. A read without a response
-/// times out. After a fault that closes the connection, the link ends.
+/// A link to a simulated device that responds to each write immediately. A read without a response
+/// times out. After an injected fault closes the connection, the link's input ends.
 #[derive(Drop)]
 pub(crate) struct StandInLink<'t> {
     server: Server<'t>,
     bank: Bank,
     answers: [u8; ROOM],
-    // The range of response bytes that were not read yet.
+    // The range of buffered response bytes that were not read yet.
     start: usize,
     end: usize,
     is_over: bool,
@@ -42,13 +42,13 @@ impl<'t> StandInLink<'t> {
         }
     }
 
-    /// Returns the number of writes. There is one for each request.
+    /// Returns the number of writes to the link, one for each request.
     pub(crate) fn gives(&self) -> u64 {
         self.gives
     }
 }
 
-// Returns the number of response bytes, which are at the front of `answers`, and whether the
+// Returns the number of response bytes written to the front of `answers`, and whether the
 // connection was closed.
 fn answer_to(
     server: &mut Server<'_>,
@@ -67,7 +67,7 @@ fn answer_to(
     (link.given().len().min(ROOM), is_over)
 }
 
-// Copies bytes to the front of a buffer, and returns how many were copied.
+// Copies bytes to the front of a buffer, and returns the number of bytes copied.
 fn copy(bytes: &[u8], piece: &mut [u8]) -> usize
     ensures within { result ≤ length bytes.now }
     ensures fits { result ≤ length piece.new }

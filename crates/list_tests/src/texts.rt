@@ -1,9 +1,9 @@
-//! The texts of faults.
+//! Asserts the texts of faults.
 use std::alloc::Global;
 use std::fmt::Display;
 use std::process::Abort;
 
-/// Asserts the text of each fault. No text ends with a full stop.
+/// Asserts that each fault is printed as its expected text, which does not end with a full stop.
 pub(crate) fn assert_texts<F: Display>(rt: &impl Abort, alloc: Global, texts: &[(F, &str)]) {
     for (fault, text) in texts {
         let said = format!(in alloc; "{fault}").expect(rt, "no memory");

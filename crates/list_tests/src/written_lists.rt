@@ -1,8 +1,8 @@
-//! Point lists that are written as CSV texts.
+//! Tests the writing of point lists as CSV texts.
 
 use crate::given::{list_of, written};
 
-// The text of a list, and the text that is written for the list.
+// The text from which a point list is read, and the expected text that is written for the list.
 struct Rewritten {
     text: &'static [u8],
     written: &'static [u8],
@@ -26,10 +26,10 @@ wh,3,0,40094,acc32,whsf
 whsf,3,0,40096,sunssf,
 ";
 
-// Each kind of point; a text as a spreadsheet writes it; a header alone. Four texts of a counter
-// and its scale point: plain; with a byte order mark and carriage returns; with quoted fields,
-// blank lines and a last line without its end; with leading zeros up to ten digits. Last the ends
-// of ranges.
+// Texts with each kind of point, from a spreadsheet program, and with only a header. Four texts
+// with a counter and its scale point: plain, with a byte order mark and carriage returns, with
+// quoted fields, blank lines and no final line end, and with leading zeros. The last text has the
+// limits of numbers.
 static TEXTS: [Rewritten; 8] = [
     Rewritten {
         text: EVERY_KIND,
@@ -65,7 +65,8 @@ static TEXTS: [Rewritten; 8] = [
     },
 ];
 
-// A list is always written in the same form, whatever the form of the text from which it was read.
+// A point list is always written in the same form, whatever the form of the text from which it was
+// read.
 #[test]
 fn lists_are_written(rt: HostRuntime) {
     for (i, case) in TEXTS.iter().enumerate() {

@@ -1,4 +1,5 @@
--- Worked frames, computed from the definitions.
+-- The definitions evaluated for example frames, each limit, and the exchanges printed in the
+-- standard.
 use Rattle.std.proofs.Common.{◌≡◌, List, ℕ, [], ◌∷◌, ◌++◌, Option, Some, None, true, false, replicate, refl}
 use Rattle.mb_wire.specs.Frames.{frames, frames_in}
 use Rattle.mb_wire.specs.Coils.{bits_in, coils_in, packed_in}
@@ -11,7 +12,7 @@ use Rattle.mb_device.specs.declared.kinds.Kind.TheVariants.{Holding}
 use Rattle.mb_device.specs.declared.trick.Trick.{Trick}
 use Rattle.mb_device.specs.declared.trick.Trick.TheVariants as play
 
--- Holding register 0 is 9.
+-- A register map whose holding register 0 has the value 9.
 maps : Maps
 maps = record { coils = []; discretes = []; holdings = Some 9 ∷ []; inputs = [] }
 
@@ -25,7 +26,8 @@ a_read_is_answered : sent_to (begun []) maps (own_frames read) ≡ nine
 unfolding maps answer_to_frame sent_next course_next trick_at frames frames_in
 a_read_is_answered = refl
 
--- A frame of another protocol, a write of 5 to holding register 0, and a read of that register.
+-- Three frames: one of another protocol, a write of 5 to holding register 0, and a read of that
+-- register.
 abbrev foreign : List ℕ
 foreign = 0 ∷ 1 ∷ 0 ∷ 9 ∷ 0 ∷ 3 ∷ 1 ∷ 3 ∷ 0 ∷ []
 
@@ -46,12 +48,12 @@ a_write_is_kept : value_in (maps_after_all maps (own_frames all)).holdings 0 ≡
 unfolding maps frames frames_in
 a_write_is_kept = refl
 
--- ---- tricks, on the write and the read
+-- ---- injected faults, for a write followed by a read
 
 abbrev on_first : Trick → Course
 on_first trick = begun ((1, trick) ∷ [])
 
--- The server executes the write, and sends no response to it.
+-- The server executes a write whose response is dropped.
 a_dropped_answer : sent_to (on_first play.Drop) maps (own_frames all) ≡ five
 unfolding maps answer_to_frame sent_next course_next trick_at frames frames_in
 a_dropped_answer = refl
@@ -60,12 +62,12 @@ a_later_answer : sent_to (on_first play.Later) maps (own_frames all) ≡ five ++
 unfolding maps answer_to_frame sent_next course_next trick_at frames frames_in
 a_later_answer = refl
 
--- Two later responses: the first is sent when the second is buffered.
+-- With two delayed responses, the first is sent when the second is delayed.
 two_later_answers : sent_to (begun ((2, play.Later) ∷ (1, play.Later) ∷ [])) maps (own_frames all) ≡ write
 unfolding maps answer_to_frame sent_next course_next trick_at frames frames_in
 two_later_answers = refl
 
--- After a cut the server executes nothing.
+-- A server executes no frame after an injected fault closed its connection.
 a_cut_answer : sent_to (on_first (play.Cut 4)) maps (own_frames (read ++ write)) ≡ 0 ∷ 7 ∷ 0 ∷ 0 ∷ []
 unfolding maps answer_to_frame sent_next course_next trick_at frames frames_in
 a_cut_answer = refl
@@ -74,12 +76,12 @@ a_cut_connection : carried_out (on_first (play.Cut 4)) (own_frames (read ++ writ
 unfolding trick_at frames frames_in
 a_cut_connection = refl
 
--- The first trick with the number applies.
+-- The first fault in the list with the frame's number applies.
 the_first_trick : sent_to (begun ((1, play.Unit) ∷ (1, play.Drop) ∷ [])) maps (own_frames read) ≡ 0 ∷ 7 ∷ 0 ∷ 0 ∷ 0 ∷ 5 ∷ 2 ∷ 3 ∷ 2 ∷ 0 ∷ 9 ∷ []
 unfolding maps answer_to_frame sent_next course_next trick_at frames frames_in
 the_first_trick = refl
 
--- The greatest transaction identifier and the greatest unit wrap to 0.
+-- The greatest transaction identifier and the greatest unit identifier wrap to 0.
 the_last_id : sent_to (on_first play.Id) maps (own_frames (255 ∷ 255 ∷ 0 ∷ 0 ∷ 0 ∷ 6 ∷ 1 ∷ 3 ∷ 0 ∷ 0 ∷ 0 ∷ 1 ∷ [])) ≡ 0 ∷ 0 ∷ 0 ∷ 0 ∷ 0 ∷ 5 ∷ 1 ∷ 3 ∷ 2 ∷ 0 ∷ 9 ∷ []
 unfolding maps answer_to_frame sent_next course_next trick_at frames frames_in
 the_last_id = refl
@@ -88,8 +90,8 @@ the_last_unit : sent_to (on_first play.Unit) maps (own_frames (0 ∷ 7 ∷ 0 ∷
 unfolding maps answer_to_frame sent_next course_next trick_at frames frames_in
 the_last_unit = refl
 
--- ---- limits, as numbers: a device without addresses answers an allowed quantity with exception 2,
--- and any other with exception 3
+-- ---- limits: a device without addresses responds to a valid quantity with exception 2, and to an
+-- invalid quantity with exception 3
 
 abbrev nothing : Maps
 nothing = record { coils = []; discretes = []; holdings = []; inputs = [] }
@@ -132,7 +134,7 @@ writes_123_registers = refl
 writes_124_registers : answer_to nothing (16 ∷ 0 ∷ 0 ∷ 0 ∷ 124 ∷ 248 ∷ replicate 248 0) ≡ 144 ∷ 3 ∷ []
 writes_124_registers = refl
 
--- An area up to address 65535, and one past it.
+-- An area may end at address 65535. An area that ends after this address is out of range.
 the_last_address : is_out_of_range (record { kind = Holding; start = 65535; count = 1 }) ≡ false
 the_last_address = refl
 
@@ -156,7 +158,7 @@ sample = record {
   inputs = replicate 8 None ++ (Some 10 ∷ []);
 }
 
--- The device of the standard's writes, which has coil 172 and registers 1 and 2.
+-- The device for the standard's examples of writes, which has coil 172 and registers 1 and 2.
 abbrev writable : Maps
 writable = record { coils = replicate 172 None ++ (Some 0 ∷ []); discretes = []; holdings = None ∷ Some 0 ∷ Some 0 ∷ []; inputs = [] }
 

@@ -1,4 +1,4 @@
--- Consecutive exchanges of bytes.
+-- Lemmas about consecutive exchanges of bytes.
 use Rattle.std.proofs.Common.{◌≡◌, ℕ, false, List, [], ◌∷◌, ◌++◌, Ok, refl, sym, ap, ◌∙◌, subst}
 use Rattle.mb_wire.specs.Frames.{IsOpen, rest}
 use Rattle.mb_device.specs.Exchanges.{Exchange, Exchanges, ExchangesOver, InOrder, in_all, joined}
@@ -28,7 +28,7 @@ serving_exchanges buffered course count old new standing serves =
       exchanges = record { given = refl; maps = serves.answered.maps; stands = serves.stands; is_open = serves.tells.0.is_open };
     }
 
--- The buffered bytes and the connection of a server that still serves.
+-- The buffered bytes of a server that is still serving.
 abbrev bytes_in : Standing → List ℕ
 bytes_in (Holds buffered course) = buffered
 bytes_in Over = []

@@ -1,4 +1,4 @@
--- The frames of streams that arrive in pieces.
+-- Lemmas about the frames of streams that arrive in chunks.
 use Rattle.std.proofs.Common.{◌≡◌, ℕ, ◌+◌, ◌<◌, ◌⊎◌, inl, inr, List, [], ◌∷◌, ◌++◌, length, take, refl, sym, ap, ◌∙◌, subst, arith, append_assoc, length-append, lit<}
 use Rattle.std.specs.List.{flat_map, filter}
 use Rattle.std.proofs.lemmas.List.{append-nil, take_all}
@@ -16,8 +16,8 @@ use Rattle.mb_device.specs.Server.{buffered_frames, is_own, own_frames}
 abbrev concat : List (List ℕ) → List ℕ
 concat frames = flat_map (λ frame. frame) frames
 
--- The frames of two byte lists together are those of the first, and those of its rest with the
--- second.
+-- The frames of two concatenated byte lists are those of the first, followed by those of its rest
+-- with the second.
 pub frames-then : (a b : List ℕ) → (frames (a ++ b) ≡ frames a ++ frames (rest a ++ b)) × (rest (a ++ b) ≡ rest (rest a ++ b))
 frames-then a b =
     let first = Reads-is a in
@@ -39,7 +39,7 @@ frames-then a b =
 pub own_frames-then : (a b : List ℕ) → own_frames (a ++ b) ≡ own_frames a ++ own_frames (rest a ++ b)
 own_frames-then a b = ap (filter is_own) (frames-then a b).0 ∙ filter-append is_own (frames a) (frames (rest a ++ b))
 
--- Bytes that are an incomplete frame or a bad one have no frames, and are their own rest.
+-- An incomplete or invalid frame contains no complete frame, and is its own rest.
 rest_alone : (b : List ℕ) → IsOpen b ⊎ IsBad b → (frames b ≡ []) × (rest b ≡ b)
 rest_alone b ends = Reads-only b [] b record { joined = refl; each = tt; ends = ends }
 
@@ -62,7 +62,7 @@ bad_alone b left bad =
     let alone = rest_alone (b ++ left) (inr still) in
     (ap (filter is_own) alone.0, subst IsBad (sym alone.1) still)
 
--- The frame that a feed ended is the frame that the reader then holds, if it is a frame of Modbus.
+-- The Modbus frame that a feed ended is the frame in the reader after the feed.
 told_frames : (what : Framing) (b : List ℕ) → TellsFraming what b → (own_frames b ≡ buffered_frames (buffered_after what b).frame) × (rest b ≡ (buffered_after what b).rest)
 told_frames Need b tells = open_alone b tells
 told_frames Whole b tells =
@@ -73,7 +73,8 @@ told_frames Foreign b tells =
     (ap (filter is_own) alone.0 ∙ cond-false _ _ _ (ne_eqb _ _ tells.1), alone.1)
 told_frames Garbled b tells = let alone = rest_alone b (inr tells.0) in (ap (filter is_own) alone.0, alone.1)
 
--- After a feed of a piece, the frames of the bytes that it did not take are left.
+-- After a feed, the remaining frames of a chunk are those of the bytes that the feed did not
+-- consume.
 pub piece_frames : (what : Framing) (r piece : List ℕ) (taken : ℕ) (buffered : Buffered) → TellsFraming what (r ++ take taken piece) → buffered ≡ buffered_after what (r ++ take taken piece)
     → (own_frames (r ++ piece) ≡ buffered_frames buffered.frame ++ own_frames (buffered.rest ++ from taken piece)) × (rest (r ++ piece) ≡ rest (buffered.rest ++ from taken piece))
 piece_frames what r piece taken buffered tells is =
@@ -87,7 +88,8 @@ piece_frames what r piece taken buffered tells is =
       ap rest whole ∙ (frames-then b left).1 ∙ ap (λ y. rest (y ++ left)) stays,
     )
 
--- A feed that takes the last bytes of a piece, and ends no frame.
+-- After a feed that consumes all of a chunk and ends no frame, the reader has buffered the stream's
+-- rest.
 pub need_piece : (what : Framing) (r piece : List ℕ) (taken : ℕ) (buffered : Buffered) → TellsFraming what (r ++ take taken piece) → buffered ≡ buffered_after what (r ++ take taken piece) → what ≡ Need → taken ≡ length piece
     → (own_frames (r ++ piece) ≡ buffered_frames buffered.frame) × IsOpen (rest (r ++ piece)) × (buffered.rest ≡ rest (r ++ piece))
 need_piece what r piece taken buffered tells is need all =
@@ -103,7 +105,7 @@ need_piece what r piece taken buffered tells is need all =
       stays ∙ sym alone.1 ∙ ap rest whole,
     )
 
--- After a feed that ends at a bad length, the stream is garbled.
+-- After a feed that ends at an invalid length field, the stream is garbled.
 pub garbled_piece : (what : Framing) (r piece : List ℕ) (taken : ℕ) (buffered : Buffered) → TellsFraming what (r ++ take taken piece) → buffered ≡ buffered_after what (r ++ take taken piece) → what ≡ Garbled
     → (own_frames (r ++ piece) ≡ buffered_frames buffered.frame) × IsBad (rest (r ++ piece))
 garbled_piece what r piece taken buffered tells is garbled =
@@ -117,12 +119,12 @@ garbled_piece what r piece taken buffered tells is garbled =
       subst (λ y. IsBad (rest y)) whole alone.1,
     )
 
--- An incomplete frame with no bytes after it has no frames, and stays buffered.
+-- An incomplete frame without further bytes completes no frame and remains buffered.
 pub nothing_taken : (buffered : List ℕ) → IsOpen buffered → (own_frames (buffered ++ []) ≡ []) × (rest (buffered ++ []) ≡ buffered)
 nothing_taken buffered is_open = let alone = open_alone buffered is_open in (ap own_frames (append-nil buffered) ∙ alone.0, ap rest (append-nil buffered) ∙ alone.1)
 
--- The frames of more bytes are those of the bytes read so far, and those of their rest with the
--- new bytes.
+-- The frames of more bytes are those of the bytes read until now, followed by those of their rest
+-- with the new bytes.
 pub taken_more : (buffered taken more : List ℕ) → (own_frames (buffered ++ (taken ++ more)) ≡ own_frames (buffered ++ taken) ++ own_frames (rest (buffered ++ taken) ++ more)) × (rest (buffered ++ (taken ++ more)) ≡ rest (rest (buffered ++ taken) ++ more))
 taken_more buffered taken more =
     let joined : buffered ++ (taken ++ more) ≡ (buffered ++ taken) ++ more = sym (append_assoc buffered taken more) in

@@ -1,4 +1,4 @@
--- Consecutive responses, changed by tricks.
+-- Lemmas about consecutive responses with injected faults.
 use Rattle.std.proofs.Common.{◌≡◌, ℕ, ◌-◌, ◌^◌, nat_lt, Bool, if◌then◌else◌, true, false, List, [], ◌∷◌, ◌++◌, Option, None, refl, sym, ap, ◌∙◌, append_assoc}
 use Rattle.std.specs.List.{flat_map}
 use Rattle.std.proofs.lemmas.List.{append-nil}
@@ -7,14 +7,14 @@ use Rattle.mb_wire.specs.Links.{risen}
 use Rattle.mb_device.specs.Tricks.{Course, Playing, CutOff, following, carried_out, course_after, course_in, course_next, cuts, first_trick, frame_of, is_cut, later_of, sent, sent_next, sent_of, spelled_by, trick_at, up_to_cut}
 use Rattle.mb_device.specs.declared.trick.Trick.{Trick}
 
--- The bytes that a sender sends for a response, if its connection is not cut.
+-- The bytes that a sender sends for a response on an open connection.
 pub sends : (course : Course) (cut : Bool) (tricks : List (ℕ × Trick)) (number : ℕ) (later : List ℕ) (answer : Fields) → course ≡ course_in cut tricks number later → is_cut course ≡ false
     → sent_next course answer ≡ sent_of (trick_at tricks number) (spelled_by (trick_at tricks number) answer) later
 unfolding sent_next
 sends course true tricks number later answer is going = let both : true ≡ false = sym (ap is_cut is) ∙ going in absurd cc
 sends course false tricks number later answer is going = ap (λ c. sent_next c answer) is
 
--- The connection's state after a sender sent a response.
+-- The state of a connection after a sender sent a response.
 pub goes_on : (course : Course) (cut : Bool) (tricks : List (ℕ × Trick)) (number : ℕ) (later : List ℕ) (answer : Fields) → course ≡ course_in cut tricks number later → is_cut course ≡ false
     → course_next course answer ≡ following (trick_at tricks number) (spelled_by (trick_at tricks number) answer) course
 unfolding course_next
@@ -33,7 +33,7 @@ pub course_after-append : (course : Course) (xs ys : List Fields) → course_aft
 course_after-append course [] ys = refl
 course_after-append course (x ∷ xs) ys = course_after-append (course_next course x) xs ys
 
--- After a cut nothing is sent, and the connection stays cut.
+-- A closed connection sends nothing and remains closed.
 pub sent-cut : (xs : List Fields) → sent CutOff xs ≡ []
 unfolding sent_next course_next
 sent-cut [] = refl
@@ -68,7 +68,7 @@ pub carried_out-one : (course : Course) (answer : Fields) (frame : List ℕ) →
 carried_out-one course answer frame going =
     carried_out-next course answer frame [] going ∙ ap (λ fs. frame ∷ fs) (carried_out-none (course_next course answer))
 
--- ---- without tricks, or past the last
+-- ---- without injected faults, or after the last frame with one
 
 either_none : (b : Bool) (one other : Option Trick) → one ≡ None → other ≡ None → (if b then one else other) ≡ None
 either_none true one other first next = first

@@ -1,4 +1,4 @@
--- Consecutive turns.
+-- Lemmas about consecutive turns of a server.
 use Rattle.std.proofs.Common.{◌≡◌, ℕ, ◌+◌, Bool, true, false, not, List, [], ◌++◌, length, Option, Result, Ok, Err, refl, sym, ap, ◌∙◌, subst}
 use Rattle.std.specs.Prelude.{◌&&◌}
 use Rattle.std.proofs.KnownBytes.{Consumes-trans, Keeps-refl}
@@ -32,7 +32,7 @@ Served-none buffered course around standing is_open going stands =
       counts = record { counted = sym (ap length nothing); is_open = λ _. subst IsOpen (sym none.1) is_open };
     }
 
--- The state of a server that has served frames so far on a connection that is not cut.
+-- The state of a server on an open connection after the frames executed until now.
 reached : (buffered : List ℕ) (course : Course) (count : ℕ) (a b : Around) (before : Standing) → (so_far : Served buffered course count a b before) → is_serving before ≡ true
     → Dealt course a.maps (own_frames (buffered ++ so_far.taken)) (course_after_all course a.maps (own_frames (buffered ++ so_far.taken))) b.maps
 reached buffered course count a b before so_far serving =
@@ -68,7 +68,7 @@ Served-more buffered course count turned a b c before after so_far serving turns
           (counts_then course left a.maps b.maps (own_frames bytes) (buffered ++ (so_far.taken ++ turn.taken)) (rest bytes ++ turn.taken) turned.answered dealt more.0 more.1 turn.tells.0);
     }
 
--- The last turn found the end of the input, or a cut.
+-- `serve` ends if a turn found the end of the input or an injected fault closed the connection.
 pub Serves-end : (buffered : List ℕ) (course : Course) (count : ℕ) (turned : Turned) (a b c : Around) (before after : Standing) → Served buffered course count a b before → is_serving before ≡ true
     → ((later : List ℕ) (mid : Course) → before ≡ Holds later mid → Turns later mid (Ok turned) b c after) → turned.ended ≡ true → Serves buffered course (Ok (count + turned.answered)) a c after
 unfolding Served-more
@@ -89,7 +89,7 @@ Serves-end buffered course count turned a b c before after so_far serving turns 
       tells = (all.counts, λ going. (turn.tells.1.end (ap is_cut (sym same) ∙ going) ended).1);
     }
 
--- If the allowed turns did not end serving, the result `TurnsUsed` has the effects of `Serves`.
+-- If the allowed turns are used up, the result `TurnsUsed` has the effects that `Serves` defines.
 pub Serves-used : (buffered : List ℕ) (course : Course) (count : ℕ) (a b : Around) (before : Standing) → Served buffered course count a b before → is_serving before ≡ true → Serves buffered course (Err fault.TurnsUsed) a b Faulted
 Serves-used buffered course count a b before so_far serving =
     let dealt = reached buffered course count a b before so_far serving in
@@ -111,7 +111,7 @@ serve_tells_fault fault.Garbled buffered taken more course left maps after remai
     garbled_then course left maps after (own_frames (buffered ++ taken)) (buffered ++ (taken ++ more)) (rest (buffered ++ taken) ++ more) dealt same.0 same.1 tells
 serve_tells_fault fault.TurnsUsed buffered taken more course left maps after remaining is_open dealt tells = absurd tells
 
--- The last turn returned a fault.
+-- `serve` returns the fault that its last turn returned.
 pub Serves-fault : (e : ServeFault) (buffered : List ℕ) (course : Course) (count : ℕ) (a b c : Around) (before after : Standing) → Served buffered course count a b before → is_serving before ≡ true
     → ((later : List ℕ) (mid : Course) → before ≡ Holds later mid → Turns later mid (Err e) b c after) → Serves buffered course (Err e) a c after
 Serves-fault e buffered course count a b c before after so_far serving turns =
@@ -129,7 +129,7 @@ Serves-fault e buffered course count a b c before after so_far serving turns =
       tells = serve_tells_fault e buffered so_far.taken turn.taken course left a.maps b.maps c.remaining (so_far.counts.is_open dealt.going) dealt turn.tells;
     }
 
--- ---- a server that still serves
+-- ---- a server that is still serving
 
 pub has_not_failed : (standing : Standing) (failed over : Bool) → failed ≡ has_faulted standing → failed ≡ false → over ≡ is_over standing → over ≡ false → is_serving standing ≡ true
 has_not_failed (Holds buffered course) failed over is none was going = refl
@@ -149,7 +149,7 @@ cut_or_not : (b ended : Bool) → (b ≡ true → ended ≡ true) → ended ≡ 
 cut_or_not true ended ends going = absurd (both_ways ended (ends refl) going)
 cut_or_not false ended ends going = refl
 
--- After a turn that did not end, the server still serves.
+-- After a turn that did not report the end, the server is still serving.
 pub turn_serves : (turned : Turned) (old new : Around) (before after : Standing) → is_serving before ≡ true → ((buffered : List ℕ) (course : Course) → before ≡ Holds buffered course → Turns buffered course (Ok turned) old new after) → turned.ended ≡ false → is_serving after ≡ true
 turn_serves turned old new before after serving turns no_end =
     let holds = buffered_by before serving in
@@ -160,18 +160,18 @@ turn_serves turned old new before after serving turns no_end =
 no_end : (result : Result Turned ServeFault) (turned : Turned) (after : Standing) → result ≡ Ok turned → turned.ended ≡ false → came_to_end result after ≡ false
 no_end result turned after is going = ap (λ r. came_to_end r after) is ∙ ap (λ b. b && not (is_over after)) going
 
--- The read of a turn that did not end found no end.
+-- The read of a turn that did not report the end found no end of the input.
 pub goes_on : (result : Result Turned ServeFault) (turned : Turned) (after : Standing) (last : Option LastTake) → TellsTake (came_to_end result after) (is_read_fault result) last → result ≡ Ok turned → turned.ended ≡ false → TellsTake false false last
 goes_on result turned after last tells is going =
     let first = no_end result turned after is going in
     let second : is_read_fault result ≡ false = ap is_read_fault is in
     record { answer = tells.answer; taken = tells.taken; end = sym first ∙ tells.end; failure = sym second ∙ tells.failure }
 
--- A turn that did not end counts no end.
+-- A turn that did not report the end does not raise the count of ends.
 pub counts_no_end : (result : Result Turned ServeFault) (turned : Turned) (standing : Standing) (before after : ℕ) → after ≡ risen (came_to_end result standing) before → result ≡ Ok turned → turned.ended ≡ false → after ≡ before
 counts_no_end result turned standing before after counted is going = counted ∙ ap (λ (b : Bool). risen b before) (no_end result turned standing is going)
 
--- The end of a turn is the end of serving.
+-- The end that a turn reports is the end that `serve` reports.
 pub same_end : (result : Result Turned ServeFault) (turned : Turned) (count : ℕ) (after : Standing) → result ≡ Ok turned → turned.ended ≡ true → came_to_end result after ≡ served_to_end (Ok count) after
 same_end result turned count after is ended = ap (λ r. came_to_end r after) is ∙ ap (λ b. b && not (is_over after)) ended
 

@@ -1,4 +1,4 @@
--- Responses to the frames of streams that arrive in pieces, changed by tricks.
+-- Lemmas about responses, with injected faults, to the frames of streams that arrive in chunks.
 use Rattle.std.proofs.Common.{◌≡◌, ℕ, ◌+◌, ◌≤◌, Bool, true, false, List, [], ◌∷◌, ◌++◌, length, take, Option, Some, None, Result, Ok, Err, refl, sym, ap, ◌∙◌, subst, arith, append_assoc, length-append, length-take}
 use Rattle.std.specs.Option.{option_map}
 use Rattle.std.specs.Io.KnownBytes.{Appends, Consumes, IsAtEnd, Keeps}
@@ -51,9 +51,9 @@ carried_out-append (Playing tricks number later) maps (x ∷ xs) ys =
     ∙ ap (λ fs. fs ++ carried_out (course_after_all course maps (x ∷ xs)) ys) (sym (carried_out-next course answer x xs refl))
 carried_out-append CutOff maps (x ∷ xs) ys = ap (λ c. carried_out c ys) (sym (course_after-cut (answers maps (x ∷ xs))))
 
--- ---- a connection that is not cut
+-- ---- an open connection
 
--- The server executed all frames of this connection.
+-- A server executes all frames of a connection that is open after them.
 uncut : (course : Course) (maps : Maps) (xs : List (List ℕ)) → is_cut (course_after_all course maps xs) ≡ false → carried_out course xs ≡ xs
 uncut course maps [] going = carried_out-none course
 uncut (Playing tricks number later) maps (x ∷ xs) going =
@@ -63,8 +63,8 @@ uncut (Playing tricks number later) maps (x ∷ xs) going =
 uncut CutOff maps (x ∷ xs) going =
     absurd (both_ways _ (ap is_cut (course_after-cut (answers maps (x ∷ xs)))) going)
 
--- The server executed frames on a connection that is not cut. The connection and the register map
--- have the state that the frames leave.
+-- True if the server executed all frames of the list on a connection that remained open, with the
+-- resulting connection state and register map.
 pub record Dealt (course : Course) (maps : Maps) (xs : List (List ℕ)) (mid : Course) (after : Maps) : Type 0 where
   pub stands : mid ≡ course_after_all course maps xs
   pub going : is_cut mid ≡ false
@@ -97,11 +97,11 @@ carried_then course mid maps after xs ys dealt =
     ∙ ap (λ c. carried_out course xs ++ carried_out c ys) (sym dealt.stands)
     ∙ ap (λ fs. fs ++ carried_out mid ys) dealt.carried
 
--- `AllAnswered` of a list of frames is `AllAnswered` of an equal list.
+-- If a server answered all frames of a list, it also answered all frames of an equal list.
 pub AllAnswered-same : (course : Course) (xs ys : List (List ℕ)) (a b : Around) → ys ≡ xs → AllAnswered course xs a b → AllAnswered course ys a b
 AllAnswered-same course xs ys a b same h = subst (λ fs. AllAnswered course fs a b) (sym same) h
 
--- If nothing was written, the link's output grew by no bytes.
+-- If nothing was written, the link's output is unchanged.
 Appends-none : (a b : Option (List ℕ)) → Keeps a b → Appends a b []
 Appends-none None b h = tt
 Appends-none (Some x) None h = absurd h
@@ -152,8 +152,8 @@ all_then_broken course mid xs ys a b c first dealt next =
           ∙ sym (maps_after_all-append a.maps xs upto) ∙ ap (maps_after_all a.maps) (sym all);
     }
 
--- If all frames of a list were answered, the result for later frames is the result for both
--- lists.
+-- If a server answered all frames of a list, the result of answering later frames is also the
+-- result for both lists together.
 pub Answered-then : {X : Type 0} (result : Result X ServeFault) (course mid : Course) (xs ys : List (List ℕ)) (a b c : Around) → AllAnswered course xs a b → Dealt course a.maps xs mid b.maps → Answered result mid ys b c → Answered result course (xs ++ ys) a c
 Answered-then (Ok x) course mid xs ys a b c first dealt next = all_then_all course mid xs ys a b c first dealt next
 Answered-then (Err fault.Read) course mid xs ys a b c first dealt next = all_then_all course mid xs ys a b c first dealt next
@@ -161,7 +161,7 @@ Answered-then (Err fault.Write) course mid xs ys a b c first dealt next = all_th
 Answered-then (Err fault.Garbled) course mid xs ys a b c first dealt next = all_then_all course mid xs ys a b c first dealt next
 Answered-then (Err fault.TurnsUsed) course mid xs ys a b c first dealt next = all_then_all course mid xs ys a b c first dealt next
 
--- A response that was broken off stays so if more frames follow.
+-- A response that was sent incompletely remains so if more frames follow.
 pub BrokenOff-before : (course : Course) (xs ys : List (List ℕ)) (a b : Around) → BrokenOff course xs a b → BrokenOff course (xs ++ ys) a b
 BrokenOff-before course xs ys a b h =
     record {
@@ -177,7 +177,8 @@ BrokenOff-before course xs ys a b h =
       maps = h.maps;
     }
 
--- The count of frames in bytes if some of their frames were executed, and others are left.
+-- The number of frames executed in a byte list is the sum of those executed now and those executed
+-- later.
 pub counts_then : (course mid : Course) (maps after : Maps) (xs : List (List ℕ)) (bytes left : List ℕ) (count : ℕ) → Dealt course maps xs mid after → own_frames bytes ≡ xs ++ own_frames left → rest bytes ≡ rest left → Counts count (stretch mid after left) → Counts (length xs + count) (stretch course maps bytes)
 counts_then course mid maps after xs bytes left count dealt frames rests counts =
     let all = ap length (ap (carried_out course) frames ∙ carried_then course mid maps after xs (own_frames left) dealt) ∙ length-append xs _ in
@@ -205,7 +206,7 @@ piece_fault fault.Write course mid maps after xs bytes left buffered new dealt f
 piece_fault fault.Garbled course mid maps after xs bytes left buffered new dealt frames rests tells = garbled_then course mid maps after xs bytes left dealt frames rests tells
 piece_fault fault.TurnsUsed course mid maps after xs bytes left buffered new dealt frames rests tells = tells
 
--- ---- a connection that was cut
+-- ---- a connection that an injected fault closed
 
 sent_cut : (course : Course) (maps : Maps) (xs ys : List (List ℕ)) → is_cut (course_after_all course maps xs) ≡ true → sent_to course maps (xs ++ ys) ≡ sent_to course maps xs
 sent_cut course maps xs ys cut =
@@ -241,9 +242,9 @@ cut_tells count course maps xs ys bytes buffered frames cut counted =
     let still : is_cut (course_after_all course maps (own_frames bytes)) ≡ true = ap is_cut same ∙ cut in
     (record { counted = counted ∙ sym (ap length all); is_open = λ going. absurd (both_ways _ still going) }, λ going. absurd (both_ways _ still going))
 
--- ---- the frame that a reader holds
+-- ---- the complete frame in a reader
 
--- The borrowed frame is the frame that the reader holds.
+-- The borrowed frame has the fields of the frame in the reader.
 lent_frame : (shown : Option Frame) (buffered : Option (List ℕ)) (frame : Frame) → option_map spelled shown ≡ option_map fields_of buffered → shown ≡ Some frame
     → (f : List ℕ) × (buffered ≡ Some f) × (spelled frame ≡ fields_of f)
 lent_frame shown None frame same is = absurd cc
@@ -292,7 +293,7 @@ buffered_course course new shown buffered frame maps same is next =
     let lent = lent_frame shown buffered frame same is in
     next ∙ ap (course_next course) (answer_is maps frame lent.0 lent.2) ∙ ap (λ h. course_after_all course maps (buffered_frames h)) (sym lent.1)
 
--- The response to the buffered frame was broken off.
+-- A fault of the response to the frame in the reader leaves that response incomplete.
 pub buffered_fault : (e : ServeFault) (course : Course) (frame : Option (List ℕ)) (xs ys : List (List ℕ)) (a b : Around) → BufferedTells (Err e) frame → Answered {X = ℕ} (Err e) course xs a b → Answered {X = ℕ} (Err e) course (xs ++ ys) a b
 buffered_fault fault.Read course frame xs ys a b tells h = absurd tells
 buffered_fault fault.Write course frame xs ys a b tells h = BrokenOff-before course xs ys a b h
@@ -301,7 +302,7 @@ buffered_fault fault.TurnsUsed course frame xs ys a b tells h = absurd tells
 
 -- ---- one turn
 
--- If nothing was read, the link's input lost no bytes.
+-- If nothing was read, the link's input is unchanged.
 pub Consumes-none : (a b : Option (List ℕ)) → Keeps a b → Consumes a b []
 Consumes-none None b h = tt
 Consumes-none (Some x) None h = absurd h
@@ -357,13 +358,13 @@ turn_failed buffered course old new is_open left given maps =
       tells = refl;
     }
 
--- A result from a state that equals an earlier one is a result from the earlier state.
+-- Two equal states of a server have the same results.
 answered_from : {X : Type 0} (result : Result X ServeFault) (course : Course) (frames : List (List ℕ)) (old mid new : Around) → Keeps old.given mid.given → mid.maps ≡ old.maps → is_cut course ≡ false → Answered result course frames mid new → Answered result course frames old new
 answered_from result course frames old mid new given maps going answered =
     let none = AllAnswered-none course [] old mid refl given maps in
     Answered-then result course course [] frames old mid new none (dealt_with course course [] old mid none refl going) answered
 
--- A fault in the frames of a piece is the fault of the turn.
+-- A fault while a server answers the frames of a chunk is the fault that its turn returns.
 pub answered_fault : (X Y : Type 0) (e : ServeFault) (course : Course) (fs : List (List ℕ)) (a b : Around) → Answered {X = X} (Err e) course fs a b → Answered {X = Y} (Err e) course fs a b
 answered_fault X Y fault.Read course fs a b h = h
 answered_fault X Y fault.Write course fs a b h = h

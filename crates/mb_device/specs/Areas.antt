@@ -1,4 +1,4 @@
--- The areas of a device, and the register map that they begin as.
+-- Defines the areas of a simulated device and its initial register map.
 use Rattle.std.specs.Prelude.{◌≡◌, ℕ, ◌+◌, ◌<◌, ◌==◌, ◌&&◌, ◌||◌, nat_le, nat_lt, min, max, Bool, true, false, if◌then◌else◌, List, [], ◌∷◌, ◌++◌, length, take, drop, replicate, is_some, Some, None, Ok, Err}
 use Rattle.std.specs.List.{list_any}
 use Rattle.std.specs.declared.option.Option.{Option}
@@ -11,31 +11,32 @@ use Rattle.mb_device.specs.declared.kinds.BankFault.TheVariants.{AreasOverlap, O
 use Rattle.mb_device.specs.declared.kinds.Kind.{Kind}
 use Rattle.mb_device.specs.declared.kinds.Kind.TheVariants.{Coil, Discrete, Holding, Input}
 
--- The number of each kind, by which kinds are compared.
+-- A number for each kind of values, by which kinds are compared.
 abbrev pub kind_number : Kind → ℕ
 kind_number Coil = 1
 kind_number Discrete = 2
 kind_number Holding = 3
 kind_number Input = 4
 
--- The area contains the address.
+-- True if the area has this kind and contains the address.
 abbrev pub contains : Kind → ℕ → Area → Bool
 contains kind address area =
     kind_number area.kind == kind_number kind && nat_le area.start address
     && nat_lt address (area.start + area.count)
 
--- Two areas of one kind share an address: the greater start is below the lesser end.
+-- True if two areas have the same kind and share an address: the greater start is below the lesser
+-- end.
 abbrev pub overlap : Area → Area → Bool
 overlap a b =
     kind_number a.kind == kind_number b.kind
     && nat_lt (max a.start b.start) (min (a.start + a.count) (b.start + b.count))
 
--- Two different areas of the list have one kind and share an address.
+-- True if two areas of the list have the same kind and share an address.
 abbrev pub any_overlap : List Area → Bool
 any_overlap [] = false
 any_overlap (area ∷ areas) = list_any (λ other. overlap area other) areas || any_overlap areas
 
--- The area is empty, or extends past the last address.
+-- True if the area is empty or extends past address 65535.
 abbrev pub is_out_of_range : Area → Bool
 is_out_of_range area = area.count == 0 || nat_lt ADDRESSES (area.start + area.count)
 
@@ -44,38 +45,38 @@ abbrev pub first_value : List Area → Kind → ℕ → Option ℕ
 first_value areas kind address =
     if list_any (λ area. contains kind address area) areas then Some 0 else None
 
--- The table of this kind has the initial value of these areas at each address.
+-- True if the table of this kind has the initial value of these areas at each address.
 abbrev pub BeginsAs : List Area → Kind → List (Option ℕ) → Type 0
 BeginsAs areas kind table =
     (address : ℕ) → address < ADDRESSES → value_in table address ≡ first_value areas kind address
 
--- Each of the four tables has the initial values of these areas.
+-- True if each of the four tables has the initial values of these areas.
 abbrev pub AllBeginAs : List Area → Maps → Type 0
 AllBeginAs areas maps =
     (kind : Kind) (address : ℕ) → address < ADDRESSES
     → value_at maps kind address ≡ first_value areas kind address
 
--- The number of each fault: its position in the order in which faults are checked.
+-- The number of each fault: its position in the order of the checks.
 abbrev pub bank_fault_number : BankFault → ℕ
 bank_fault_number AreasOverlap = 1
 bank_fault_number OutOfRange = 2
 bank_fault_number Memory = 3
 
--- The table after `count` addresses from `start` on were set to 0.
+-- The table after the values at `count` addresses from `start` were set to 0.
 abbrev pub begun_from : List (Option ℕ) → ℕ → ℕ → List (Option ℕ)
 begun_from table start count =
     take start table ++ (replicate count (Some 0) ++ drop (start + count) table)
 
--- The device has at least one of the `count` addresses from `start` on.
+-- True if the device has at least one of the `count` addresses from `start`.
 abbrev pub is_any_there : List (Option ℕ) → ℕ → ℕ → Bool
 is_any_there table start count = list_any (λ value. is_some value) (values_at table start count)
 
--- The count is 0, or the addresses extend past the table's last address.
+-- True if the count is 0 or the addresses extend past the table's last address.
 abbrev pub is_past_end : List (Option ℕ) → ℕ → ℕ → Bool
 is_past_end table start count = count == 0 || nat_lt (length table) (start + count)
 
--- An area is added if its addresses are in range and the table has none of them. Otherwise the
--- result is the first fault, and the table is unchanged. A lack of memory is never the result.
+-- The effect of adding an area: success if its addresses are in range and the device has none of
+-- them. Otherwise the first fault, with the table unchanged. The result `Memory` never occurs.
 abbrev pub Adds : List (Option ℕ) → (start count : ℕ) → Result (Unit {0}) BankFault
     → List (Option ℕ) → Type 0
 Adds old start count (Ok done) new =

@@ -1,5 +1,5 @@
--- The response of a device to a PDU, and its register map afterwards: Modbus Application Protocol
--- V1.1b3, section 6 with its state diagrams, and section 7.
+-- Defines a device's response to a PDU and the register map after it (Modbus Application Protocol
+-- V1.1b3, sections 6 and 7).
 use Rattle.std.specs.Prelude.{ℕ, ◌+◌, Bool, ◌==◌, not, nat_lt, if◌then◌else◌, List, [], ◌∷◌, map, length, unwrap_or, Ok, Err}
 use Rattle.std.specs.declared.result.Result.{Result}
 use Rattle.std.specs.declared.option.Option.{Option}
@@ -11,7 +11,7 @@ use Rattle.mb_wire.specs.declared.requests.RequestFault.TheVariants.{UnknownFunc
 use Rattle.mb_device.specs.declared.kinds.Kind.TheVariants.{Coil, Holding}
 use Rattle.mb_device.specs.Maps.{Maps, all_written, are_there, values_at, with_table}
 
--- The exception code of a fault: 1 is illegal function, 3 is illegal data value.
+-- The exception code of a request fault: 1 is illegal function, 3 is illegal data value.
 abbrev pub code_of_fault : RequestFault → ℕ
 code_of_fault UnknownFunction = 1
 code_of_fault WrongLength = 3
@@ -19,13 +19,12 @@ code_of_fault WrongQuantity = 3
 code_of_fault WrongByteCount = 3
 code_of_fault WrongCoilValue = 3
 
--- The PDU of an exception response: the function code with its top bit set, and the exception
--- code.
+-- The PDU of an exception response: the function code with its top bit set, and the exception code.
 abbrev pub exception_bytes : ℕ → ℕ → List ℕ
 exception_bytes function code =
     (if nat_lt function 128 then function + 128 else function) ∷ code ∷ []
 
--- The device has every address that the query reads or writes.
+-- True if the device has every address that the request reads or writes.
 abbrev pub has_all : Maps → Query → Bool
 has_all maps (ReadCoils address quantity) = are_there maps.coils address quantity
 has_all maps (ReadDiscrete address quantity) = are_there maps.discretes address quantity
@@ -36,7 +35,7 @@ has_all maps (WriteRegister address value) = are_there maps.holdings address 1
 has_all maps (WriteCoils address coils) = are_there maps.coils address (length coils)
 has_all maps (WriteRegisters address values) = are_there maps.holdings address (length values)
 
--- The number as which a coil is stored: 1 if it is on, otherwise 0.
+-- The number that is stored for a coil: 1 if it is on, otherwise 0.
 abbrev pub coil_number : Bool → ℕ
 coil_number on = if on then 1 else 0
 
@@ -44,40 +43,42 @@ coil_number on = if on then 1 else 0
 abbrev pub kept_value : Option ℕ → ℕ
 kept_value value = unwrap_or value 0
 
--- The coil at an address is on. An address that the device does not have counts as off.
+-- True if the coil at an address is on. An address that the device does not have counts as off.
 abbrev pub is_kept_on : Option ℕ → Bool
 is_kept_on value = not (kept_value value == 0)
 
--- The given answer if the device has all `count` addresses, otherwise exception 2 (illegal data
--- address).
+-- The response `answer` if the device has all `count` addresses, otherwise exception 2 (illegal
+-- data address).
 abbrev pub if_there : List (Option ℕ) → (address count : ℕ) → Answer → Answer
 if_there table address count answer =
     if are_there table address count then answer else Exception 2
 
--- The answer to a read of coils or discrete inputs, or exception 2 if the device lacks one of
--- them.
+-- The response to a read of coils or discrete inputs, or exception 2 if the device does not have
+-- all of them.
 abbrev pub bits_at : List (Option ℕ) → (address quantity : ℕ) → Answer
 bits_at table address quantity =
     if_there table address quantity (Bits (map is_kept_on (values_at table address quantity)))
 
--- The answer to a read of registers, or exception 2 if the device lacks one of them.
+-- The response to a read of registers, or exception 2 if the device does not have all of them.
 abbrev pub words_at : List (Option ℕ) → (address quantity : ℕ) → Answer
 words_at table address quantity =
     if_there table address quantity (Words (map kept_value (values_at table address quantity)))
 
--- A table after a write of coils. If the device lacks one of the addresses, nothing changes.
+-- The table after a write of coils. The table is unchanged if the device does not have all of the
+-- addresses.
 abbrev pub coils_written : List (Option ℕ) → (address : ℕ) → List Bool → List (Option ℕ)
 coils_written table address coils =
     if are_there table address (length coils)
     then all_written table address (map coil_number coils)
     else table
 
--- A table after a write of registers. If the device lacks one of the addresses, nothing changes.
+-- The table after a write of registers. The table is unchanged if the device does not have all of
+-- the addresses.
 abbrev pub words_written : List (Option ℕ) → (address : ℕ) → List ℕ → List (Option ℕ)
 words_written table address words =
     if are_there table address (length words) then all_written table address words else table
 
--- The answer to a query whose addresses the device has.
+-- The response to a request, assuming that the device has all of its addresses.
 abbrev pub answered : Maps → Query → Answer
 answered maps (ReadCoils address quantity) =
     Bits (map is_kept_on (values_at maps.coils address quantity))
@@ -92,7 +93,7 @@ answered maps (WriteRegister address value) = Echo
 answered maps (WriteCoils address coils) = Echo
 answered maps (WriteRegisters address values) = Echo
 
--- The register map after a query whose addresses the device has.
+-- The register map after a request, assuming that the device has all of its addresses.
 abbrev pub carried_out : Maps → Query → Maps
 carried_out maps (ReadCoils address quantity) = maps
 carried_out maps (ReadDiscrete address quantity) = maps
@@ -107,7 +108,7 @@ carried_out maps (WriteCoils address coils) =
 carried_out maps (WriteRegisters address values) =
     with_table maps Holding (all_written maps.holdings address values)
 
--- The response PDU for a decoded request, or the exception for a fault in the request.
+-- The response PDU to a decoded request, or the exception response to a request with a fault.
 abbrev pub reply_for : Maps → ℕ → Result Query RequestFault → List ℕ
 reply_for maps function (Err fault) = exception_bytes function (code_of_fault fault)
 reply_for maps function (Ok query) =

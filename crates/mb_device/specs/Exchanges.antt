@@ -1,4 +1,4 @@
--- The bytes that a server reads and writes over many turns.
+-- Defines exchanges: the bytes that a server reads and writes over several turns.
 use Rattle.std.specs.Prelude.{◌≡◌, ℕ, false, List, [], ◌∷◌, ◌++◌, Ok}
 use Rattle.std.specs.List.{flat_map}
 use Rattle.std.specs.Io.KnownBytes.{Appends, Consumes}
@@ -8,16 +8,16 @@ use Rattle.mb_device.specs.Tricks.{Course, carried_out, is_cut}
 use Rattle.mb_device.specs.Server.{Around, Holds, Serves, Standing, Turns, course_after_all, maps_after_all, own_frames, sent_to, standing_on}
 use Rattle.mb_device.specs.declared.server.Turned.{Turned}
 
--- Bytes that a server read, and bytes that it wrote.
+-- The bytes that a server read, and the bytes that it wrote.
 pub record Exchange : Type 0 where
   pub taken : List ℕ
   pub given : List ℕ
 
--- Two consecutive exchanges as one exchange.
+-- Two consecutive exchanges, joined to one exchange.
 abbrev pub joined : Exchange → Exchange → Exchange
 joined first next = record { taken = first.taken ++ next.taken; given = first.given ++ next.given }
 
--- A list of consecutive exchanges as one exchange.
+-- A list of consecutive exchanges, joined to one exchange.
 abbrev pub in_all : List Exchange → Exchange
 in_all exchanges =
     record {
@@ -25,8 +25,8 @@ in_all exchanges =
       given = flat_map (λ exchange. exchange.given) exchanges;
     }
 
--- The bytes written are what the server sends for the Modbus frames that end in the buffered
--- bytes and the bytes read. The register map and the server's state are those after these frames.
+-- True if the bytes written are the responses to all Modbus frames that the bytes read complete.
+-- The new register map and the server's state are those after these frames.
 pub record Exchanges (buffered : List ℕ) (course : Course) (exchange : Exchange) (old new : Maps)
     (standing : Standing) : Type 0 where
   pub given : exchange.given ≡ sent_to course old (own_frames (buffered ++ exchange.taken))
@@ -37,8 +37,8 @@ pub record Exchanges (buffered : List ℕ) (course : Course) (exchange : Exchang
   pub is_open : is_cut (course_after_all course old (own_frames (buffered ++ exchange.taken))) ≡ false
       → IsOpen (rest (buffered ++ exchange.taken))
 
--- The server exchanged bytes with a link: it read them from the link's input, and wrote its own
--- to the link's output.
+-- True if a server read the bytes of an exchange from the link's input, and wrote the responses to
+-- the link's output.
 pub record ExchangesOver (buffered : List ℕ) (course : Course) (old new : Around)
     (standing : Standing) : Type 0 where
   pub exchange : Exchange
@@ -46,8 +46,8 @@ pub record ExchangesOver (buffered : List ℕ) (course : Course) (old new : Arou
   pub given : Appends old.given new.given exchange.given
   pub exchanges : Exchanges buffered course exchange old.maps new.maps standing
 
--- Consecutive exchanges: each begins where the previous one left the device and the server. The
--- link's bytes may change between them.
+-- True if each exchange begins with the register map and server state that the previous exchange
+-- left. The link's bytes may change between exchanges.
 abbrev pub InOrder : List ℕ → Course → List Exchange → Maps → Maps → Standing → Type 0
 InOrder buffered course [] old new standing =
     (new ≡ old) × (standing ≡ standing_on buffered course) × IsOpen buffered
@@ -56,21 +56,21 @@ InOrder buffered course (first ∷ later) old new standing =
     × Exchanges buffered course first old mid (Holds left next)
     × InOrder left next later mid new standing
 
--- Theorem: a turn that returns `Ok` is an exchange over the link.
+-- The statement that each turn that returns `Ok` is an exchange over the link.
 abbrev pub TurnExchanges : Type 0
 TurnExchanges =
     (buffered : List ℕ) (course : Course) (turned : Turned) (old new : Around)
     (standing : Standing) → Turns buffered course (Ok turned) old new standing →
     ExchangesOver buffered course old new standing
 
--- Theorem: a `serve` that returns `Ok` is an exchange over the link.
+-- The statement that each `serve` that returns `Ok` is an exchange over the link.
 abbrev pub ServingExchanges : Type 0
 ServingExchanges =
     (buffered : List ℕ) (course : Course) (count : ℕ) (old new : Around)
     (standing : Standing) → Serves buffered course (Ok count) old new standing →
     ExchangesOver buffered course old new standing
 
--- Theorem: two consecutive exchanges are one exchange.
+-- The statement that two consecutive exchanges form one exchange.
 abbrev pub TwoAreOne : Type 0
 TwoAreOne =
     (buffered left : List ℕ) (course mid_course : Course) (first next : Exchange)
@@ -79,7 +79,7 @@ TwoAreOne =
     Exchanges left mid_course next mid new standing →
     Exchanges buffered course (joined first next) old new standing
 
--- Theorem: any number of consecutive exchanges are one exchange.
+-- The statement that any number of consecutive exchanges form one exchange.
 abbrev pub AllAreOne : Type 0
 AllAreOne =
     (buffered : List ℕ) (course : Course) (exchanges : List Exchange) (old new : Maps)

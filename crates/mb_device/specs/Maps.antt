@@ -1,5 +1,5 @@
--- The four tables of a device (Modbus Application Protocol V1.1b3, section 4.3). Each has a value
--- for each address that the device has.
+-- Defines the four tables of a device (Modbus Application Protocol V1.1b3, section 4.3). A table
+-- has a value for each address that the device has.
 use Rattle.std.specs.Prelude.{◌≡◌, ℕ, ◌+◌, ◌==◌, ◌&&◌, nat_le, Bool, if◌then◌else◌, List, [], ◌∷◌, length, take, drop, is_some, slice_index_or, slice_set, Some, None}
 use Rattle.std.specs.List.{list_all}
 use Rattle.std.specs.declared.option.Option.{Option}
@@ -7,46 +7,48 @@ use Rattle.mb_wire.specs.declared.limits.TheConstants.{ADDRESSES}
 use Rattle.mb_device.specs.declared.kinds.Kind.{Kind}
 use Rattle.mb_device.specs.declared.kinds.Kind.TheVariants.{Coil, Discrete, Holding, Input}
 
--- A register map: for each kind of value, a table of the values at the addresses from 0 on.
+-- A register map: for each kind of values, a table indexed by address.
 pub record Maps : Type 0 where
   pub coils : List (Option ℕ)
   pub discretes : List (Option ℕ)
   pub holdings : List (Option ℕ)
   pub inputs : List (Option ℕ)
 
--- The table of this kind in a register map.
+-- The table of one kind of values in a register map.
 abbrev pub table_of : Maps → Kind → List (Option ℕ)
 table_of maps Coil = maps.coils
 table_of maps Discrete = maps.discretes
 table_of maps Holding = maps.holdings
 table_of maps Input = maps.inputs
 
--- The value at an address of a table, or `None` if the device does not have that address.
+-- The value at an address of a table, or `None` if the device does not have the address.
 abbrev pub value_in : List (Option ℕ) → ℕ → Option ℕ
 value_in table address = slice_index_or table address None
 
--- The value of this kind at an address, or `None` if the device does not have that address.
+-- The value of this kind at an address, or `None` if the device does not have the address.
 abbrev pub value_at : Maps → Kind → ℕ → Option ℕ
 value_at maps kind address = value_in (table_of maps kind) address
 
--- Each table has an item for every address, `None` where the device has no value.
+-- True if each table has an entry for every address: `None` if the device does not have the
+-- address.
 abbrev pub HasAllAddresses : Maps → Type 0
 HasAllAddresses maps = (kind : Kind) → length (table_of maps kind) ≡ ADDRESSES
 
--- The number that is stored for a value of this kind. A coil or a discrete input is stored as 1
--- (on) or 0 (off).
+-- The number that is stored for a written value. A coil or a discrete input is stored as 1 (on) or
+-- 0 (off).
 abbrev pub kept : Kind → ℕ → ℕ
 kept Coil value = if value == 0 then 0 else 1
 kept Discrete value = if value == 0 then 0 else 1
 kept Holding value = value
 kept Input value = value
 
--- The table after a write of one value. If the device does not have the address, nothing changes.
+-- The table after a write of one value. The table is unchanged if the device does not have the
+-- address.
 abbrev pub written : List (Option ℕ) → ℕ → ℕ → List (Option ℕ)
 written table address value =
     if is_some (value_in table address) then slice_set table address (Some value) else table
 
--- The register map with its table of this kind replaced.
+-- The register map with its table of one kind replaced.
 abbrev pub with_table : Maps → Kind → List (Option ℕ) → Maps
 with_table maps Coil table =
     record {
@@ -72,17 +74,17 @@ with_table maps Input table =
       inputs = table;
     }
 
--- The values at `count` addresses from `address` on.
+-- The values at `count` addresses of a table from `address`.
 abbrev pub values_at : List (Option ℕ) → ℕ → ℕ → List (Option ℕ)
 values_at table address count = take count (drop address table)
 
--- The device has all `count` addresses from `address` on.
+-- True if the device has all `count` addresses of the table from `address`.
 abbrev pub are_there : List (Option ℕ) → ℕ → ℕ → Bool
 are_there table address count =
     nat_le (address + count) (length table)
     && list_all (λ value. is_some value) (values_at table address count)
 
--- The table after these values are written from an address on.
+-- The table after a list of values is written from `address`.
 abbrev pub all_written : List (Option ℕ) → ℕ → List ℕ → List (Option ℕ)
 all_written table address [] = table
 all_written table address (value ∷ values) =

@@ -1,5 +1,4 @@
--- What a server does with the bytes of a stream: which frames it responds to, and its state
--- afterwards.
+-- Defines which frames of a stream a server executes, what it sends, and its state afterwards.
 use Rattle.std.specs.Prelude.{◌≡◌, ℕ, ◌==◌, ◌≤◌, ◌<◌, ◌&&◌, not, Bool, true, false, is_err, List, [], ◌∷◌, ◌++◌, length, Ok, Err, Some, None}
 use Rattle.std.specs.List.{filter}
 use Rattle.std.specs.Io.KnownBytes.{Appends, Consumes, IsAtEnd}
@@ -19,72 +18,74 @@ use Rattle.mb_device.specs.declared.server.ServeFault.{ServeFault}
 use Rattle.mb_device.specs.declared.server.ServeFault.TheVariants.{Read, Write, Garbled, TurnsUsed}
 use Rattle.mb_device.specs.declared.server.Turned.{Turned}
 
--- The frame's protocol identifier is 0, which is Modbus. The server skips frames of other
+-- True if the frame's protocol identifier is 0 (Modbus). The server skips frames of other
 -- protocols.
 abbrev pub is_own : List ℕ → Bool
 is_own frame = protocol_of frame == 0
 
--- The Modbus frames that end in the bytes, in order.
+-- The Modbus frames that a byte list completes, in order.
 abbrev pub own_frames : List ℕ → List (List ℕ)
 own_frames bytes = filter is_own (frames bytes)
 
--- The true response to a frame: its transaction identifier and unit, and the device's response to
--- its PDU.
+-- The true response to a frame: the frame's transaction and unit identifiers, and the device's
+-- response to the PDU.
 unfoldable pub answer_to_frame : Maps → List ℕ → Fields
 answer_to_frame maps frame =
     answer_of (tid_of frame) (unit_of frame) (answer_to maps (pdu_of frame))
 
--- The true responses to these frames in order. Each is computed from the register map after the
--- earlier frames.
+-- The true responses to a list of frames, in order. Each response is computed from the register map
+-- after the earlier frames.
 abbrev pub answers : Maps → List (List ℕ) → List Fields
 answers maps [] = []
 answers maps (frame ∷ frames) =
     answer_to_frame maps frame ∷ answers (maps_after maps (pdu_of frame)) frames
 
--- The register map after the device executed these frames.
+-- The register map after the device executed a list of frames.
 abbrev pub maps_after_all : Maps → List (List ℕ) → Maps
 maps_after_all maps [] = maps
 maps_after_all maps (frame ∷ frames) = maps_after_all (maps_after maps (pdu_of frame)) frames
 
--- What a server sends for frames on a connection: the true responses, changed by its tricks.
+-- The bytes that a server sends for a list of frames: the true responses, changed by injected
+-- faults.
 abbrev pub sent_to : Course → Maps → List (List ℕ) → List ℕ
 sent_to course maps frames = sent course (answers maps frames)
 
--- The connection's state after these frames.
+-- The state of a connection after a list of frames.
 abbrev pub course_after_all : Course → Maps → List (List ℕ) → Course
 course_after_all course maps frames = course_after course (answers maps frames)
 
--- The state of a server. `Holds`: it serves a connection, with the bytes since the last frame's
--- end buffered. `Over`: a trick cut the connection. `Faulted`: a call returned a fault.
+-- The state of a server. `Holds`: it serves a connection and has buffered an incomplete frame.
+-- `Over`: an injected fault closed the connection. `Faulted`: a call returned a fault.
 pub data Standing : Type 0 where
   Holds : List ℕ → Course → Standing
   Over : Standing
   Faulted : Standing
 
--- The state of a server on this connection with these buffered bytes. If a trick cut the
--- connection, it is `Over`.
+-- The state of a server with these buffered bytes: `Over` if an injected fault closed the
+-- connection, otherwise `Holds`.
 abbrev pub standing_on : List ℕ → Course → Standing
 standing_on bytes (Playing tricks number later) = Holds bytes (Playing tricks number later)
 standing_on bytes CutOff = Over
 
--- What surrounds a server: the bytes that the peer still has for it, the bytes sent to the peer,
--- and the register map. The bytes may be unknown.
+-- The environment of a server: the bytes that the peer will send, the bytes sent to the peer, and
+-- the register map. Bytes are `None` if the link does not know them.
 pub record Around : Type 0 where
   pub remaining : Option (List ℕ)
   pub given : Option (List ℕ)
   pub maps : Maps
 
--- The surroundings of a server with these parts.
+-- The environment of a server with these bytes and this register map.
 abbrev pub around : Option (List ℕ) → Option (List ℕ) → Maps → Around
 around remaining given maps = record { remaining = remaining; given = given; maps = maps }
 
--- The server executed all frames up to a cut, and sent everything that it sends for them.
+-- True if the server executed all frames until the connection was closed, and sent everything due
+-- for them.
 pub record AllAnswered (course : Course) (frames : List (List ℕ)) (old new : Around) : Type 0 where
   pub given : Appends old.given new.given (sent_to course old.maps frames)
   pub maps : new.maps ≡ maps_after_all old.maps (carried_out course frames)
 
--- The peer did not accept all that is sent for one of the frames. The server executed that frame
--- and those before it, and none after it.
+-- True if the peer accepted only a part of the bytes due for one frame. The server executed that
+-- frame and the earlier frames, and no later frame.
 pub record BrokenOff (course : Course) (frames : List (List ℕ)) (old new : Around) : Type 0 where
   pub earlier : List (List ℕ)
   pub frame : List ℕ
@@ -98,8 +99,8 @@ pub record BrokenOff (course : Course) (frames : List (List ℕ)) (old new : Aro
   pub given : Appends old.given new.given (sent_to course old.maps earlier ++ part)
   pub maps : new.maps ≡ maps_after_all old.maps (earlier ++ frame ∷ [])
 
--- What was executed and sent, by the result of a call. After a failed write, the response to one
--- frame is incomplete. After any other result, everything is sent.
+-- The frames executed and the bytes sent, by the result of a call. Only a failed write leaves the
+-- response to a frame incomplete.
 abbrev pub Answered : {X : Type 0} → Result X ServeFault → Course → List (List ℕ) → Around → Around
     → Type 0
 Answered (Ok x) course frames old new = AllAnswered course frames old new
@@ -108,48 +109,48 @@ Answered (Err Write) course frames old new = BrokenOff course frames old new
 Answered (Err Garbled) course frames old new = AllAnswered course frames old new
 Answered (Err TurnsUsed) course frames old new = AllAnswered course frames old new
 
--- The state of a server after a call with this result, if it has read these bytes in all on this
--- connection.
+-- The state of a server after a call with this result. `bytes` are all bytes that the server has
+-- read on the connection.
 abbrev pub standing_after : {X : Type 0} → Result X ServeFault → List ℕ → Course → Standing
 standing_after (Ok x) bytes course = standing_on (rest bytes) course
 standing_after (Err fault) bytes course = Faulted
 
--- A part of a connection: its bytes, with those that were buffered when it began. `before` and
--- `left` are the connection before these bytes and after the frames that end in them.
+-- A part of a connection: its bytes, including those buffered when it began, and the connection's
+-- state before and after it.
 pub record Stretch : Type 0 where
   pub bytes : List ℕ
   pub before : Course
   pub left : Course
 
--- The part of a connection with these bytes.
+-- The part of a connection that consists of these bytes.
 abbrev pub stretch : Course → Maps → List ℕ → Stretch
 stretch course maps bytes =
     record { bytes = bytes; before = course; left = course_after_all course maps (own_frames bytes) }
 
--- The server executed this many frames of the bytes. Unless a trick cut the connection, no bad
--- length field came.
+-- True if the server executed `count` frames of the part, and the part has no invalid length field,
+-- unless an injected fault closed the connection.
 pub record Counts (count : ℕ) (stretch : Stretch) : Type 0 where
   pub counted : count ≡ length (carried_out stretch.before (own_frames stretch.bytes))
   pub is_open : is_cut stretch.left ≡ false → IsOpen (rest stretch.bytes)
 
--- No bad length field came, and no trick cut the connection.
+-- True if the part has no invalid length field and no injected fault closed the connection.
 pub record IsGoing (stretch : Stretch) : Type 0 where
   pub going : is_cut stretch.left ≡ false
   pub is_open : IsOpen (rest stretch.bytes)
 
--- A bad length field came, and no trick cut the connection before it.
+-- True if an invalid length field arrived while the connection was open.
 pub record IsGarbled (stretch : Stretch) : Type 0 where
   pub going : is_cut stretch.left ≡ false
   pub bad : IsBad (rest stretch.bytes)
 
--- When a turn reports the end: after a cut always; otherwise only if the turn read nothing and no
--- bytes are left.
+-- Defines when a turn reports the end: always after an injected fault closed the connection.
+-- Otherwise only if the turn read nothing and no input is left.
 pub record EndTells (ended : Bool) (left : Course) (taken : List ℕ) (remaining : Option (List ℕ)) :
     Type 0 where
   pub cut : is_cut left ≡ true → ended ≡ true
   pub end : is_cut left ≡ false → ended ≡ true → (taken ≡ []) × IsAtEnd remaining
 
--- What each result of a turn shows about the bytes that the turn read.
+-- The facts about the bytes read that each result of a turn implies.
 abbrev pub TurnTells : Result Turned ServeFault → Stretch → List ℕ → Option (List ℕ) → Type 0
 TurnTells (Ok turned) stretch taken remaining =
     Counts turned.answered stretch × EndTells turned.ended stretch.left taken remaining
@@ -158,7 +159,7 @@ TurnTells (Err Write) stretch taken remaining = Unit {0}
 TurnTells (Err Garbled) stretch taken remaining = IsGarbled stretch
 TurnTells (Err TurnsUsed) stretch taken remaining = ⊥
 
--- What each result of `serve` shows about the bytes that it read.
+-- The facts about the bytes read that each result of `serve` implies.
 abbrev pub ServeTells : Result ℕ ServeFault → Stretch → Option (List ℕ) → Type 0
 ServeTells (Ok count) stretch remaining =
     Counts count stretch × (is_cut stretch.left ≡ false → IsAtEnd remaining)
@@ -167,24 +168,25 @@ ServeTells (Err Write) stretch remaining = Unit {0}
 ServeTells (Err Garbled) stretch remaining = IsGarbled stretch
 ServeTells (Err TurnsUsed) stretch remaining = IsGoing stretch
 
--- A trick cut the connection.
+-- True if an injected fault closed the connection.
 abbrev pub is_over : Standing → Bool
 is_over (Holds buffered course) = false
 is_over Over = true
 is_over Faulted = false
 
--- The turn found the end of the link's input. A turn that ended because of a cut did not find it.
+-- True if the turn found the end of the link's input, and did not end because an injected fault
+-- closed the connection.
 abbrev pub came_to_end : Result Turned ServeFault → Standing → Bool
 came_to_end (Ok turned) standing = turned.ended && not (is_over standing)
 came_to_end (Err fault) standing = false
 
--- `serve` found the end of the link's input. A `serve` that ended because of a cut did not find
--- it.
+-- True if `serve` found the end of the link's input, and did not end because an injected fault
+-- closed the connection.
 abbrev pub served_to_end : Result ℕ ServeFault → Standing → Bool
 served_to_end (Ok count) standing = not (is_over standing)
 served_to_end (Err fault) standing = false
 
--- A read of the link failed.
+-- True if the result is a failed read from the link.
 abbrev pub is_read_fault : {X : Type 0} → Result X ServeFault → Bool
 is_read_fault (Ok x) = false
 is_read_fault (Err Read) = true
@@ -192,15 +194,15 @@ is_read_fault (Err Write) = false
 is_read_fault (Err Garbled) = false
 is_read_fault (Err TurnsUsed) = false
 
--- The last read of the link had a buffer of 260 bytes. It found the end exactly if `ended`, and
--- failed exactly if `failed`.
+-- True if the last read of the link had a buffer of 260 bytes. The read found the end exactly if
+-- `ended` is true, and failed exactly if `failed` is true.
 pub record TellsTake (ended failed : Bool) (last : Option LastTake) : Type 0 where
   pub answer : Result Took LinkFailed
   pub taken : last ≡ Some (record { room = MAX_ADU; answer = answer })
   pub end : ended ≡ is_end answer
   pub failure : failed ≡ is_err answer
 
--- The effects of a turn of a server that has these bytes buffered on this connection.
+-- The effects of one turn of a server with these buffered bytes on this connection.
 pub record Turns (buffered : List ℕ) (course : Course) (result : Result Turned ServeFault)
     (old new : Around) (standing : Standing) : Type 0 where
   pub taken : List ℕ
@@ -212,8 +214,8 @@ pub record Turns (buffered : List ℕ) (course : Course) (result : Result Turned
       (course_after_all course old.maps (own_frames (buffered ++ taken)))
   pub tells : TurnTells result (stretch course old.maps (buffered ++ taken)) taken new.remaining
 
--- The server executed all frames of what it has read so far, and sent everything that it sends
--- for them. `count` is the number of these frames.
+-- True if the server executed all frames read until now and sent everything due for them. `count`
+-- is the number of these frames.
 pub record Served (buffered : List ℕ) (course : Course) (count : ℕ) (old new : Around)
     (standing : Standing) : Type 0 where
   pub taken : List ℕ
@@ -224,7 +226,7 @@ pub record Served (buffered : List ℕ) (course : Course) (count : ℕ) (old new
       (course_after_all course old.maps (own_frames (buffered ++ taken)))
   pub counts : Counts count (stretch course old.maps (buffered ++ taken))
 
--- The effects of `serve` by a server that has these bytes buffered on this connection.
+-- The effects of `serve` by a server with these buffered bytes on this connection.
 pub record Serves (buffered : List ℕ) (course : Course) (result : Result ℕ ServeFault)
     (old new : Around) (standing : Standing) : Type 0 where
   pub taken : List ℕ
@@ -235,24 +237,25 @@ pub record Serves (buffered : List ℕ) (course : Course) (result : Result ℕ S
       (course_after_all course old.maps (own_frames (buffered ++ taken)))
   pub tells : ServeTells result (stretch course old.maps (buffered ++ taken)) new.remaining
 
--- If the server's state `held` serves a connection, the effects of `serve` are those of `Serves`.
+-- The effects of `serve` by a server whose state before the call is `held`. They are those of
+-- `Serves` if the server serves a connection.
 abbrev pub ServesFrom : (held : Standing) → Result ℕ ServeFault → (old new : Around)
     → (standing : Standing) → Type 0
 ServesFrom held result old new standing =
     (buffered : List ℕ) (course : Course) → held ≡ Holds buffered course →
     Serves buffered course result old new standing
 
--- The frame that the reader holds, as a list of one frame or none.
+-- The complete frame in the reader, as a list of one frame, or the empty list.
 abbrev pub buffered_frames : Option (List ℕ) → List (List ℕ)
 buffered_frames None = []
 buffered_frames (Some frame) = frame ∷ []
 
--- If the reader holds a frame, the frame is complete.
+-- True if the reader has no frame, or its frame is complete.
 abbrev pub HoldsFrame : Option (List ℕ) → Type 0
 HoldsFrame None = Unit {0}
 HoldsFrame (Some frame) = IsFrame frame
 
--- What each result shows after the server responded to the frame that the reader held.
+-- The facts that each result implies after the server responded to the frame in the reader.
 abbrev pub BufferedTells : Result ℕ ServeFault → Option (List ℕ) → Type 0
 BufferedTells (Ok count) frame = count ≡ length (buffered_frames frame)
 BufferedTells (Err Read) frame = ⊥
@@ -260,8 +263,8 @@ BufferedTells (Err Write) frame = Unit {0}
 BufferedTells (Err Garbled) frame = ⊥
 BufferedTells (Err TurnsUsed) frame = ⊥
 
--- What each result shows after the server responded to the frames of a piece: about all bytes up
--- to the piece's end, and about the bytes now buffered.
+-- The facts that each result implies after the server responded to the frames of a chunk: about all
+-- bytes up to the end of the chunk, and about the bytes then buffered.
 abbrev pub PieceTells : Result ℕ ServeFault → Stretch → List ℕ → Type 0
 PieceTells (Ok count) stretch buffered =
     Counts count stretch × (is_cut stretch.left ≡ false → buffered ≡ rest stretch.bytes)
@@ -270,31 +273,30 @@ PieceTells (Err Write) stretch buffered = Unit {0}
 PieceTells (Err Garbled) stretch buffered = IsGarbled stretch
 PieceTells (Err TurnsUsed) stretch buffered = ⊥
 
--- The state of a server after a turn with this result, if the turn left this reader and this
--- connection.
+-- The state of a server after a turn with this result, by the reader and the connection after the
+-- turn.
 abbrev pub standing_in : {X : Type 0} → Result X ServeFault → Buffered → Course → Standing
 standing_in (Ok x) reader course = standing_on reader.rest course
 standing_in (Err fault) reader course = Faulted
 
--- The reader, the connection and the surroundings of a server, before or after a turn.
+-- The reader, the connection and the environment of a server, before or after a turn.
 pub record Scene : Type 0 where
   pub reader : Buffered
   pub course : Course
   pub around : Around
 
--- The scene with these parts.
+-- The scene of a turn: reader, connection, bytes of the link and register map.
 abbrev pub scene : Buffered → Course → (remaining given : Option (List ℕ)) → Maps → Scene
 scene reader course remaining given maps =
     record { reader = reader; course = course; around = around remaining given maps }
 
--- A turn from the scene `old` to the scene `new` has the effects of `Turns`. The server's state
--- after it is that of its reader and its connection.
+-- True if a turn from the scene `old` to the scene `new` has the effects that `Turns` defines.
 abbrev pub TakesTurn : Result Turned ServeFault → (old new : Scene) → Type 0
 TakesTurn result old new =
     Turns old.reader.rest old.course result old.around new.around
     (standing_in result new.reader new.course)
 
--- The result is a fault of the link: a read or a write failed.
+-- True if the result is a failed read from the link or a failed write to it.
 abbrev pub is_link_fault : {X : Type 0} → Result X ServeFault → Bool
 is_link_fault (Ok x) = false
 is_link_fault (Err Read) = true
@@ -302,19 +304,19 @@ is_link_fault (Err Write) = true
 is_link_fault (Err Garbled) = false
 is_link_fault (Err TurnsUsed) = false
 
--- A call of the server has returned a fault.
+-- True if a call of the server has returned a fault.
 abbrev pub has_faulted : Standing → Bool
 has_faulted (Holds buffered course) = false
 has_faulted Over = false
 has_faulted Faulted = true
 
--- The server has returned no fault, and no trick cut its connection.
+-- True if no call of the server has returned a fault and no injected fault closed its connection.
 abbrev pub is_serving : Standing → Bool
 is_serving (Holds buffered course) = true
 is_serving Over = false
 is_serving Faulted = false
 
--- The number of each fault, from 1.
+-- The number of each fault, counted from 1.
 abbrev pub serve_fault_number : ServeFault → ℕ
 serve_fault_number Read = 1
 serve_fault_number Write = 2

@@ -1,5 +1,4 @@
--- What a server sends instead of its true responses: the responses of a connection, changed by
--- tricks.
+-- Defines the bytes that a server sends in place of its true responses when faults are injected.
 use Rattle.std.specs.Prelude.{ℕ, ◌+◌, ◌-◌, ◌^◌, ◌%◌, ◌==◌, nat_lt, Bool, true, false, if◌then◌else◌, List, [], ◌∷◌, ◌++◌, take, find, Some, None}
 use Rattle.std.specs.Option.{option_map}
 use Rattle.std.specs.declared.option.Option.{Option}
@@ -9,24 +8,25 @@ use Rattle.mb_wire.specs.Reader.{Fields, spelling}
 use Rattle.mb_device.specs.declared.trick.Trick.{Trick}
 use Rattle.mb_device.specs.declared.trick.Trick.TheVariants as play
 
--- The response with these fields.
+-- A response with this transaction identifier, unit identifier and PDU.
 abbrev pub answer_of : ℕ → ℕ → List ℕ → Fields
 answer_of tid unit pdu = record { tid = tid; unit = unit; pdu = pdu }
 
--- The bytes of a response's frame, without a trick.
+-- The bytes of the frame of a response, without an injected fault.
 abbrev pub frame_of : Fields → List ℕ
 frame_of answer = spelling answer.tid answer.unit answer.pdu
 
--- The first trick in the list for this frame number, if there is one.
+-- The first fault in the list that applies to this frame number, or `None`.
 abbrev pub first_trick : List (ℕ × Trick) → ℕ → Option Trick
 first_trick tricks number =
     option_map (λ (t : ℕ × Trick). t.1) (find (λ (t : ℕ × Trick). t.0 == number) tricks)
 
--- The trick on the frame with this number, if there is one. Frames from 2^64 - 1 on have none.
+-- The fault injected at this frame number, or `None`. Frames from number 2^64 - 1 have none.
 unfoldable pub trick_at : List (ℕ × Trick) → ℕ → Option Trick
 trick_at tricks number = if nat_lt number (2 ^ 64 - 1) then first_trick tricks number else None
 
--- The frame of a response as a trick changes it. Three tricks change the header.
+-- The bytes of a response's frame, as an injected fault changes them. Three kinds of faults change
+-- the header.
 abbrev pub spelled_by : Option Trick → Fields → List ℕ
 spelled_by None answer = frame_of answer
 spelled_by (Some play.Drop) answer = frame_of answer
@@ -38,8 +38,8 @@ spelled_by (Some play.Garble) answer =
     word answer.tid ++ word 0 ++ word 0 ++ answer.unit ∷ answer.pdu
 spelled_by (Some (play.Cut count)) answer = frame_of answer
 
--- What is sent after a frame is executed: what the trick sends of its response, and then the
--- response that was buffered before it.
+-- The bytes sent after a frame is executed: the response as the fault changes it, followed by the
+-- delayed response `later`.
 abbrev pub sent_of : Option Trick → List ℕ → List ℕ → List ℕ
 sent_of None frame later = frame ++ later
 sent_of (Some play.Drop) frame later = later
@@ -50,28 +50,29 @@ sent_of (Some play.Unit) frame later = frame ++ later
 sent_of (Some play.Garble) frame later = frame ++ later
 sent_of (Some (play.Cut count)) frame later = take count frame
 
--- The state of a connection. `Playing`: its tricks, the number of its next frame, and the
--- buffered response, empty if there is none. The number 2^64 - 1 means that frame and all after
--- it. `CutOff`: a trick cut it.
+-- The state of a connection. `Playing`: its injected faults, the number of its next frame, and the
+-- delayed response or no bytes. The number 2^64 - 1 includes all later frames. `CutOff`: an
+-- injected fault closed the connection.
 pub data Course : Type 0 where
   Playing : List (ℕ × Trick) → ℕ → List ℕ → Course
   CutOff : Course
 
--- The state of a connection before its first frame, with these tricks.
+-- The state of a connection with these injected faults before its first frame.
 abbrev pub begun : List (ℕ × Trick) → Course
 begun tricks = Playing tricks 1 []
 
--- The state of a connection by the fields of its sender. The `Bool` says whether a trick cut it.
+-- The state of a connection, by the fields of its sender. The `Bool` is true if an injected fault
+-- closed the connection.
 abbrev pub course_in : Bool → List (ℕ × Trick) → ℕ → List ℕ → Course
 course_in true tricks number later = CutOff
 course_in false tricks number later = Playing tricks number later
 
--- A trick cut the connection.
+-- True if an injected fault closed the connection.
 abbrev pub is_cut : Course → Bool
 is_cut (Playing tricks number later) = false
 is_cut CutOff = true
 
--- The trick cuts the connection.
+-- True if the injected fault closes the connection.
 abbrev pub cuts : Option Trick → Bool
 cuts None = false
 cuts (Some play.Drop) = false
@@ -82,7 +83,7 @@ cuts (Some play.Unit) = false
 cuts (Some play.Garble) = false
 cuts (Some (play.Cut count)) = true
 
--- The response that is buffered after a frame with this trick; empty unless the trick is `Later`.
+-- The response that is delayed after a frame, or no bytes unless the injected fault is `Later`.
 abbrev pub later_of : Option Trick → List ℕ → List ℕ
 later_of None frame = []
 later_of (Some play.Drop) frame = []
@@ -93,7 +94,7 @@ later_of (Some play.Unit) frame = []
 later_of (Some play.Garble) frame = []
 later_of (Some (play.Cut count)) frame = []
 
--- The connection's state after a frame with this trick and this response.
+-- The state of a connection after a frame with this injected fault and this response.
 abbrev pub following : Option Trick → List ℕ → Course → Course
 following trick frame (Playing tricks number later) =
     if cuts trick then CutOff else Playing tricks (risen true number) (later_of trick frame)
@@ -105,32 +106,32 @@ sent_next (Playing tricks number later) answer =
     sent_of (trick_at tricks number) (spelled_by (trick_at tricks number) answer) later
 sent_next CutOff answer = []
 
--- The connection's state after its next response.
+-- The state of a connection after its next response.
 unfoldable pub course_next : Course → Fields → Course
 course_next (Playing tricks number later) answer =
     following (trick_at tricks number) (spelled_by (trick_at tricks number) answer)
     (Playing tricks number later)
 course_next CutOff answer = CutOff
 
--- The bytes that a connection sends for these true responses, as its tricks change them.
+-- The bytes that a connection sends for a list of true responses, as injected faults change them.
 abbrev pub sent : Course → List Fields → List ℕ
 sent course [] = []
 sent course (answer ∷ answers) = sent_next course answer ++ sent (course_next course answer) answers
 
--- The connection's state after these responses.
+-- The state of a connection after a list of responses.
 abbrev pub course_after : Course → List Fields → Course
 course_after course [] = course
 course_after course (answer ∷ answers) = course_after (course_next course answer) answers
 
--- Of frames numbered from this number on, those that are executed: all up to and with the frame
--- that a trick cuts.
+-- The frames that are executed, numbered from `number`: all frames up to and including the frame at
+-- which an injected fault closes the connection.
 abbrev pub up_to_cut : List (ℕ × Trick) → ℕ → List (List ℕ) → List (List ℕ)
 up_to_cut tricks number [] = []
 up_to_cut tricks number (frame ∷ frames) =
     frame ∷ (if cuts (trick_at tricks number) then []
     else up_to_cut tricks (risen true number) frames)
 
--- Of these frames, those that a server executes on this connection.
+-- The frames of the list that a server executes on this connection.
 abbrev pub carried_out : Course → List (List ℕ) → List (List ℕ)
 carried_out (Playing tricks number later) frames = up_to_cut tricks number frames
 carried_out CutOff frames = []

@@ -1,4 +1,4 @@
-//! Executes each kind of request on a table, and writes the response.
+//! Executes each kind of request on a table of the register map, and writes the response.
 ghost use Rattle.std.specs.Prelude.{◌≡◌, ◌≤◌, ◌+◌, ◌*◌, ◌/◌, ◌∷◌, [], length, take, is_some, true};
 ghost use Rattle.std.specs.List.{list_all};
 ghost use Rattle.mb_wire.specs.Bytes.{words_of};
@@ -15,7 +15,7 @@ use mb_wire::{
     encode_reply,
 };
 
-// Returns the exception code for a fault of a request.
+// Returns the Modbus exception code for a fault of a request.
 pub(crate) fn code_of(fault: RequestFault) -> u8
     ensures { result ≡ code_of_fault fault }
 {
@@ -28,7 +28,8 @@ pub(crate) fn code_of(fault: RequestFault) -> u8
     }
 }
 
-// Writes an exception response with this function and exception code, and returns its length.
+// Writes an exception response with this function code and exception code, and returns its length
+// in bytes.
 pub(crate) fn refuse(function: u8, code: u8, out: &mut [u8; MAX_PDU]) -> usize
     ensures count { result ≡ 2 }
     ensures written { take result out.new ≡ exception_bytes function code }
@@ -42,7 +43,7 @@ pub(crate) fn refuse(function: u8, code: u8, out: &mut [u8; MAX_PDU]) -> usize
     2
 }
 
-// Returns whether the table has `count` addresses from `address` on.
+// Returns whether the device has all `count` addresses of the table from `address`.
 fn has_all(table: &[Option<u16>], address: u16, count: u16) -> bool
     ensures { result ≡ are_there table.now address count }
 {
@@ -57,7 +58,7 @@ fn are_some(values: &[Option<u16>]) -> bool
     values.iter().all(|value| value.is_some())
 }
 
-// Returns whether the table has every address of a write of coils.
+// Returns whether the device has every address that a write of coils changes.
 fn has_coils(table: &[Option<u16>], address: u16, quantity: u16, bytes: &[u8]) -> bool
     requires { length bytes.now ≡ bytes_for quantity }
     ensures value { result ≡ are_there table.now address (length (coils_of quantity bytes.now)) }
@@ -66,7 +67,7 @@ fn has_coils(table: &[Option<u16>], address: u16, quantity: u16, bytes: &[u8]) -
     has_all(table, address, quantity)
 }
 
-// Returns whether the table has every address of a write of registers.
+// Returns whether the device has every address that a write of registers changes.
 fn has_words(table: &[Option<u16>], address: u16, bytes: &[u8]) -> bool
     requires { length bytes.now ≤ 2 * MAX_WRITE_REGISTERS }
     ensures value { result ≡ are_there table.now address (length (words_of bytes.now)) }
@@ -75,7 +76,8 @@ fn has_words(table: &[Option<u16>], address: u16, bytes: &[u8]) -> bool
     has_all(table, address, (bytes.len() / 2) as u16)
 }
 
-// Writes the response to a read of coils or discrete inputs, and returns its length.
+// Writes the response to a read of coils or discrete inputs, and returns the response's length in
+// bytes.
 pub(crate) fn answer_bits(
     table: &[Option<u16>],
     request: &Request<'_>,
@@ -105,7 +107,7 @@ pub(crate) fn answer_bits(
     }
 }
 
-// Writes the response to a read of registers, and returns its length.
+// Writes the response to a read of registers, and returns the response's length in bytes.
 pub(crate) fn answer_words(
     table: &[Option<u16>],
     request: &Request<'_>,
@@ -131,7 +133,7 @@ pub(crate) fn answer_words(
     }
 }
 
-// Executes a write of one coil, writes its response, and returns the response's length.
+// Executes a write of one coil, writes the response, and returns the response's length in bytes.
 pub(crate) fn answer_coil(
     table: &mut [Option<u16>],
     request: &Request<'_>,
@@ -155,7 +157,8 @@ pub(crate) fn answer_coil(
     }
 }
 
-// Executes a write of coils, writes its response, and returns the response's length.
+// Executes a write of several coils, writes the response, and returns the response's length in
+// bytes.
 pub(crate) fn answer_coils(
     table: &mut [Option<u16>],
     request: &Request<'_>,
@@ -181,7 +184,8 @@ pub(crate) fn answer_coils(
     }
 }
 
-// Executes a write of registers, writes its response, and returns the response's length.
+// Executes a write of several registers, writes the response, and returns the response's length in
+// bytes.
 pub(crate) fn answer_registers(
     table: &mut [Option<u16>],
     request: &Request<'_>,

@@ -1,4 +1,4 @@
-//! A simulated device's register map.
+//! The register map of a simulated device.
 ghost use Rattle.std.specs.Prelude.{◌≡◌, ◌≤◌, ◌<◌, ◌+◌, ◌↔◌, IfOk, Ok, Err, take};
 ghost use Rattle.std.specs.Prelude.{true, false, is_some, if◌then◌else◌, length};
 ghost use Rattle.std.specs.Prelude.{None};
@@ -40,14 +40,14 @@ impl Model for Bank {
     } };
 }
 
-// Returns whether an area shares an address of its kind with any of the others.
+// Returns whether `area` shares an address of its kind with any area in `others`.
 fn overlaps_any(area: &Area, others: &[Area]) -> bool
     ensures { result ≡ list_any (λ other. overlap area.now other) others.now }
 {
     others.iter().any(|other| area.overlaps(other))
 }
 
-// Returns whether two areas of one kind share an address.
+// Returns whether two areas of the same kind share an address.
 fn has_overlap(areas: &[Area]) -> bool
     ensures { result ≡ any_overlap areas.now }
 {
@@ -57,21 +57,21 @@ fn has_overlap(areas: &[Area]) -> bool
     }
 }
 
-// Returns whether an area is empty, or extends past the last address.
+// Returns whether an area in the list is empty or extends past address 65535.
 fn has_out_of_range(areas: &[Area]) -> bool
     ensures { result ≡ list_any is_out_of_range areas.now }
 {
     areas.iter().any(|area| area.is_out_of_range())
 }
 
-// Returns whether an area contains the address.
+// Returns whether an area in the list contains this address of this kind.
 fn any_contains(areas: &[Area], kind: Kind, address: u64) -> bool
     ensures { result ≡ list_any (λ area. contains kind address area) areas.now }
 {
     areas.iter().any(|area| area.contains(kind, address))
 }
 
-// Returns the initial value at an address, or `None` if no area contains it.
+// Returns the initial value at an address: 0, or `None` if no area contains the address.
 fn begin(areas: &[Area], kind: Kind, address: u64) -> Option<u16>
     ensures { result ≡ first_value areas.now kind address }
 {
@@ -82,7 +82,7 @@ fn begin(areas: &[Area], kind: Kind, address: u64) -> Option<u16>
     }
 }
 
-// Returns the initial table of one kind.
+// Creates the initial table of one kind of values from the areas of the device.
 fn begin_table(alloc: Global, areas: &[Area], kind: Kind) -> Result<Vec<Option<u16>>, AllocError>
     ensures values { IfOk result (λ table. BeginsAs areas.now kind table.items) }
     ensures end { IfOk result (λ table. length table.items ≡ ADDRESSES) }
@@ -94,14 +94,14 @@ fn begin_table(alloc: Global, areas: &[Area], kind: Kind) -> Result<Vec<Option<u
     Ok(table)
 }
 
-// Returns whether the device has any address of this part of a table.
+// Returns whether the device has at least one of the addresses in this part of a table.
 fn any_some(values: &[Option<u16>]) -> bool
     ensures { result ≡ list_any (λ value. is_some value) values.now }
 {
     values.iter().any(|value| value.is_some())
 }
 
-// Returns whether the table has any of `count` addresses from `start` on.
+// Returns whether the device has at least one of the `count` addresses of the table from `start`.
 #[tactic(auto, using(crate::proofs::Adding::cut))]
 fn has_some(table: &[Option<u16>], start: usize, count: usize) -> bool
     ensures { result ≡ list_any (λ value. is_some value) (values_at table.now start count) }
@@ -110,7 +110,7 @@ fn has_some(table: &[Option<u16>], start: usize, count: usize) -> bool
     any_some(&rest[..count.min(rest.len())])
 }
 
-// Sets `count` addresses from `start` on to 0.
+// Sets the values at `count` addresses of the table from `start` to 0.
 #[tactic(auto, using(crate::proofs::Adding::pasted))]
 fn begin_area(table: &mut Vec<Option<u16>>, start: usize, count: usize)
     requires { start + count ≤ length table.old.items }
@@ -121,7 +121,7 @@ fn begin_area(table: &mut Vec<Option<u16>>, start: usize, count: usize)
     }
 }
 
-// Adds an area to a table that has none of its addresses.
+// Adds an area to a table if the device has none of the area's addresses yet.
 fn add_to(table: &mut Vec<Option<u16>>, start: u16, count: u32) -> Result<(), BankFault>
     ensures { Adds table.old.items start count result table.new.items }
 {
@@ -137,7 +137,7 @@ fn add_to(table: &mut Vec<Option<u16>>, start: u16, count: u32) -> Result<(), Ba
     Ok(())
 }
 
-// Changes the value at an address of the table. Returns whether the table has that address.
+// Writes the value at an address of the table. Returns whether the device has that address.
 fn write(table: &mut Vec<Option<u16>>, address: u16, value: u16) -> bool
     ensures there { result ≡ is_some (value_in table.old.items address) }
     ensures after { table.new.items ≡ written table.old.items address value }
@@ -152,7 +152,7 @@ fn write(table: &mut Vec<Option<u16>>, address: u16, value: u16) -> bool
 }
 
 impl Bank {
-    /// Creates the register map of these areas, with all values 0.
+    /// Creates the register map of a device that has these areas, with all values 0.
     pub fn new(alloc: Global, areas: &[Area]) -> Result<Bank, BankFault>
         ensures overlap { (result ≡ Err BankFault.AreasOverlap) ↔ (any_overlap areas.now ≡ true) }
         ensures range { (result ≡ Err BankFault.OutOfRange) ↔
@@ -181,7 +181,7 @@ impl Bank {
         })
     }
 
-    /// Adds an area, with all values 0. On error nothing changes.
+    /// Adds an area with all values 0. On error, nothing changes.
     pub fn add(&mut self, area: &Area) -> Result<(), BankFault>
         ensures added { Adds (table_of self.old area.now.kind) area.now.start area.now.count
             result (table_of self.new area.now.kind) }
@@ -197,7 +197,7 @@ impl Bank {
         }
     }
 
-    /// Sets the value at an address. Returns whether the map has that address. For a coil or a
+    /// Writes the value at an address. Returns whether the device has that address. For a coil or a
     /// discrete input, any value except 0 is stored as 1.
     pub fn set(&mut self, kind: Kind, address: u16, value: u16) -> bool
         ensures there { result ≡ is_some (value_at self.old kind address) }
@@ -212,8 +212,8 @@ impl Bank {
         }
     }
 
-    /// Returns the value at an address, if the map has that address. A coil or a discrete input is
-    /// 0 or 1.
+    /// Returns the value at an address, or `None` if the device does not have the address. A coil
+    /// or a discrete input is 0 or 1.
     pub fn get(&self, kind: Kind, address: u16) -> Option<u16>
         ensures { result ≡ value_at self.now kind address }
     {
@@ -245,7 +245,7 @@ impl Bank {
         }
     }
 
-    // Executes a request, writes its response, and returns the response's length.
+    // Executes a request, writes the response, and returns the response's length in bytes.
     fn carry_out(&mut self, request: &Request<'_>, out: &mut [u8; MAX_PDU]) -> usize
         requires { IsLawful request.now }
         ensures some { 1 ≤ result }
@@ -292,7 +292,7 @@ impl Bank {
     }
 }
 
-// Returns the value at an address of a table, or `None` if the device does not have it.
+// Returns the value at an address of a table, or `None` if the device does not have the address.
 fn value_of(table: &[Option<u16>], address: u16) -> Option<u16>
     ensures { result ≡ value_in table.now address }
 {

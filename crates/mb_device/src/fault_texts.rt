@@ -1,4 +1,4 @@
-//! The sentence that describes each fault.
+//! Writes each fault of a simulated device as English text.
 use crate::kinds::BankFault;
 use crate::server::ServeFault;
 use std::error::Error;

@@ -1,4 +1,4 @@
-//! The kinds of a device's values, and the areas of a register map.
+//! The four kinds of values of a Modbus device, and the areas of its register map.
 ghost use Rattle.std.specs.Prelude.{◌≡◌, ◌+◌};
 ghost use Rattle.mb_device.specs.Areas.{bank_fault_number, contains, is_out_of_range, kind_number};
 ghost use Rattle.mb_device.specs.Areas.{overlap};
@@ -8,17 +8,17 @@ use mb_wire::ADDRESSES;
 /// The four kinds of values of a device (Modbus Application Protocol V1.1b3, section 4.3).
 #[derive(Clone, Copy, Debug, PartialEq, Eq)]
 pub enum Kind {
-    /// A bit that clients read and write.
+    /// A coil: a bit that clients read and write.
     Coil,
-    /// A bit that clients only read.
+    /// A discrete input: a bit that clients only read.
     Discrete,
-    /// A register that clients read and write.
+    /// A holding register, which clients read and write.
     Holding,
-    /// A register that clients only read.
+    /// An input register, which clients only read.
     Input,
 }
 
-/// Addresses of one kind that a device has: `count` of them, from `start` on.
+/// A range of addresses of one kind that a device has: `count` addresses from `start`.
 #[derive(Clone, Copy, Debug, PartialEq, Eq)]
 pub struct Area {
     pub kind: Kind,
@@ -26,10 +26,11 @@ pub struct Area {
     pub count: u32,
 }
 
-/// Why areas are not a register map. The fault with the lowest number is reported.
+/// The reason why areas do not form a register map. If several faults apply, the fault with the
+/// lowest number is reported.
 #[derive(Clone, Copy, Debug, PartialEq, Eq)]
 pub enum BankFault {
-    /// Two areas of one kind share an address.
+    /// Two areas of the same kind share an address.
     AreasOverlap,
     /// An area is empty, or extends past address 65535.
     OutOfRange,
@@ -38,8 +39,8 @@ pub enum BankFault {
 }
 
 impl BankFault {
-    /// Returns the fault's number, from 1. Faults are checked in this order, and the first that
-    /// applies is reported.
+    /// Returns the fault's number, counted from 1. Faults are checked in the order of their
+    /// numbers, and the first fault that applies is reported.
     pub fn number(self) -> u8
         ensures { result ≡ bank_fault_number self }
     {
@@ -65,7 +66,7 @@ impl Kind {
 }
 
 impl Area {
-    // Returns the address after the area's last.
+    // Returns the address after the last address of the area.
     fn end(&self) -> u64
         ensures { result ≡ self.now.start + self.now.count }
     {

@@ -1,4 +1,4 @@
-//! Theorems on what a server exchanges over many turns.
+//! Theorems about the bytes that a simulated device reads and writes over several turns.
 ghost use Rattle.std.specs.Prelude.{◌≡◌, ◌-◌, ◌^◌, ℕ, List, [], false};
 ghost use Rattle.std.specs.List.{flat_map};
 ghost use Rattle.mb_wire.specs.Reader.{Fields};
@@ -6,9 +6,8 @@ ghost use Rattle.mb_device.specs.Exchanges.{AllAreOne, ServingExchanges, TurnExc
 ghost use Rattle.mb_device.specs.Tricks.{Playing, carried_out, course_after, frame_of, is_cut, sent};
 ghost use Rattle.mb_device.specs.declared.trick.Trick.{Trick};
 
-/// Theorem: a turn that returns `Ok` is an exchange of bytes, and so is a `serve` that returns
-/// `Ok`. Consecutive exchanges are one exchange, even if the link gained or lost bytes between
-/// them.
+/// Theorem: each turn or `serve` that returns `Ok` is an exchange of bytes. Consecutive exchanges
+/// form one exchange, even if the link gained or lost bytes between them.
 pub fn turns_compose()
     ensures turn { TurnExchanges }
     ensures serving { ServingExchanges }
@@ -16,8 +15,8 @@ pub fn turns_compose()
     ensures all { AllAreOne }
 {}
 
-/// Theorem: if no frame has a trick, the server executes every frame, sends the true responses in
-/// order, and keeps the connection. That is the case without tricks, and from frame 2^64 - 1 on.
+/// Theorem: a server without injected faults executes every frame, sends the true responses in
+/// order, and keeps the connection. From frame 2^64 - 1 no fault is injected.
 pub fn no_trick_is_true()
     ensures sent { (number : ℕ) (answers : List Fields) →
         sent (Playing [] number []) answers ≡ flat_map frame_of answers }

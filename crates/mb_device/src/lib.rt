@@ -1,5 +1,5 @@
-//! A simulator of a Modbus TCP device. It responds as the Modbus Application Protocol V1.1b3 says,
-//! over coils and registers in memory.
+//! Simulates a Modbus TCP device with coils and registers in memory. Responses follow the Modbus
+//! Application Protocol V1.1b3.
 #![tactic(auto)]
 
 mod answer;

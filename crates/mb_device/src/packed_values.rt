@@ -9,7 +9,7 @@ ghost use Rattle.mb_device.specs.Device.{coil_number, is_kept_on, kept_value};
 
 use mb_wire::{MAX_READ_COILS, MAX_READ_REGISTERS, Reply};
 
-// The most data bytes of a response to a read: 2,000 coils need as many as 125 registers.
+// The most data bytes in the response to a read: 2,000 coils need as many bytes as 125 registers.
 pub(crate) const MAX_BYTES: usize = 250;
 
 // Packs up to eight values into a byte, the lowest bit first.
@@ -24,7 +24,8 @@ fn pack_byte(values: &[Option<u16>]) -> u8
     }
 }
 
-// Writes these values as coils to the front of `out`, and returns the number of bytes.
+// Writes values as coils to the front of `out`, eight to a byte, and returns the number of bytes
+// written.
 pub(crate) fn pack_coils(values: &[Option<u16>], out: &mut [u8; MAX_BYTES]) -> usize
     requires { length values.now ≤ MAX_READ_COILS }
     ensures count { result ≡ bytes_for (length values.now) }
@@ -38,7 +39,7 @@ pub(crate) fn pack_coils(values: &[Option<u16>], out: &mut [u8; MAX_BYTES]) -> u
     count
 }
 
-// Writes the value as register `i` of the data bytes.
+// Writes the value into `out` as register `i`, two bytes, high byte first.
 fn put_word(out: &mut [u8; MAX_BYTES], i: usize, value: u16)
     requires { i < MAX_READ_REGISTERS }
     ensures { take (2 * i + 2) out.new ≡ take (2 * i) out.old ++ word value }
@@ -47,7 +48,8 @@ fn put_word(out: &mut [u8; MAX_BYTES], i: usize, value: u16)
     out[place..place + 2].copy_from_slice(&value.to_be_bytes());
 }
 
-// Writes these values as registers to the front of `out`, and returns the number of bytes.
+// Writes values as registers to the front of `out`, two bytes each, and returns the number of bytes
+// written.
 pub(crate) fn pack_words(values: &[Option<u16>], out: &mut [u8; MAX_BYTES]) -> usize
     requires { length values.now ≤ MAX_READ_REGISTERS }
     ensures count { result ≡ 2 * length values.now }
@@ -59,7 +61,7 @@ pub(crate) fn pack_words(values: &[Option<u16>], out: &mut [u8; MAX_BYTES]) -> u
     2 * values.len()
 }
 
-// Stores the registers of these data bytes in the table, from an address on.
+// Writes the registers in the data bytes of a request into the table, from index `place`.
 pub(crate) fn write_words(table: &mut [Option<u16>], place: usize, bytes: &[u8])
     requires { place + length bytes.now / 2 ≤ length table.old }
     ensures { table.new ≡ all_written table.old place (words_of bytes.now) }
@@ -69,8 +71,7 @@ pub(crate) fn write_words(table: &mut [Option<u16>], place: usize, bytes: &[u8])
     }
 }
 
-// Returns the number to store for coil `i` of these data bytes, 0 or 1, or `None` without that
-// coil.
+// Returns coil `i` of the data bytes as 0 or 1, or `None` if the data has no such coil.
 fn coil_in(quantity: u16, bytes: &[u8], i: usize) -> Option<u16>
     ensures { result ≡ option_map coil_number (slice_get (coils_of quantity bytes.now) i) }
 {
@@ -80,7 +81,7 @@ fn coil_in(quantity: u16, bytes: &[u8], i: usize) -> Option<u16>
     }
 }
 
-// Stores the coils of these data bytes in the table as 0 or 1, from an address on.
+// Writes the coils in the data bytes of a request into the table as 0 or 1, from index `place`.
 pub(crate) fn write_coils(table: &mut [Option<u16>], place: usize, quantity: u16, bytes: &[u8])
     requires count { length bytes.now ≡ bytes_for quantity }
     requires fits { place + quantity ≤ length table.old }

@@ -1,4 +1,4 @@
-//! Sends the responses of a connection, changed by its tricks.
+//! Sends the responses of a connection, with injected faults.
 ghost use Rattle.std.specs.Prelude.{◌≡◌, ◌≤◌, ◌++◌, length, take, false, is_err};
 ghost use Rattle.std.specs.Io.KnownBytes.{Keeps};
 ghost use Rattle.mb_wire.specs.Links.{Gives, risen};
@@ -9,7 +9,7 @@ use crate::trick::Trick;
 use mb_wire::{Link, LinkFailed, MAX_ADU, MAX_PDU, give_all, write_frame};
 use std::marker::Model;
 
-// Writes all bytes of both slices, in order.
+// Writes all bytes of the slice `first`, followed by all bytes of the slice `next`.
 fn give_both<L: Link>(link: &mut L, first: &[u8], next: &[u8]) -> Result<(), LinkFailed>
     ensures given { Gives result (L.given link.old) (L.given link.new) (first.now ++ next.now) }
     ensures remaining { Keeps (L.remaining link.old) (L.remaining link.new) }
@@ -22,8 +22,8 @@ fn give_both<L: Link>(link: &mut L, first: &[u8], next: &[u8]) -> Result<(), Lin
     give_all(link, next)
 }
 
-// Sends the response to a frame as its trick changes it, and then the response that was buffered
-// before.
+// Sends the response to a frame as an injected fault changes it, followed by the delayed response
+// to an earlier frame.
 fn give_by<L: Link>(
     link: &mut L,
     trick: Option<Trick>,
@@ -49,7 +49,7 @@ fn give_by<L: Link>(
     }
 }
 
-// Writes a frame whose header has length 0, and returns its length in bytes.
+// Writes a frame whose length field is 0, and returns the number of bytes written.
 fn write_without_length(tid: u16, unit: u8, pdu: &[u8], out: &mut [u8; MAX_ADU]) -> usize
     requires low { 1 ≤ length pdu.now }
     requires high { length pdu.now ≤ MAX_PDU }
@@ -63,8 +63,8 @@ fn write_without_length(tid: u16, unit: u8, pdu: &[u8], out: &mut [u8; MAX_ADU])
     end
 }
 
-// Writes the frame of a response, with its header as the trick changes it. Returns its length in
-// bytes.
+// Writes the frame of a response, with the header as an injected fault changes it. Returns the
+// number of bytes written.
 fn write_by(trick: Option<Trick>, tid: u16, unit: u8, pdu: &[u8], out: &mut [u8; MAX_ADU]) -> usize
     requires low { 1 ≤ length pdu.now }
     requires high { length pdu.now ≤ MAX_PDU }
@@ -81,7 +81,7 @@ fn write_by(trick: Option<Trick>, tid: u16, unit: u8, pdu: &[u8], out: &mut [u8;
     }
 }
 
-// Returns the first trick in the list for this frame number, or `None`.
+// Returns the first fault in the list that applies to this frame number, or `None`.
 fn find_first(tricks: &[(u64, Trick)], number: u64) -> Option<Trick>
     ensures { result ≡ first_trick tricks.now number }
 {
@@ -91,7 +91,8 @@ fn find_first(tricks: &[(u64, Trick)], number: u64) -> Option<Trick>
         .map(|trick| trick.1)
 }
 
-// Returns the trick on the frame with this number, or `None`. Frames from 2^64 - 1 on have none.
+// Returns the fault injected at this frame number, or `None`. Frames from number 2^64 - 1 have
+// none.
 #[tactic(auto, unfolding(crate::specs::Tricks::trick_at))]
 fn find_trick(tricks: &[(u64, Trick)], number: u64) -> Option<Trick>
     ensures { result ≡ trick_at tricks.now number }
@@ -102,13 +103,13 @@ fn find_trick(tricks: &[(u64, Trick)], number: u64) -> Option<Trick>
     find_first(tricks, number)
 }
 
-// Sends the responses of a connection, each changed by the trick on its frame.
+// Sends the responses of a connection, each changed by the fault injected at its frame number.
 #[derive(Drop)]
 pub(crate) struct Sender<'t> {
     tricks: &'t [(u64, Trick)],
-    // The number of the next frame, from 1.
+    // The number of the next frame, counted from 1.
     next: u64,
-    // The buffered response: its first `len` bytes. None is buffered if `len` is 0.
+    // A delayed response: the first `len` bytes. If `len` is 0, no response is delayed.
     later: [u8; MAX_ADU],
     len: usize,
     is_cut: bool,
@@ -139,14 +140,15 @@ impl<'t> Sender<'t> {
         }
     }
 
-    // Returns whether a trick cut the connection.
+    // Returns whether an injected fault closed the connection.
     pub(crate) fn is_cut(&self) -> bool
         ensures { result ≡ is_cut self.now }
     {
         self.is_cut
     }
 
-    // Advances to the next frame, after a frame with this trick and this response.
+    // Advances the sender to the next frame, after a frame with this injected fault and this
+    // response.
     fn go_on(&mut self, trick: Option<Trick>, frame: [u8; MAX_ADU], end: usize)
         requires { end ≤ MAX_ADU }
         ensures { self.new ≡ following trick (take end frame) self.old }
@@ -163,7 +165,7 @@ impl<'t> Sender<'t> {
         }
     }
 
-    // Sends the next response, changed by the trick on its frame.
+    // Sends the next response, changed by the fault injected at its frame number.
     pub(crate) fn send<L: Link>(
         &mut self,
         link: &mut L,

@@ -1,4 +1,4 @@
-//! A server: reads frames from a link, and writes the responses.
+//! The server of a simulated device: it reads frames from a link and writes responses.
 ghost use Rattle.std.specs.Prelude.{◌≡◌, ◌≤◌, ◌<◌, ◌+◌, ◌^◌, ◌++◌, ℕ, List, [], length, not, true};
 ghost use Rattle.std.specs.Prelude.{false, is_err, IfOk, Ok, Err};
 ghost use Rattle.std.specs.Io.KnownBytes.{Keeps};
@@ -19,21 +19,21 @@ use crate::trick::Trick;
 use mb_wire::{Frame, FrameReader, Framing, Link, LinkFailed, MAX_ADU, MAX_PDU, Took};
 use std::marker::Model;
 
-/// Why a server stopped.
+/// The reason why a server stopped.
 #[derive(Clone, Copy, Debug, PartialEq, Eq)]
 pub enum ServeFault {
-    /// A read of the link failed.
+    /// A read from the link failed.
     Read,
     /// A write to the link failed, or accepted no bytes.
     Write,
-    /// The stream is garbled, or an earlier call returned a fault.
+    /// The stream has an invalid length field, or an earlier call returned a fault.
     Garbled,
-    /// The link's input did not end within the greatest number of turns.
+    /// The input of the link did not end within the greatest number of turns.
     TurnsUsed,
 }
 
 impl ServeFault {
-    /// Returns the fault's number, from 1. The program does not print or store it.
+    /// Returns the fault's number, counted from 1. The program does not print or store this number.
     pub fn number(self) -> u8
         ensures { result ≡ serve_fault_number self }
     {
@@ -46,23 +46,23 @@ impl ServeFault {
     }
 }
 
-/// The result of a turn.
+/// The result of a successful turn of a server.
 #[derive(Clone, Copy, Debug, PartialEq, Eq)]
 pub struct Turned {
-    /// The number of frames that were executed, with those whose response a trick dropped, buffered
-    /// or cut off.
+    /// The number of frames executed, including frames whose response an injected fault dropped,
+    /// delayed or cut off.
     pub answered: u64,
-    /// Whether the input ended, or a trick cut the connection.
+    /// True if the input ended, or an injected fault closed the connection.
     pub ended: bool,
 }
 
-// The result of each turn after a trick cut the connection.
+// The result of every turn after an injected fault closed the connection.
 const OVER: Turned = Turned {
     answered: 0,
     ended: true,
 };
 
-/// Responds to the frames of one stream. Tricks may change its responses.
+/// A server that responds to the frames of one connection, with optional injected faults.
 #[derive(Drop)]
 pub struct Server<'t> {
     reader: FrameReader,
@@ -85,7 +85,7 @@ impl<'t> Model for Server<'t> {
         IsOpen server.reader.rest };
 }
 
-// Executes the request in a frame, and sends its response.
+// Executes the request in a frame, and sends the response.
 fn answer_frame<L: Link>(
     frame: &Frame<'_>,
     sender: &mut Sender<'_>,
@@ -111,8 +111,8 @@ fn answer_frame<L: Link>(
     sender.send(link, frame.tid, frame.unit, &pdu[..length])
 }
 
-// Responds to the frame that the reader holds, if it holds one. Returns the number of frames: 0
-// or 1.
+// Responds to the complete frame in the reader, if there is one. Returns the number of frames: 0 or
+// 1.
 fn answer_buffered<L: Link>(
     reader: &FrameReader,
     sender: &mut Sender<'_>,
@@ -142,7 +142,8 @@ fn answer_buffered<L: Link>(
     }
 }
 
-// Responds to the Modbus frames that end in a piece, up to a cut. Returns how many it executed.
+// Responds to the Modbus frames that end in `piece`, until an injected fault closes the connection.
+// Returns the number of frames executed.
 fn answer_piece<L: Link>(
     reader: &mut FrameReader,
     sender: &mut Sender<'_>,
@@ -180,7 +181,7 @@ fn answer_piece<L: Link>(
     }
 }
 
-// Reads once, and responds to the frames that the read completed.
+// Reads from the link once, and responds to the frames that the read completed.
 fn take_turn<L: Link>(
     reader: &mut FrameReader,
     sender: &mut Sender<'_>,
@@ -223,18 +224,18 @@ fn take_turn<L: Link>(
 }
 
 impl<'t> Server<'t> {
-    /// Creates a server that sends true responses.
+    /// Creates a server without injected faults.
     pub fn new() -> Self
         ensures { result ≡ Holds [] (begun []) }
     {
         Server::tricked(&[])
     }
 
-    /// Creates a server that plays tricks. The Modbus frames of its stream are numbered from 1;
-    /// frames of other protocols have no number.
+    /// Creates a server with injected faults. The Modbus frames of its connection are numbered from
+    /// 1, without the frames of other protocols.
     ///
-    /// The first trick with a frame's number changes its response. A frame without a trick, and
-    /// every frame from 2^64 - 1 on, gets the true response.
+    /// The first fault in the list with a frame's number changes the response to that frame. Other
+    /// frames, and all frames from number 2^64 - 1, get the true response.
     pub fn tricked(tricks: &'t [(u64, Trick)]) -> Self
         ensures { result ≡ Holds [] (begun tricks.now) }
     {
@@ -245,7 +246,7 @@ impl<'t> Server<'t> {
         }
     }
 
-    // Returns whether a call returned a fault.
+    // Returns whether an earlier call returned a fault.
     fn has_failed(&self) -> bool
         ensures failed { result ≡ has_faulted self.now }
         ensures buffered { (buffered : List ℕ) (course : Course) → self.now ≡ Holds buffered course
@@ -254,7 +255,7 @@ impl<'t> Server<'t> {
         self.failed
     }
 
-    // Returns whether a trick cut the connection.
+    // Returns whether an injected fault closed the connection.
     fn is_over(&self) -> bool
         ensures { result ≡ is_over self.now }
     {
@@ -267,13 +268,12 @@ impl<'t> Server<'t> {
         self.failed = true;
     }
 
-    /// Reads at most 260 bytes, and responds to each frame that ends in them. A response has the
-    /// frame's transaction identifier and unit, if no trick changes them.
+    /// Reads at most 260 bytes, and responds to each frame that ends in them. A response repeats
+    /// the frame's transaction and unit identifiers, unless an injected fault changes them.
     ///
-    /// Requests that were executed before a fault keep their effect. After a fault, each call
-    /// returns `Garbled`, without a read or a write. After a trick cuts the connection, this
-    /// turn and each later one report the end of the input. The later turns execute, read and write
-    /// nothing.
+    /// Requests executed before a fault keep their effect. After a fault, each call returns
+    /// `Garbled` without a read or a write. If an injected fault closes the connection, this turn
+    /// and all later turns report the end of the input, and later turns do nothing.
     pub fn turn<L: Link>(&mut self, link: &mut L, bank: &mut Bank) -> Result<Turned, ServeFault>
         ensures serving { (buffered : List ℕ) (course : Course) → self.old ≡ Holds buffered course →
             Turns buffered course result (around (L.remaining link.old) (L.given link.old) bank.old)
@@ -302,12 +302,12 @@ impl<'t> Server<'t> {
         turned
     }
 
-    /// Takes turns until the input ends, at most `max_turns`. Returns the number of executed
-    /// frames, with those whose response a trick dropped, buffered or cut off.
+    /// Processes turns until the input ends, at most `max_turns`. Returns the number of frames
+    /// executed, including frames whose response an injected fault dropped, delayed or cut off.
     ///
-    /// Requests that were executed before a fault keep their effect. After a fault, each call
-    /// returns `Garbled`, without a read or a write. After a cut, each call returns 0, without a
-    /// read or a write.
+    /// Requests executed before a fault keep their effect. After a fault, each call returns
+    /// `Garbled` without a read or a write. After an injected fault closed the connection, each
+    /// call returns 0 without a read or a write.
     pub fn serve<L: Link>(
         &mut self,
         link: &mut L,

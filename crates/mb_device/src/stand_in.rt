@@ -1,4 +1,4 @@
-//! A simulated device on a listener.
+//! Serves a simulated device on a listening socket.
 
 mod connections;
 

@@ -1,23 +1,22 @@
-//! Tricks: deliberately wrong responses.
+//! Faults that a simulated device injects into its responses.
 
-/// A trick: what the server does with the response to one frame of a connection. The frame itself
-/// is executed.
+/// A fault injected into the response to one frame. The request in the frame is still executed.
 #[derive(Clone, Copy, Debug, PartialEq, Eq)]
 pub enum Trick {
-    /// Nothing is sent.
+    /// No response is sent.
     Drop,
     /// The response is sent twice.
     Twice,
-    /// The response is buffered until the server has executed the next frame. It is then sent after
-    /// what is sent for that frame, or alone if that response is buffered too.
+    /// The response is delayed until the server has executed the next frame. It is sent after the
+    /// next response, or alone if the next response is delayed too.
     Later,
-    /// The transaction identifier is one too high, modulo 65536.
+    /// The transaction identifier of the response is one too high, modulo 65536.
     Id,
-    /// The unit identifier is one too high, modulo 256.
+    /// The unit identifier of the response is one too high, modulo 256.
     Unit,
-    /// The length in the header is 0.
+    /// The length field in the header of the response is 0.
     Garble,
-    /// The first bytes of the response are sent, at most this many, and then the connection is
-    /// closed. A buffered response is not sent.
+    /// At most this number of bytes of the response is sent, and then the connection is closed. A
+    /// delayed response is discarded.
     Cut(u16),
 }

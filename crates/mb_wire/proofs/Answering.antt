@@ -1,4 +1,4 @@
--- Decoding and encoding responses, over the definitions alone.
+-- Lemmas about decoding and encoding responses, over the definitions of `specs/` only.
 use Rattle.std.proofs.Common.{◌≡◌, ℕ, suc, ◌+◌, ◌-◌, ◌*◌, ◌≤◌, ◌==◌, nat_lt, inl, inr, true, false, not, ◌&&◌, ◌||◌, List, [], ◌∷◌, ◌++◌, length, drop, slice_index, None, Ok, refl, sym, ap, subst, ◌∙◌, arith, length-drop}
 use Rattle.std.proofs.lemmas.Bool.{cases_Bool, or_cases, or_from, or_parts, or_left, or_right, and_cases, and_left, and_right, and_from, and_parts, not-false, not_from_true, not_from_false, eqb-true, eq-eqb, ne_eqb, le-ltb, ltb-false, cond-true, cond-false, both_ways}
 use Rattle.mb_wire.specs.Bytes.{AreBytes, number_at, words_of, word_bytes}
@@ -12,7 +12,7 @@ use Rattle.mb_wire.proofs.Asking.{whole, unless_none, ok_unless, head_first}
 use Rattle.mb_wire.proofs.Packing.{coils_of-packed, length-coils_of-whole, length-packed_in, packed-coils_of}
 use Rattle.mb_wire.proofs.Words.{length-word_bytes, length-words_of, word_bytes-words_of, words_of-word_bytes}
 
--- A PDU without a fault.
+-- True if the PDU has no fault as a response to the request.
 pub record Sound (query : Query) (pdu : List ℕ) : Type 0 where
   pub function : is_wrong_function query pdu ≡ false
   pub length : is_wrong_length query pdu ≡ false
@@ -43,7 +43,7 @@ own_function query others =
     and_right (nat_lt 0 (length pdu)) (not (function_of query == function_of query || is_exception query pdu))
     (not_from_true _ (or_left (function_of query == function_of query) (is_exception query pdu) (eq-eqb (function_of query) (function_of query) refl)))
 
--- A response with data has no fault.
+-- A response with the byte count and data that the request reads has no fault.
 bringing : (query : Query) (bytes : List ℕ) → brings_bytes (wanted_by query) ≡ true → length bytes ≡ byte_count (wanted_by query) → Sound query (function_of query ∷ byte_count (wanted_by query) ∷ bytes)
 bringing query bytes brings e =
     let count = byte_count (wanted_by query) in
@@ -59,7 +59,7 @@ bringing query bytes brings e =
       echo = and_left (not (is_exception query pdu) && not (brings_bytes (wanted_by query))) _ (and_right (not (is_exception query pdu)) _ (not_from_true _ brings));
     }
 
--- A response that repeats the head has no fault.
+-- A response that repeats the first five bytes of a write request has no fault.
 repeating : (query : Query) → wanted_by query ≡ Head → Sound query (echo_of query)
 repeating query head =
     let pdu = echo_of query in
@@ -89,7 +89,7 @@ excepting query code =
       echo = and_left (not (is_exception query pdu) && not (brings_bytes (wanted_by query))) _ (and_left (not (is_exception query pdu)) _ (not_from_true _ exception));
     }
 
--- A PDU decodes to what it encodes.
+-- A response decodes from each PDU that encodes it.
 pub spells_reads : (query : Query) (pdu : List ℕ) (answer : Answer) → SpellsReply query pdu answer → answer_in query pdu ≡ Ok answer
 spells_reads query pdu (Bits bits) h =
     let bytes = h.1.0 in
@@ -121,7 +121,7 @@ spells_reads query pdu (Exception code) h =
     ∙ reads query ((function_of query + 128) ∷ code ∷ []) (Exception code) (excepting query code)
     (cond-true _ _ _ (eq-eqb (function_of query + 128) (function_of query + 128) refl))
 
--- The first two bytes of a longer PDU.
+-- A PDU of at least two bytes is its first two bytes followed by the remaining bytes.
 two_first : (pdu : List ℕ) → 2 ≤ length pdu → pdu ≡ slice_index pdu 0 ∷ slice_index pdu 1 ∷ drop 2 pdu
 two_first [] h = absurd (omega arith)
 two_first (a ∷ []) h = absurd (omega arith)
@@ -142,7 +142,7 @@ five_only (a ∷ b ∷ c ∷ d ∷ []) h = refl
 five_only (a ∷ b ∷ c ∷ d ∷ e ∷ []) h = refl
 five_only (a ∷ b ∷ c ∷ d ∷ e ∷ f ∷ others) h = absurd (omega arith)
 
--- A PDU whose function code is right, and no exception, begins with the function code.
+-- A PDU that passes the function check and is no exception begins with the request's function code.
 begins : (query : Query) (pdu : List ℕ) → 1 ≤ length pdu → is_wrong_function query pdu ≡ false → is_exception query pdu ≡ false → slice_index pdu 0 ≡ function_of query
 begins query pdu some h plain =
     elim (and_cases _ _ h) [
@@ -153,7 +153,7 @@ begins query pdu some h plain =
       ]
     ]
 
--- A PDU with data: the function code, the byte count and the data.
+-- True if the PDU consists of the function code, the byte count and the data.
 pub record Brings (query : Query) (pdu : List ℕ) : Type 0 where
   pub shape : pdu ≡ function_of query ∷ byte_count (wanted_by query) ∷ drop 2 pdu
   pub count : length (drop 2 pdu) ≡ byte_count (wanted_by query)
@@ -193,7 +193,7 @@ repeats query pdu bytes h plain none =
     ∙ ap (λ n. head_bytes (function_of query) n (number_at pdu 3)) (eqb-true _ _ both.0)
     ∙ ap (λ n. head_bytes (function_of query) (address_of query) n) (eqb-true _ _ both.1)
 
--- What a PDU without a fault encodes, by the data that the query asks for.
+-- A PDU without a fault encodes the response that the decoder returns, for each kind of content.
 spelled_wanted : (query : Query) (pdu : List ℕ) (wanted : Wanted) → wanted_by query ≡ wanted → AreBytes pdu → Sound query pdu → is_exception query pdu ≡ false → SpellsReply query pdu (brought wanted pdu)
 spelled_wanted query pdu (Coils quantity) e bytes h plain =
     let b = brings query pdu h plain (ap brings_bytes e) in
@@ -225,7 +225,7 @@ sound_spells query pdu bytes h =
           (spelled_wanted query pdu (wanted_by query) refl bytes h plain)
     ]
 
--- A PDU encodes what it decodes to.
+-- A PDU that decodes to a response encodes that response.
 pub reads_spells : (query : Query) (pdu : List ℕ) (answer : Answer) → AreBytes pdu → answer_in query pdu ≡ Ok answer → SpellsReply query pdu answer
 reads_spells query pdu answer bytes e =
     let both = ok_unless (reply_fault query pdu) (answer_from query pdu) answer e in
@@ -234,7 +234,7 @@ reads_spells query pdu answer bytes e =
 pub faultless_spells : (query : Query) (pdu : List ℕ) → AreBytes pdu → reply_fault query pdu ≡ None → SpellsReply query pdu (answer_from query pdu)
 faultless_spells query pdu bytes e = sound_spells query pdu bytes (sound query pdu e)
 
--- The encoding of a fitting answer encodes that answer.
+-- A response that fits its request decodes from its own encoding.
 pub spells_own : (query : Query) (answer : Answer) → AnswersQuery query answer → SpellsReply query (answer_bytes query answer) answer
 spells_own query (Bits bits) h =
     let count : length (packed bits) ≡ bytes_for (length bits) = length-packed_in (bytes_for (length bits)) bits in
@@ -245,12 +245,12 @@ spells_own query (Words words) h =
 spells_own query Echo h = (h, refl)
 spells_own query (Exception code) h = refl
 
--- Setting the spare bits of a PDU that is no exception to 0.
+-- Clearing spare bits in a successful response leaves its function code and byte count unchanged.
 plain_cleared : (query : Query) (wanted : Wanted) (others : List ℕ) → wanted_by query ≡ wanted → reply_cleared query (function_of query ∷ others) ≡ cleared_reply wanted (function_of query ∷ others)
 plain_cleared query wanted others e =
     cond-false _ _ _ (no_exception query others) ∙ ap (λ w. cleared_reply w (function_of query ∷ others)) e
 
--- A PDU is the encoding of its answer, up to the spare bits.
+-- Encoding a decoded response gives its PDU with the spare bits set to 0.
 pub spells_cleared : (query : Query) (pdu : List ℕ) (answer : Answer) → AreBytes pdu → SpellsReply query pdu answer → answer_bytes query answer ≡ reply_cleared query pdu
 spells_cleared query pdu (Bits bits) h s =
     let bytes = s.1.0 in
@@ -273,7 +273,7 @@ spells_cleared query pdu Echo h s =
 spells_cleared query pdu (Exception code) h s =
     sym (cond-true _ _ _ (eq-eqb (function_of query + 128) (function_of query + 128) refl)) ∙ sym (ap (reply_cleared query) s)
 
--- A PDU without a fault has as many registers as the query asks for.
+-- A register response without a fault has as many registers as the request reads.
 pub registers_fit : (query : Query) (pdu : List ℕ) (quantity : ℕ) → reply_fault query pdu ≡ None → is_exception query pdu ≡ false → wanted_by query ≡ Registers quantity → (length (words_of (drop 2 pdu)) ≡ quantity) × (length (drop 2 pdu) ≡ 2 * quantity)
 registers_fit query pdu quantity none plain e =
     let b = brings query pdu (sound query pdu none) plain (ap brings_bytes e) in

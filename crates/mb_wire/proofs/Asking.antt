@@ -1,4 +1,4 @@
--- Decoding and encoding requests, over the definitions alone.
+-- Lemmas about decoding and encoding requests, over the definitions of `specs/` only.
 use Rattle.std.proofs.Common.{◌≡◌, ℕ, suc, ◌+◌, ◌-◌, ◌*◌, ◌/◌, ◌%◌, ◌<◌, ◌≤◌, ◌==◌, nat_lt, inl, inr, Bool, true, false, not, ◌&&◌, ◌||◌, if◌then◌else◌, List, [], ◌∷◌, ◌++◌, length, drop, slice_index, Option, Some, None, Ok, refl, sym, ap, subst, ◌∙◌, arith, length-drop, drop-cons}
 use Rattle.std.proofs.lemmas.Bool.{cases_eq, or_cases, or_from, or_parts, and_cases, and_left, and_right, not-false, not_from_true, eqb-true, eq-eqb, le-ltb, ltb-false, cond-true, cond-false, both_ways, leb-true, and_parts}
 use Rattle.std.proofs.lemmas.List.{drop_all}
@@ -12,7 +12,7 @@ use Rattle.mb_wire.proofs.Words.{length-word_bytes, length-words_of, word_bytes-
 pub whole : (n : ℕ) → 256 * (n / 256) + n % 256 ≡ n
 whole n = omega arith
 
--- A PDU without a fault.
+-- True if the PDU has no fault as a request.
 pub record Faultless (pdu : List ℕ) : Type 0 where
   pub function : is_unknown_function pdu ≡ false
   pub length : is_wrong_request_length pdu ≡ false
@@ -41,7 +41,7 @@ faultless pdu h =
     let e = unless_none (is_wrong_coil_value pdu) _ _ d.1 in
     record { function = a.0; length = b.0; quantity = c.0; count = d.0; coil = e.0 }
 
--- A PDU of five bytes.
+-- A request of five bytes with a known function and allowed values has no fault.
 plain : (function address field : ℕ) → is_known function ≡ true → carries_bytes function ≡ false → is_wrong_quantity (head_bytes function address field) ≡ false → is_wrong_coil_value (head_bytes function address field) ≡ false → Faultless (head_bytes function address field)
 plain function address field known short quantity coil =
     record {
@@ -52,7 +52,7 @@ plain function address field known short quantity coil =
       coil = coil;
     }
 
--- A quantity that a function allows is not reported as wrong.
+-- A quantity that the standard allows is not reported as a wrong quantity.
 allowed : (function most quantity n : ℕ) → most_of function ≡ most → IsWithin quantity most → n ≡ quantity → (not (writes_one function) && (nat_lt n 1 || nat_lt (most_of function) n)) ≡ false
 allowed function most quantity n e h same =
     and_right (not (writes_one function)) _ (or_from _ _ (le-ltb n 1 (omega arith)) (le-ltb (most_of function) n (omega arith)))
@@ -68,7 +68,7 @@ coil_reads : (on : Bool) (address : ℕ) → query_in (head_bytes 5 address (coi
 coil_reads true address = reads _ _ (plain 5 address 65280 refl refl refl refl) (ap (λ n. WriteCoil n true) (whole address))
 coil_reads false address = reads _ _ (plain 5 address 0 refl refl refl refl) (ap (λ n. WriteCoil n false) (whole address))
 
--- A PDU whose byte count and data fit its quantity has no fault.
+-- A write request with a matching byte count and data has no fault.
 carrying : (function most address quantity : ℕ) (bytes : List ℕ) → is_known function ≡ true → carries_bytes function ≡ true → (function == 5) ≡ false → most_of function ≡ most → IsWithin quantity most → length bytes ≡ bytes_of function quantity → Faultless (head_bytes function address quantity ++ length bytes ∷ bytes)
 carrying function most address quantity bytes known carries other greatest within e =
     let pdu = head_bytes function address quantity ++ length bytes ∷ bytes in
@@ -82,7 +82,7 @@ carrying function most address quantity bytes known carries other greatest withi
       coil = and_left (function == 5) _ other;
     }
 
--- A PDU decodes to what it encodes.
+-- A request decodes from each PDU that encodes it.
 pub spells_reads : (pdu : List ℕ) (query : Query) → SpellsRequest pdu query → query_in pdu ≡ Ok query
 spells_reads pdu (ReadCoils address quantity) h =
     ap query_in h.2 ∙ reads _ _ (plain 1 address quantity refl refl (allowed 1 2000 quantity _ refl h.0 (whole quantity)) refl) (reads_pair ReadCoils address quantity)
@@ -114,7 +114,7 @@ spells_reads pdu (WriteRegisters address values) h =
     ∙ reads _ _ (carrying 16 123 address (length values) bytes refl refl refl refl h.0 count)
     (ap (λ n. WriteRegisters n (words_of bytes)) (whole address) ∙ ap (WriteRegisters address) (sym is))
 
--- A PDU of five bytes or more begins with a head.
+-- A PDU of at least five bytes begins with a function code and two 16-bit numbers.
 pub head_first : (pdu : List ℕ) → AreBytes pdu → 5 ≤ length pdu → pdu ≡ head_bytes (function_in pdu) (address_in pdu) (field_in pdu) ++ drop 5 pdu
 head_first [] h e = absurd (omega arith)
 head_first (a ∷ []) h e = absurd (omega arith)
@@ -133,7 +133,7 @@ head_first (f ∷ a ∷ b ∷ c ∷ d ∷ others) h e =
     ∙ ap (λ n. f ∷ a ∷ b ∷ n ∷ (256 * c + d) % 256 ∷ others) third
     ∙ ap (λ n. f ∷ a ∷ b ∷ c ∷ n ∷ others) fourth)
 
--- A property of each of the eight functions is one of every known function.
+-- A property of each of the eight function codes is a property of every known function code.
 by_function : (P : ℕ → Type 0) → P 1 → P 2 → P 3 → P 4 → P 5 → P 6 → P 15 → P 16 → (function : ℕ) → is_known function ≡ true → P function
 by_function P p1 p2 p3 p4 p5 p6 p15 p16 function h =
     elim (cases_eq function 1) [
@@ -192,7 +192,8 @@ within function pdu most many greatest h =
           (low, omega arith)
     ]
 
--- A PDU of a known function encodes what it decodes to, if the other checks pass.
+-- The statement that a PDU with this function code encodes its decoded request, if its other checks
+-- pass.
 abbrev Spelled : (List ℕ → Query) → List ℕ → ℕ → Type 0
 Spelled read others function =
     AreBytes (function ∷ others)
@@ -208,14 +209,14 @@ small_address pdu h place =
     let low = h (place + 1) in
     omega arith
 
--- Five bytes are a head.
+-- A PDU of exactly five bytes is a function code and two 16-bit numbers.
 five : (pdu : List ℕ) → AreBytes pdu → not (length pdu == 5) ≡ false → pdu ≡ head_bytes (function_in pdu) (address_in pdu) (field_in pdu)
 five pdu h e =
     let long : length pdu ≡ 5 = eqb-true _ _ (not-false _ e) in
     let none : drop 5 pdu ≡ [] = drop_all 5 pdu (omega arith) in
     head_first pdu h (omega arith) ∙ ap (λ xs. head_bytes (function_in pdu) (address_in pdu) (field_in pdu) ++ xs) none
 
--- A longer PDU is a head, a byte count and the data.
+-- A PDU that passes the length check for writes is five bytes, a byte count and the data.
 six : (pdu : List ℕ) → AreBytes pdu → (nat_lt (length pdu) 6 || not (length pdu == 6 + count_in pdu)) ≡ false → (length (drop 6 pdu) ≡ count_in pdu) × (pdu ≡ head_bytes (function_in pdu) (address_in pdu) (field_in pdu) ++ length (drop 6 pdu) ∷ drop 6 pdu)
 six pdu h e =
     let both = or_parts _ _ e in
@@ -276,7 +277,7 @@ spelled function others known =
     (spelled_registers others)
     function known
 
--- A PDU without a fault encodes what it decodes to.
+-- A PDU without a fault encodes the request that the decoder returns.
 pub faultless_spells : (pdu : List ℕ) → AreBytes pdu → Faultless pdu → SpellsRequest pdu (query_from pdu)
 faultless_spells [] h f = absurd (both_ways _ f.length refl)
 faultless_spells (function ∷ others) h f =
@@ -289,13 +290,13 @@ pub ok_unless : {F V : Type 0} (fault : Option F) (value wanted : V) → value_u
 ok_unless None value wanted h = (refl, cc)
 ok_unless (Some fault) value wanted h = absurd cc
 
--- A PDU encodes what it decodes to.
+-- A PDU that decodes to a request encodes that request.
 pub reads_spells : (pdu : List ℕ) (query : Query) → AreBytes pdu → query_in pdu ≡ Ok query → SpellsRequest pdu query
 reads_spells pdu query h e =
     let both = ok_unless (request_fault pdu) (query_from pdu) query e in
     subst (SpellsRequest pdu) both.1 (faultless_spells pdu h (faultless pdu both.0))
 
--- The encoding of a lawful request encodes that request.
+-- A valid request decodes from its own encoding.
 pub spells_own : (query : Query) → IsLawfulQuery query → address_of query < 65536 → field_of query < 65536 → SpellsRequest (query_bytes query) query
 spells_own (ReadCoils address quantity) lawful small fits = (lawful, small, refl)
 spells_own (ReadDiscrete address quantity) lawful small fits = (lawful, small, refl)
@@ -313,7 +314,7 @@ spells_own (WriteRegisters address values) lawful small fits =
 pub bytes_spell_own : (query : Query) → IsLawfulQuery query → AreBytes (query_bytes query) → SpellsRequest (query_bytes query) query
 bytes_spell_own query lawful h = spells_own query lawful (omega (arith, h 1)) (omega (arith, h 3))
 
--- A PDU is the encoding of its request, up to the spare bits.
+-- Encoding a decoded request gives its PDU with the spare bits set to 0.
 pub spells_cleared : (pdu : List ℕ) (query : Query) → AreBytes pdu → SpellsRequest pdu query → query_bytes query ≡ request_cleared pdu
 spells_cleared pdu (ReadCoils address quantity) h s = sym (ap request_cleared s.2)
 spells_cleared pdu (ReadDiscrete address quantity) h s = sym (ap request_cleared s.2)
@@ -341,7 +342,7 @@ spells_cleared pdu (WriteRegisters address values) h s =
     ∙ ap (λ xs. shape ++ length bytes ∷ xs) (word_bytes-words_of n bytes bytes_are s.2.2)
     ∙ sym (ap request_cleared s.2.1)
 
--- A write without a fault has as many registers as it says.
+-- A register write without a fault has as many data registers as its quantity field requires.
 pub registers_lawful : (pdu : List ℕ) → AreBytes pdu → function_in pdu ≡ 16 → Faultless pdu → IsWithin (length (words_of (drop 6 pdu))) 123 × (length (drop 6 pdu) ≡ 2 * length (words_of (drop 6 pdu)))
 registers_lawful [] h e faults = absurd (omega arith)
 registers_lawful (function ∷ others) h e faults =

@@ -1,4 +1,4 @@
--- The data after a byte count.
+-- Lemmas about the data bytes of a write request.
 use Rattle.std.proofs.Common.{◌≡◌, ℕ, ◌*◌, List, length, ap, sym, ◌∙◌}
 use Rattle.mb_wire.specs.Bytes.{words_of, word_bytes}
 use Rattle.mb_wire.specs.Coils.{bytes_for, coils_of, packed}

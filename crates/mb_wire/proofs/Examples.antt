@@ -1,6 +1,5 @@
--- The standard's own exchanges and its limits, as numbers: the last value that is allowed and the
--- first that is not. The definitions cite the program's constants, so the prover refuses any other
--- constant here.
+-- The exchanges printed in the standard, and each limit with its first invalid value. The
+-- definitions use the program's constants, so a wrong constant fails an example.
 use Rattle.std.proofs.Common.{◌≡◌, true, false, List, ℕ, [], ◌∷◌, length, replicate, Ok, Err, Some, None, refl, arith}
 use Rattle.mb_wire.specs.Coils.{bits_in, coils_in, packed_in}
 use Rattle.mb_wire.specs.Frames.{frames, frames_in, is_bad, is_garbled, rest, rest_in}
@@ -99,7 +98,7 @@ a_header = refl
 addresses : ADDRESSES ≡ 65536
 addresses = refl
 
--- The length fields 1 and 2, 254 and 255.
+-- The length fields 1 and 2, 254 and 255, at both ends of the valid range.
 length_1 : is_bad (0 ∷ 0 ∷ 0 ∷ 0 ∷ 0 ∷ 1 ∷ []) ≡ true
 length_1 = refl
 
@@ -112,7 +111,7 @@ length_254 = refl
 length_255 : is_bad (0 ∷ 0 ∷ 0 ∷ 0 ∷ 0 ∷ 255 ∷ []) ≡ true
 length_255 = refl
 
--- The frames with the shortest and the longest PDU.
+-- The frames with the shortest and the longest PDU that the standard allows.
 abbrev shortest : List ℕ
 shortest = 0 ∷ 0 ∷ 0 ∷ 0 ∷ 0 ∷ 2 ∷ 1 ∷ 3 ∷ []
 
@@ -130,7 +129,7 @@ longest_is_read : frames longest ≡ longest ∷ []
 unfolding frames frames_in
 longest_is_read = refl
 
--- One byte more than the longest frame.
+-- A frame with one byte more than the longest frame that the standard allows.
 abbrev too_long : List ℕ
 too_long = 0 ∷ 0 ∷ 0 ∷ 0 ∷ 0 ∷ 255 ∷ 1 ∷ replicate 254 0
 
@@ -138,7 +137,7 @@ too_long_is_garbled : is_garbled too_long ≡ true
 unfolding is_garbled rest rest_in
 too_long_is_garbled = refl
 
--- ---- spans: 1 to 125 registers inside 65536
+-- ---- spans: 1 to 125 registers within 65536 addresses
 
 span_of_125 : IsSpan 3 65411 125
 span_of_125 = record { low = omega arith; high = omega arith; some = omega arith; few = omega arith; inside = omega arith }
@@ -149,8 +148,7 @@ span_of_126 span = omega (arith, span.few)
 span_past_the_last : IsSpan 4 65412 125 → ⊥
 span_past_the_last span = omega (arith, span.inside)
 
--- ---- the standard's exchanges (MAP, section 6): each request and its response is decoded and
--- encoded
+-- ---- the standard's exchanges (MAP, section 6): each request and response, decoded and encoded
 
 read_coils_is_read : query_in (1 ∷ 0 ∷ 19 ∷ 0 ∷ 19 ∷ []) ≡ Ok (ReadCoils 19 19)
 unfolding coils_in bits_in packed_in
@@ -280,6 +278,6 @@ write_registers_reply_is_spelled : answer_bytes (WriteRegisters 1 (10 ∷ 258 �
 unfolding coils_in bits_in packed_in
 write_registers_reply_is_spelled = refl
 
--- An exception: no such address (MAP, section 7).
+-- The exception response with code 2, illegal data address (MAP, section 7).
 no_such_address : answer_in (ReadCoils 1185 1) (129 ∷ 2 ∷ []) ≡ Ok (Exception 2)
 no_such_address = refl

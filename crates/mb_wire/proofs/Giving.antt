@@ -1,18 +1,18 @@
--- Bytes that are sent in several writes.
+-- Lemmas about bytes that a link sends in several writes.
 use Rattle.std.proofs.Common.{◌≡◌, ℕ, ◌-◌, List, ◌++◌, length, take, drop, Option, Result, Ok, Err, sym, ap, ◌∙◌, subst, arith, append_assoc, length-append}
 use Rattle.std.specs.Io.KnownBytes.{Appends}
 use Rattle.std.proofs.KnownBytes.{Appends-trans}
 use Rattle.std.proofs.lemmas.List.{take-append-drop, take_rest}
 use Rattle.mb_wire.specs.Links.{Gives, GivesPart}
 
--- The slice from an index, as a call passes it.
+-- The bytes from index `n` to the end of the list, as a slice.
 abbrev pub from : ℕ → List ℕ → List ℕ
 from n bytes = take (length bytes - n) (drop n bytes)
 
 pub whole_again : (n : ℕ) (bytes : List ℕ) → take n bytes ++ from n bytes ≡ bytes
 whole_again n bytes = ap (λ t. take n bytes ++ t) (take_rest bytes n) ∙ take-append-drop n bytes
 
--- Bytes that were written, and the result of writing others, are the result of writing both.
+-- Writing `first` completely and then `next` has the result of writing their concatenation.
 pub Gives-both : {X E : Type 0} (result : Result X E) (a b c : Option (List ℕ)) (first next : List ℕ) → Appends a b first → Gives result b c next → Gives result a c (first ++ next)
 Gives-both (Ok x) a b c first next given gives = Appends-trans a b c _ _ given gives
 Gives-both (Err e) a b c first next given gives =
@@ -24,12 +24,13 @@ Gives-both (Err e) a b c first next given gives =
       given = Appends-trans a b c _ _ given gives.given;
     }
 
--- A part that was written, and the result of writing the rest, are the result of writing all.
+-- Writing the first `n` bytes and then the remaining bytes has the result of writing all bytes.
 pub Gives-then : {X E : Type 0} (result : Result X E) (a b c : Option (List ℕ)) (bytes : List ℕ) (n : ℕ) → Appends a b (take n bytes) → Gives result b c (from n bytes) → Gives result a c bytes
 Gives-then result a b c bytes n first next =
     subst (Gives result a c) (whole_again n bytes) (Gives-both result a b c (take n bytes) (from n bytes) first next)
 
--- A part of some bytes is also a part of a longer list that begins with them.
+-- An incomplete write of some bytes is also an incomplete write of a longer list that begins with
+-- them.
 pub GivesPart-before : (a b : Option (List ℕ)) (first next : List ℕ) → GivesPart a b first → GivesPart a b (first ++ next)
 GivesPart-before a b first next gives =
     record {

@@ -1,4 +1,4 @@
--- Coils in bytes, and back.
+-- Lemmas about packing coils into bytes and unpacking them.
 use Rattle.std.proofs.Common.{◌≡◌, ℕ, zero, suc, ◌+◌, ◌-◌, ◌*◌, ◌/◌, ◌%◌, ◌^◌, ◌<◌, ◌≤◌, ◌==◌, min, ◌⊎◌, inl, inr, Bool, true, false, if◌then◌else◌, List, [], ◌∷◌, ◌++◌, length, take, drop, slice_index, slice_get, Some, None, refl, sym, ap, ◌∙◌, arith, length-append, length-take-le, length-drop}
 use Rattle.std.proofs.Math.Nat.{min-eq_left, min-eq_right, div-div-eq-div-mul, pow-succ'}
 use Rattle.std.proofs.Math.Seq.{take-append-add, drop-append-add}
@@ -13,7 +13,7 @@ unfolding bits_in
 length-bits_in zero n = refl
 length-bits_in (suc k) n = ap suc (length-bits_in k (n / 2))
 
--- The first bits of a number are those of its shorter expansion.
+-- The first `j` of the `k` lowest bits of a number are its `j` lowest bits.
 pub take-bits_in : (j k n : ℕ) → j ≤ k → take j (bits_in k n) ≡ bits_in j n
 unfolding bits_in
 take-bits_in zero k n h = refl
@@ -45,7 +45,7 @@ half : (bit : Bool) (n : ℕ) → ((if bit then 1 else 0) + 2 * n) / 2 ≡ n
 half true n = omega arith
 half false n = omega arith
 
--- Bits that fit are the bits of their number.
+-- A list of bits equals the lowest bits of the number that it encodes.
 pub bits_in-number_of : (bits : List Bool) (k : ℕ) → length bits ≤ k → take (length bits) (bits_in k (number_of bits)) ≡ bits
 unfolding bits_in
 bits_in-number_of [] k h = refl
@@ -67,7 +67,7 @@ length-coils_in (byte ∷ bytes) =
 pub length-coils_of : (quantity : ℕ) (bytes : List ℕ) → length (coils_of quantity bytes) ≡ min quantity (8 * length bytes)
 length-coils_of quantity bytes = length-take quantity (coils_in bytes) ∙ ap (min quantity) (length-coils_in bytes)
 
--- The bytes that a quantity of coils needs have all of these coils.
+-- The number of bytes that `quantity` coils need has at least `quantity` coils.
 pub length-coils_of-whole : (quantity : ℕ) (bytes : List ℕ) → length bytes ≡ bytes_for quantity → length (coils_of quantity bytes) ≡ quantity
 length-coils_of-whole quantity bytes h =
     let few : quantity ≤ 8 * length bytes = omega arith in
@@ -112,7 +112,7 @@ other_coils quantity byte bytes =
           ∙ ap (take (quantity - 8)) back
     ]
 
--- Packing the first coils of bytes sets the other bits to 0.
+-- Packing the first `quantity` coils of a byte list sets all other bits to 0.
 pub packed_in-coils_of : (bytes : List ℕ) (quantity : ℕ) → packed_in (length bytes) (coils_of quantity bytes) ≡ cleared_after quantity bytes
 unfolding packed_in cleared_after
 packed_in-coils_of [] quantity = refl
@@ -137,7 +137,7 @@ unfolding packed_in
 length-packed_in zero coils = refl
 length-packed_in (suc count) coils = ap suc (length-packed_in count (drop 8 coils))
 
--- Bytes whose bits are all used keep them.
+-- Clearing the bits after the last bit of a byte list changes nothing.
 pub cleared_after-whole : (bytes : List ℕ) → AreBytes bytes → cleared_after (8 * length bytes) bytes ≡ bytes
 unfolding cleared_after
 cleared_after-whole [] h = refl
@@ -151,7 +151,7 @@ cleared_after-whole (byte ∷ bytes) h =
     ∙ ap (λ n. n ∷ cleared_after (8 * length bytes) bytes) keep
     ∙ ap (λ xs. byte ∷ xs) (cleared_after-whole bytes (λ place. h (suc place)))
 
--- Only the last byte loses bits.
+-- Clearing spare bits changes only the last byte.
 pub cleared_after-part : (whole : ℕ) (part : ℕ) (bytes : List ℕ) → AreBytes bytes → part < 8 → length bytes ≡ whole + 1 → cleared_after (8 * whole + part) bytes ≡ take whole bytes ++ (slice_index bytes whole % 2 ^ part) ∷ []
 unfolding cleared_after
 cleared_after-part whole part [] h small e = absurd (omega arith)
@@ -169,7 +169,7 @@ cleared_after-part (suc whole) part (byte ∷ bytes) h small e =
     ∙ ap (λ n. n ∷ cleared_after (8 * whole + part) bytes) keep
     ∙ ap (λ xs. byte ∷ xs) (cleared_after-part whole part bytes (λ place. h (suc place)) small (omega arith))
 
--- Packed coils unpack to the same coils.
+-- Unpacking packed coils returns the same coils.
 pub coils_in-packed_in : (count : ℕ) (coils : List Bool) → length coils ≤ 8 * count → take (length coils) (coils_in (packed_in count coils)) ≡ coils
 unfolding packed_in coils_in
 coils_in-packed_in zero coils h =
@@ -201,7 +201,7 @@ coils_in-packed_in (suc count) coils h =
 pub coils_of-packed : (coils : List Bool) → coils ≡ coils_of (length coils) (packed coils)
 coils_of-packed coils = sym (coils_in-packed_in (bytes_for (length coils)) coils (omega arith))
 
--- Writing coils copies the full bytes and the used bits of the last byte.
+-- If the quantity of coils is a multiple of 8, the data bytes have no spare bits to clear.
 pub cleared_after-even : (quantity : ℕ) (bytes : List ℕ) → AreBytes bytes → length bytes ≡ bytes_for quantity → quantity % 8 ≡ 0 → take (quantity / 8) bytes ≡ cleared_after quantity bytes
 cleared_after-even quantity bytes h e even =
     let whole : quantity / 8 ≡ length bytes = omega arith in
@@ -213,7 +213,7 @@ cleared_after-odd quantity bytes h e some =
     let whole : 8 * (quantity / 8) + quantity % 8 ≡ quantity = omega arith in
     sym (cleared_after-part (quantity / 8) (quantity % 8) bytes h (omega arith) (omega arith)) ∙ ap (λ n. cleared_after n bytes) whole
 
--- One bit of a number.
+-- Bit `i` of the number `n` is `n / 2 ^ i % 2`.
 bit_in_number : (k n i : ℕ) → i < k → slice_get (bits_in k n) i ≡ Some (n / 2 ^ i % 2 == 1)
 unfolding bits_in
 bit_in_number zero n i h = absurd (omega arith)
@@ -270,7 +270,7 @@ coil_in (byte ∷ bytes) i h =
           ∙ ap (λ m. Some (slice_index (byte ∷ bytes) m / 2 ^ (i % 8) % 2 == 1)) row
     ]
 
--- Coil `i` of the first `quantity` coils.
+-- Coil `i` of the first `quantity` coils is bit `i % 8` of byte `i / 8`.
 pub some_coil : (quantity : ℕ) (bytes : List ℕ) (i : ℕ) → i < quantity → i / 8 < length bytes → slice_get (coils_of quantity bytes) i ≡ Some (slice_index bytes (i / 8) / 2 ^ (i % 8) % 2 == 1)
 some_coil quantity bytes i few row = get-take quantity (coils_in bytes) i few ∙ coil_in bytes i row
 

@@ -1,4 +1,5 @@
--- Each byte list has exactly one reading; how a feed extends it.
+-- Proves that each byte list splits into frames and a rest in exactly one way, and how `feed`
+-- extends the split.
 use Rattle.std.proofs.Common.{◌≡◌, ℕ, zero, suc, ◌+◌, ◌-◌, ◌<◌, ◌≤◌, ◌⊎◌, inl, inr, true, false, List, [], ◌∷◌, ◌++◌, length, take, drop, refl, sym, ap, ◌∙◌, subst, arith, append_assoc, length-append, length-drop, length-take-le, lit<}
 use Rattle.std.specs.List.{flat_map, AllByRecursion}
 use Rattle.std.proofs.lemmas.List.{get_or_append_left, take_at, drop_at, take-append-drop, append-nil}
@@ -75,14 +76,14 @@ only_in (suc k) (f ∷ fs) r each ends h =
       cond-true _ _ _ whole_front ∙ ap (λ y. rest_in k y) back ∙ ih.1,
     )
 
--- The functions give the only reading.
+-- The functions `frames` and `rest` compute the only split of a byte list into frames and a rest.
 pub Reads-only : (bytes : List ℕ) (fs : List (List ℕ)) (r : List ℕ) → Reads bytes fs r → (frames bytes ≡ fs) × (rest bytes ≡ r)
 unfolding frames rest
 Reads-only bytes fs r h =
     let P : List ℕ → Type 0 = λ ys. (frames ys ≡ fs) × (rest ys ≡ r) in
     subst P (sym h.joined) (only_in (length (concat fs ++ r)) fs r h.each h.ends (omega arith))
 
--- The functions give a reading of every byte list.
+-- A byte list that begins with a complete frame has that frame as its first bytes.
 pub frame_in_front : (bytes : List ℕ) → begins_with_frame bytes ≡ true → IsFrame (take (6 + span_of bytes) bytes)
 frame_in_front bytes e =
     let outer = and_parts _ _ e in
@@ -145,7 +146,7 @@ pub AllByRecursion-append : {X : Type 0} (P : X → Type 0) (xs ys : List X) →
 AllByRecursion-append P [] ys h g = g
 AllByRecursion-append P (x ∷ xs) ys h g = (h.0, AllByRecursion-append P xs ys h.1 g)
 
--- If the rest and the new bytes are one frame, the reading grows by that frame.
+-- If the rest of a stream and its new bytes form one frame, that frame follows the earlier frames.
 more_frame : (bytes r p : List ℕ) (fs : List (List ℕ)) → Reads bytes fs r → IsFrame (r ++ p) → Reads (bytes ++ p) (fs ++ (r ++ p) ∷ []) []
 more_frame bytes r p fs h f =
     record {
@@ -159,14 +160,15 @@ more_frame bytes r p fs h f =
       ends = inl (inl (lit< tt));
     }
 
--- If the rest and the new bytes are no frame, the reading keeps its frames and has a longer rest.
+-- If the rest of a stream and its new bytes form no frame, the frames are unchanged and the rest
+-- grows.
 more_rest : (bytes r p : List ℕ) (fs : List (List ℕ)) → Reads bytes fs r → IsOpen (r ++ p) ⊎ IsBad (r ++ p) → Reads (bytes ++ p) (fs ++ []) (r ++ p)
 more_rest bytes r p fs h ends =
     let P : List (List ℕ) → Type 0 = λ y. Reads (bytes ++ p) y (r ++ p) in
     subst P (sym (append-nil fs))
     record { joined = ap (λ y. y ++ p) h.joined ∙ append_assoc (concat fs) r p; each = h.each; ends = ends }
 
--- A feed extends the reading of all earlier bytes.
+-- A feed extends the split of all earlier bytes by the frame that it ends, or by a longer rest.
 pub Reads-fed : (what : Framing) (bytes r p : List ℕ) (fs : List (List ℕ)) → Reads bytes fs r → TellsFraming what (r ++ p) → Reads (bytes ++ p) (fs ++ ended what (r ++ p)) ((buffered_after what (r ++ p)).rest)
 Reads-fed Need bytes r p fs h t = more_rest bytes r p fs h (inl t)
 Reads-fed Whole bytes r p fs h t = more_frame bytes r p fs h t.0

@@ -1,10 +1,10 @@
--- A frame is the only encoding of its fields.
+-- Proves that a frame is the only encoding of its fields.
 use Rattle.std.proofs.Common.{◌≡◌, ℕ, ◌+◌, ◌*◌, ◌/◌, ◌%◌, ◌<◌, List, [], ◌∷◌, ◌++◌, length, sym, ap, ◌∙◌, arith}
 use Rattle.mb_wire.specs.Bytes.{AreBytes, word}
 use Rattle.mb_wire.specs.Frames.{IsFrame, IsOwn, tid_of, unit_of, pdu_of}
 use Rattle.mb_wire.specs.Reader.{Fields, fields_of, spelling}
 
--- Two bytes are the encoding of their number.
+-- Two bytes are the encoding of the 16-bit number that they form.
 word_again : (high low : ℕ) → low < 256 → word (256 * high + low) ≡ high ∷ low ∷ []
 word_again high low small =
     let first : (256 * high + low) / 256 ≡ high = omega arith in

@@ -1,4 +1,4 @@
--- Registers in bytes.
+-- Lemmas about registers encoded in bytes.
 use Rattle.std.proofs.Common.{◌≡◌, ℕ, zero, suc, ◌+◌, ◌*◌, ◌/◌, ◌%◌, ◌<◌, ◌≤◌, List, [], ◌∷◌, length, drop, refl, ap, ◌∙◌, subst, arith, slice_index, slice_get, Some, None}
 use Rattle.mb_wire.specs.Bytes.{AreBytes, words_of, word_bytes}
 
@@ -26,7 +26,7 @@ pub length-word_bytes : (numbers : List ℕ) → length (word_bytes numbers) ≡
 length-word_bytes [] = refl
 length-word_bytes (n ∷ numbers) = let more = length-word_bytes numbers in omega arith
 
--- Complete registers encode to the same bytes.
+-- Encoding the registers of an even number of bytes gives the same bytes.
 pub word_bytes-words_of : (count : ℕ) (bytes : List ℕ) → AreBytes bytes → length bytes ≡ 2 * count → word_bytes (words_of bytes) ≡ bytes
 word_bytes-words_of zero [] h e = refl
 word_bytes-words_of (suc count) [] h e = refl

@@ -1,66 +1,68 @@
--- Frames of Modbus TCP (Modbus Messaging on TCP/IP V1.0b, section 3.1.3): an MBAP header and a PDU.
--- A byte list is a list of frames and a rest.
+-- The format of Modbus TCP frames (Modbus Messaging on TCP/IP V1.0b, section 3.1.3), and how a byte
+-- list splits into frames and a rest.
 use Rattle.std.specs.Prelude.{◌≡◌, ℕ, zero, suc, ◌+◌, ◌*◌, ◌<◌, ◌≤◌, ◌⊎◌, Bool, ◌&&◌, ◌||◌, nat_le, nat_lt, if◌then◌else◌, List, [], ◌∷◌, ◌++◌, length, take, drop, slice_index}
 use Rattle.mb_wire.specs.declared.limits.TheConstants.{MAX_LENGTH, MIN_LENGTH}
 use Rattle.std.specs.List.{flat_map, AllByRecursion}
 
--- The length field, in bytes 5 and 6: the number of bytes after the sixth.
+-- The length field of a frame, in bytes 5 and 6: the number of bytes after the sixth.
 abbrev pub span_of : List ℕ → ℕ
 span_of bytes = 256 * slice_index bytes 4 + slice_index bytes 5
 
--- The transaction identifier, in bytes 1 and 2.
+-- The transaction identifier of a frame, in bytes 1 and 2.
 abbrev pub tid_of : List ℕ → ℕ
 tid_of bytes = 256 * slice_index bytes 0 + slice_index bytes 1
 
--- The protocol identifier, in bytes 3 and 4: 0 for Modbus.
+-- The protocol identifier of a frame, in bytes 3 and 4: 0 for Modbus.
 abbrev pub protocol_of : List ℕ → ℕ
 protocol_of bytes = 256 * slice_index bytes 2 + slice_index bytes 3
 
--- The unit identifier, in byte 7.
+-- The unit identifier of a frame, in byte 7.
 abbrev pub unit_of : List ℕ → ℕ
 unit_of bytes = slice_index bytes 6
 
--- The PDU, from byte 8.
+-- The PDU of a frame, from byte 8.
 abbrev pub pdu_of : List ℕ → List ℕ
 pdu_of bytes = drop 7 bytes
 
--- The standard allows this value of the length field: 2 to 254.
+-- True if the standard allows this value of a frame's length field: 2 to 254.
 abbrev pub IsGoodSpan : ℕ → Type 0
 IsGoodSpan n = (MIN_LENGTH ≤ n) × (n ≤ MAX_LENGTH)
 
--- A complete frame: six bytes with a good length, and as many bytes after them as the length says.
+-- True if the bytes are a complete frame: six bytes with a valid length field, and as many further
+-- bytes as the field requires.
 pub record IsFrame (bytes : List ℕ) : Type 0 where
   pub good : IsGoodSpan (span_of bytes)
   pub whole : length bytes ≡ 6 + span_of bytes
 
--- The frame's protocol identifier is 0, which is Modbus. A reader skips frames of other
+-- True if the frame's protocol identifier is 0, which is Modbus. A reader skips frames of other
 -- protocols.
 abbrev pub IsOwn : List ℕ → Type 0
 IsOwn frame = protocol_of frame ≡ 0
 
--- The bytes begin a frame and do not complete it. They may also be no bytes.
+-- True if the bytes are an incomplete frame, or the empty list.
 abbrev pub IsOpen : List ℕ → Type 0
 IsOpen bytes =
     (length bytes < 6) ⊎ (IsGoodSpan (span_of bytes) × (length bytes < 6 + span_of bytes))
 
--- The first six bytes have a bad length field. Any bytes may follow.
+-- True if the byte list has at least six bytes and its length field is invalid. Any bytes may
+-- follow.
 abbrev pub IsBad : List ℕ → Type 0
 IsBad bytes = (6 ≤ length bytes) × ((span_of bytes < MIN_LENGTH) ⊎ (MAX_LENGTH < span_of bytes))
 
--- The byte list consists of these complete frames in order, and this rest, which is no complete
--- frame. Later bytes never move the end of a frame.
+-- True if the byte list is the concatenation of these complete frames and this rest, which begins
+-- with no complete frame.
 pub record Reads (bytes : List ℕ) (frames : List (List ℕ)) (rest : List ℕ) : Type 0 where
   pub joined : bytes ≡ flat_map (λ frame. frame) frames ++ rest
   pub each : AllByRecursion IsFrame frames
   pub ends : IsOpen rest ⊎ IsBad rest
 
--- The bytes begin with a complete frame.
+-- True if the length field is valid and the byte list has all bytes of its first frame.
 abbrev pub begins_with_frame : List ℕ → Bool
 begins_with_frame bytes =
     nat_le MIN_LENGTH (span_of bytes) && nat_le (span_of bytes) MAX_LENGTH
     && nat_le (6 + span_of bytes) (length bytes)
 
--- The first complete frames of the byte list, at most `k` of them.
+-- The complete frames at the front of the byte list, at most `k` frames.
 unfoldable pub frames_in : ℕ → List ℕ → List (List ℕ)
 frames_in zero bytes = []
 frames_in (suc k) bytes =
@@ -68,26 +70,27 @@ frames_in (suc k) bytes =
     then take (6 + span_of bytes) bytes ∷ frames_in k (drop (6 + span_of bytes) bytes)
     else []
 
--- The bytes that are left after the first complete frames, at most `k` of them.
+-- The bytes after the complete frames at the front of the byte list, at most `k` frames.
 unfoldable pub rest_in : ℕ → List ℕ → List ℕ
 rest_in zero bytes = bytes
 rest_in (suc k) bytes =
     if begins_with_frame bytes then rest_in k (drop (6 + span_of bytes) bytes) else bytes
 
--- All complete frames that the byte list begins with.
+-- All complete frames at the front of the byte list, in order.
 unfoldable pub frames : List ℕ → List (List ℕ)
 frames bytes = frames_in (length bytes) bytes
 
--- What is left of a byte list after its last complete frame.
+-- The bytes after the last complete frame of a byte list.
 unfoldable pub rest : List ℕ → List ℕ
 rest bytes = rest_in (length bytes) bytes
 
--- At least six bytes arrived, and their length field is bad.
+-- True if the byte list has at least six bytes and its length field is invalid.
 abbrev pub is_bad : List ℕ → Bool
 is_bad bytes =
     nat_le 6 (length bytes)
     && (nat_lt (span_of bytes) MIN_LENGTH || nat_lt MAX_LENGTH (span_of bytes))
 
--- The stream is garbled: after its last complete frame come six bytes with a bad length field.
+-- True if the bytes after the last complete frame have an invalid length field, so that no further
+-- frame can be read.
 unfoldable pub is_garbled : List ℕ → Bool
 is_garbled bytes = is_bad (rest bytes)

@@ -1,5 +1,5 @@
--- What a call of a link does to the bytes of its two directions, if the link knows them, and
--- which counts it raises.
+-- The effects of a link's calls on its input and output bytes, if the link knows them, and on its
+-- counts.
 use Rattle.std.specs.Prelude.{◌≡◌, ℕ, ◌+◌, ◌-◌, ◌^◌, ◌<◌, ◌≤◌, ◌==◌, ◌&&◌, nat_lt, min, Bool, true, false, if◌then◌else◌, List, ◌++◌, length, take, Ok, Err, Some, None}
 use Rattle.std.specs.Io.KnownBytes.{Appends, Consumes, IsAtEnd, Keeps}
 use Rattle.std.specs.declared.result.Result.{Result}
@@ -8,15 +8,15 @@ use Rattle.mb_wire.specs.declared.link.LinkFailed.{LinkFailed}
 use Rattle.mb_wire.specs.declared.link.Took.{Took}
 use Rattle.mb_wire.specs.declared.link.Took.TheVariants.{Bytes, End, Idle}
 
--- A read returns at most as many bytes as its buffer has, and at least one if the buffer is not
--- empty.
+-- Bounds a read: it returns at most as many bytes as its buffer has, and at least one byte if the
+-- buffer is not empty.
 abbrev pub TakesAtMost : Result Took LinkFailed → List ℕ → Type 0
 TakesAtMost (Ok (Bytes n)) piece = (n ≤ length piece) × (0 < length piece → 0 < n)
 TakesAtMost (Ok End) piece = Unit {0}
 TakesAtMost (Ok Idle) piece = Unit {0}
 TakesAtMost (Err failed) piece = Unit {0}
 
--- A read returns the next bytes of the input. It reports the end only if no bytes are left.
+-- True if a read returns the next bytes of the input, and reports the end only if no input is left.
 abbrev pub TakeConsumes : Option (List ℕ) → Option (List ℕ) → Result Took LinkFailed → List ℕ
     → Type 0
 TakeConsumes old new (Ok (Bytes n)) piece = Consumes old new (take n piece)
@@ -24,29 +24,28 @@ TakeConsumes old new (Ok End) piece = Keeps old new × IsAtEnd new
 TakeConsumes old new (Ok Idle) piece = Keeps old new
 TakeConsumes old new (Err failed) piece = Keeps old new
 
--- A count after an event that raises it by one, if the event happened. The count saturates at
--- 2^64 - 1.
+-- A count after an event that raises it by one if `rises` is true. The count saturates at 2^64 - 1.
 abbrev pub risen : Bool → ℕ → ℕ
 risen rises count = if rises then min (count + 1) (2 ^ 64 - 1) else count
 
--- The write failed, or accepted none of its bytes.
+-- True if a write failed or accepted none of its bytes.
 abbrev pub is_failed_give : Result ℕ LinkFailed → List ℕ → Bool
 is_failed_give (Ok n) bytes = n == 0 && nat_lt 0 (length bytes)
 is_failed_give (Err failed) bytes = true
 
--- The call with this number is the one to fail.
+-- True if call number `call` is set to fail.
 abbrev pub is_call : Option ℕ → ℕ → Bool
 is_call None call = false
 is_call (Some fails) call = fails == call
 
--- The read found the end of the input.
+-- True if a read found the end of the input.
 abbrev pub is_end : Result Took LinkFailed → Bool
 is_end (Ok (Bytes n)) = false
 is_end (Ok End) = true
 is_end (Ok Idle) = false
 is_end (Err failed) = false
 
--- The peer accepted some bytes from the first on, and not all of them.
+-- True if the peer accepted only a first part of the bytes, perhaps none.
 pub record GivesPart (old new : Option (List ℕ)) (bytes : List ℕ) : Type 0 where
   pub part : List ℕ
   pub unsent : List ℕ
@@ -54,7 +53,8 @@ pub record GivesPart (old new : Option (List ℕ)) (bytes : List ℕ) : Type 0 w
   pub whole : bytes ≡ part ++ unsent
   pub given : Appends old new part
 
--- The peer accepted all bytes if the call succeeded, and a part of them if it failed.
+-- True if the peer accepted all bytes of a successful call, or only a first part of them if the
+-- call failed.
 abbrev pub Gives : {X E : Type 0} → Result X E → Option (List ℕ) → Option (List ℕ) → List ℕ → Type 0
 Gives (Ok x) old new bytes = Appends old new bytes
 Gives (Err failed) old new bytes = GivesPart old new bytes

@@ -1,4 +1,4 @@
--- The model of a `MemoryLink`, and the results and effects of its calls.
+-- The model of a `MemoryLink`, and the results and effects of its reads and writes.
 use Rattle.std.specs.Prelude.{ℕ, ◌-◌, ◌≡◌, ◌==◌, ◌||◌, min, Bool, true, is_err, if◌then◌else◌, List, [], ◌++◌, length, take, drop, Ok, Err, Some, None}
 use Rattle.std.specs.declared.result.Result.{Result}
 use Rattle.std.specs.declared.option.Option.{Option}
@@ -8,9 +8,8 @@ use Rattle.mb_wire.specs.declared.link.LinkFailed.{LinkFailed}
 use Rattle.mb_wire.specs.declared.link.Took.{Took}
 use Rattle.mb_wire.specs.declared.link.Took.TheVariants.{Bytes, End, Idle}
 
--- The input that is left, the output so far, and the size of the output buffer. `piece` is the most
--- bytes of one call, `fails` the number of the call that fails. The last four fields are the counts
--- of the trait.
+-- The state of a `MemoryLink`. `input` is the unread input and `room` the size of the output
+-- buffer. `piece` is the most bytes of a call, and `fails` the number of the failing call.
 pub record Memory : Type 0 where
   pub input : List ℕ
   pub output : List ℕ
@@ -23,7 +22,7 @@ pub record Memory : Type 0 where
   pub ends : ℕ
   pub last : Option LastTake
 
--- No call was made over the link, and nothing was written.
+-- True if no call was made over the link and nothing was written to it.
 pub record IsFresh (link : Memory) : Type 0 where
   pub output : link.output ≡ []
   pub calls : link.calls ≡ 0
@@ -32,7 +31,7 @@ pub record IsFresh (link : Memory) : Type 0 where
   pub ends : link.ends ≡ 0
   pub last : link.last ≡ None
 
--- The link counts one more call. Its output size, its piece size and its failing call are
+-- True if the link counts one more call, and its output size, piece size and failing call are
 -- unchanged.
 pub record CallsOnce (old new : Memory) : Type 0 where
   pub room : new.room ≡ old.room
@@ -40,30 +39,31 @@ pub record CallsOnce (old new : Memory) : Type 0 where
   pub fails : new.fails ≡ old.fails
   pub calls : new.calls ≡ risen true old.calls
 
--- The link's next call is set to fail.
+-- True if the link's next call is set to fail.
 abbrev pub fails_next : Memory → Bool
 fails_next link = is_call link.fails (risen true link.calls)
 
--- The result of a read into a buffer of `room` bytes.
+-- The result of the link's next read into a buffer of `room` bytes.
 abbrev pub take_answer : Memory → ℕ → Result Took LinkFailed
 take_answer link room =
     if fails_next link then Err (record {})
     else if length link.input == 0 then Ok End
     else Ok (Bytes (min (min link.piece room) (length link.input)))
 
--- The bytes of the input that a read with this result returns; none if it failed or found the
--- end.
+-- The bytes of the input that a read with this result returns. A read that fails, or that finds the
+-- end, returns none.
 abbrev pub handed_out : Result Took LinkFailed → List ℕ → List ℕ
 handed_out (Ok (Bytes n)) input = take n input
 handed_out (Ok End) input = []
 handed_out (Ok Idle) input = []
 handed_out (Err failed) input = []
 
--- The buffer after a read wrote new bytes to its front. Its other bytes are unchanged.
+-- The contents of a read buffer after new bytes are written to its front. Its other bytes are
+-- unchanged.
 abbrev pub filled : List ℕ → List ℕ → List ℕ
 filled bytes piece = bytes ++ drop (length bytes) piece
 
--- The state of the link after a read with this result.
+-- The state of a `MemoryLink` after a read with this result.
 pub record LeavesTake (old new : Memory) (room : ℕ) (answer : Result Took LinkFailed) : Type 0 where
   pub call : CallsOnce old new
   pub input : old.input ≡ handed_out answer old.input ++ new.input
@@ -73,18 +73,18 @@ pub record LeavesTake (old new : Memory) (room : ℕ) (answer : Result Took Link
   pub ends : new.ends ≡ risen (is_end answer) old.ends
   pub last : new.last ≡ Some (record { room = room; answer = answer })
 
--- The number of bytes that the output buffer still has room for.
+-- The number of free bytes in the link's output buffer.
 abbrev pub output_free : Memory → ℕ
 output_free link = link.room - length link.output
 
--- The result of a write of `count` bytes.
+-- The result of the link's next write of `count` bytes.
 abbrev pub give_answer : Memory → ℕ → Result ℕ LinkFailed
 give_answer link count =
     if output_free link == 0 || fails_next link then Err (record {})
     else Ok (min (min link.piece count) (output_free link))
 
--- The state of the link after a write with this result. The contract of `give` says what the
--- output is then.
+-- The state of a `MemoryLink` after a write with this result. The contract of `give` defines the
+-- output.
 pub record LeavesGive (old new : Memory) (answer : Result ℕ LinkFailed) (bytes : List ℕ) : Type 0
   where
     pub call : CallsOnce old new

@@ -1,4 +1,4 @@
--- The model of a `FrameReader`, and the result of `feed`.
+-- The model of a `FrameReader`, and the effect of `feed` on that model.
 use Rattle.std.specs.Prelude.{◌≡◌, ℕ, ◌+◌, List, [], ◌∷◌, ◌++◌, length, Some, None}
 use Rattle.std.specs.declared.option.Option.{Option}
 use Rattle.mb_wire.specs.Bytes.{AreBytes, word}
@@ -9,61 +9,61 @@ use Rattle.mb_wire.specs.declared.frames.Framing.TheVariants.{Need, Whole, Forei
 use Rattle.mb_wire.specs.declared.frames.State.{State}
 use Rattle.mb_wire.specs.declared.frames.State.TheVariants.{Reading, Ended, Stuck}
 
--- The bytes since the end of the last frame, and the Modbus frame that the last feed ended, if it
--- ended one.
+-- The state of a `FrameReader`: the bytes since the last frame ended, and the Modbus frame that the
+-- last feed ended, if any.
 pub record Buffered : Type 0 where
   pub rest : List ℕ
   pub frame : Option (List ℕ)
 
--- The model of a reader with this state and these buffered bytes.
+-- The model of a frame reader with this state and these buffered bytes.
 abbrev pub buffered_in : State → List ℕ → Buffered
 buffered_in Reading bytes = record { rest = bytes; frame = None }
 buffered_in Ended bytes = record { rest = []; frame = Some bytes }
 buffered_in Stuck bytes = record { rest = bytes; frame = None }
 
--- The bytes that a reader may have buffered in each state.
+-- The bytes that a frame reader may have buffered in each of its states.
 abbrev pub FitsState : State → List ℕ → Type 0
 FitsState Reading bytes = IsOpen bytes
 FitsState Ended bytes = IsFrame bytes × IsOwn bytes
 FitsState Stuck bytes = IsBad bytes × (length bytes ≡ 6)
 
--- What the bytes since the end of the last frame are after a feed with this result.
+-- The form of the bytes since the last frame ended, by the result of a feed.
 abbrev pub TellsFraming : Framing → List ℕ → Type 0
 TellsFraming Need bytes = IsOpen bytes
 TellsFraming Whole bytes = IsFrame bytes × IsOwn bytes
 TellsFraming Foreign bytes = IsFrame bytes × (IsOwn bytes → ⊥)
 TellsFraming Garbled bytes = IsBad bytes × (length bytes ≡ 6)
 
--- The feed ended a frame, of Modbus or of another protocol.
+-- True if the feed ended a frame, of Modbus or of another protocol.
 abbrev pub IsEnd : Framing → Type 0
 IsEnd Need = ⊥
 IsEnd Whole = Unit {0}
 IsEnd Foreign = Unit {0}
 IsEnd Garbled = ⊥
 
--- The model of a reader after a feed with this result. `bytes` are those since the end of the
--- last frame.
+-- The model of a frame reader after a feed with this result. `bytes` are the bytes since the last
+-- frame ended.
 abbrev pub buffered_after : Framing → List ℕ → Buffered
 buffered_after Need bytes = record { rest = bytes; frame = None }
 buffered_after Whole bytes = record { rest = []; frame = Some bytes }
 buffered_after Foreign bytes = record { rest = []; frame = None }
 buffered_after Garbled bytes = record { rest = bytes; frame = None }
 
--- The frame that the feed ended, as a list of one frame or none.
+-- The frame that the feed ended, as a list of one frame, or the empty list.
 abbrev pub ended : Framing → List ℕ → List (List ℕ)
 ended Need bytes = []
 ended Whole bytes = bytes ∷ []
 ended Foreign bytes = bytes ∷ []
 ended Garbled bytes = []
 
--- For any earlier bytes, a feed continues the reading of the stream. A frame that ended follows
--- the earlier frames, and the new rest is buffered.
+-- True if a feed continues the reading of any earlier bytes: a frame that ended follows the earlier
+-- frames, and the new rest is buffered.
 abbrev pub ReadsOn : (old new : Buffered) → (taken : List ℕ) → Framing → Type 0
 ReadsOn old new taken what =
     (bytes : List ℕ) (before : List (List ℕ)) → Reads bytes before old.rest →
     Reads (bytes ++ taken) (before ++ ended what (old.rest ++ taken)) new.rest
 
--- The fields of a frame.
+-- The transaction identifier, unit identifier and PDU of a frame.
 pub record Fields : Type 0 where
   pub tid : ℕ
   pub unit : ℕ
@@ -73,20 +73,21 @@ pub record Fields : Type 0 where
 abbrev pub fields_of : List ℕ → Fields
 fields_of frame = record { tid = tid_of frame; unit = unit_of frame; pdu = pdu_of frame }
 
--- The fields of a `Frame` that the reader lends out.
+-- The fields of a `Frame` that a frame reader returns.
 abbrev pub spelled : Frame → Fields
 spelled frame = record { tid = frame.tid; unit = frame.unit; pdu = frame.pdu.now }
 
--- The bytes of the frame with these fields. No other bytes are a frame with the same fields.
+-- The bytes of the Modbus frame with these fields. No other bytes are a Modbus frame with these
+-- fields.
 abbrev pub spelling : ℕ → ℕ → List ℕ → List ℕ
 spelling tid unit pdu = word tid ++ word 0 ++ word (1 + length pdu) ++ unit ∷ pdu
 
--- `spelling` gives a Modbus frame with these fields.
+-- True if the bytes of `spelling` are a Modbus frame that decodes to these fields.
 abbrev pub SpellsFrame : ℕ → ℕ → List ℕ → Type 0
 SpellsFrame tid unit pdu =
     IsFrame (spelling tid unit pdu) × IsOwn (spelling tid unit pdu)
     × (fields_of (spelling tid unit pdu) ≡ record { tid = tid; unit = unit; pdu = pdu })
 
--- The bytes are a complete frame of Modbus.
+-- True if the bytes are a complete Modbus frame.
 abbrev pub IsOwnFrame : List ℕ → Type 0
 IsOwnFrame bytes = AreBytes bytes × IsFrame bytes × IsOwn bytes

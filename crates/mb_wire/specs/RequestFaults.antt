@@ -19,7 +19,7 @@ function_in pdu = slice_index pdu 0
 abbrev pub address_in : List ℕ → ℕ
 address_in pdu = number_at pdu 1
 
--- The field after the address in a request's PDU: a quantity or a value.
+-- The 16-bit number after the address in a request's PDU: a quantity or a value.
 abbrev pub field_in : List ℕ → ℕ
 field_in pdu = number_at pdu 3
 
@@ -27,19 +27,19 @@ field_in pdu = number_at pdu 3
 abbrev pub count_in : List ℕ → ℕ
 count_in pdu = slice_index pdu 5
 
--- The function code is one of the eight that the crate decodes.
+-- True if the function code is one of the eight that the crate decodes.
 abbrev pub is_known : ℕ → Bool
 is_known function = (nat_le 1 function && nat_le function 6) || function == 15 || function == 16
 
--- The function is 15 or 16, whose requests have a byte count and data.
+-- True if the function code is 15 or 16. Requests with these codes have a byte count and data.
 abbrev pub carries_bytes : ℕ → Bool
 carries_bytes function = function == 15 || function == 16
 
--- The function writes a single value: it is 5 or 6.
+-- True if the function code is 5 or 6, which write a single value.
 abbrev pub writes_one : ℕ → Bool
 writes_one function = function == 5 || function == 6
 
--- The greatest quantity that the standard allows for a function that has a quantity.
+-- The greatest quantity that the standard allows for a function with a quantity.
 abbrev pub most_of : ℕ → ℕ
 most_of function =
     if nat_le function 2 then MAX_READ_COILS
@@ -47,38 +47,38 @@ most_of function =
     else if function == 15 then MAX_WRITE_COILS
     else MAX_WRITE_REGISTERS
 
--- The number of data bytes in a write request of this function (15 or 16) for a quantity.
+-- The number of data bytes in a write request with function code 15 or 16 for a quantity.
 abbrev pub bytes_of : ℕ → ℕ → ℕ
 bytes_of function quantity = if function == 15 then bytes_for quantity else 2 * quantity
 
--- The function code is none of the eight that the crate decodes.
+-- True if the function code is none of the eight that the crate decodes.
 abbrev pub is_unknown_function : List ℕ → Bool
 is_unknown_function pdu = nat_lt 0 (length pdu) && not (is_known (function_in pdu))
 
--- The PDU is empty, or its length does not match its function and byte count.
+-- True if the PDU is empty, or its length does not match its function and byte count.
 abbrev pub is_wrong_request_length : List ℕ → Bool
 is_wrong_request_length pdu =
     if carries_bytes (function_in pdu)
     then nat_lt (length pdu) 6 || not (length pdu == 6 + count_in pdu)
     else not (length pdu == 5)
 
--- The quantity is 0, or more than the function allows.
+-- True if the quantity is 0, or more than the function allows.
 abbrev pub is_wrong_quantity : List ℕ → Bool
 is_wrong_quantity pdu =
     not (writes_one (function_in pdu))
     && (nat_lt (field_in pdu) 1 || nat_lt (most_of (function_in pdu)) (field_in pdu))
 
--- The byte count does not match the quantity.
+-- True if the byte count of a write request does not match its quantity.
 abbrev pub is_wrong_carried_count : List ℕ → Bool
 is_wrong_carried_count pdu =
     carries_bytes (function_in pdu)
     && not (count_in pdu == bytes_of (function_in pdu) (field_in pdu))
 
--- The value of a coil is another than 0x0000 and 0xFF00 (65280).
+-- True if the 16-bit value of a coil is not 0x0000 or 0xFF00 (65280).
 abbrev pub is_wrong_coil_value : List ℕ → Bool
 is_wrong_coil_value pdu = function_in pdu == 5 && not (field_in pdu == 0 || field_in pdu == 65280)
 
--- The first fault of the PDU as a request; `None` if it is a request.
+-- The first fault of the PDU as a request, or `None` if the PDU is valid.
 abbrev pub request_fault : List ℕ → Option RequestFault
 request_fault pdu =
     if is_unknown_function pdu then Some UnknownFunction
@@ -106,11 +106,11 @@ abbrev pub value_unless : {V F : Type 0} → Option F → V → Result V F
 value_unless None value = Ok value
 value_unless (Some fault) value = Err fault
 
--- The request in the PDU, or the first fault that applies.
+-- The request that the PDU encodes, or the first fault that applies.
 abbrev pub query_in : List ℕ → Result Query RequestFault
 query_in pdu = value_unless (request_fault pdu) (query_from pdu)
 
--- The result of the decoder, with the value of its `Request`.
+-- The result of the request decoder, with a value in the position of the borrowed `Request`.
 abbrev pub asked_as : Result Request RequestFault → Result Query RequestFault
 asked_as (Ok request) = Ok (query_of request)
 asked_as (Err fault) = Err fault
@@ -120,7 +120,7 @@ abbrev pub request_cleared : List ℕ → List ℕ
 request_cleared pdu =
     if function_in pdu == 15 then take 6 pdu ++ cleared_after (field_in pdu) (drop 6 pdu) else pdu
 
--- The number of each fault: its position in the order in which faults are checked.
+-- The number of each request fault: its position in the order of the checks.
 abbrev pub request_fault_number : RequestFault → ℕ
 request_fault_number UnknownFunction = 1
 request_fault_number WrongLength = 2

@@ -1,4 +1,4 @@
--- Requests, as PDUs encode them (Modbus Application Protocol V1.1b3, sections 4.1 and 6).
+-- Defines the requests that PDUs encode (Modbus Application Protocol V1.1b3, sections 4.1 and 6).
 use Rattle.std.specs.Prelude.{◌≡◌, ℕ, ◌*◌, ◌<◌, ◌≤◌, Bool, if◌then◌else◌, List, [], ◌∷◌, ◌++◌, length}
 use Rattle.mb_wire.specs.declared.limits.TheConstants.{MAX_READ_COILS, MAX_READ_REGISTERS}
 use Rattle.mb_wire.specs.declared.limits.TheConstants.{MAX_WRITE_COILS, MAX_WRITE_REGISTERS}
@@ -7,7 +7,7 @@ use Rattle.mb_wire.specs.Coils.{bytes_for, coils_of, packed}
 use Rattle.mb_wire.specs.declared.requests.Request.{Request}
 use Rattle.mb_wire.specs.declared.requests.Request.TheVariants as lent
 
--- A client's request as a value, without the memory that a `Request` borrows.
+-- A client's request as a value, independent of the memory that a `Request` borrows.
 pub data Query : Type 0 where
   ReadCoils : (address quantity : ℕ) → Query
   ReadDiscrete : (address quantity : ℕ) → Query
@@ -18,7 +18,7 @@ pub data Query : Type 0 where
   WriteCoils : (address : ℕ) (coils : List Bool) → Query
   WriteRegisters : (address : ℕ) (values : List ℕ) → Query
 
--- The value of a `Request`, which borrows its data bytes.
+-- The value of a `Request`, without its borrowed data bytes.
 abbrev pub query_of : Request → Query
 query_of (lent.ReadCoils address quantity) = ReadCoils address quantity
 query_of (lent.ReadDiscrete address quantity) = ReadDiscrete address quantity
@@ -40,7 +40,7 @@ function_of (WriteRegister address value) = 6
 function_of (WriteCoils address coils) = 15
 function_of (WriteRegisters address values) = 16
 
--- The first address of a request.
+-- The first address that a request reads or writes.
 abbrev pub address_of : Query → ℕ
 address_of (ReadCoils address quantity) = address
 address_of (ReadDiscrete address quantity) = address
@@ -51,11 +51,11 @@ address_of (WriteRegister address value) = address
 address_of (WriteCoils address coils) = address
 address_of (WriteRegisters address values) = address
 
--- The encoding of a coil's value: 0xFF00 (65280) or 0.
+-- The 16-bit encoding of a coil's value: 0xFF00 (65280) for on, 0 for off.
 abbrev pub coil_value : Bool → ℕ
 coil_value on = if on then 65280 else 0
 
--- The field after the address: the quantity, or the single value of a write.
+-- The 16-bit number after the address: the quantity, or the value of a write to one address.
 abbrev pub field_of : Query → ℕ
 field_of (ReadCoils address quantity) = quantity
 field_of (ReadDiscrete address quantity) = quantity
@@ -66,7 +66,8 @@ field_of (WriteRegister address value) = value
 field_of (WriteCoils address coils) = length coils
 field_of (WriteRegisters address values) = length values
 
--- The bytes after a request's head: the byte count and the data, if the function has them.
+-- The bytes after the first five of a request: the byte count and the data, if the function has
+-- data.
 abbrev pub carried_by : Query → List ℕ
 carried_by (ReadCoils address quantity) = []
 carried_by (ReadDiscrete address quantity) = []
@@ -77,24 +78,24 @@ carried_by (WriteRegister address value) = []
 carried_by (WriteCoils address coils) = bytes_for (length coils) ∷ packed coils
 carried_by (WriteRegisters address values) = 2 * length values ∷ word_bytes values
 
--- The head of a request: the function code and two numbers.
+-- The first five bytes of a request: the function code and two 16-bit numbers.
 abbrev pub head_bytes : ℕ → ℕ → ℕ → List ℕ
 head_bytes function address field = function ∷ word address ++ word field
 
--- The encoding of a request, with spare bits 0.
+-- The PDU that encodes a request, with spare bits set to 0.
 abbrev pub query_bytes : Query → List ℕ
 query_bytes query =
     head_bytes (function_of query) (address_of query) (field_of query) ++ carried_by query
 
--- The encoding of a `Request`, with spare bits 0.
+-- The PDU that encodes a borrowed `Request`, with spare bits set to 0.
 abbrev pub request_bytes : Request → List ℕ
 request_bytes request = query_bytes (query_of request)
 
--- The quantity is from 1 to this limit.
+-- True if the quantity is between 1 and `most`.
 abbrev pub IsWithin : ℕ → ℕ → Type 0
 IsWithin quantity most = (1 ≤ quantity) × (quantity ≤ most)
 
--- The standard allows the quantity of this request for its function.
+-- True if the standard allows the quantity of this request for its function.
 abbrev pub IsLawfulQuery : Query → Type 0
 IsLawfulQuery (ReadCoils address quantity) = IsWithin quantity MAX_READ_COILS
 IsLawfulQuery (ReadDiscrete address quantity) = IsWithin quantity MAX_READ_COILS
@@ -105,7 +106,7 @@ IsLawfulQuery (WriteRegister address value) = Unit {0}
 IsLawfulQuery (WriteCoils address coils) = IsWithin (length coils) MAX_WRITE_COILS
 IsLawfulQuery (WriteRegisters address values) = IsWithin (length values) MAX_WRITE_REGISTERS
 
--- The `Request` has a quantity that the standard allows, and the matching number of data bytes.
+-- True if the standard allows the quantity of the `Request`, and its number of data bytes matches.
 abbrev pub IsLawful : Request → Type 0
 IsLawful (lent.ReadCoils address quantity) = IsWithin quantity MAX_READ_COILS
 IsLawful (lent.ReadDiscrete address quantity) = IsWithin quantity MAX_READ_COILS
@@ -119,7 +120,7 @@ IsLawful (lent.WriteRegisters address bytes) =
     IsWithin (length (words_of bytes.now)) MAX_WRITE_REGISTERS
     × (length bytes.now ≡ 2 * length (words_of bytes.now))
 
--- The PDU encodes the request, whose quantity and address are in range.
+-- True if the PDU encodes the request, and the request's quantity and address are in range.
 abbrev pub SpellsRequest : List ℕ → Query → Type 0
 SpellsRequest pdu (ReadCoils address quantity) =
     IsWithin quantity MAX_READ_COILS × (address < 65536) × (pdu ≡ head_bytes 1 address quantity)

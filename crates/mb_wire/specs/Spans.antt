@@ -1,4 +1,4 @@
--- Consecutive registers that one request reads.
+-- Defines spans: ranges of consecutive registers that one Modbus request reads.
 use Rattle.std.specs.Prelude.{ℕ, ◌+◌, ◌≤◌}
 use Rattle.mb_wire.specs.declared.limits.TheConstants.{ADDRESSES, MAX_READ_REGISTERS}
 use Rattle.mb_wire.specs.declared.requests.Request.{Request}
@@ -7,22 +7,23 @@ use Rattle.mb_wire.specs.declared.span.ReadFunction.{ReadFunction}
 use Rattle.mb_wire.specs.declared.span.ReadFunction.TheVariants.{HoldingRegisters, InputRegisters}
 use Rattle.mb_wire.specs.declared.span.ReadSpan.{ReadSpan}
 
--- The function code of a read of registers.
+-- The function code of a function that reads registers: 3 or 4.
 abbrev pub code_of : ReadFunction → ℕ
 code_of HoldingRegisters = 3
 code_of InputRegisters = 4
 
--- A function, an address and a count.
+-- A range of registers: the function that reads them, the first address and the register count.
 pub record Span : Type 0 where
   pub function : ReadFunction
   pub address : ℕ
   pub count : ℕ
 
--- The value of a `ReadSpan`.
+-- The value of a `ReadSpan`, as a `Span`.
 abbrev pub span_view : ReadSpan → Span
 span_view span = record { function = span.function; address = span.address; count = span.count }
 
--- The function is 3 or 4, and it reads 1 to 125 registers within the 65536 addresses of a device.
+-- True if the function code is 3 or 4 and the range has 1 to 125 registers within the 65536
+-- addresses of a device.
 pub record IsSpan (function address count : ℕ) : Type 0 where
   pub low : 3 ≤ function
   pub high : function ≤ 4
@@ -30,7 +31,7 @@ pub record IsSpan (function address count : ℕ) : Type 0 where
   pub few : count ≤ MAX_READ_REGISTERS
   pub inside : address + count ≤ ADDRESSES
 
--- The request that reads these registers.
+-- The request that reads `count` registers from `address` with this function.
 abbrev pub read_request : ReadFunction → ℕ → ℕ → Request
 read_request HoldingRegisters address count = ReadHolding address count
 read_request InputRegisters address count = ReadInput address count

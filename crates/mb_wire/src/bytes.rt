@@ -1,4 +1,4 @@
-//! Big-endian numbers in a PDU, and helpers that append to one.
+//! Reads big-endian 16-bit numbers from a Modbus PDU, and appends coils and registers to one.
 ghost use Rattle.std.specs.Prelude.{◌≡◌, ◌+◌, ◌*◌, ◌/◌, ◌%◌, ◌^◌, ◌≤◌, ◌<◌, ◌++◌};
 ghost use Rattle.std.specs.Prelude.{length, take};
 ghost use Rattle.mb_wire.specs.Bytes.{number_at, word_bytes, words_of};
@@ -8,7 +8,7 @@ ghost use Rattle.mb_wire.specs.Requests.{head_bytes};
 use crate::limits::MAX_PDU;
 use byteorder::{BigEndian, ByteOrder};
 
-// Returns the big-endian 16-bit number in the two bytes from index `place`.
+// Returns the big-endian 16-bit number that starts at index `place` of `bytes`.
 pub(crate) fn read_number(bytes: &[u8], place: usize) -> u16
     requires { place + 2 ≤ length bytes.now }
     ensures { result ≡ number_at bytes.now place }
@@ -16,7 +16,7 @@ pub(crate) fn read_number(bytes: &[u8], place: usize) -> u16
     BigEndian::read_u16(&bytes[place..])
 }
 
-// Returns the function code and two numbers, which begin every request.
+// Returns the first five bytes of a request: the function code and two 16-bit numbers.
 pub(crate) fn head(function: u8, address: u16, field: u16) -> [u8; 5]
     ensures { result ≡ head_bytes function address field }
 {
@@ -25,7 +25,7 @@ pub(crate) fn head(function: u8, address: u16, field: u16) -> [u8; 5]
     [function, address_high, address_low, field_high, field_low]
 }
 
-// Writes `bytes` after the first `end` bytes of `out`, and returns the new length.
+// Writes `bytes` into `out` from index `end`, and returns the new length in bytes.
 pub(crate) fn append(out: &mut [u8; MAX_PDU], end: usize, bytes: &[u8]) -> usize
     requires { end + length bytes.now ≤ MAX_PDU }
     ensures count { result ≡ end + length bytes.now }
@@ -36,7 +36,7 @@ pub(crate) fn append(out: &mut [u8; MAX_PDU], end: usize, bytes: &[u8]) -> usize
     new_end
 }
 
-// Returns the `count` lowest bits of a byte.
+// Returns the `count` lowest bits of a byte, with all higher bits set to 0.
 fn lowest_bits(byte: u8, count: u16) -> u8
     requires { count < 8 }
     ensures { result ≡ byte % 2 ^ count }
@@ -45,7 +45,7 @@ fn lowest_bits(byte: u8, count: u16) -> u8
     (u16::from(byte) % limit) as u8
 }
 
-// Writes `quantity` coils after the first `end` bytes of `out`. Spare bits are 0.
+// Writes `quantity` coils into `out` from index `end`. The spare bits of the last byte are 0.
 pub(crate) fn append_coils(
     out: &mut [u8; MAX_PDU],
     end: usize,
@@ -67,7 +67,7 @@ pub(crate) fn append_coils(
     }
 }
 
-// Writes registers after the first `end` bytes of `out`.
+// Writes the bytes of registers into `out` from index `end`, and returns the new length in bytes.
 pub(crate) fn append_words(out: &mut [u8; MAX_PDU], end: usize, bytes: &[u8]) -> usize
     requires fits { end + length bytes.now ≤ MAX_PDU }
     requires bytes { length bytes.now ≡ 2 * length (words_of bytes.now) }

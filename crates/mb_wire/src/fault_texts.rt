@@ -1,4 +1,4 @@
-//! The sentence that describes each fault.
+//! Writes each fault of a request, a response or a link as English text.
 use crate::link::LinkFailed;
 use crate::replies::ReplyFault;
 use crate::requests::RequestFault;

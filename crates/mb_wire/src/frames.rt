@@ -1,4 +1,4 @@
-//! Frames of Modbus TCP: an MBAP header and a PDU.
+//! Reads and writes frames of Modbus TCP. A frame is an MBAP header and a PDU.
 ghost use Rattle.std.specs.Prelude.{◌≡◌, ℕ, ◌+◌, ◌≤◌, ◌<◌, List, [], ◌∷◌, ◌++◌, length};
 ghost use Rattle.std.specs.Prelude.{take, ◌⊎◌};
 ghost use Rattle.std.specs.Option.{option_map};
@@ -12,21 +12,22 @@ use crate::limits::{MAX_ADU, MAX_LENGTH, MAX_PDU, MBAP_HEADER, MIN_LENGTH};
 use byteorder::{BigEndian, ByteOrder};
 use std::marker::Model;
 
-/// How a call of `FrameReader::feed` ended.
+/// The result of a call of `FrameReader::feed`.
 #[derive(Clone, Copy, Debug, PartialEq, Eq)]
 pub enum Framing {
-    /// The reader took the complete piece, and no frame ended.
+    /// The reader consumed all bytes of its input, and no frame ended.
     Need,
-    /// The last byte that the call took ended a frame of Modbus.
+    /// The last byte that the reader consumed ended a frame with protocol identifier 0 (Modbus).
     Whole,
-    /// The last byte that the call took ended a frame of another protocol.
+    /// The last byte that the reader consumed ended a frame with another protocol identifier than
+    /// 0.
     Foreign,
-    /// The last byte that the call took is the low byte of a bad length. The reader takes no
-    /// further bytes.
+    /// The last byte that the reader consumed is the low byte of an invalid length field. The
+    /// reader consumes no further bytes.
     Garbled,
 }
 
-/// The number of bytes that `FrameReader::feed` took from its piece, and how the call ended.
+/// The number of bytes that `FrameReader::feed` consumed, and the result of the call.
 #[derive(Clone, Copy, Debug, PartialEq, Eq)]
 pub struct Fed {
     pub taken: usize,
@@ -48,7 +49,7 @@ enum State {
     Stuck,
 }
 
-/// Splits a stream of bytes into frames. The stream may arrive in pieces of any size.
+/// Splits a stream of bytes into Modbus TCP frames. The stream may arrive in chunks of any size.
 #[derive(Drop)]
 pub struct FrameReader {
     buf: [u8; MAX_ADU],
@@ -68,16 +69,16 @@ impl Model for FrameReader {
     ghost invariant = { λ r. (r.len ≤ MAX_ADU) × FitsState r.state (take r.len r.buf) };
 }
 
-// The result of one step of `feed`: the bytes that it took, and how many bytes are now in the
-// buffer.
+// The result of one step of `FrameReader::feed`: the number of bytes consumed, and the number of
+// bytes now in the buffer.
 #[derive(Drop)]
 struct Step {
     len: usize,
     fed: Fed,
 }
 
-// Copies bytes of the piece after the first `len` bytes of `buf`, until `buf` has `limit` bytes
-// or the piece ends. Returns the number of bytes copied.
+// Appends bytes of `piece` to the first `len` bytes of `buf`, until `buf` has `limit` bytes or
+// `piece` ends. Returns the number of bytes copied.
 fn top_up(buf: &mut [u8; MAX_ADU], len: usize, piece: &[u8], limit: usize) -> usize
     requires within { len ≤ limit }
     requires fits { limit ≤ MAX_ADU }
@@ -92,7 +93,7 @@ fn top_up(buf: &mut [u8; MAX_ADU], len: usize, piece: &[u8], limit: usize) -> us
     count
 }
 
-// Returns the length field of the header in `buf`: the number of bytes after the sixth.
+// Returns the length field of the MBAP header in `buf`: the number of bytes after the sixth.
 fn span_in(buf: &[u8; MAX_ADU]) -> usize
     ensures span { result ≡ span_of buf.now }
     ensures fits { result < 65536 }
@@ -100,8 +101,8 @@ fn span_in(buf: &[u8; MAX_ADU]) -> usize
     usize::from(BigEndian::read_u16(&buf[4..6]))
 }
 
-// Copies bytes of the piece after the first `len` of `buf` until the buffer has 6 bytes. Returns
-// the number of bytes copied.
+// Appends bytes of `piece` to the first `len` bytes of `buf`, until `buf` has 6 bytes. Returns the
+// number of bytes copied.
 fn top_up_header(buf: &mut [u8; MAX_ADU], len: usize, piece: &[u8]) -> usize
     requires fits { len ≤ MAX_ADU }
     ensures count { result ≤ length piece.now }
@@ -118,7 +119,8 @@ fn top_up_header(buf: &mut [u8; MAX_ADU], len: usize, piece: &[u8]) -> usize
     }
 }
 
-// Classifies the first `len` bytes of `buf`, whose header has a good length.
+// Classifies the first `len` bytes of `buf`: an incomplete frame, a Modbus frame, or a frame of
+// another protocol.
 fn what_is(buf: &[u8; MAX_ADU], len: usize, span: usize) -> Framing
     requires span { span ≡ span_of buf.now }
     requires good { IsGoodSpan span }
@@ -137,7 +139,8 @@ fn what_is(buf: &[u8; MAX_ADU], len: usize, span: usize) -> Framing
     }
 }
 
-// Does the work of one `feed`. The first `len` bytes of `buf` are an incomplete frame.
+// Copies bytes of `piece` after the incomplete frame in the first `len` bytes of `buf`, up to the
+// end of that frame.
 fn take_in(buf: &mut [u8; MAX_ADU], len: usize, piece: &[u8]) -> Step
     requires fits { len ≤ MAX_ADU }
     requires before { IsOpen (take len buf.old) }
@@ -193,8 +196,8 @@ impl FrameReader {
         }
     }
 
-    /// Takes bytes of the piece, up to the end of the next frame. Call `feed` again with the rest
-    /// of the piece.
+    /// Consumes bytes of `piece`, up to the end of the next frame. Call `feed` again with the
+    /// remaining bytes of `piece`.
     pub fn feed(&mut self, piece: &[u8]) -> Fed
         ensures taken { result.taken ≤ length piece.now }
         ensures need { result.what ≡ Framing.Need → result.taken ≡ length piece.now }
@@ -249,7 +252,7 @@ impl FrameReader {
         step.fed
     }
 
-    /// Returns the frame of Modbus that the last feed ended, if it ended one.
+    /// Returns the Modbus frame that the last call of `feed` ended, or `None` if it ended none.
     pub fn frame(&self) -> Option<Frame<'_>>
         ensures { option_map spelled result ≡ option_map fields_of self.now.frame }
     {
@@ -267,7 +270,7 @@ impl FrameReader {
     }
 }
 
-/// Writes a frame to the front of `out`, and returns its length in bytes.
+/// Writes a Modbus TCP frame to the front of `out`, and returns its length in bytes.
 pub fn write_frame(tid: u16, unit: u8, pdu: &[u8], out: &mut [u8; MAX_ADU]) -> usize
     requires low { 1 ≤ length pdu.now }
     requires high { length pdu.now ≤ MAX_PDU }
@@ -289,15 +292,15 @@ fn header(tid: u16, unit: u8, span: u16) -> [u8; MBAP_HEADER]
     [tid_high, tid_low, 0, 0, span_high, span_low, unit]
 }
 
-/// Theorem: each byte list has exactly one reading as frames and a rest.
+/// Theorem: each byte list splits into complete frames and an incomplete rest in exactly one way.
 pub fn one_reading()
     ensures exists { (bytes : List ℕ) → Reads bytes (frames bytes) (rest bytes) }
     ensures only { (bytes : List ℕ) (others : List (List ℕ)) (left : List ℕ) →
         Reads bytes others left → (frames bytes ≡ others) × (rest bytes ≡ left) }
 {}
 
-/// Theorem: `write_frame` writes a frame with these fields, and no other bytes are a frame with the
-/// same fields.
+/// Theorem: `write_frame` writes a frame that decodes to its transaction identifier, unit and PDU.
+/// No other bytes decode to these fields.
 pub fn one_spelling()
     ensures frame { (tid unit : ℕ) (pdu : List ℕ) → tid < 65536 →
         1 ≤ length pdu → length pdu ≤ MAX_PDU → SpellsFrame tid unit pdu }

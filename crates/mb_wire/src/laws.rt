@@ -1,4 +1,4 @@
-//! Theorems on requests and responses, over all byte lists.
+//! Theorems about the PDUs of all Modbus requests and responses.
 ghost use Rattle.std.specs.Prelude.{◌≡◌, ◌↔◌, ℕ, List, Ok};
 ghost use Rattle.mb_wire.specs.Bytes.{AreBytes};
 ghost use Rattle.mb_wire.specs.Requests.{Query, IsLawfulQuery, SpellsRequest, query_bytes};
@@ -6,9 +6,8 @@ ghost use Rattle.mb_wire.specs.RequestFaults.{query_in, request_cleared};
 ghost use Rattle.mb_wire.specs.Replies.{Answer, AnswersQuery, SpellsReply, answer_bytes, answer_in};
 ghost use Rattle.mb_wire.specs.Replies.{reply_cleared};
 
-/// Theorem: a PDU encodes a request exactly if it decodes to that request. Each lawful request
-/// decodes from its encoding. Encoding a decoded request gives the PDU again, with its spare bits
-/// 0.
+/// Theorem: decoding and encoding requests are inverse. A valid request decodes from its own
+/// encoding. A decoded request encodes to its PDU with the spare bits set to 0.
 pub fn one_request()
     ensures both { (pdu : List ℕ) (query : Query) → AreBytes pdu →
         SpellsRequest pdu query ↔ (query_in pdu ≡ Ok query) }
@@ -18,9 +17,8 @@ pub fn one_request()
         query_bytes query ≡ request_cleared pdu }
 {}
 
-/// Theorem: a PDU encodes a response exactly if it decodes to that response. Each fitting response
-/// decodes from its encoding. Encoding a decoded response gives the PDU again, with its spare bits
-/// 0.
+/// Theorem: decoding and encoding responses are inverse. A response that fits its request decodes
+/// from its own encoding. A decoded response encodes to its PDU with the spare bits set to 0.
 pub fn one_reply()
     ensures both { (query : Query) (pdu : List ℕ) (answer : Answer) → AreBytes pdu →
         SpellsReply query pdu answer ↔ (answer_in query pdu ≡ Ok answer) }

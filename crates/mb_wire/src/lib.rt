@@ -1,7 +1,7 @@
-//! Modbus TCP: frames, requests, responses, and the trait of a link.
+//! Encodes and decodes Modbus TCP frames, requests and responses, and defines the trait of a link.
 //!
-//! The standards are the Modbus Application Protocol V1.1b3 and the Messaging on TCP/IP
-//! Implementation Guide V1.0b. No call allocates.
+//! The crate follows the Modbus Application Protocol V1.1b3 and the Messaging on TCP/IP
+//! Implementation Guide V1.0b. No call allocates memory.
 #![tactic(auto)]
 
 mod bytes;

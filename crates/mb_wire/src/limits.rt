@@ -23,23 +23,25 @@ pub const MBAP_HEADER: usize = 7;
 /// The greatest length of a frame in bytes: a header and the longest PDU (MAP 4.1).
 pub const MAX_ADU: usize = 260;
 
-/// The least value of a header's length field: a unit and a function code (TCP 3.1.3).
+/// The least value of a header's length field, in bytes: a unit identifier and a function code (TCP
+/// 3.1.3).
 pub const MIN_LENGTH: usize = 2;
 
-/// The greatest value of a header's length field: a unit and the longest PDU (TCP 3.1.3).
+/// The greatest value of a header's length field, in bytes: a unit identifier and the longest PDU
+/// (TCP 3.1.3).
 pub const MAX_LENGTH: usize = 254;
 
-/// The number of registers in each of a device's tables, and of coils (MAP 4.3).
+/// The number of addresses of each kind of data in a device: registers or coils (MAP 4.3).
 pub const ADDRESSES: u32 = 65536;
 
-/// The greatest number of coils or discrete inputs in a read (MAP 6.1 and 6.2).
+/// The greatest number of coils or discrete inputs in a read request (MAP 6.1 and 6.2).
 pub const MAX_READ_COILS: u16 = 2000;
 
-/// The greatest number of registers in a read (MAP 6.3 and 6.4).
+/// The greatest number of registers in a read request (MAP 6.3 and 6.4).
 pub const MAX_READ_REGISTERS: u16 = 125;
 
-/// The greatest number of coils in a write (MAP 6.11).
+/// The greatest number of coils in a write request (MAP 6.11).
 pub const MAX_WRITE_COILS: u16 = 1968;
 
-/// The greatest number of registers in a write (MAP 6.12).
+/// The greatest number of registers in a write request (MAP 6.12).
 pub const MAX_WRITE_REGISTERS: u16 = 123;

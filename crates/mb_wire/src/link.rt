@@ -1,4 +1,4 @@
-//! The trait of a byte stream to and from a peer.
+//! The `Link` trait: a byte stream to and from a peer, such as a TCP connection.
 ghost use Rattle.std.specs.Prelude.{◌≡◌, ◌≤◌, ℕ, List, length, true, is_err, Some, None, IfOk};
 ghost use Rattle.std.specs.Io.KnownBytes.{Keeps, WriteAppends};
 ghost use Rattle.mb_wire.specs.Links.{Gives, TakeConsumes, TakesAtMost};
@@ -6,47 +6,48 @@ ghost use Rattle.mb_wire.specs.Links.{is_end, is_failed_give, risen};
 ghost use Rattle.std.specs.declared.option.Option.{Option};
 ghost use Rattle.mb_wire.specs.declared.link.LastTake.{LastTake};
 
-/// The result of a read from a link that did not fail.
+/// The result of a successful read from a link.
 #[derive(Clone, Copy, Debug, PartialEq, Eq)]
 pub enum Took {
-    /// This many bytes arrived. They are at the front of the buffer.
+    /// The number of bytes that arrived. They are at the front of the read buffer.
     Bytes(usize),
-    /// The peer closed its side: no further bytes will arrive.
+    /// The peer closed its sending side: no further bytes will arrive.
     End,
-    /// No bytes have arrived yet.
+    /// No bytes have arrived yet, and the peer has not closed the connection.
     Idle,
 }
 
-/// A read from a link, or a write to it, failed.
+/// The error of a failed read from a link or a failed write to it.
 #[derive(Clone, Copy, Debug, PartialEq, Eq)]
 pub struct LinkFailed;
 
-/// The size of the buffer that was given to the last read, and the result of that read.
+/// The buffer size in bytes and the result of the last read from a link.
 #[derive(Clone, Copy, Debug, PartialEq, Eq)]
 pub struct LastTake {
     pub room: usize,
     pub answer: Result<Took, LinkFailed>,
 }
 
-/// A connection to a peer. The counts saturate at 2^64 - 1.
+/// A connection to a peer. All of its counts saturate at 2^64 - 1.
 pub trait Link {
-    // The bytes that later reads will return, and the bytes written so far, if the link knows them.
+    // The bytes that later reads will return, and the bytes written until now. `None` if the link
+    // cannot know them.
     ghost remaining: { Self → Option (List ℕ) } = { λ _. None };
 
     ghost given: { Self → Option (List ℕ) } = { λ _. None };
 
-    // The numbers of failed calls, of reads, and of reads that found the end of the input. They
-    // saturate.
+    // The numbers of failed calls, of reads, and of reads that found the end of the input. The
+    // counts saturate at 2^64 - 1.
     ghost failed: { Self → ℕ };
 
     ghost taken: { Self → ℕ };
 
     ghost ended: { Self → ℕ };
 
-    // The last read, or `None` before the first.
+    // The last read from the link, or `None` before the first read.
     ghost last: { Self → Option LastTake };
 
-    /// Reads what the peer sent into the front of the buffer.
+    /// Reads bytes that the peer sent into the front of `piece`.
     fn take(&mut self, piece: &mut [u8]) -> Result<Took, LinkFailed>
         ensures bound { TakesAtMost result piece.new }
         ensures bytes { TakeConsumes (remaining self.old) (remaining self.new) result piece.new }
@@ -56,7 +57,8 @@ pub trait Link {
         ensures ends { ended self.new ≡ risen (is_end result) (ended self.old) }
         ensures last { last self.new ≡ Some (record { room = length piece.old; answer = result }) };
 
-    /// Writes bytes to the peer. Returns how many of them, from the first, the peer accepted.
+    /// Writes bytes to the peer. Returns the number of bytes that the peer accepted, counted from
+    /// the first byte.
     fn give(&mut self, bytes: &[u8]) -> Result<usize, LinkFailed>
         ensures bound { IfOk result (λ n. n ≤ length bytes.now) }
         ensures bytes { WriteAppends (given self.old) (given self.new) result bytes.now }
@@ -67,22 +69,22 @@ pub trait Link {
         ensures ends { ended self.new ≡ ended self.old }
         ensures last { last self.new ≡ last self.old };
 
-    /// Returns the number of failed calls: `LinkFailed`, or a write that accepted none of its
-    /// bytes.
+    /// Returns the number of failed calls: those that returned `LinkFailed`, and writes that
+    /// accepted no byte.
     fn failures(&self) -> u64
         ensures { result ≡ failed self.now };
 
-    /// Returns the number of reads.
+    /// Returns the number of reads from the link.
     fn takes(&self) -> u64
         ensures { result ≡ taken self.now };
 
-    /// Returns the last read, or `None` before the first.
+    /// Returns the last read from the link, or `None` before the first read.
     fn last_take(&self) -> Option<LastTake>
         ensures { result ≡ last self.now };
 }
 
-/// Writes all bytes, in several writes if needed. On error the peer has accepted a part of the
-/// bytes.
+/// Writes all bytes to the peer, in several writes if needed. If a write fails, the peer may have
+/// accepted some of the bytes.
 pub fn give_all<L: Link>(link: &mut L, bytes: &[u8]) -> Result<(), LinkFailed>
     ensures given { Gives result (L.given link.old) (L.given link.new) bytes.now }
     ensures remaining { Keeps (L.remaining link.old) (L.remaining link.new) }

@@ -1,4 +1,4 @@
-//! A link over slices, for tests, that can fail at a given call.
+//! A `Link` over slices in memory, for tests. One of its calls can be set to fail.
 ghost use Rattle.std.specs.Prelude.{◌≡◌, ◌≤◌, ◌+◌, ◌-◌, ◌==◌, length, take};
 ghost use Rattle.std.specs.Prelude.{is_err, Some, None, IfOk};
 ghost use Rattle.mb_wire.specs.Links.{TakeConsumes, TakesAtMost, is_call, is_end};
@@ -47,8 +47,8 @@ impl<'a> Model for MemoryLink<'a> {
 impl<'a> MemoryLink<'a> {
     ghost use Rattle.mb_wire.specs.MemoryLinks.{IsFresh};
 
-    /// Creates a link over `input` and `output` that moves at most `piece` bytes in a call. The
-    /// call with the number `fails`, from 1, fails.
+    /// Creates a link over `input` and `output` that moves at most `piece` bytes in each call. Call
+    /// number `fails`, counted from 1, fails.
     pub fn new(
         input: &'a [u8],
         output: &'a mut [u8],
@@ -76,7 +76,7 @@ impl<'a> MemoryLink<'a> {
         }
     }
 
-    /// Returns the bytes written so far.
+    /// Returns all bytes written to the link.
     pub fn given(&self) -> &[u8]
         ensures { result.now ≡ self.now.output }
     {
@@ -84,7 +84,7 @@ impl<'a> MemoryLink<'a> {
     }
 }
 
-// Returns whether the call with this number is set to fail.
+// Returns whether call number `call` is set to fail.
 fn fails_at(fails: Option<u64>, call: u64) -> bool
     ensures { result ≡ is_call fails call }
 {
@@ -98,7 +98,7 @@ impl MemoryLink<'_> {
     ghost use Rattle.std.specs.Prelude.{◌++◌};
     ghost use Rattle.mb_wire.specs.MemoryLinks.{CallsOnce, filled, handed_out, take_answer};
 
-    // Copies bytes of the input to the front of the piece, or fails.
+    // Copies bytes of the input to the front of `piece`, or fails if this call is set to fail.
     fn hand_out(&mut self, piece: &mut [u8]) -> Result<Took, LinkFailed>
         ensures answered { result ≡ take_answer self.old (length piece.old) }
         ensures bound { TakesAtMost result piece.new }

@@ -1,4 +1,4 @@
-//! Responses and their PDUs.
+//! Decodes and encodes the PDUs of Modbus responses.
 ghost use Rattle.std.specs.Prelude.{◌≡◌, ◌≤◌, ◌+◌, length, take, false, Ok};
 ghost use Rattle.std.specs.Prelude.{None, IfOk};
 ghost use Rattle.mb_wire.specs.Requests.{IsLawful, query_of};
@@ -14,37 +14,38 @@ use crate::limits::MAX_PDU;
 use crate::requests::{Request, Wanted};
 use byteorder::{BigEndian, ByteOrder};
 
-/// A device's response, borrowed from its PDU.
+/// A device's response to a Modbus request. The data is borrowed from the PDU.
 #[derive(Clone, Copy, Debug)]
 pub enum Reply<'a> {
-    /// Coils or discrete inputs, eight to a byte. The lowest bit of the first byte is the first of
-    /// them. Spare bits of the last byte are ignored.
+    /// Coils or discrete inputs, eight to a byte. The lowest bit of the first byte is the first
+    /// coil or input. Spare bits of the last byte are ignored.
     Bits { quantity: u16, bytes: &'a [u8] },
     /// Registers, two bytes each, high byte first.
     Words(&'a [u8]),
-    /// A write was executed: the response repeats the head of the request.
+    /// A successful write: the response repeats the function code, address and value of the
+    /// request.
     Echo,
-    /// An exception code.
+    /// An exception response with its exception code.
     Exception(u8),
 }
 
-/// Why a PDU is not a response to a request. If several faults apply, the one with the lowest
-/// number is reported.
+/// A reason why a PDU is not a response to a request. If several faults apply, the fault with the
+/// lowest number is reported.
 #[derive(Clone, Copy, Debug, PartialEq, Eq)]
 pub enum ReplyFault {
-    /// The first byte is not the function code, with or without its top bit set.
+    /// The first byte is not the request's function code, with or without its top bit set.
     WrongFunction,
     /// The PDU is empty, or its length does not match its function and byte count.
     WrongLength,
-    /// The byte count does not match what the request asked for.
+    /// The byte count does not match the quantity of the request.
     WrongByteCount,
-    /// The response to a write does not repeat the write.
+    /// The response to a write request does not repeat the address and value of the request.
     WrongEcho,
 }
 
 impl ReplyFault {
-    /// Returns the fault's number, from 1. Faults are checked in this order, and the first that
-    /// applies is reported.
+    /// Returns the fault's number, counted from 1. Faults are checked in the order of their
+    /// numbers, and the first fault that applies is reported.
     pub fn number(self) -> u8
         ensures { result ≡ fault_number self }
     {
@@ -58,7 +59,8 @@ impl ReplyFault {
 }
 
 impl Wanted {
-    // Returns whether a response with this content has a byte count and data.
+    // Returns whether a successful response has a byte count and data bytes, by the kind of its
+    // content.
     fn brings(self) -> bool
         ensures { result ≡ brings_bytes self }
     {
@@ -68,7 +70,7 @@ impl Wanted {
         }
     }
 
-    // Returns the number of data bytes in a response with this content.
+    // Returns the number of data bytes in a successful response, by the kind of its content.
     fn count(self) -> u32
         ensures { result ≡ byte_count self }
     {
@@ -80,7 +82,8 @@ impl Wanted {
     }
 }
 
-// Returns whether the PDU has the request's function code with its top bit set.
+// Returns whether the PDU has the request's function code with its top bit set, as exception
+// responses do.
 fn says_exception(request: &Request<'_>, pdu: &[u8]) -> bool
     requires { 1 ≤ length pdu.now }
     ensures { result ≡ is_exception (query_of request.now) pdu.now }
@@ -127,7 +130,7 @@ fn has_wrong_echo(request: &Request<'_>, pdu: &[u8]) -> bool
     read_number(pdu, 1) != request.address() || usize::from(read_number(pdu, 3)) != request.field()
 }
 
-// Returns the first fault of the PDU as a response to the request, or `None` if it is a response.
+// Returns the first fault of the PDU as a response to the request, or `None` if the PDU is valid.
 fn find_fault(request: &Request<'_>, pdu: &[u8]) -> Option<ReplyFault>
     ensures { result ≡ reply_fault (query_of request.now) pdu.now }
 {
@@ -144,7 +147,7 @@ fn find_fault(request: &Request<'_>, pdu: &[u8]) -> Option<ReplyFault>
     }
 }
 
-// Decodes a PDU that has no fault.
+// Decodes a response PDU that has no fault.
 fn read_reply<'a>(request: &Request<'_>, pdu: &'a [u8]) -> Reply<'a>
     requires { reply_fault (query_of request.now) pdu.now ≡ None }
     ensures value { answer_of result ≡ answer_from (query_of request.now) pdu.now }

@@ -1,4 +1,4 @@
-//! Decodes requests from PDUs, as a device does.
+//! Decodes Modbus requests from PDUs, as a device does.
 ghost use Rattle.std.specs.Prelude.{◌≡◌, ◌≤◌, ◌<◌, ◌+◌, length, false, None, IfOk};
 ghost use Rattle.mb_wire.specs.Requests.{IsLawful, query_of, request_bytes};
 ghost use Rattle.mb_wire.specs.RequestFaults.{asked_as, bytes_of, carries_bytes, function_in};
@@ -12,14 +12,14 @@ use crate::bytes::read_number;
 use crate::limits::{MAX_READ_COILS, MAX_READ_REGISTERS, MAX_WRITE_COILS, MAX_WRITE_REGISTERS};
 use crate::requests::{Request, RequestFault};
 
-// Returns whether the function is one of the eight that this crate decodes.
+// Returns whether the function code is one of the eight that this crate decodes.
 fn is_known_function(function: u8) -> bool
     ensures { result ≡ is_known function }
 {
     (1 <= function && function <= 6) || function == 15 || function == 16
 }
 
-// Returns whether the request of a function has a byte count and data.
+// Returns whether requests with this function code have a byte count and data bytes.
 fn carries(function: u8) -> bool
     ensures { result ≡ carries_bytes function }
 {
@@ -44,7 +44,7 @@ fn has_wrong_length(pdu: &[u8]) -> bool
     }
 }
 
-// Returns the greatest quantity that a function allows.
+// Returns the greatest quantity that the standard allows for a function code.
 fn greatest_quantity(function: u8) -> u16
     ensures { result ≡ most_of function }
 {
@@ -68,7 +68,7 @@ fn has_wrong_quantity(pdu: &[u8]) -> bool
     !writes_one && (quantity < 1 || quantity > greatest_quantity(pdu[0]))
 }
 
-// Returns the number of data bytes in a write request of this function (15 or 16) for a quantity.
+// Returns the number of data bytes in a write request with function code 15 or 16 for a quantity.
 fn carried_count(function: u8, quantity: u16) -> u32
     ensures { result ≡ bytes_of function quantity }
 {
@@ -96,7 +96,7 @@ fn has_wrong_coil_value(pdu: &[u8]) -> bool
     pdu[0] == 5 && !is_coil_value
 }
 
-// Returns the first fault of the PDU as a request, or `None` if it is a request.
+// Returns the first fault of the PDU as a request, or `None` if the PDU is valid.
 fn find_fault(pdu: &[u8]) -> Option<RequestFault>
     ensures { result ≡ request_fault pdu.now }
 {
@@ -115,7 +115,7 @@ fn find_fault(pdu: &[u8]) -> Option<RequestFault>
     }
 }
 
-// Decodes a PDU of function 16 that has no fault.
+// Decodes a request PDU with function code 16 that has no fault.
 fn read_registers(pdu: &[u8]) -> Request<'_>
     requires fault { request_fault pdu.now ≡ None }
     requires function { function_in pdu.now ≡ 16 }
@@ -128,7 +128,7 @@ fn read_registers(pdu: &[u8]) -> Request<'_>
     }
 }
 
-// Decodes a PDU that has no fault.
+// Decodes a request PDU that has no fault.
 fn read_request(pdu: &[u8]) -> Request<'_>
     requires { request_fault pdu.now ≡ None }
     ensures value { query_of result ≡ query_from pdu.now }
@@ -170,7 +170,7 @@ fn read_request(pdu: &[u8]) -> Request<'_>
     }
 }
 
-/// Decodes the request from its PDU. On error, returns the first fault that applies.
+/// Decodes a request from its PDU. On error, returns the first fault that applies.
 pub fn decode_request(pdu: &[u8]) -> Result<Request<'_>, RequestFault>
     ensures exact { asked_as result ≡ query_in pdu.now }
     ensures lawful { IfOk result IsLawful }

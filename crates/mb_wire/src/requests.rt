@@ -1,4 +1,4 @@
-//! Requests and their PDUs.
+//! Modbus requests, their faults, and the encoding of a request as a PDU.
 ghost use Rattle.std.specs.Prelude.{◌≡◌, ◌≤◌, ◌<◌, ◌+◌, ◌++◌, length, take};
 ghost use Rattle.std.specs.Prelude.{Ok};
 ghost use Rattle.mb_wire.specs.Bytes.{words_of};
@@ -26,12 +26,12 @@ pub enum Request<'a> {
         address: u16,
         quantity: u16,
     },
-    /// Function 3.
+    /// Function 3: reads holding registers.
     ReadHolding {
         address: u16,
         quantity: u16,
     },
-    /// Function 4.
+    /// Function 4: reads input registers.
     ReadInput {
         address: u16,
         quantity: u16,
@@ -41,55 +41,55 @@ pub enum Request<'a> {
         address: u16,
         on: bool,
     },
-    /// Function 6: writes one register.
+    /// Function 6: writes one holding register.
     WriteRegister {
         address: u16,
         value: u16,
     },
-    /// Function 15: eight coils to a byte. The lowest bit of the first byte is the first coil.
-    /// Spare bits of the last byte are ignored.
+    /// Function 15: writes coils, eight to a byte. The lowest bit of the first byte is the first
+    /// coil. Spare bits of the last byte are ignored.
     WriteCoils {
         address: u16,
         quantity: u16,
         bytes: &'a [u8],
     },
-    /// Function 16: two bytes for each register, high byte first.
+    /// Function 16: writes holding registers, two bytes each, high byte first.
     WriteRegisters {
         address: u16,
         bytes: &'a [u8],
     },
 }
 
-/// Why a PDU is not a request. If several faults apply, the one with the lowest number is
-/// reported.
+/// A reason why a PDU is not a valid request. If several faults apply, the fault with the lowest
+/// number is reported.
 #[derive(Clone, Copy, Debug, PartialEq, Eq)]
 pub enum RequestFault {
     /// The first byte is none of the eight function codes.
     UnknownFunction,
     /// The PDU is empty, or its length does not match its function and byte count.
     WrongLength,
-    /// The function does not allow this quantity.
+    /// The standard does not allow this quantity for the function code.
     WrongQuantity,
     /// The byte count does not match the quantity.
     WrongByteCount,
-    /// The value of a coil is another than 0x0000 and 0xFF00.
+    /// The 16-bit value of a coil is not 0x0000 or 0xFF00.
     WrongCoilValue,
 }
 
-// What a response that is no exception has after the function code.
+// The kind of content after the function code of a successful response.
 #[derive(Clone, Copy, Debug, PartialEq, Eq)]
 pub(crate) enum Wanted {
-    // This many coils.
+    // A byte count and this number of coils.
     Coils(u16),
-    // This many registers.
+    // A byte count and this number of registers.
     Registers(u16),
-    // The same head as the request.
+    // The address and value of the request, repeated.
     Head,
 }
 
 impl RequestFault {
-    /// Returns the fault's number, from 1. Faults are checked in this order, and the first that
-    /// applies is reported.
+    /// Returns the fault's number, counted from 1. Faults are checked in the order of their
+    /// numbers, and the first fault that applies is reported.
     pub fn number(self) -> u8
         ensures { result ≡ request_fault_number self }
     {
@@ -104,7 +104,7 @@ impl RequestFault {
 }
 
 impl Request<'_> {
-    /// Returns the function code of the standard.
+    /// Returns the request's function code.
     pub fn function(&self) -> u8
         ensures { result ≡ function_of (query_of self.now) }
     {
@@ -120,7 +120,7 @@ impl Request<'_> {
         }
     }
 
-    /// Returns the first address.
+    /// Returns the first address that the request reads or writes.
     pub fn address(&self) -> u16
         ensures { result ≡ address_of (query_of self.now) }
     {
@@ -136,7 +136,7 @@ impl Request<'_> {
         }
     }
 
-    // Returns the field after the address: a quantity or a value.
+    // Returns the 16-bit number after the address in the PDU: a quantity or a value.
     pub(crate) fn field(&self) -> usize
         ensures value { result ≡ field_of (query_of self.now) }
         ensures fits { IsLawful self.now → result < 65536 }
@@ -157,7 +157,7 @@ impl Request<'_> {
         }
     }
 
-    // Returns what a response to the request has after the function code, if it is no exception.
+    // Returns the kind of content of a successful response to the request.
     pub(crate) fn wanted(&self) -> Wanted
         ensures { result ≡ wanted_by (query_of self.now) }
     {
@@ -173,28 +173,28 @@ impl Request<'_> {
     }
 }
 
-// Returns the encoding of a coil's value.
+// Returns the 16-bit encoding of a coil's value: 0xFF00 for on, 0x0000 for off.
 fn field_of_coil(on: bool) -> usize
     ensures { result ≡ coil_value on }
 {
     if on { 0xFF00 } else { 0 }
 }
 
-// Returns how many coils the bytes have, at most `quantity`.
+// Returns the number of coils in the data bytes, at most `quantity`.
 fn count_coils(quantity: u16, bytes: &[u8]) -> usize
     ensures { result ≡ length (coils_of quantity bytes.now) }
 {
     usize::from(quantity).min(bytes.len().saturating_mul(8))
 }
 
-// Returns how many complete registers the bytes have.
+// Returns the number of complete registers in the data bytes.
 fn count_words(bytes: &[u8]) -> usize
     ensures { result ≡ length (words_of bytes.now) }
 {
     bytes.len() / 2
 }
 
-// Writes the byte count and data of a request after its head, if it has any.
+// Writes the byte count and data of a request after its first five bytes, if its function has data.
 fn append_carried(out: &mut [u8; MAX_PDU], end: usize, request: &Request<'_>) -> usize
     requires lawful { IsLawful request.now }
     requires head { end ≡ 5 }

@@ -1,23 +1,23 @@
-//! Consecutive registers that one request reads.
+//! A range of consecutive registers that one Modbus request reads.
 ghost use Rattle.mb_wire.specs.declared.limits.TheConstants.{ADDRESSES, MAX_READ_REGISTERS};
 ghost use Rattle.std.specs.Prelude.{◌≡◌, ◌≤◌, ◌+◌, ◌↔◌, IsSome, IfSome};
 
 use crate::limits::{ADDRESSES, MAX_READ_REGISTERS};
 use crate::requests::Request;
 
-/// A function that reads registers.
+/// A Modbus function that reads registers.
 #[derive(Clone, Copy, Debug, PartialEq, Eq)]
 pub enum ReadFunction {
-    /// Function 3.
+    /// Function 3: reads holding registers.
     HoldingRegisters,
-    /// Function 4.
+    /// Function 4: reads input registers.
     InputRegisters,
 }
 
 impl ReadFunction {
     ghost use Rattle.mb_wire.specs.Spans.{code_of};
 
-    /// Returns the function code of the standard.
+    /// Returns the Modbus function code: 3 or 4.
     pub fn code(self) -> u8
         ensures { result ≡ code_of self }
     {
@@ -28,7 +28,7 @@ impl ReadFunction {
     }
 }
 
-/// 1 to 125 consecutive registers, within the 65536 addresses of a device.
+/// A range of 1 to 125 consecutive registers, within the 65536 addresses of a device.
 #[derive(Clone, Copy, Debug, PartialEq, Eq)]
 pub struct ReadSpan {
     pub function: ReadFunction,
@@ -42,8 +42,8 @@ pub struct ReadSpan {
 impl ReadSpan {
     ghost use Rattle.mb_wire.specs.Spans.{IsSpan, code_of, request_of, span_view};
 
-    /// Returns the span of a function code, an address and a count, or `None` if they are not a
-    /// valid span.
+    /// Creates a span from a function code, an address and a register count. Returns `None` if the
+    /// values are not valid.
     pub fn new(function: u8, address: u16, count: u16) -> Option<ReadSpan>
         ensures lawful { IsSome result ↔ IsSpan function address count }
         ensures function { IfSome result (λ span. code_of span.function ≡ function) }
@@ -69,7 +69,7 @@ impl ReadSpan {
         }
     }
 
-    /// Returns the request that reads these registers.
+    /// Returns the request that reads the registers of this span.
     pub fn request(self) -> Request<'static>
         ensures { result ≡ request_of (span_view self) }
     {

@@ -1,4 +1,4 @@
--- Figures of more records.
+-- Lemmas about the number of meters and the latest timestamp of a store after records are added.
 use Rattle.std.proofs.Common.{◌≡◌, ℕ, ◌+◌, ◌<◌, ◌≤◌, max, min, List, [], ◌∷◌, ◌++◌, reverse, take, length, get_or, ap, ◌∙◌, Option, Some, None, arith}
 use Rattle.std.specs.List.{cons_option}
 use Rattle.std.proofs.lemmas.List.{length-reverse, length-append, length-take-le, reverse-append, take_more}
@@ -16,13 +16,14 @@ at_most_one : {X : Type 0} (o : Option X) → length (cons_option o []) ≤ 1
 at_most_one None = omega arith
 at_most_one (Some x) = omega arith
 
--- There are at most as many installations as records.
+-- A list of records has at most as many openings of meters as records.
 no_more : (known : List Fact) → length (openings_in known) ≤ length known
 no_more [] = omega arith
 no_more (f ∷ known) =
     omega (arith, one_more (as_opening f) (openings_in known), at_most_one (as_opening f), no_more known)
 
--- One more record.
+-- If the number of meters and the greatest timestamp agree with the records, then they also agree
+-- after one more record.
 pub figures_after : (old new : Figures) (f : Fact) (known : List Fact) → AreFigures old known → length known < 18446744073709551615
     → new.installations ≡ min (old.installations + length (openings_in (f ∷ []))) 18446744073709551615
     → new.latest ≡ max (moment_in f) old.latest → AreFigures new (f ∷ known)
@@ -31,7 +32,8 @@ figures_after old new f known are few counted latest = record {
   latest = latest ∙ ap (max (moment_in f)) are.latest;
 }
 
--- One more of the records that follow others.
+-- The first `i + 1` new records are the first `i` new records, followed by the new record at index
+-- `i`.
 pub with_more : (facts known : List Fact) (i : ℕ) (d : Fact) → i < length facts
     → with_facts (take (i + 1) facts) known ≡ get_or facts i d ∷ with_facts (take i facts) known
 with_more facts known i d less =

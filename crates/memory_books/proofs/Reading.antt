@@ -1,4 +1,4 @@
--- Tables that are updated, and failures that are noted.
+-- Lemmas about lookups that first update the tables and note if memory runs out.
 use Rattle.std.proofs.Common.{◌≡◌, List, reverse, refl, sym, ap, subst, ◌∙◌, Option, Result, Ok}
 use Rattle.std.proofs.lemmas.List.{reverse-reverse}
 use Rattle.office_events.specs.declared.facts.Fact.{Fact}
@@ -15,11 +15,11 @@ use Rattle.memory_books.specs.Listed.{AreListed, ledger_of}
 use Rattle.memory_books.specs.Looking.{failures_in}
 use Rattle.memory_books.proofs.Adding.{one_still}
 
--- The records in the order of the list.
+-- If a store agrees with records, then its list in reverse order equals these records.
 pub in_turn : (books : ListBooks) (facts known : List Fact) → facts ≡ books.facts.items → AreListed books known → reverse facts ≡ known
 in_turn books facts known is listed = ap reverse (is ∙ listed.facts) ∙ reverse-reverse known
 
--- A store holds its records after only its tables were updated.
+-- If a call changes only the tables of a store, then the store still agrees with the same records.
 pub keeps_facts : (old new : ListBooks) (facts : List Fact) → new.facts.items ≡ old.facts.items → new.figures ≡ old.figures → facts ≡ old.facts.items
     → (AreLawful (reverse facts) → HaveCome old.tables facts → HaveCome new.tables facts) → KeepsFacts (ledger_of old) (ledger_of new)
 keeps_facts old new facts same figures is further = record { facts = still; left = one_still old new still }
@@ -33,21 +33,22 @@ keeps_facts old new facts same figures is further = record { facts = still; left
       figures = subst (λ (f : Figures). AreFigures f known) (sym figures) listed.figures;
     }
 
--- The updated tables agree with the records.
+-- After the tables are updated, each table agrees with all records of the store.
 pub all_said : (old : ListBooks) (So : List Fact → Type 0) (facts known : List Fact) → facts ≡ old.facts.items
     → (AreLawful (reverse facts) → HaveCome old.tables facts → So (reverse facts)) → AreListed old known → So known
 all_said old So facts known is whole listed =
     let turned : reverse facts ≡ known = in_turn old facts known is listed in
     subst So turned (whole (subst AreLawful (sym turned) listed.lawful) (subst (HaveCome old.tables) (sym is) listed.tables))
 
--- A store holds its records after only its last failure changed.
+-- If only the noted failure of a store changes, then the store still agrees with the same records.
 noting : (books : ListBooks) (last : Option BooksFault) → KeepsFacts (ledger_of books) (ledger_of (record books { last_failure = last }))
 noting books last = record { facts = still; left = one_still books (record books { last_failure = last }) still }
   where
     still : (known : List Fact) → AreListed books known → AreListed (record books { last_failure = last }) known
     still known listed = record { lawful = listed.lawful; facts = listed.facts; tables = listed.tables; figures = listed.figures }
 
--- A call that allocates memory for its result.
+-- If a lookup changes only the noted failure of the store, then it satisfies the guarantees of a
+-- lookup.
 pub only_noted : {T : Type 0} (books : ListBooks) (last : Option BooksFault) (answer : Result T BooksFault)
     → failures_in last ≡ faults_after answer (failures_in books.last_failure)
     → OnlyReads (ledger_of books) (ledger_of (record books { last_failure = last })) answer
@@ -56,7 +57,8 @@ only_noted books last answer noted = record {
   keeps = noting books last;
 }
 
--- The tables were updated before the call.
+-- If a lookup first updates the tables and then notes its failure, if any, then it satisfies the
+-- guarantees of a lookup.
 pub ready : {T : Type 0} (old mid : ListBooks) (last : Option BooksFault) (answer : Result T BooksFault) → KeepsFacts (ledger_of old) (ledger_of mid)
     → mid.zone ≡ old.zone → mid.last_failure ≡ old.last_failure → failures_in last ≡ faults_after answer (failures_in mid.last_failure)
     → OnlyReads (ledger_of old) (ledger_of (record mid { last_failure = last })) answer

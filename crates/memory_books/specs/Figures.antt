@@ -1,22 +1,23 @@
--- Two numbers that a store in memory keeps up to date: of its installed meters, and its greatest
--- timestamp.
+-- Two figures that a store in memory updates with each record: the number of installed meters, and
+-- the greatest timestamp.
 use Rattle.std.specs.Prelude.{◌≡◌, ◌≤◌, ◌+◌, ℕ, List, length}
 use Rattle.office_books.specs.Ledgers.{with_facts}
 use Rattle.office_events.specs.declared.facts.Fact.{Fact}
 use Rattle.memory_books.specs.declared.figures.Figures.{Figures}
 use Rattle.office_rules.specs.Facts.{openings_in, latest_in}
 
--- The figures are the number of installed meters and the greatest timestamp of these records.
+-- True if the number of installed meters and the greatest timestamp in `figures` agree with these
+-- records.
 pub record AreFigures (figures : Figures) (known : List Fact) : Type 0 where
   pub installations : figures.installations ≡ length (openings_in known)
   pub latest : figures.latest ≡ latest_in known
 
--- The maximum number of records that a list can have in memory.
+-- The maximum number of records in memory, 2^64 - 1.
 abbrev pub most_facts : ℕ
 most_facts = 18446744073709551615
 
--- If the old figures are those of some records, the new ones are those of the records with `facts`
--- added.
+-- The relation between the figures before and after the records `facts` are added. If the old
+-- figures agree with the old records, then the new figures agree with all records.
 abbrev pub CountOn : (facts : List Fact) → (old new : Figures) → Type 0
 CountOn facts old new =
     (known : List Fact) → AreFigures old known → length known + length facts ≤ most_facts

@@ -1,4 +1,5 @@
-//! Numbers that are updated with each record, so that queries for them need not read all records.
+//! Figures that the store updates with each record, so that a query for a figure need not read all
+//! records.
 ghost use Rattle.std.specs.Prelude.{◌<◌, ◌∷◌, List, [], length};
 ghost use Rattle.office_events.specs.declared.facts.Fact.{Fact};
 ghost use Rattle.memory_books.specs.Figures.{AreFigures, CountOn, most_facts};
@@ -6,7 +7,7 @@ ghost use Rattle.memory_books.specs.Figures.{AreFigures, CountOn, most_facts};
 use crate::kinds::{moment, openings};
 use office_events::Fact;
 
-/// The number of installed meters, and the greatest timestamp of the records.
+/// The number of installed meters, and the greatest timestamp of all records.
 #[derive(Clone, Copy)]
 pub(crate) struct Figures {
     pub(crate) installations: usize,
@@ -14,7 +15,7 @@ pub(crate) struct Figures {
 }
 
 impl Figures {
-    /// Creates the figures of a store without records.
+    /// Creates the figures of a store without records: 0 meters and the timestamp 0.
     pub(crate) fn new() -> Figures
         ensures { AreFigures result [] }
     {
@@ -34,7 +35,7 @@ impl Figures {
         }
     }
 
-    /// Returns the figures after these records are added.
+    /// Returns the number of meters and the greatest timestamp after the records `facts` are added.
     pub(crate) fn after_all(&self, facts: &[Fact]) -> Figures
         ensures { CountOn facts.now self.now result }
     {

@@ -23,7 +23,7 @@ pub(crate) fn hold_in(fact: &Fact) -> Option<HeldReading>
     }
 }
 
-/// Returns the number of installations that a record opens, 0 or 1.
+/// Returns the number of meters that a record opens, 0 or 1.
 pub(crate) fn openings(fact: &Fact) -> usize
     ensures { result ≡ length (openings_in (fact.now ∷ [])) }
 {
@@ -33,7 +33,7 @@ pub(crate) fn openings(fact: &Fact) -> usize
     }
 }
 
-/// Returns the timestamp of a record, or 0 if its kind has none.
+/// Returns the timestamp of a record, or 0 if records of its kind have no timestamp.
 pub(crate) fn moment(fact: &Fact) -> u64
     ensures { result ≡ moment_in fact.now }
 {

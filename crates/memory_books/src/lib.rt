@@ -1,4 +1,4 @@
-//! A store in memory: records in a list, with tables for lookups.
+//! A store in memory: a list of records, and tables for lookups.
 #![tactic(auto)]
 
 mod figures;

@@ -1,4 +1,4 @@
-//! A store in memory.
+//! Implements the trait `Books` in memory.
 ghost use Rattle.std.specs.Prelude.{◌≡◌, List, [], ◌++◌, OnOk, OnErr, IsOk};
 ghost use Rattle.office_books.specs.Faults.{faults_after};
 ghost use Rattle.office_events.specs.declared.facts.Fact.{Fact};
@@ -17,16 +17,16 @@ use office_events::{
 };
 use std::alloc::{AllocError, Global};
 
-/// A store in memory: a list of the records in the order in which they were added, with tables and
-/// figures. It has no file or database, so it never returns `BooksFault::Store`. A call fails only
-/// for lack of memory. It then changes no record, and notes the failure.
+/// A store in memory, which is a list of records in the order in which they were added, with tables
+/// for lookups. A call fails only if memory runs out. A failed call changes no record, and notes
+/// the failure.
 #[derive(Drop)]
 pub struct ListBooks {
     facts: Vec<Fact>,
     zone: Zone,
     tables: Tables,
     figures: Figures,
-    /// The last failure, if any: memory ran out.
+    /// The last failure, if any, which is that memory ran out.
     last_failure: Option<BooksFault>,
 }
 
@@ -35,7 +35,7 @@ impl ListBooks {
     ghost use Rattle.office_books.specs.Ledgers.{KeepsFacts, OnlyReads};
     ghost use Rattle.memory_books.specs.Listed.{ledger_of, FiguresFollow};
 
-    /// Creates an empty store.
+    /// Creates an empty store in memory with the time zone of its civil days.
     pub fn new(alloc: Global, zone: Zone) -> ListBooks
         ensures empty { AreListed result [] }
         ensures zone { result.zone ≡ zone }
@@ -50,7 +50,7 @@ impl ListBooks {
         }
     }
 
-    /// Updates the tables with all records. If memory runs out, some tables are still incomplete.
+    /// Adds the missing records to all tables. If memory runs out, some tables remain incomplete.
     fn catch_up(&mut self) -> Result<(), AllocError>
         ensures keeps { KeepsFacts (ledger_of self.old) (ledger_of self.new) }
         ensures whole { (known : List Fact) → AreListed self.old known
@@ -63,7 +63,7 @@ impl ListBooks {
         self.tables.catch_up(&self.facts)
     }
 
-    /// Brings the tables up to date before a lookup. Fails if memory runs out.
+    /// Updates the tables before a lookup, or fails if memory runs out.
     fn ready(&mut self) -> Result<(), BooksFault>
         ensures reads { OnlyReads (ledger_of self.old) (ledger_of self.new) result }
         ensures whole { (known : List Fact) → AreListed self.old known
@@ -75,7 +75,7 @@ impl ListBooks {
         told(&mut self.last_failure, done)
     }
 
-    /// Adds all of the records, or none if memory runs out.
+    /// Adds all of the records to the store, or none if memory runs out.
     fn add(&mut self, facts: Vec<Fact>) -> Result<(), AllocError>
         ensures ok { OnOk result (self.new.facts.items ≡ self.old.facts.items ++ facts.items) }
         ensures figures { OnOk result (FiguresFollow facts.items self.old self.new) }
@@ -94,7 +94,7 @@ impl ListBooks {
     }
 }
 
-/// Returns the result of a call that allocates memory, and notes the failure if memory ran out.
+/// Returns the result of a call, and notes a lack of memory as the last failure.
 fn told<T>(
     last_failure: &mut Option<BooksFault>,
     done: Result<T, AllocError>,
@@ -294,8 +294,8 @@ impl Books for ListBooks {
     fn book(&mut self, facts: Vec<Fact>) -> Result<(), BooksFault> {
         match self.add(facts) {
             Ok(()) => {
-                // The records are stored even if this fails: a table without memory is updated by
-                // the next lookup.
+                // The records are stored even if this update of the tables fails. The next lookup
+                // adds the missing records to the tables.
                 let _ = self.catch_up();
                 Ok(())
             }

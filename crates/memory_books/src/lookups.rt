@@ -1,4 +1,4 @@
-//! Lookups that read the whole list of records, the earliest first.
+//! Lookups that read the complete list of records, the earliest first.
 ghost use Rattle.std.specs.Prelude.{◌≡◌, ◌∷◌, ◌&&◌, [], reverse, IfOk};
 ghost use Rattle.std.specs.List.{filter_map};
 ghost use Rattle.office_rules.specs.Facts.{as_device, devices_in, same};
@@ -50,7 +50,7 @@ fn hand_hold<K: RowSink<HeldReading>>(fact: &Fact, meter: &Name, span: Span, sin
 }
 
 /// Passes the rejected readings of a meter in the span to the sink, in the order in which they were
-/// recorded. Allocates no memory.
+/// recorded, without allocating memory.
 pub(crate) fn hand_holds<K: RowSink<HeldReading>>(
     facts: &[Fact],
     meter: &Name,

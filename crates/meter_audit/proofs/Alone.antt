@@ -1,4 +1,4 @@
--- The valid ones of rows that fit are a journal by themselves.
+-- The valid rows of a list that the rules accept form a lawful journal.
 use Rattle.std.proofs.Common.{◌≡◌, Bool, true, false, List, [], ◌∷◌, map, refl, sym, ap, subst, ◌∙◌, inl, inr}
 use Rattle.std.proofs.lemmas.Bool.{cases_Bool, cond-true, cond-false}
 use Rattle.energy_core.specs.declared.entries.Last.{Last}
@@ -32,7 +32,7 @@ alone_unended (row ∷ rows) h =
       | inr off ↦ ap (λ rs. journal_ended (entering rs)) (stands_on row rows false off) ∙ alone_unended rows parts.1
     ]
 
--- Rows that are entered in order leave their own entries.
+-- The journal that records the entries of a list of rows produces exactly these entries.
 entries_alone : (opening : Last) (rows : List EntryRow) → entries_of opening (entering rows) ≡ map (λ row. row.entry) rows
 entries_alone opening [] = refl
 entries_alone opening (row ∷ rows) = ap (λ (es : List Entry). row.entry ∷ es) (entries_alone opening rows)
@@ -60,7 +60,7 @@ pub fitting_rows_stand_alone : FittingRowsStandAlone
 fitting_rows_stand_alone meter rows h =
     record { fit = alone_fits meter rows h; entries = entries_alone meter.opening (standing rows) }
 
--- Rows that fit have an account.
+-- The valid entries of rows that the rules accept have an account.
 pub fitting_account : (meter : Installed) (rows : List EntryRow) → IsWellInstalled meter → AllFit meter rows → HasAccount meter (entries_in rows)
 fitting_account meter rows well h =
     let alone = fitting_rows_stand_alone meter rows h in

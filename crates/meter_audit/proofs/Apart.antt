@@ -1,4 +1,4 @@
--- Rows that fit can be read back from the table.
+-- Entry rows that the rules accept can be read back from their table rows.
 use Rattle.std.proofs.Common.{◌≡◌, ℕ, ◌+◌, ◌<◌, Bool, true, false, not, List, [], ◌∷◌, ◌++◌, reverse, take, drop, length, get_or, Option, Some, None, Result, Ok, Err, IsOk, refl, sym, ap, subst, ◌∙◌}
 use Rattle.std.proofs.lemmas.Option.{slice_get-get_or}
 use Rattle.std.proofs.lemmas.List.{reverse-append, take_more, take-append-drop}
@@ -24,7 +24,7 @@ abbrev kind_or : Option EntryKind → EntryKind
 kind_or None = kind.Reading
 kind_or (Some k) = k
 
--- The row that a table row encodes.
+-- The entry row that a table row encodes.
 abbrev decoded : TableRow → EntryRow
 decoded told = record {
   place = told.place;
@@ -79,7 +79,7 @@ rows_are_told_apart meter (row ∷ rows) (row' ∷ rows') fit fit' h =
     let first : row ≡ row' = sym (is_back meter rows row fit.0) ∙ ap decoded head ∙ is_back meter rows' row' fit'.0 in
     ap (λ (r : EntryRow). r ∷ rows) first ∙ ap (λ (rs : List EntryRow). row' ∷ rs) rest
 
--- ---- a refused row is that of none that fits
+-- ---- a refused table row does not encode an entry row that the rules accept
 
 refused_next : (meter : Installed) (rows : List EntryRow) (told : TableRow) (f : RowFault) (later : List EntryRow) → IsWellInstalled meter
     → AllFit meter rows → passed meter (check_after meter rows) told ≡ Err f → AllFit meter later
@@ -97,7 +97,8 @@ refused_next meter rows told f (row ∷ rows') well fit why all h =
     let ok : (let r : Result (Check × Option Step) RowFault = Err f in IsOk r) = subst IsOk same passes in
     absurd (cc)
 
--- Table rows up to a refused one, the latest first, with any rows after it.
+-- Table rows that contain a refused row do not encode rows that the rules accept, whatever rows
+-- follow.
 pub refused_below : (meter : Installed) (rows : List EntryRow) (told : TableRow) (f : RowFault) (newer : List TableRow) (all : List EntryRow)
     → IsWellInstalled meter → AllFit meter rows → passed meter (check_after meter rows) told ≡ Err f → AllFit meter all
     → newer ++ told ∷ later_rows meter rows ≡ later_rows meter all → ⊥
@@ -107,8 +108,8 @@ refused_below meter rows told f (x ∷ newer) (row ∷ rows') well fit why fits 
     refused_below meter rows told f newer rows' well fit why fits.1
     (same_tail x (told_after meter rows' row) (newer ++ told ∷ later_rows meter rows) (later_rows meter rows') h)
 
--- If the first rows are those of rows that fit, and the next is refused, all rows together are
--- those of none.
+-- If the check passes the first table rows and refuses the next, these table rows do not encode
+-- rows that the rules accept.
 pub none_told : (meter : Installed) (told : List TableRow) (i : ℕ) (d : TableRow) (rows : List EntryRow) (f : RowFault) → IsWellInstalled meter
     → i < length told → AllFit meter rows → reverse (take i told) ≡ later_rows meter rows
     → passed meter (check_after meter rows) (get_or told i d) ≡ Err f → AreTold meter (reverse told) → ⊥
@@ -121,11 +122,11 @@ none_told meter told i d rows f well lt fit first why all =
     refused_below meter rows (get_or told i d) f (reverse (drop (i + 1) told)) all.rows well fit why all.fit
     (ap (λ (ts : List TableRow). reverse (drop (i + 1) told) ++ ts) (sym upto) ∙ sym parts ∙ all.told_is)
 
--- If the next row passes, the rows continue.
+-- The first `i` + 1 table rows in reverse order begin with the row at the index `i`.
 pub told_more : (told : List TableRow) (i : ℕ) (d : TableRow) → i < length told → reverse (take (i + 1) told) ≡ get_or told i d ∷ reverse (take i told)
 told_more told i d lt = ap (λ (ts : List TableRow). reverse ts) (take_more told i d lt) ∙ reverse-append (take i told) (get_or told i d ∷ [])
 
--- ---- continuing and stopping
+-- ---- continuing after a row that passes, and stopping at a refused row
 
 pub passed_more : PassedRowsFit → (meter : Installed) (told : List TableRow) (i : ℕ) (d : TableRow) (check next : Check) (step : Option Step)
     → IsWellInstalled meter → i < length told → HasPassed meter (reverse (take i told)) check

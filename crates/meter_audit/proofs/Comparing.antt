@@ -1,4 +1,4 @@
--- Differences between interval rows.
+-- Differences between computed and stored interval rows.
 use Rattle.std.proofs.Common.{◌≡◌, ℕ, zero, suc, ◌<◌, ◌≤◌, ◌==◌, nat_lt, Bool, true, false, if◌then◌else◌, List, [], ◌∷◌, ◌++◌, length, get_or, take, drop, Option, Some, None, refl, sym, ap, subst, ◌∙◌, arith, eq-eqb}
 use Rattle.std.proofs.Math.Seq.{drop-cons}
 use Rattle.std.proofs.Math.ListN.{drop_of_length-le}
@@ -10,7 +10,7 @@ use Rattle.meter_audit.specs.declared.intervals.IntervalFault.{IntervalFault}
 use Rattle.meter_audit.specs.declared.intervals.IntervalFault.TheVariants as fault
 use Rattle.meter_audit.specs.Comparing.{fault_between, next_fault, difference_after, IsFirst}
 
--- The lists first differ at an index up to which their rows are equal.
+-- Two lists with equal rows before an index first differ at this index.
 first_at : (wanted found wanted_left found_left : List Share) (i : ℕ) (f : IntervalFault)
     → take i wanted ≡ take i found → i ≤ length wanted → drop i wanted ≡ wanted_left → drop i found ≡ found_left
     → next_fault wanted_left found_left ≡ Some f → IsFirst wanted found (difference_after i f)
@@ -51,7 +51,7 @@ between_at wanted found i d e f same lt within h =
     first_at wanted found (get_or wanted i d ∷ drop (suc i) wanted) (get_or found i e ∷ drop (suc i) found) i f same (omega (arith, lt))
     (drop-cons wanted i d lt) (drop-cons found i e within) h
 
--- ---- rows that do not differ
+-- ---- lists of rows without a difference
 
 none_told : (b : Bool) (f : IntervalFault) (o : Option IntervalFault) → (if b then Some f else o) ≡ None → (b ≡ false) × (o ≡ None)
 none_told true f o h = absurd (cc)
@@ -88,7 +88,7 @@ own_default [] i d e less = absurd (omega (arith, less))
 own_default (row ∷ rows) zero d e less = refl
 own_default (row ∷ rows) (suc i) d e less = own_default rows i d e (omega (arith, less))
 
--- If the rows at an index differ, the lists differ.
+-- If the rows of two lists at an index differ, the lists are not equal.
 pub differ_at : (wanted found : List Share) (i : ℕ) (d e : Share) (f : IntervalFault) → i < length wanted
     → fault_between (get_or wanted i d) (get_or found i e) ≡ Some f → found ≡ wanted → ⊥
 differ_at wanted found i d e f lt h is =
@@ -103,6 +103,6 @@ lengths_differ wanted found lt is = absurd (omega (arith, lt, ap (λ (rs : List 
 pub lengths_differ_too : (wanted found : List Share) → length wanted < length found → found ≡ wanted → ⊥
 lengths_differ_too wanted found lt is = absurd (omega (arith, lt, ap (λ (rs : List Share). length rs) is))
 
--- If all rows up to the end of both lists are equal, the lists are equal.
+-- If all rows of two lists up to the ends of both are equal, the lists are equal.
 pub all_same : (wanted found : List Share) (i : ℕ) → take i wanted ≡ take i found → length wanted ≤ i → length found ≤ i → found ≡ wanted
 all_same wanted found i same le within = sym (take_all i found within) ∙ sym same ∙ take_all i wanted le

@@ -1,4 +1,4 @@
--- Worked examples, computed from the definitions.
+-- Worked examples of checked table rows and compared interval rows, computed from the definitions.
 use Rattle.std.proofs.Common.{◌≡◌, ℕ, ℤ, pos, Bool, true, false, [], ◌∷◌, Some, None, Ok, Err, refl}
 use Rattle.energy_core.specs.declared.entries.Last.{Last}
 use Rattle.energy_core.specs.declared.entries.Entry.{Entry}
@@ -22,7 +22,7 @@ use Rattle.meter_audit.specs.Fitting.{AreFine}
 use Rattle.meter_audit.specs.Passing.{begun, passed}
 use Rattle.meter_audit.specs.Comparing.{next_fault}
 
--- A counter of 32 bits that showed 5000 at 1000, with a ceiling of 100 kW.
+-- A meter with a 32-bit counter and a ceiling of 100 kW, which showed 5000 counts at 1000 s.
 abbrev house : Installed
 house = record { range = 4294967296; ceiling = 100000; opening = record { at = 1000; raw = 5000; sf = pos 0 } }
 
@@ -51,7 +51,7 @@ check_as place l total ended stands =
 abbrev check : (place : ℕ) → Last → (total : ℕ) → (ended : Bool) → Check
 check place l total ended = check_as place l total ended true
 
--- 200 Wh later.
+-- A table row of a reading that is 200 Wh above the opening.
 abbrev first : TableRow
 first = told 2 row_kind.Reading 1900 5200 0 0 (pos 0) false
 
@@ -85,7 +85,7 @@ fine_tables = record {
   are = refl;
 }
 
--- A voided first reading, and the reading after it.
+-- The table rows of a voided first reading and of the reading after it.
 abbrev voided_first : TableRow
 voided_first = told 2 row_kind.Reading 1900 5200 0 0 (pos 0) true
 
@@ -93,8 +93,8 @@ after_voided : passed house (begun house) voided_first ≡ Ok (check_as 2 (last 
 unfolding unit_of
 after_voided = refl
 
--- Directly after a valid row, a voided reading is checked like a valid one; after another voided
--- one, it is not.
+-- The check applies the rules of a valid reading to a voided reading only if the row before is
+-- valid.
 voided_too_fast : passed house (begun house) (told 2 row_kind.Reading 1900 50000 0 0 (pos 0) true) ≡ Err (fault.Held cause.TooFast)
 unfolding unit_of
 voided_too_fast = refl
@@ -103,7 +103,7 @@ voided_after_a_voided : passed house (check_as 2 (last 1000 5000 (pos 0)) 0 fals
     ≡ Ok (check_as 3 (last 1000 5000 (pos 0)) 0 false false, None)
 voided_after_a_voided = refl
 
--- A closing is accepted, and no row may follow it.
+-- A closing passes the check, and no row may follow it.
 closed : passed house (begun house) (told 2 row_kind.Closing 1900 5200 0 0 (pos 0) false)
     ≡ Ok (check 2 (last 1900 5200 (pos 0)) 200000 true, Some (record { from = 1000; till = 1900; mwh = 200000 }))
 unfolding unit_of
@@ -113,7 +113,7 @@ after_a_closing : passed house (check 2 (last 1900 5200 (pos 0)) 200000 true) (t
     ≡ Err fault.AfterClosing
 after_a_closing = refl
 
--- A rescale sets the scale factor; a reset does not.
+-- A rescale may change the scale factor, and a reset may not.
 rescaled : passed house (begun house) (told 2 row_kind.Rescale 2000 5000 0 500 (pos 1) false)
     ≡ Ok (check 2 (last 2000 500 (pos 1)) 0 false, Some (record { from = 1000; till = 2000; mwh = 0 }))
 unfolding unit_of
@@ -122,7 +122,7 @@ rescaled = refl
 reset_to_a_scale : passed house (begun house) (told 2 row_kind.Reset 2000 5000 0 500 (pos 1) false) ≡ Err (fault.Scale (pos 0))
 reset_to_a_scale = refl
 
--- Rows that are refused for the remaining faults.
+-- Refused table rows, one for each fault that the examples before do not have.
 a_gap : passed house (begun house) (told 3 row_kind.Reading 1900 5200 0 0 (pos 0) false) ≡ Err (fault.Place 2)
 a_gap = refl
 
@@ -151,7 +151,7 @@ by_hand_it_may_be = refl
 it_went_back : passed house (begun house) (told 2 row_kind.Manual 1900 4999 0 0 (pos 0) false) ≡ Err (fault.Refused term.NegativeStep)
 it_went_back = refl
 
--- Interval rows.
+-- Differences between lists of interval rows, and equal lists.
 one_is_changed : next_fault (share 900 177777 ∷ share 1800 22223 ∷ []) (share 900 177778 ∷ share 1800 22223 ∷ [])
     ≡ Some (interval.Differs 900 177778 177777)
 one_is_changed = refl

@@ -1,4 +1,4 @@
--- A check after all rows of a meter.
+-- The tables of a meter compared with the check after all rows passed.
 use Rattle.std.proofs.Common.{◌≡◌, ℕ, Bool, List, [], ◌∷◌, ◌++◌, Err, refl, sym, ap, subst, ◌∙◌}
 use Rattle.energy_core.specs.declared.entries.Last.{Last}
 use Rattle.interval_core.specs.declared.shares.Share.{Share}
@@ -13,7 +13,7 @@ use Rattle.meter_audit.specs.Laws.{check_after}
 use Rattle.meter_audit.specs.Going.{HasGone, Agrees, FinishedIsFine, RefusedIsNotFine}
 use Rattle.meter_audit.proofs.Apart.{rows_are_told_apart, refused_below, same_tail, same_head}
 
--- Two lists that end in the same element are equal without that element.
+-- If two lists with the same last element are equal, their other elements are equal.
 same_but_last : {X : Type 0} (xs ys : List X) (z : X) → xs ++ z ∷ [] ≡ ys ++ z ∷ [] → xs ≡ ys
 same_but_last [] [] z h = refl
 same_but_last [] (y ∷ []) z h = absurd (let t = same_tail z y [] (z ∷ []) h in cc)

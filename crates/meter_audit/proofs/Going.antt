@@ -1,4 +1,4 @@
--- One more row, and the interval rows that it gives.
+-- The check and the pending interval rows after one more table row.
 use Rattle.std.proofs.Common.{◌≡◌, ℕ, zero, suc, take, drop, length, ◌+◌, ◌≤◌, ◌==◌, true, false, if◌then◌else◌, List, [], ◌∷◌, ◌++◌, Option, Some, None, Result, Ok, refl, sym, ap, subst, ◌∙◌, inl, inr, arith, append_assoc, append-nil, length-drop}
 use Rattle.std.proofs.lemmas.Bool.{cases_Bool, cond-true, cond-false}
 use Rattle.std.proofs.lemmas.List.{take-append-drop}
@@ -28,7 +28,7 @@ use Rattle.meter_audit.specs.Passing.{IsSoundCheck, passed}
 use Rattle.meter_audit.specs.Laws.{PassedRowsFit, HasTaken, IsTaken}
 use Rattle.meter_audit.specs.Going.{HasGone, IsSoundProgress, settled_in, DropsDone}
 
--- Shares are merged with the last row, and the rows before it stay.
+-- Merging shares into a list of interval rows leaves all rows except the last unchanged.
 pub joins_last : (done : List Share) (row : Share) (rows shares : List Share)
     → with_shares (done ++ row ∷ rows) shares ≡ done ++ with_shares (row ∷ rows) shares
 joins_last [] row rows shares = refl
@@ -48,14 +48,14 @@ joined_some row share shares h =
       | inr other ↦ let e = sym (cond-false _ _ _ other) ∙ h in absurd (cc)
     ]
 
--- Rows to which shares are added are not empty if they were not empty before.
+-- Merging shares into a list of interval rows never makes it empty.
 still_some : (rows shares : List Share) → with_shares rows shares ≡ [] → rows ≡ []
 still_some [] shares h = refl
 still_some (row ∷ []) [] h = absurd (cc)
 still_some (row ∷ []) (share ∷ shares) h = absurd (joined_some row share shares h)
 still_some (row ∷ next ∷ rows) shares h = absurd (cc)
 
--- ---- one more row
+-- ---- the check after one more table row
 
 step_of : (range : ℕ) (last : Last) (row : EntryRow) (step : Step)
     → Some step ≡ (if row.stands then Some (step_to range last row.entry) else None) → (row.stands ≡ true) × (step ≡ step_to range last row.entry)
@@ -113,7 +113,7 @@ goes_voided law meter old new told next well passes check_is wanted_is before do
       begun = λ none. gone.begun (sym wanted_is ∙ none);
     }
 
--- ---- its energy fits
+-- ---- the energy of the pending interval rows stays at most the energy of the check
 
 pub within_more : SharesAddUp → (old new : List Share) (step : Step) (total next : ℕ) → IsShareable step → energy_of old ≤ total
     → next ≡ total + step.mwh → new ≡ with_shares old (shares_of step) → energy_of new ≤ next
@@ -125,7 +125,7 @@ pub passed_as : (r : Result (Check × Option Step) RowFault) (next : Check) (ste
 passed_as r next step step' h is =
     sym h ∙ ap (λ (o : Option Step). let q : Result (Check × Option Step) RowFault = Ok (next, o) in q) is
 
--- The rows that remain after a removal have at most the energy of all rows.
+-- Removing interval rows never increases the energy of the remaining rows.
 less_left : (n : ℕ) (rows : List Share) → energy_of (drop n rows) ≤ energy_of rows
 less_left zero rows = omega (arith)
 less_left (suc n) [] = omega (arith)
@@ -134,7 +134,7 @@ less_left (suc n) (row ∷ rows) =
     let left : energy_of (drop (suc n) (row ∷ rows)) ≡ energy_of (drop n rows) = refl in
     omega (arith, whole, left, less_left n rows)
 
--- A check stays sound after rows were removed.
+-- Removing pending interval rows preserves the invariant of the check.
 pub left_is_sound : (n : ℕ) (meter : Installed) (old new : Progress) → new.check ≡ old.check → new.wanted.items ≡ drop n old.wanted.items
     → IsSoundProgress meter old → IsSoundProgress meter new
 left_is_sound n meter old new same left sound = record {
@@ -142,7 +142,7 @@ left_is_sound n meter old new same left sound = record {
   within = omega (arith, sound.within, less_left n old.wanted.items, ap energy_of left, ap (λ (check : Check). check.total) same);
 }
 
--- If all rows except the last are removed, a row is left unless there was none.
+-- Removing all interval rows except the last leaves a row, unless the list was empty.
 none_left : (rows : List Share) → drop (settled_in rows) rows ≡ [] → rows ≡ []
 none_left [] h = refl
 none_left (row ∷ rows) h =
@@ -152,7 +152,7 @@ none_left (row ∷ rows) h =
       ap (λ (rs : List Share). length rs) h,
     ))
 
--- After `drop_done`, the removed rows count as compared.
+-- `drop_done` moves interval rows from the pending rows to the compared rows.
 pub drops_done : (old new : Progress) → new.check ≡ old.check
     → new.wanted.items ≡ drop (settled_in old.wanted.items) old.wanted.items → DropsDone old new
 drops_done old new same left meter told done gone =

@@ -1,4 +1,4 @@
--- The rows of every lawful journal fit.
+-- The rules accept each row of a lawful journal after the rows before it.
 use Rattle.std.proofs.Common.{◌≡◌, ℕ, ◌<◌, ◌≤◌, ◌==◌, Bool, true, false, nat_lt, if◌then◌else◌, List, [], ◌∷◌, Option, Some, None, refl, sym, ap, subst, ◌∙◌, inl, inr, arith}
 use Rattle.std.specs.Option.{option_or}
 use Rattle.std.proofs.lemmas.Bool.{cases_Bool, cond-true, cond-false}
@@ -25,7 +25,7 @@ use Rattle.meter_journal.proofs.Voiding.{Lower}
 use Rattle.meter_audit.specs.Fitting.{is_ended, last_stands, WasReading, VoidedFits, MayCome, AllFit}
 use Rattle.meter_audit.specs.Laws.{RowsOfJournalsFit}
 
--- ---- a closing ends a journal and its rows alike
+-- ---- a journal with a closing is ended, and so is its list of rows
 
 ended_alike : (whole lines : Journal) (rows : List EntryRow) → AreRowsOf whole lines rows → is_ended rows ≡ journal_ended lines
 ended_alike whole [] [] h = refl
@@ -37,7 +37,7 @@ ended_alike whole (Entered k e ∷ lines) (row ∷ rows) h =
 ended_alike whole (Held reading cause ∷ lines) rows h = ended_alike whole lines rows h
 ended_alike whole (Voided place ∷ lines) rows h = ended_alike whole lines rows h
 
--- No row follows a closing.
+-- No row of the list follows a closing.
 abbrev AllUnended : List EntryRow → Type 0
 AllUnended [] = Unit {0}
 AllUnended (row ∷ rows) = (is_ended rows ≡ false) × AllUnended rows
@@ -53,7 +53,7 @@ all_unended meter whole (Voided place ∷ lines) rows fit h = all_unended meter 
 
 -- ---- voided rows
 
--- Each voided row fits as a voided row.
+-- The rules accept each voided row of the list after the valid rows before it.
 abbrev AllVoidedFit : Installed → List EntryRow → Type 0
 AllVoidedFit meter [] = Unit {0}
 AllVoidedFit meter (row ∷ rows) =
@@ -64,7 +64,7 @@ one_at_most : (b : Bool) (n : ℕ) → n ≡ (if b then 1 else 0) → n ≤ 1
 one_at_most true n h = omega (arith, h)
 one_at_most false n h = omega (arith, h)
 
--- An accepted reading showed a number that the counter can show.
+-- An accepted reading showed a count that the counter can show, and is later than the last entry.
 was_accepted : (meter : Installed) (es : List Entry) (at raw rolls : ℕ) → IsAcceptedAs meter es at raw rolls
     → WasReading meter.range (last_after meter es) at raw rolls
 was_accepted meter es at raw rolls h =
@@ -77,14 +77,14 @@ was_accepted meter es at raw rolls h =
       once = one_at_most (nat_lt raw l.raw) rolls (rolls_of meter es at raw rolls h);
     }
 
--- A row that fitted as a valid reading fits as a voided row.
+-- A reading that the rules accept as a valid row is also acceptable as a voided row.
 voided_now : (meter : Installed) (es : List Entry) (k : EntryKind) (e : Entry) → is_read k e ≡ true → EntryFits meter es k e
     → VoidedFits meter.range (last_after meter es) k e
 voided_now meter es =
     by_read (λ k e. EntryFits meter es k e → VoidedFits meter.range (last_after meter es) k e)
     (λ at raw rolls h. was_accepted meter es at raw rolls h)
 
--- A voided row still fits after an earlier time.
+-- A voided row that is acceptable after an entry is also acceptable after an earlier entry.
 voided_earlier : (range : ℕ) (l l' : Last) (k : EntryKind) (e : Entry) → l'.at ≤ l.at → VoidedFits range l k e → VoidedFits range l' k e
 voided_earlier range l l' kind.Reading (entry.Step at raw rolls) le h =
     record { accumulated = h.accumulated; below = h.below; later = omega (arith, h.later, le); once = h.once }
@@ -94,7 +94,7 @@ voided_earlier range l l' kind.Closing e le h = absurd h
 voided_earlier range l l' kind.Reset e le h = absurd h
 voided_earlier range l l' kind.Rescale e le h = absurd h
 
--- ---- a void removes an entry
+-- ---- voiding an entry
 
 moment_rolled : (k : EntryKind) (last : Last) (place : ℕ) (e : Entry) (stands : Bool)
     → moment_of (rolled last (record { place = place; kind = k; entry = e; stands = stands })).entry ≡ moment_of e
@@ -124,13 +124,13 @@ stands_rolled kind.Reset last place e false = refl
 stands_rolled kind.Rescale last place e true = refl
 stands_rolled kind.Rescale last place e false = refl
 
--- After a valid row, the last entry has its time.
+-- After a valid row, the time of the last valid entry is the time of the row's entry.
 moment_after : (meter : Installed) (row : EntryRow) (rows : List EntryRow) → row.stands ≡ true
     → (last_after meter (entries_in (row ∷ rows))).at ≡ moment_of row.entry
 moment_after meter row rows on =
     ap (λ (es : List Entry). (last_after meter es).at) (entries_standing row rows on) ∙ last_moment meter row.entry (entries_in rows)
 
--- Without the latest row, the last entry's time is not later.
+-- Removing the latest row never makes the time of the last valid entry later.
 last_without : (meter : Installed) (row : EntryRow) (rows : List EntryRow) → AllFollow meter.range meter.opening (entries_in (row ∷ rows))
     → (last_after meter (entries_in rows)).at ≤ (last_after meter (entries_in (row ∷ rows))).at
 last_without meter row rows h =
@@ -175,7 +175,7 @@ goes_back meter place (row ∷ rows) h =
           ]
     ]
 
--- ---- after a void, the voided rows fit as such
+-- ---- after a void, all voided rows are acceptable as voided rows
 
 follows_below : (meter : Installed) (row : EntryRow) (rows : List EntryRow) → AllFollow meter.range meter.opening (entries_in (row ∷ rows))
     → AllFollow meter.range meter.opening (entries_in rows)
@@ -225,9 +225,9 @@ all_voided_fit meter (Voided place ∷ lines) well h =
     let sound = rows_are_sound meter lines well.raw h.1 in
     voided_still meter place rows a fits.there may.0 may.1 sound.account.follow sound.still (all_voided_fit meter lines well h.1)
 
--- ---- voided rows directly after a valid one
+-- ---- voided rows that directly follow a valid row
 
--- Each voided row directly after a valid row may follow the valid entries before it.
+-- The rules for valid readings accept each voided row that directly follows a valid row.
 abbrev AllAfterFit : Installed → List EntryRow → Type 0
 AllAfterFit meter [] = Unit {0}
 AllAfterFit meter (row ∷ rows) =
@@ -242,7 +242,7 @@ voided_is_read range l kind.Closing e h = absurd h
 voided_is_read range l kind.Reset e h = absurd h
 voided_is_read range l kind.Rescale e h = absurd h
 
--- An accepted reading is accepted with less energy before it too.
+-- An accepted reading is also accepted after entries with the same last entry and less energy.
 accepted_lower : (meter : Installed) (es es' : List Entry) (at raw rolls : ℕ) → Lower meter es es' → IsAcceptedAs meter es at raw rolls
     → IsAcceptedAs meter es' at raw rolls
 accepted_lower meter es es' at raw rolls low h =
@@ -266,8 +266,8 @@ lower_with_next : (meter : Installed) (place : ℕ) (rows : List EntryRow) (a : 
 lower_with_next meter place rows a None next is h = absurd (cc)
 lower_with_next meter place rows a (Some n) next is h = h
 
--- If the last row is valid after a void, it was valid before, and the energy before it has not
--- grown.
+-- If the last row is valid after a void, it was valid before the void, and the energy of the valid
+-- entries has not grown.
 last_still : (meter : Installed) (place : ℕ) (rows : List EntryRow) (a : Around) → row_at place rows ≡ Some a
     → Leaves meter place rows a a.next → last_stands (with_void meter.opening place rows) ≡ true
     → (last_stands rows ≡ true) × Lower meter (entries_in rows) (entries_in (with_void meter.opening place rows))
@@ -349,7 +349,7 @@ all_after_fit meter (Voided place ∷ lines) well h =
     after_still meter place rows a well.raw fits.there may.0 may.1 (next_where_free meter (entries_in a.before) a.next may.2 fits.next)
     sound.account.follow sound.still (all_voided_fit meter lines well h.1) (all_after_fit meter lines well h.1)
 
--- ---- all of it
+-- ---- all rows of a lawful journal
 
 may_come : (meter : Installed) (es : List Entry) (stands : Bool) (k : EntryKind) (e : Entry) → (stands ≡ true → EntryFits meter es k e)
     → (stands ≡ false → VoidedFits meter.range (last_after meter es) k e) → MayCome meter es stands k e

@@ -1,4 +1,4 @@
--- Fine tables are those of a lawful journal.
+-- Consistent tables are the tables of a lawful journal.
 use Rattle.std.proofs.Common.{◌≡◌, ℕ, Bool, true, false, if◌then◌else◌, List, [], ◌∷◌, refl, sym, ap, ◌∙◌, inl, inr}
 use Rattle.std.proofs.lemmas.Bool.{cases_Bool, cond-false}
 use Rattle.energy_core.specs.declared.entries.Entry.{Entry}
@@ -19,7 +19,7 @@ use Rattle.meter_audit.specs.Laws.{FineTablesAreLawful, LawfulTablesAreFine}
 use Rattle.meter_audit.proofs.Alone.{fitting_rows_stand_alone}
 use Rattle.meter_audit.proofs.Journals.{rows_of_journals_fit}
 
--- A closing is never voided.
+-- A voided row is never a closing.
 voided_goes_on : (range : ℕ) (last : Last) (k : EntryKind) (e : Entry) → VoidedFits range last k e → is_closing k ≡ false
 voided_goes_on range last kind.Reading e h = refl
 voided_goes_on range last kind.Manual e h = absurd h

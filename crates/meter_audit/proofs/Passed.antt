@@ -1,4 +1,4 @@
--- Each table row that passes is that of a row that fits.
+-- A table row that passes the check encodes an entry row that the rules accept.
 use Rattle.std.proofs.Common.{◌≡◌, ◌≢◌, ℕ, ℤ, ◌+◌, ◌<◌, ◌≤◌, ◌==◌, nat_lt, nat_le, Bool, true, false, not, ◌&&◌, if◌then◌else◌, List, ◌∷◌, length, Option, Some, None, Result, Ok, Err, refl, sym, ap, subst, ◌∙◌, inl, inr, arith}
 use Rattle.std.specs.Ordering.{int_eq}
 use Rattle.std.proofs.lemmas.Bool.{cases_Bool, cond-true, cond-false, eqb-true}
@@ -33,7 +33,7 @@ use Rattle.meter_audit.specs.Passing.{kind_in, entry_in, has_unused, is_off_scal
 use Rattle.meter_audit.specs.Laws.{check_after, IsTaken, PassedRowsFit}
 use Rattle.meter_audit.proofs.Alone.{fitting_account}
 
--- ---- without a fault
+-- ---- a row without a fault
 
 not_refused : {X : Type 0} (b : Bool) (f : RowFault) (r : Result X RowFault) (x : X) → (if b then Err f else r) ≡ Ok x
     → (b ≡ false) × (r ≡ Ok x)
@@ -56,7 +56,7 @@ none_told false f o h = (refl, h)
 same_Ok : {X E : Type 0} (x y : X) → (let r : Result X E = Ok x in r) ≡ Ok y → x ≡ y
 same_Ok x y h = cc
 
--- ---- its sequence number, kind and columns
+-- ---- the sequence number, kind and columns of a row that passes
 
 record IsShaped (check : Check) (row : TableRow) (k : EntryKind) : Type 0 where
   place : row.place ≡ check.place + 1
@@ -97,7 +97,7 @@ shaped check row k h =
     let placed = as_wanted (row.place == check.place + 1) _ _ k h in
     shaped_by check row k (kind_in row.kind) refl (eqb-true row.place (check.place + 1) placed.0) placed.1
 
--- ---- the table row
+-- ---- the table row of the encoded row
 
 abbrev told_with : (place : ℕ) → RowKind → (moment raw rolls after : ℕ) → ℤ → Bool → TableRow
 told_with place k moment raw rolls after sf v = record {
@@ -126,7 +126,7 @@ not_not false = refl
 unused : (n : ℕ) → not (n == 0) ≡ false → n ≡ 0
 unused n h = grind (arith, nat_tests)
 
--- The row that a table row encodes.
+-- The entry row that a table row of the kind `k` encodes.
 abbrev row_in : EntryKind → TableRow → EntryRow
 row_in k told = record { place = told.place; kind = k; entry = entry_in k told; stands = not told.is_voided }
 
@@ -138,12 +138,12 @@ told_by kind.Closing told sf hk used hs = same_told told.place told.moment told.
 told_by kind.Reset told sf hk used hs = same_told told.place told.moment told.raw told.kind row_kind.Reset told.rolls 0 told.after told.after told.sf sf told.is_voided (not (not told.is_voided)) hk (unused told.rolls used) refl hs (not_not told.is_voided)
 told_by kind.Rescale told sf hk used hs = same_told told.place told.moment told.raw told.kind row_kind.Rescale told.rolls 0 told.after told.after told.sf sf told.is_voided (not (not told.is_voided)) hk (unused told.rolls used) refl hs (not_not told.is_voided)
 
--- ---- the scale factor after it
+-- ---- the scale factor after a row
 
 same_scale : (a b : ℤ) → not (int_eq a b) ≡ false → a ≡ b
 same_scale a b h = (Decides-int_eq a b).0 (grind arith)
 
--- The scale factor after an entry of this kind.
+-- The scale factor column of a row that passes is the counter's scale factor after the row's entry.
 scale_following : (k : EntryKind) (told : TableRow) (check : Check) → is_off_scale check k told ≡ false
     → told.sf ≡ (after check.last (entry_in k told)).sf
 scale_following kind.Reading told check h = same_scale told.sf check.last.sf h
@@ -152,7 +152,7 @@ scale_following kind.Closing told check h = same_scale told.sf check.last.sf h
 scale_following kind.Reset told check h = refl
 scale_following kind.Rescale told check h = refl
 
--- ---- a voided reading
+-- ---- a voided reading that passes
 
 read_kind : (P : EntryKind → Type 0) → P kind.Reading → (k : EntryKind) → is_reading k ≡ true → P k
 read_kind P h kind.Reading is = h
@@ -161,7 +161,7 @@ read_kind P h kind.Closing is = absurd (cc)
 read_kind P h kind.Reset is = absurd (cc)
 read_kind P h kind.Rescale is = absurd (cc)
 
--- A voided row is a reading.
+-- A voided row that passes is a reading.
 voided_read : (v : Bool) (k : EntryKind) → v ≡ true → v && not (is_reading k) ≡ false → is_reading k ≡ true
 voided_read true k is h = not_not (is_reading k) ∙ ap not h
 voided_read false k is h = absurd (cc)
@@ -189,7 +189,7 @@ was_reading meter check told h =
       once = at_most 1 told.rolls four.0;
     }
 
--- ---- a valid entry
+-- ---- a valid entry that passes
 
 accepted_by : (rolls : ℕ) (v : Verdict) → fault_by rolls v ≡ None → (step : ℕ) × (v ≡ verdict.Accepted rolls step)
 accepted_by rolls (verdict.Held why) h = absurd (cc)
@@ -199,7 +199,8 @@ accepted_by rolls (verdict.Accepted wanted step) h =
       | inr other ↦ absurd (let f : Some _ ≡ None = sym (cond-false _ _ _ other) ∙ h in cc)
     ]
 
--- The row's entry was recorded, and `next` and `step` are those after it.
+-- The entry of the row was recorded. `next` is the state of the check after it, and `step` is the
+-- step to it.
 record IsAfter (check : Check) (k : EntryKind) (told : TableRow) (answer : Result (Last × Step) TermFault) (next : Check) (step : Option Step) : Type 0 where
   last : Last
   gone : Step
@@ -228,7 +229,7 @@ booked_after check k told (Ok (last, gone)) next step h =
       step_is = sym (ap (λ (p : Check × Option Step). p.1) pair);
     }
 
--- A valid row without a fault fits after these rows.
+-- A valid table row without a fault encodes an entry that the rules accept.
 stood_fits : (meter : Installed) (rows : List EntryRow) (told : TableRow) (k : EntryKind) (next : Last) (step : Step)
     → let check = check_after meter rows in
     is_off_scale check k told ≡ false → reading_fault meter check k told ≡ None
@@ -242,7 +243,7 @@ stood_fits meter rows told kind.Reset next step scale none booked =
     (record { next = next; step = step; entered = booked }, same_scale told.sf (last_after meter (entries_in rows)).sf scale)
 stood_fits meter rows told kind.Rescale next step scale none booked = record { next = next; step = step; entered = booked }
 
--- A reading without a fault would be accepted after these rows.
+-- A reading without a fault would be accepted after the rows before it.
 was_accepted : (meter : Installed) (rows : List EntryRow) (told : TableRow) (k : EntryKind) → is_reading k ≡ true
     → reading_fault meter (check_after meter rows) k told ≡ None → EntryFits meter (entries_in rows) k (entry_in k told)
 was_accepted meter rows told kind.Reading is none =
@@ -252,7 +253,7 @@ was_accepted meter rows told kind.Closing is none = absurd (cc)
 was_accepted meter rows told kind.Reset is none = absurd (cc)
 was_accepted meter rows told kind.Rescale is none = absurd (cc)
 
--- ---- the check after it
+-- ---- the state of the check after a row that passes
 
 abbrev check_with : (place : ℕ) → Last → (total : ℕ) → (ended stands : Bool) → Check
 check_with place last total ended stands =

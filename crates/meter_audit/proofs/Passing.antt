@@ -1,4 +1,4 @@
--- The table row of each row that fits passes.
+-- The table row of an entry row that the rules accept passes the check.
 use Rattle.std.proofs.Common.{◌≡◌, ◌≢◌, ℕ, ℤ, ◌+◌, ◌<◌, ◌≤◌, ◌==◌, nat_lt, nat_le, Bool, true, false, not, ◌&&◌, List, ◌∷◌, length, Option, Some, None, Result, Ok, IsOk, refl, sym, ap, subst, ◌∙◌, inl, inr, arith, eq-eqb}
 use Rattle.std.specs.Ordering.{int_eq}
 use Rattle.std.proofs.lemmas.Bool.{cases_Bool, cond-true, cond-false}
@@ -27,7 +27,7 @@ use Rattle.meter_audit.specs.Passing.{kind_in, entry_in, has_unused, is_off_scal
 use Rattle.meter_audit.specs.Laws.{check_after, FittingRowsPass}
 use Rattle.meter_audit.proofs.Alone.{fitting_account}
 
--- ---- its sequence number, kind and columns
+-- ---- the sequence number, kind and columns of a row that the rules accept
 
 kind_there : (k : EntryKind) → kind_in (kind_as k) ≡ Some k
 kind_there kind.Reading = refl
@@ -46,7 +46,7 @@ shape_is check told k place kind unended voidable used scale =
 differs : (a b : ℤ) → a ≡ b → not (int_eq a b) ≡ false
 differs a b h = ap not ((Decides-int_eq a b).1 h)
 
--- ---- a valid row, and a voided one
+-- ---- valid rows and voided rows that the rules accept
 
 pub passes_standing : (meter : Installed) (check : Check) (told : TableRow) (k : EntryKind) (next : Last) (step : Step)
     → shape_of check told ≡ Ok k → told.is_voided ≡ false → reading_fault meter check k told ≡ None
@@ -88,8 +88,8 @@ no_voided_fault meter check told h =
 no_reading_fault : (rolls step : ℕ) → fault_by rolls (verdict.Accepted rolls step) ≡ None
 no_reading_fault rolls step = cond-true _ _ _ (eq-eqb rolls rolls refl)
 
--- A voided reading directly after a valid row has no fault, because it was accepted after the
--- valid entries.
+-- A voided reading directly after a valid row has no fault, because the rules for valid readings
+-- accept it.
 no_stood_fault : (meter : Installed) (rows : List EntryRow) (told : TableRow)
     → (last_stands rows ≡ true → IsAcceptedAs meter (entries_in rows) told.moment told.raw told.rolls)
     → stood_fault meter (check_after meter rows) kind.Reading told ≡ None
@@ -101,12 +101,12 @@ no_stood_fault meter rows told h =
       | inr off ↦ cond-false _ _ _ off
     ]
 
--- ---- by its kind
+-- ---- each kind of a row that the rules accept
 
 abbrev row_with : (place : ℕ) → EntryKind → Entry → Bool → EntryRow
 row_with place k e stands = record { place = place; kind = k; entry = e; stands = stands }
 
--- The table row of a row that follows these rows.
+-- The table row of an entry row that follows a list of rows.
 abbrev told_after : Installed → List EntryRow → EntryRow → TableRow
 told_after meter rows row = table_row (scale_after meter (row ∷ rows)) row
 

@@ -1,5 +1,6 @@
--- A meter in two files: it is installed in the new file with its last entry of the old one. `lines`
--- is its journal in the old file, `more` its journal in the new one, the latest line first.
+-- A meter whose journal is split over two files. The opening entry in the new file is the meter's
+-- last entry in the old file. `lines` is the journal in the old file, and `more` is the journal in
+-- the new file. The latest line comes first.
 use Rattle.std.specs.Prelude.{◌≡◌, ◌≢◌, ℕ, ℤ, ◌+◌, ◌==◌, ◌≤◌, false, List, [], ◌∷◌, ◌++◌, map, filter}
 use Rattle.energy_core.specs.declared.limits.TheConstants.{MAX_TOTAL}
 use Rattle.energy_core.specs.declared.verdicts.Cause.TheVariants.{TotalFull}
@@ -15,35 +16,33 @@ use Rattle.meter_journal.specs.Intervals.{with_shares}
 use Rattle.meter_journal.specs.Journal.{Line, Entered, Held, Voided, Journal, is_ended, rows_of, entries_of}
 use Rattle.meter_journal.specs.Standing.{entered_count}
 
--- The meter in the new file. Its opening shows what its last valid entry in the old file shows, at
--- the same time and scale.
+-- The meter as it is installed in the new file. Its opening entry has the time, count and scale
+-- factor of the last valid entry in the old file.
 abbrev pub carried : Installed → (lines : Journal) → Installed
 carried meter lines =
     record { range = meter.range; ceiling = meter.ceiling; opening = last_in meter lines }
 
--- A line of the new file as a line of the joined journal. The opening has sequence number 1 in
--- each file. The number in a void is therefore raised by `count`, the number of entries in the
--- old file.
+-- A line of the new file, renumbered for the joined journal. The opening entry has sequence number
+-- 1 in each file. A void's sequence number is therefore raised by `count`, the number of entries in
+-- the old file.
 abbrev pub moved_line : (count : ℕ) → Line → Line
 moved_line count (Entered k e) = Entered k e
 moved_line count (Held reading cause) = Held reading cause
 moved_line count (Voided place) = Voided (place + count)
 
--- The journal of both files: the lines of the new file, renumbered, after those of the old one.
--- No void of the new file names an entry of the old one.
+-- The joined journal of both files: the lines of the old file, followed by the renumbered lines of
+-- the new file. No void in the new file names an entry of the old file.
 abbrev pub joined_journal : (lines more : Journal) → Journal
 joined_journal lines more = map (moved_line (entered_count lines)) more ++ lines
 
--- A row of the new file as a row of the joined journal, with its sequence number raised by
--- `count`.
+-- A row of the new file, with its sequence number raised by `count` for the joined journal.
 abbrev pub moved_row : (count : ℕ) → EntryRow → EntryRow
 moved_row count row = record row { place = row.place + count }
 
--- The meter is well installed in the new file. The journal of both files has the rows, entries and
--- steps of the new file after those of the old one. The energies therefore add up. The interval
--- rows of the new file follow those of the old one. If the two at the change of files are of the
--- same quarter hour, they are one row with the energy of both. A meter that continues in a third
--- file continues from the journal of both.
+-- The meter is well installed in the new file, and the joined journal has the rows, entries and
+-- steps of both files in order. Therefore the energies of both files add up. A quarter hour in both
+-- files has one row in the joined journal, with the energy of both. A meter that continues in a
+-- third file continues from the joined journal.
 pub record GoesOn (meter : Installed) (lines more : Journal) : Type 0 where
   pub well : IsWellInstalled (carried meter lines)
   pub rows : rows_of meter.opening (joined_journal lines more)
@@ -60,21 +59,21 @@ pub record GoesOn (meter : Installed) (lines more : Journal) : Type 0 where
       ≡ with_shares (interval_rows meter lines) (interval_rows (carried meter lines) more)
   pub again : carried (carried meter lines) more ≡ carried meter (joined_journal lines more)
 
--- Theorem: every meter with lawful journals in the two files continues in the new file as
--- `GoesOn` describes.
+-- Theorem: a meter with lawful journals in the old and the new file continues as `GoesOn`
+-- describes.
 abbrev pub CarriesGoOn : Type 0
 CarriesGoOn = (meter : Installed) (lines more : Journal) → IsWellInstalled meter
     → AreFitting meter lines
     → AreFitting (carried meter lines) more
     → GoesOn meter lines more
 
--- The energy of the rows of the quarter hour from `start`.
+-- The energy of the interval rows of the quarter hour from `start`.
 abbrev pub energy_from : (start : ℕ) → List Share → ℕ
 energy_from start rows = energy_of (filter (λ row. row.start == start) rows)
 
--- The rows of both files count each quarter hour and each civil day once. A quarter hour has the
--- energy of both files, also the one at the change of files. A day has the account of the rows of
--- both files: it counts a quarter hour of both once, and has the energy of both.
+-- The joined rows of both files count each quarter hour and each civil day once. A quarter hour has
+-- the energy of both files, also the quarter hour in which the files changed. The account of a day
+-- has the energy of both files, and counts a quarter hour in both files once.
 pub record AreCountedOnce (old new both : List Share) : Type 0 where
   pub ascending : IsAscending (starts_of both)
   pub quarters : (start : ℕ) → energy_from start both
@@ -84,32 +83,33 @@ pub record AreCountedOnce (old new both : List Share) : Type 0 where
       ≡ (account_on zone old day).mwh + (account_on zone new day).mwh
   pub whole : energy_of both ≡ energy_of old + energy_of new
 
--- The interval rows of both files are the account of the steps of both. They count each quarter
--- hour and each day once.
+-- The interval rows of the joined journal are the account of the steps of both files. They count
+-- each quarter hour and each civil day once.
 pub record CountsOnce (meter : Installed) (lines more : Journal) : Type 0 where
   pub account : IsAccount (steps_in (carried meter lines) more ++ steps_in meter lines)
       (interval_rows meter (joined_journal lines more))
   pub rows : AreCountedOnce (interval_rows meter lines) (interval_rows (carried meter lines) more)
       (interval_rows meter (joined_journal lines more))
 
--- Theorem: for any lawful journals of the two files, each quarter hour counts once.
+-- Theorem: for any lawful journals of the old and the new file, the joined journal counts each
+-- quarter hour once.
 abbrev pub CarriesCountOnce : Type 0
 CarriesCountOnce = (meter : Installed) (lines more : Journal) → IsWellInstalled meter
     → AreFitting meter lines
     → AreFitting (carried meter lines) more
     → CountsOnce meter lines more
 
--- After each line of the new file, the energies of both files together are within the limit of one
--- journal.
+-- After each line of the new file, the energy of the old and the new file together is within the
+-- limit of one meter.
 abbrev pub StaysWithin : Installed → (lines more : Journal) → Type 0
 StaysWithin meter lines [] = Unit {0}
 StaysWithin meter lines (line ∷ more) =
     (total_in meter lines + total_in (carried meter lines) (line ∷ more) ≤ MAX_TOTAL)
     × StaysWithin meter lines more
 
--- Theorem: if the meter was open, the joined journal is lawful too. The same readings are
--- accepted and rejected, with the same rollovers and causes. The same entries may be recorded and
--- voided.
+-- Theorem: the joined journal is lawful if the meter was open and the energy stays within the
+-- limit. Readings are accepted or rejected with the same rollovers and causes as in the separate
+-- files. The same entries may be recorded and voided.
 abbrev pub CarriedJournalsFit : Type 0
 CarriedJournalsFit = (meter : Installed) (lines more : Journal) → IsWellInstalled meter
     → AreFitting meter lines
@@ -118,26 +118,27 @@ CarriedJournalsFit = (meter : Installed) (lines more : Journal) → IsWellInstal
     → StaysWithin meter lines more
     → AreFitting meter (joined_journal lines more)
 
--- A line that may be in the new file: it voids no entry of the old file, and rejects no reading
--- because of the limit of the total energy.
+-- A line that may be recorded in the new file instead of the old file. The line voids no entry of
+-- the old file, and rejects no reading because of the limit of the total energy.
 abbrev pub ComesLater : (count : ℕ) → Line → Type 0
 ComesLater count (Entered k e) = Unit {0}
 ComesLater count (Held reading cause) = cause ≢ TotalFull
 ComesLater count (Voided place) = count + 2 ≤ place
 
--- Each of these lines may be in the new file.
+-- Each line of the list may be recorded in the new file instead of the old file.
 abbrev pub AllComeLater : (count : ℕ) → Journal → Type 0
 AllComeLater count [] = Unit {0}
 AllComeLater count (line ∷ lines) = ComesLater count line × AllComeLater count lines
 
--- These later lines are those of a new file, in which they are lawful.
+-- The lines `later` can be recorded in a new file instead of after `lines`, and form a lawful
+-- journal in the new file.
 pub record IsSplit (meter : Installed) (lines later : Journal) : Type 0 where
   pub more : Journal
   pub joined : joined_journal lines more ≡ later ++ lines
   pub fit : AreFitting (carried meter lines) more
 
--- Theorem: lines that may follow in one file may follow in a new file, if they void no entry of
--- the old one.
+-- Theorem: lines that may follow in the old file may be recorded in a new file, if they void no
+-- entry of the old file.
 abbrev pub LaterLinesAreCarried : Type 0
 LaterLinesAreCarried = (meter : Installed) (lines later : Journal) → IsWellInstalled meter
     → AreFitting meter (later ++ lines)

@@ -1,5 +1,6 @@
--- What several files report together of a meter that continues from each into the next. Each file
--- is audited by itself. Lists of rows have the latest first, lists of files the oldest.
+-- The joint report of several files about a meter that continues from each file into the next. Each
+-- file is audited separately. Lists of rows begin with the latest row, and lists of files with the
+-- oldest file.
 use Rattle.std.specs.Prelude.{◌≡◌, ◌+◌, ◌-◌, ◌≤◌, Bool, false, List, [], ◌∷◌, ◌++◌, map, length}
 use Rattle.energy_core.specs.declared.entries.Last.{Last}
 use Rattle.energy_core.specs.declared.limits.TheConstants.{MAX_TOTAL}
@@ -10,8 +11,9 @@ use Rattle.meter_audit.specs.CarriedTables.{moved_told, without_opening}
 use Rattle.meter_audit.specs.Fitting.{Tables, AreFine}
 use Rattle.meter_audit.specs.Laws.{AreLawful}
 
--- The meter of an old file continues as this meter of the new one: it was open, and its opening is
--- its last entry in the old file, with the same range and ceiling.
+-- The meter `meter` of an old file continues as the meter `next` of a new file. The meter was open,
+-- and its range and ceiling are unchanged. Its opening entry in the new file is its last entry in
+-- the old file.
 pub record GoesOnAs (meter : Installed) (last : Last) (ended : Bool) (next : Installed) : Type 0
   where
     pub unended : ended ≡ false
@@ -19,20 +21,23 @@ pub record GoesOnAs (meter : Installed) (last : Last) (ended : Bool) (next : Ins
     pub ceiling : next.ceiling ≡ meter.ceiling
     pub opening : next.opening ≡ last
 
--- A meter in a file: its opening there, and what the tables report of it.
+-- A meter in one file: its opening entry in this file, and the rows that the file's tables have for
+-- the meter.
 pub record InFile : Type 0 where
   pub meter : Installed
   pub tables : Tables
 
--- Each of these files is fine, and the meter continues in each file from the file before it.
+-- The tables of each later file are consistent, and the meter continues in each file from the file
+-- before it.
 abbrev pub GoOn : InFile → (later : List InFile) → Type 0
 GoOn old [] = Unit {0}
 GoOn old (new ∷ later) =
     GoesOnAs old.meter old.tables.last old.tables.ended new.meter
     × AreFine new.meter new.tables × GoOn new later
 
--- What two files report together. The entries of the new file, without its opening, follow those of
--- the old one. The energies add up, and a quarter hour of both has the energy of both.
+-- The joint report of an old and a new file. The entries of the new file, without its opening,
+-- follow the entries of the old file. The energies add up, and a quarter hour in both files has the
+-- energy of both.
 abbrev pub told_by_both : (old new : Tables) → Tables
 told_by_both old new = record {
   entries = map (moved_told (length old.entries - 1)) (without_opening new.entries)
@@ -43,13 +48,13 @@ told_by_both old new = record {
   ended = new.ended;
 }
 
--- What the tables of a file and of all later files report together.
+-- The joint report about a meter of a file and of all later files.
 abbrev pub told_by_all : Tables → (later : List InFile) → Tables
 told_by_all old [] = old
 told_by_all old (new ∷ later) = told_by_all (told_by_both old new.tables) later
 
--- Theorem: if the energy of all files stays within the limit of one meter, the files report
--- together what one lawful journal gives.
+-- Theorem: the joint report of several files is that of one lawful journal if the energy of all
+-- files stays within the limit of one meter.
 abbrev pub FilesAreOneHistory : Type 0
 FilesAreOneHistory = (first : InFile) (later : List InFile) → IsWellInstalled first.meter
     → AreFine first.meter first.tables

@@ -1,5 +1,5 @@
--- The tables of two files, of a meter that continues from the old file into the new one. Each file
--- is audited by itself. Lists of rows have the latest first.
+-- The tables of an old and a new file, for a meter that continues from the old file into the new
+-- file. Each file is audited separately. Lists of rows begin with the latest row.
 use Rattle.std.specs.Prelude.{◌≡◌, ℕ, ◌+◌, ◌-◌, ◌≤◌, false, List, [], ◌∷◌, ◌++◌, map, take, length}
 use Rattle.energy_core.specs.declared.limits.TheConstants.{MAX_TOTAL}
 use Rattle.energy_core.specs.Account.{energy_of}
@@ -12,7 +12,7 @@ use Rattle.meter_audit.specs.declared.rows.TableRow.{TableRow}
 use Rattle.meter_audit.specs.Fitting.{AllFit, Tables, tables_of, AreFine, is_ended}
 use Rattle.meter_audit.specs.Carried.{moved_row, AreCountedOnce}
 
--- The meter as it is installed in the new file, by its rows in the old file.
+-- The meter as it is installed in the new file, computed from the meter's rows in the old file.
 abbrev pub carried_from : Installed → (old : List EntryRow) → Installed
 carried_from meter old = record {
   range = meter.range;
@@ -20,24 +20,23 @@ carried_from meter old = record {
   opening = last_after meter (entries_in old);
 }
 
--- The rows of both files: those of the new one have the sequence numbers after those of the old
--- one.
+-- The joined rows of both files. The rows of the new file are renumbered to follow the rows of the
+-- old file.
 abbrev pub joined_rows : (old new : List EntryRow) → List EntryRow
 joined_rows old new = map (moved_row (length old)) new ++ old
 
--- The table row of the new file as a row in the tables of both files, with its sequence number
--- raised by `count`.
+-- A table row of the new file, with its sequence number raised by `count` for the joined tables.
 abbrev pub moved_told : (count : ℕ) → TableRow → TableRow
 moved_told count told = record told { place = told.place + count }
 
--- The rows without the opening, which is the first entry and so the last of the list.
+-- The table rows of a meter without the opening row, which is the last element of a list that
+-- begins with the latest row.
 abbrev pub without_opening : List TableRow → List TableRow
 without_opening entries = take (length entries - 1) entries
 
--- The tables of both files. The entries of the new file, without its opening, follow those of the
--- old one, and the energies add up. The last entry is that of the new file. The interval rows of
--- the new file follow those of the old one. If the two at the change of files are of the same
--- quarter hour, they are one row with the energy of both.
+-- The joined tables of both files. The entries of the new file, without its opening, follow the
+-- entries of the old file, and the energies add up. The last entry is the last entry of the new
+-- file. A quarter hour in both files has one row in the joined tables, with the energy of both.
 pub record AreOne (count : ℕ) (old new both : Tables) : Type 0 where
   pub entries : both.entries ≡ map (moved_told count) (without_opening new.entries) ++ old.entries
   pub last : both.last ≡ new.last
@@ -46,7 +45,8 @@ pub record AreOne (count : ℕ) (old new both : Tables) : Type 0 where
   pub once : AreCountedOnce old.intervals new.intervals both.intervals
   pub ended : both.ended ≡ new.ended
 
--- Theorem: the tables of an open meter's rows in both files are as `AreOne` describes.
+-- Theorem: for an open meter whose rows the rules accept in both files, the joined tables satisfy
+-- `AreOne`.
 abbrev pub CarriedTablesAreOne : Type 0
 CarriedTablesAreOne = (meter : Installed) (old new : List EntryRow) → IsWellInstalled meter
     → AllFit meter old
@@ -55,8 +55,8 @@ CarriedTablesAreOne = (meter : Installed) (old new : List EntryRow) → IsWellIn
     → AreOne (length old) (tables_of meter old) (tables_of (carried_from meter old) new)
     (tables_of meter (joined_rows old new))
 
--- No entry of the new file, voided or not, takes the energy of both files past the limit of one
--- meter.
+-- No entry of the new file, whether voided or not, raises the energy of both files above the limit
+-- of one meter.
 abbrev pub EntriesStayWithin : Installed → (old new : List EntryRow) → Type 0
 EntriesStayWithin meter old [] = Unit {0}
 EntriesStayWithin meter old (row ∷ rows) =
@@ -66,8 +66,8 @@ EntriesStayWithin meter old (row ∷ rows) =
     ≤ MAX_TOTAL)
     × EntriesStayWithin meter old rows
 
--- Theorem: if the rows of each file fit and the entries stay within the limit of the energy, the
--- tables of both files are fine.
+-- Theorem: the joined tables of the old and the new file are consistent if the rules accept the
+-- rows of each file and the energy stays within its limit.
 abbrev pub CarriedTablesAreFine : Type 0
 CarriedTablesAreFine = (meter : Installed) (old new : List EntryRow) → IsWellInstalled meter
     → AllFit meter old

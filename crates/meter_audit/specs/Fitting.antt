@@ -1,4 +1,4 @@
--- Which row may follow which, and which tables are fine.
+-- The rules that decide which entry row may follow which rows, and which tables are consistent.
 use Rattle.std.specs.Prelude.{◌≡◌, ◌≢◌, ℕ, ◌+◌, ◌<◌, ◌≤◌, Bool, true, false, List, [], ◌∷◌, length, if◌then◌else◌}
 use Rattle.energy_core.specs.declared.entries.Last.{Last}
 use Rattle.energy_core.specs.declared.entries.Entry.{Entry}
@@ -15,38 +15,40 @@ use Rattle.meter_journal.specs.Journal.{is_closing, entries_in}
 use Rattle.meter_audit.specs.declared.rows.TableRow.{TableRow}
 use Rattle.meter_audit.specs.Rows.{later_rows, table_rows}
 
--- One of the rows is a closing, so the meter was closed.
+-- The list of rows contains a closing, so the meter was closed.
 abbrev pub is_ended : List EntryRow → Bool
 is_ended [] = false
 is_ended (row ∷ rows) = if is_closing row.kind then true else is_ended rows
 
--- What is known of a voided reading: it showed a number that the counter can show, later than the
--- last valid entry. Entries that were valid then may be voided since, so its step is unknown.
+-- The known facts about a voided reading: it showed a count that the counter can show, and is later
+-- than the last valid entry. Its step is unknown, because entries that were valid at its time may
+-- have been voided since.
 pub record WasReading (range : ℕ) (last : Last) (at raw rolls : ℕ) : Type 0 where
   pub accumulated : raw ≢ 0
   pub below : raw < range
   pub later : last.at < at
   pub once : rolls ≤ 1
 
--- The row may be a voided one after the last valid entry: it is a reading that may have been
--- accepted.
+-- A voided row may follow the last valid entry if it is a reading that the rules may have accepted
+-- at its time.
 abbrev pub VoidedFits : (range : ℕ) → Last → EntryKind → Entry → Type 0
 VoidedFits range last kind.Reading (entry.Step at raw rolls) = WasReading range last at raw rolls
 VoidedFits range last _ _ = ⊥
 
--- A row of this kind may follow these valid entries, as a valid row if `stands`, otherwise as a
--- voided one.
+-- A row of the kind `k` may follow the valid entries `es`. If `stands`, the row is checked as a
+-- valid row, otherwise as a voided row.
 abbrev pub MayCome : Installed → List Entry → (stands : Bool) → EntryKind → Entry → Type 0
 MayCome meter es true k e = EntryFits meter es k e
 MayCome meter es false k e = VoidedFits meter.range (last_after meter es) k e
 
--- The latest of these rows is valid, or there are no rows after the opening.
+-- The latest row of the list is valid, or the list is empty.
 abbrev pub last_stands : List EntryRow → Bool
 last_stands [] = true
 last_stands (row ∷ rows) = row.stands
 
--- A row may follow these rows: it has the next sequence number, and the meter is not closed. A
--- voided reading directly after a valid row must fit after the valid entries too.
+-- The rules accept a row after the rows before it. The row has the next sequence number, and the
+-- meter is not closed. A voided reading directly after a valid row must also be acceptable after
+-- the valid entries.
 pub record RowFits (meter : Installed) (rows : List EntryRow) (row : EntryRow) : Type 0 where
   pub place : row.place ≡ length rows + 2
   pub unended : is_ended rows ≡ false
@@ -54,19 +56,20 @@ pub record RowFits (meter : Installed) (rows : List EntryRow) (row : EntryRow) :
   pub voided_after : row.stands ≡ false → last_stands rows ≡ true
       → EntryFits meter (entries_in rows) row.kind row.entry
 
--- Each row may follow the rows before it.
+-- The rules accept each row of the list after the rows before it.
 abbrev pub AllFit : Installed → List EntryRow → Type 0
 AllFit meter [] = Unit {0}
 AllFit meter (row ∷ rows) = RowFits meter rows row × AllFit meter rows
 
--- Table rows after an opening, the latest first, are those of some rows that fit.
+-- The table rows after the opening row are the table rows of a list of entry rows that the rules
+-- accept. The latest row comes first.
 pub record AreTold (meter : Installed) (told : List TableRow) : Type 0 where
   pub rows : List EntryRow
   pub fit : AllFit meter rows
   pub told_is : told ≡ later_rows meter rows
 
--- What the tables report of a meter: its rows, the latest first, its intervals in order, its last
--- entry, its energy, and whether it was closed.
+-- The values in a meter's tables: the entry rows (the latest first), the interval rows, the last
+-- valid entry, the energy in mWh, and whether the meter was closed.
 pub record Tables : Type 0 where
   pub entries : List TableRow
   pub intervals : List Share
@@ -74,7 +77,7 @@ pub record Tables : Type 0 where
   pub total : ℕ
   pub ended : Bool
 
--- The tables of a meter that has these rows after its opening.
+-- The tables of a meter with a given list of rows after its opening entry.
 abbrev pub tables_of : Installed → List EntryRow → Tables
 tables_of meter rows = record {
   entries = table_rows meter rows;
@@ -84,7 +87,8 @@ tables_of meter rows = record {
   ended = is_ended rows;
 }
 
--- The tables of a meter are fine: they are those of some rows that fit.
+-- The tables of a meter are consistent: they are the tables of a list of entry rows that the rules
+-- accept.
 pub record AreFine (meter : Installed) (tables : Tables) : Type 0 where
   pub rows : List EntryRow
   pub fit : AllFit meter rows

@@ -1,4 +1,4 @@
--- A check of a meter in progress.
+-- The progress of a check of a meter's tables.
 use Rattle.std.specs.Prelude.{◌≡◌, ◌↔◌, ℕ, ◌-◌, ◌≤◌, List, [], ◌∷◌, ◌++◌, length, take, Option, Some, None, Err}
 use Rattle.interval_core.specs.declared.shares.Share.{Share}
 use Rattle.interval_core.specs.Account.{energy_of}
@@ -15,15 +15,15 @@ use Rattle.meter_audit.specs.Fitting.{AreTold, Tables, AreFine}
 use Rattle.meter_audit.specs.Passing.{IsSoundCheck, passed}
 use Rattle.meter_audit.specs.Laws.{HasTaken}
 
--- The invariant of a check in progress: its check is sound, and the pending rows have at most its
--- energy.
+-- The invariant of a check in progress. The state of the check satisfies `IsSoundCheck`, and the
+-- energy of the pending interval rows is at most the energy of the check.
 pub record IsSoundProgress (meter : Installed) (progress : Progress) : Type 0 where
   pub check : IsSoundCheck meter progress.check
   pub within : energy_of progress.wanted.items ≤ progress.check.total
 
--- The check has passed these table rows, the latest first, and they are those of rows that fit. The
--- interval rows that were compared and removed, and those still pending, are all that the entries
--- give.
+-- The check has passed the table rows `told`, which begin with the latest. They encode entry rows
+-- that the rules accept. The compared and the pending interval rows together are all interval rows
+-- of the entries.
 pub record HasGone (meter : Installed) (told : List TableRow) (done : List Share)
     (progress : Progress) : Type 0 where
   pub rows : List EntryRow
@@ -31,43 +31,46 @@ pub record HasGone (meter : Installed) (told : List TableRow) (done : List Share
   pub told_is : told ≡ later_rows meter rows
   pub intervals : done ++ progress.wanted.items
       ≡ rows_of_steps (steps_after meter (entries_in rows))
-  -- nothing was removed before there was a row to keep
+  -- No interval row was removed as long as the list of pending rows is empty.
   pub begun : progress.wanted.items ≡ [] → done ≡ []
 
--- If no fault is reported, the check has also passed this row. Otherwise the row is refused for
--- that fault.
+-- If no fault is reported, the check has passed the row. Otherwise the row is refused for the
+-- reported fault.
 abbrev pub GoesOver : Installed → Progress → TableRow → Progress → Option RowFault → Type 0
 GoesOver meter old row new None = (told : List TableRow) (done : List Share)
     → HasGone meter told done old → HasGone meter (row ∷ told) done new
 GoesOver meter old row new (Some fault) = passed meter old.check row ≡ Err fault
 
--- The number of interval rows that no later entry adds to: all except the last.
+-- The number of pending interval rows to which no later entry can add energy: all rows except the
+-- last.
 abbrev pub settled_in : List Share → ℕ
 settled_in rows = length rows - 1
 
--- The new check has passed the same rows as the old one. The interval rows that are settled were
--- removed, and count as compared.
+-- `drop_done` leaves the passed table rows unchanged. It removes the interval rows that are final,
+-- and they count as compared.
 abbrev pub DropsDone : (old new : Progress) → Type 0
 DropsDone old new = (meter : Installed) (told : List TableRow) (done : List Share)
     → HasGone meter told done old
     → HasGone meter told (done ++ take (settled_in old.wanted.items) old.wanted.items) new
 
--- The meter's other tables agree with the check: the compared and the pending intervals, the last
--- entry, the energy, and whether the meter was closed.
+-- The tables agree with the check: the compared and pending interval rows, the last valid entry,
+-- the energy, and whether the meter was closed.
 pub record Agrees (tables : Tables) (done : List Share) (progress : Progress) : Type 0 where
   pub intervals : tables.intervals ≡ done ++ progress.wanted.items
   pub last : tables.last ≡ progress.check.last
   pub total : tables.total ≡ progress.check.total
   pub ended : tables.ended ≡ progress.check.is_ended
 
--- Theorem: after all rows of a meter, its tables are fine exactly if they agree with the check.
+-- Theorem: after all rows of a meter passed, the meter's tables are consistent if and only if they
+-- agree with the check.
 abbrev pub FinishedIsFine : Type 0
 FinishedIsFine = (meter : Installed) (told : List TableRow) (done : List Share)
     (progress : Progress) (tables : Tables) → HasGone meter told done progress
     → tables.entries ≡ told ++ opening_row meter.opening ∷ []
     → AreFine meter tables ↔ Agrees tables done progress
 
--- Theorem: if a row is refused, no rows that contain it fit, with any rows after it.
+-- Theorem: after the check refuses a row, the rules accept no list of rows whose table rows include
+-- this row and the rows before it.
 abbrev pub RefusedIsNotFine : Type 0
 RefusedIsNotFine = (meter : Installed) (told newer : List TableRow) (done : List Share)
     (progress : Progress) (row : TableRow) (fault : RowFault) → IsWellInstalled meter

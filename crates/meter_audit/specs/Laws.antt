@@ -1,4 +1,4 @@
--- Theorems on rows, and tables of rows, in which each row may follow those before it.
+-- Theorems about lists and tables of rows in which each row may follow the rows before it.
 use Rattle.std.specs.Prelude.{◌≡◌, ◌+◌, List, ◌∷◌, length, reverse, take, slice_get, Option, Some, Ok, Err, IsOk}
 use Rattle.energy_core.specs.declared.entries.Step.{Step}
 use Rattle.interval_core.specs.Account.{energy_of}
@@ -16,25 +16,27 @@ use Rattle.meter_audit.specs.Rows.{scale_after, table_row, later_rows}
 use Rattle.meter_audit.specs.Fitting.{RowFits, AllFit, Tables, tables_of, AreFine, is_ended, last_stands}
 use Rattle.meter_audit.specs.Passing.{passed}
 
--- Theorem: the rows of every lawful journal fit, the voided ones included.
+-- Theorem: the rules accept each row of a lawful journal after the rows before it, including voided
+-- rows.
 abbrev pub RowsOfJournalsFit : Type 0
 RowsOfJournalsFit = (meter : Installed) (lines : Journal) → IsWellInstalled meter
     → AreFitting meter lines
     → AllFit meter (rows_of meter.opening lines)
 
--- The valid rows are lawful by themselves: a journal that enters only them is lawful, and has the
--- same valid entries.
+-- The valid rows of a list form a lawful journal, and this journal has the same valid entries as
+-- the list.
 pub record StandsAlone (meter : Installed) (rows : List EntryRow) : Type 0 where
   pub fit : AreFitting meter (entering (standing rows))
   pub entries : entries_of meter.opening (entering (standing rows)) ≡ entries_in rows
 
--- Theorem: of rows that fit, the valid ones are lawful by themselves.
+-- Theorem: if the rules accept each row of a list after the rows before it, the valid rows alone
+-- form a lawful journal.
 abbrev pub FittingRowsStandAlone : Type 0
 FittingRowsStandAlone = (meter : Installed) (rows : List EntryRow) → AllFit meter rows
     → StandsAlone meter rows
 
--- The tables report what a lawful journal gives: the last entry, the energy, the interval rows,
--- and whether the meter was closed. The interval rows add up to the energy.
+-- The tables report the state of a lawful journal: its last entry, energy, interval rows, and
+-- whether the meter was closed. The interval rows add up to the energy.
 pub record AreLawful (meter : Installed) (tables : Tables) : Type 0 where
   pub lines : Journal
   pub fit : AreFitting meter lines
@@ -44,18 +46,18 @@ pub record AreLawful (meter : Installed) (tables : Tables) : Type 0 where
   pub ended : tables.ended ≡ has_closing lines
   pub adds_up : energy_of tables.intervals ≡ tables.total
 
--- Theorem: fine tables report what a lawful journal gives.
+-- Theorem: consistent tables report the state of a lawful journal.
 abbrev pub FineTablesAreLawful : Type 0
 FineTablesAreLawful = (meter : Installed) (tables : Tables) → IsWellInstalled meter
     → AreFine meter tables → AreLawful meter tables
 
--- Theorem: the tables of every lawful journal are fine.
+-- Theorem: the tables of every lawful journal are consistent.
 abbrev pub LawfulTablesAreFine : Type 0
 LawfulTablesAreFine = (meter : Installed) (lines : Journal) → IsWellInstalled meter
     → AreFitting meter lines
     → AreFine meter (tables_of meter (rows_of meter.opening lines))
 
--- The state of a check that has passed these rows.
+-- The state of a check that has passed a given list of rows.
 abbrev pub check_after : Installed → List EntryRow → Check
 check_after meter rows = record {
   place = length rows + 1;
@@ -65,13 +67,14 @@ check_after meter rows = record {
   stands = last_stands rows;
 }
 
--- All these rows fit, and `check` is the state after them.
+-- The rules accept each row of the list after the rows before it, and `check` is the state of the
+-- check after all rows.
 pub record HasTaken (meter : Installed) (rows : List EntryRow) (check : Check) : Type 0 where
   pub fit : AllFit meter rows
   pub check_is : check ≡ check_after meter rows
 
--- The table row is that of a row that fits after `rows`. `after` is the check after that row, and
--- `step` the step to it.
+-- The table row `told` encodes a row that the rules accept after `rows`. `after` is the state of
+-- the check after this row, and `step` is the step to the row's entry.
 pub record IsTaken (meter : Installed) (rows : List EntryRow) (told : TableRow) (after : Check)
     (step : Option Step) : Type 0 where
   pub row : EntryRow
@@ -79,34 +82,34 @@ pub record IsTaken (meter : Installed) (rows : List EntryRow) (told : TableRow) 
   pub taken : HasTaken meter (row ∷ rows) after
   pub step_is : step ≡ step_past meter.range (last_after meter (entries_in rows)) row
 
--- Theorem: each table row that passes is the table row of a row that fits.
+-- Theorem: a table row that passes the check encodes an entry row that the rules accept.
 abbrev pub PassedRowsFit : Type 0
 PassedRowsFit = (meter : Installed) (rows : List EntryRow) (check : Check) (told : TableRow)
     (after : Check) (step : Option Step) → IsWellInstalled meter → HasTaken meter rows check
     → passed meter check told ≡ Ok (after, step)
     → IsTaken meter rows told after step
 
--- Theorem: the table row of each row that fits passes.
+-- Theorem: the table row of an entry row that the rules accept passes the check.
 abbrev pub FittingRowsPass : Type 0
 FittingRowsPass = (meter : Installed) (rows : List EntryRow) (check : Check) (row : EntryRow)
     → IsWellInstalled meter → HasTaken meter rows check → RowFits meter rows row
     → IsOk (passed meter check (table_row (scale_after meter (row ∷ rows)) row))
 
--- Theorem: rows that fit can be read back from the table, because different rows have different
--- table rows.
+-- Theorem: two different lists of entry rows that the rules accept never have the same table rows.
+-- The entry rows can therefore be read back from the table.
 abbrev pub RowsAreToldApart : Type 0
 RowsAreToldApart = (meter : Installed) (rows others : List EntryRow) → AllFit meter rows
     → AllFit meter others → later_rows meter rows ≡ later_rows meter others → rows ≡ others
 
--- A check has passed these table rows, the latest first. They are those of rows that fit, and
--- `check` is the state after them.
+-- The check has passed a list of table rows, which begins with the latest. They encode entry rows
+-- that the rules accept, and `check` is the state of the check after them.
 pub record HasPassed (meter : Installed) (told : List TableRow) (check : Check) : Type 0 where
   pub rows : List EntryRow
   pub taken : HasTaken meter rows check
   pub told_is : told ≡ later_rows meter rows
 
--- The check passed the table rows before index `at.index`, and refused the row at that index for
--- `at.fault`.
+-- The check passed the table rows before the index `at.index`, and refused the row at this index
+-- for `at.fault`.
 pub record IsFirstRefused (meter : Installed) (told : List TableRow) (at : RefusedRow) :
     Type 0 where
   pub check : Check

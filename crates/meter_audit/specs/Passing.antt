@@ -1,4 +1,5 @@
--- The rules by which a row passes after those before it, or is refused for the first fault.
+-- The rules by which a table row passes the check after the rows before it, or is refused for its
+-- first fault.
 use Rattle.std.specs.Prelude.{ℕ, ◌+◌, ◌^◌, ◌<◌, ◌≤◌, ◌==◌, nat_lt, nat_le, Bool, true, false, not, ◌&&◌, Option, Some, None, Result, Ok, Err, if◌then◌else◌}
 use Rattle.std.specs.Ordering.{int_eq}
 use Rattle.energy_core.specs.declared.limits.TheConstants.{MAX_CEILING, MAX_TOTAL}
@@ -28,20 +29,20 @@ use Rattle.meter_audit.specs.declared.rows.RowKind.{RowKind}
 use Rattle.meter_audit.specs.declared.rows.RowKind.TheVariants as row_kind
 use Rattle.meter_audit.specs.declared.rows.TableRow.{TableRow}
 
--- The meter may be checked: its range, its ceiling and its opening are lawful.
+-- The meter may be checked: its range, ceiling and opening entry are within their limits.
 pub record MayBeChecked (meter : Installed) : Type 0 where
   pub range : IsRange meter.range
   pub ceiling : (1 ≤ meter.ceiling) × (meter.ceiling ≤ MAX_CEILING)
   pub installed : IsWellInstalled meter
 
--- The invariant of a check after any rows of this meter.
+-- The invariant of the state of a check after any rows of a meter.
 pub record IsSoundCheck (meter : Installed) (check : Check) : Type 0 where
   pub place : check.place < 2 ^ 63
   pub total : check.total ≤ MAX_TOTAL
   pub raw : check.last.raw < meter.range
   pub scale : IsScale check.last.sf
 
--- The state of a check that has seen only the opening.
+-- The state of a check after the opening row.
 abbrev pub begun : Installed → Check
 begun meter = record {
   place = 1;
@@ -51,7 +52,7 @@ begun meter = record {
   stands = true;
 }
 
--- The kind of an entry by its column in the table, or `None` for an opening.
+-- The kind of an entry, given the kind column of its table row, or `None` for an opening.
 abbrev pub kind_in : RowKind → Option EntryKind
 kind_in row_kind.Opening = None
 kind_in row_kind.Reading = Some kind.Reading
@@ -60,32 +61,33 @@ kind_in row_kind.Closing = Some kind.Closing
 kind_in row_kind.Reset = Some kind.Reset
 kind_in row_kind.Rescale = Some kind.Rescale
 
--- Entries of this kind set the counter to another number: resets and rescales.
+-- Entries of this kind set the counter to another count, which resets and rescales do.
 abbrev pub is_change : EntryKind → Bool
 is_change kind.Reset = true
 is_change kind.Rescale = true
 is_change _ = false
 
--- The entry that a table row of this kind records.
+-- The entry that a table row of the kind `k` records.
 abbrev pub entry_in : EntryKind → TableRow → Entry
 entry_in k row =
     if is_change k then entry.Change row.moment row.raw row.after row.sf
     else entry.Step row.moment row.raw row.rolls
 
--- A column that entries of this kind do not use is not 0.
+-- Whether a column is not 0 although entries of the kind `k` do not use it.
 abbrev pub has_unused : EntryKind → TableRow → Bool
 has_unused k row = if is_change k then not (row.rolls == 0) else not (row.after == 0)
 
--- Entries of this kind are rescales.
+-- The kind of an entry is a rescale.
 abbrev pub is_rescale : EntryKind → Bool
 is_rescale kind.Rescale = true
 is_rescale _ = false
 
--- The row changes the scale factor, which only a rescale may do.
+-- The row changes the scale factor although it is not a rescale.
 abbrev pub is_off_scale : Check → EntryKind → TableRow → Bool
 is_off_scale check k row = not (is_rescale k) && not (int_eq row.sf check.last.sf)
 
--- The kind of a row if its columns are those of that kind; otherwise the first fault.
+-- The kind of a row whose sequence number is correct, if the row may follow and its columns suit
+-- its kind. Otherwise, the first fault.
 abbrev pub shape_by : Check → TableRow → Option EntryKind → Result EntryKind RowFault
 shape_by check row None = Err fault.OpenedAgain
 shape_by check row (Some k) =
@@ -94,26 +96,26 @@ shape_by check row (Some k) =
     if has_unused k row then Err fault.Unused else
     if is_off_scale check k row then Err (fault.Scale check.last.sf) else Ok k
 
--- The kind of a row with the next sequence number and with columns that its kind may have;
--- otherwise the first fault.
+-- The kind of a row, if the row has the next sequence number and its columns suit its kind.
+-- Otherwise, the first fault.
 abbrev pub shape_of : Check → TableRow → Result EntryKind RowFault
 shape_of check row =
     if row.place == check.place + 1 then shape_by check row (kind_in row.kind)
     else Err (fault.Place (check.place + 1))
 
--- The fault of a reading with this verdict: it was rejected, or its rollovers differ from the
--- accepted ones. `None` if neither applies.
+-- The fault of a reading, given the verdict on it: the rules rejected the reading, or its rollovers
+-- differ from the accepted number. `None` if neither is the case.
 abbrev pub fault_by : (rolls : ℕ) → Verdict → Option RowFault
 fault_by rolls (verdict.Held why) = Some (fault.Held why)
 fault_by rolls (verdict.Accepted wanted step) =
     if rolls == wanted then None else Some (fault.Rolls wanted)
 
--- The terms by which a check judges a reading.
+-- The ceiling and the total energy by which a check judges a reading.
 abbrev pub terms_of : Installed → Check → Terms
 terms_of meter check = record { ceiling = meter.ceiling; total = check.total }
 
--- The fault of a row that is checked as a valid reading; `None` if it has none, or if its kind is
--- no reading.
+-- The fault of a row as a valid reading, or `None` if the reading has no fault or the row's kind is
+-- not a reading.
 abbrev pub reading_fault : Installed → Check → EntryKind → TableRow → Option RowFault
 reading_fault meter check k row =
     if is_reading k
@@ -121,13 +123,13 @@ reading_fault meter check k row =
     (reading_at check.last row.moment row.raw))
     else None
 
--- The fault of a voided row directly after a valid row, where it is checked like a valid reading.
--- `None` after a voided row.
+-- The fault of a voided reading that directly follows a valid row, which is checked like a valid
+-- reading. `None` if the row before is voided.
 abbrev pub stood_fault : Installed → Check → EntryKind → TableRow → Option RowFault
 stood_fault meter check k row = if check.stands then reading_fault meter check k row else None
 
--- The fault of any voided reading: it shows 0 or a number not below the range, is not later than
--- the last valid entry, or has more than one rollover.
+-- The fault of any voided reading. The reading shows 0 or a count not below the range, is not later
+-- than the last valid entry, or has more than one rollover.
 abbrev pub voided_fault : Installed → Check → TableRow → Option RowFault
 voided_fault meter check row =
     if row.raw == 0 then Some (fault.Held cause.NotAccumulated) else
@@ -135,7 +137,7 @@ voided_fault meter check row =
     if nat_le row.moment check.last.at then Some (fault.Held cause.NotLater) else
     if nat_lt 1 row.rolls then Some (fault.Rolls 1) else None
 
--- The fault as an error if there is one, otherwise the given result.
+-- A fault as an error, or the given result if there is no fault.
 abbrev pub unless : {X : Type 0} → Option RowFault → Result X RowFault → Result X RowFault
 unless (Some f) answer = Err f
 unless None answer = answer
@@ -145,8 +147,8 @@ abbrev pub energy_in : Option Step → ℕ
 energy_in None = 0
 energy_in (Some step) = step.mwh
 
--- The check after a recorded entry with the step to it, or the fault for which the entry was
--- refused.
+-- The state of the check after an entry was recorded, with the step to the entry. If the entry was
+-- refused, the fault as an error.
 abbrev pub following : Check → EntryKind → TableRow → Result (Last × Step) TermFault
     → Result (Check × Option Step) RowFault
 following check k row (Err f) = Err (fault.Refused f)
@@ -161,13 +163,14 @@ following check k row (Ok (last, step)) = Ok (
   Some step,
 )
 
--- The check after a valid row with the step to it, or the first fault.
+-- The state of the check after a valid row, with the step to the row's entry, or the first fault of
+-- the row.
 abbrev pub stood : Installed → Check → EntryKind → TableRow → Result (Check × Option Step) RowFault
 stood meter check k row =
     unless (reading_fault meter check k row)
     (following check k row (entered meter.range check.total check.last (entry_in k row)))
 
--- The check after a voided row, to which no step leads, or the first fault.
+-- The state of the check after a voided row, which has no step, or the first fault of the row.
 abbrev pub voided : Installed → Check → EntryKind → TableRow
     → Result (Check × Option Step) RowFault
 voided meter check k row =
@@ -175,14 +178,15 @@ voided meter check k row =
     (unless (stood_fault meter check k row)
     (Ok (record check { place = row.place; stands = false }, None)))
 
--- The check after a row of this kind, valid or voided, or the first fault.
+-- The state of the check after a valid or voided row of the given kind, or the first fault of the
+-- row.
 abbrev pub passed_by : Installed → Check → TableRow → Result EntryKind RowFault
     → Result (Check × Option Step) RowFault
 passed_by meter check row (Err f) = Err f
 passed_by meter check row (Ok k) =
     if row.is_voided then voided meter check k row else stood meter check k row
 
--- The check after a row with the step to it, which a voided row does not have; or the first
--- fault.
+-- The state of the check after a table row, with the step to the row's entry, or the first fault. A
+-- voided row has no step.
 abbrev pub passed : Installed → Check → TableRow → Result (Check × Option Step) RowFault
 passed meter check row = passed_by meter check row (shape_of check row)

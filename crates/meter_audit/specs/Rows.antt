@@ -14,7 +14,7 @@ use Rattle.meter_audit.specs.declared.rows.RowKind.{RowKind}
 use Rattle.meter_audit.specs.declared.rows.RowKind.TheVariants as row_kind
 use Rattle.meter_audit.specs.declared.rows.TableRow.{TableRow}
 
--- The kind of a table row for entries of this kind.
+-- The kind column of a table row, given the kind of its entry.
 abbrev pub kind_as : EntryKind → RowKind
 kind_as kind.Reading = row_kind.Reading
 kind_as kind.Manual = row_kind.Manual
@@ -22,26 +22,26 @@ kind_as kind.Closing = row_kind.Closing
 kind_as kind.Reset = row_kind.Reset
 kind_as kind.Rescale = row_kind.Rescale
 
--- The number that the counter showed. For a change, that is the number before it.
+-- The count that the counter showed at an entry. For a change, it is the count before the change.
 abbrev pub raw_of : Entry → ℕ
 raw_of (entry.Step at raw rolls) = raw
 raw_of (entry.Change at before after sf) = before
 
--- The rollovers that the entry records; 0 for a change.
+-- The number of rollovers that an entry records, which is 0 for a change.
 abbrev pub rolls_of : Entry → ℕ
 rolls_of (entry.Step at raw rolls) = rolls
 rolls_of (entry.Change at before after sf) = 0
 
--- The number to which a change set the counter, or 0 for another entry.
+-- The count to which a change set the counter, or 0 for other entries.
 abbrev pub after_of : Entry → ℕ
 after_of (entry.Step at raw rolls) = 0
 after_of (entry.Change at before after sf) = after
 
--- The counter's scale factor after these rows.
+-- The counter's scale factor after the valid rows of a list.
 abbrev pub scale_after : Installed → List EntryRow → ℤ
 scale_after meter rows = (last_after meter (entries_in rows)).sf
 
--- The table row of an entry's row, if `sf` is the scale factor after it.
+-- The table row of an entry, where `sf` is the scale factor after the entry.
 abbrev pub table_row : (sf : ℤ) → EntryRow → TableRow
 table_row sf row = record {
   place = row.place;
@@ -54,7 +54,7 @@ table_row sf row = record {
   is_voided = not row.stands;
 }
 
--- The table row of an opening.
+-- The table row of the opening entry of a meter.
 abbrev pub opening_row : Last → TableRow
 opening_row opening = record {
   place = 1;
@@ -67,12 +67,14 @@ opening_row opening = record {
   is_voided = false;
 }
 
--- The table rows of these rows, each with the scale factor after it, the latest first.
+-- The table rows of a list of entry rows, each with the scale factor after its entry. The latest
+-- row comes first.
 abbrev pub later_rows : Installed → List EntryRow → List TableRow
 later_rows meter [] = []
 later_rows meter (row ∷ rows) =
     table_row (scale_after meter (row ∷ rows)) row ∷ later_rows meter rows
 
--- The table rows of the opening and of these rows after it, the latest first.
+-- The table rows of a meter: the opening row, and the rows of all later entries. The latest row
+-- comes first.
 abbrev pub table_rows : Installed → List EntryRow → List TableRow
 table_rows meter rows = later_rows meter rows ++ opening_row meter.opening ∷ []

@@ -1,4 +1,4 @@
-//! Checks the rows of a meter in the table of entries, one after another, in constant memory.
+//! Checks the entry rows of a meter one after another, in constant memory.
 ghost use Rattle.std.specs.Prelude.{◌≡◌, ◌+◌, ◌<◌, ◌^◌, IfOk};
 ghost use Rattle.std.specs.Option.{ForSome};
 ghost use Rattle.energy_core.specs.Laws.{IsShareable};
@@ -10,8 +10,8 @@ use crate::rows::{TableRow, entry_of, has_unused, kind_of};
 use energy_core::{Cause, Last, Ranged, Reading, Step, Terms, Verdict, enter, judge};
 use meter_journal::{EntryKind, Installed};
 
-/// The state of a check after a row: the row's sequence number, the last valid entry, the energy in
-/// mWh, whether the meter was closed, and whether the row is valid.
+/// The state of a check after an entry row: its sequence number, the last valid entry, the energy
+/// in mWh, whether the meter was closed, and whether the row is valid.
 #[derive(Clone, Copy, Debug, PartialEq, Eq)]
 pub struct Check {
     pub place: u64,
@@ -21,7 +21,7 @@ pub struct Check {
     pub stands: bool,
 }
 
-/// Returns the state of a check that has seen only the opening.
+/// Returns the state of a check after the opening row.
 pub fn begin(meter: &Installed) -> Check
     requires { passing.MayBeChecked meter.now }
     ensures value { result ≡ passing.begun meter.now }
@@ -36,7 +36,7 @@ pub fn begin(meter: &Installed) -> Check
     }
 }
 
-/// Returns whether entries of this kind are readings.
+/// Returns whether entries of this kind are accepted readings.
 fn is_reading(kind: EntryKind) -> bool
     ensures { result ≡ journal.is_reading kind }
 {
@@ -46,7 +46,7 @@ fn is_reading(kind: EntryKind) -> bool
     }
 }
 
-/// Returns whether a row changes the scale factor, which only a rescale may do.
+/// Returns whether a row changes the scale factor although it is not a rescale.
 fn is_off_scale(check: &Check, kind: EntryKind, row: &TableRow) -> bool
     ensures { result ≡ passing.is_off_scale check.now kind row.now }
 {
@@ -58,8 +58,8 @@ fn is_off_scale(check: &Check, kind: EntryKind, row: &TableRow) -> bool
     }
 }
 
-/// Returns the kind of a row with the next sequence number and with columns that its kind may
-/// have; otherwise the first fault.
+/// Returns the kind of a row, or the first fault. The row needs the next sequence number, and
+/// columns that its kind allows.
 fn shape(check: &Check, row: &TableRow) -> Result<EntryKind, RowFault>
     requires { check.now.place < 2 ^ 63 }
     ensures { result ≡ passing.shape_of check.now row.now }
@@ -88,8 +88,8 @@ fn shape(check: &Check, row: &TableRow) -> Result<EntryKind, RowFault>
     Ok(kind)
 }
 
-/// Returns the fault of a row that is checked as a valid reading, or `None` if it has none or its
-/// kind is no reading.
+/// Returns the fault of a row as a valid reading. Returns `None` if the reading has no fault, or if
+/// the row's kind is not a reading.
 fn reading_fault(
     meter: &Installed,
     check: &Check,
@@ -127,7 +127,8 @@ fn reading_fault(
     }
 }
 
-/// Returns the fault of a voided row directly after a valid row, or `None`.
+/// Returns the fault of a voided reading that directly follows a valid row. Returns `None` without
+/// a fault, or if the row before is voided.
 fn stood_fault(
     meter: &Installed,
     check: &Check,
@@ -145,7 +146,8 @@ fn stood_fault(
     }
 }
 
-/// Returns the fault of a voided reading after any row, or `None`.
+/// Returns the fault of a voided reading, whether or not the row before it is valid. Returns `None`
+/// without a fault.
 fn voided_fault(meter: &Installed, check: &Check, row: &TableRow) -> Option<RowFault>
     ensures { result ≡ passing.voided_fault meter.now check.now row.now }
 {
@@ -164,7 +166,8 @@ fn voided_fault(meter: &Installed, check: &Check, row: &TableRow) -> Option<RowF
     None
 }
 
-/// Returns the check after a valid row, with the step to it; or the first fault.
+/// Returns the state of the check after a valid row, and the step to the row's entry. On error,
+/// returns the first fault of the row.
 fn stand(
     meter: &Installed,
     check: &Check,
@@ -204,11 +207,11 @@ fn stand(
     }
 }
 
-/// Checks the next row. Returns the check after it, and the step to it, which a voided row does not
-/// have. On error, returns the first fault.
+/// Checks the next row. Returns the state of the check after the row, and the step to the row's
+/// entry. A voided row has no step. On error, returns the first fault of the row.
 ///
-/// To continue after a refused row, set the check's `place` to that of the row, and change nothing
-/// else.
+/// To continue after a refused row, set `place` of the check to the row's sequence number, and
+/// change nothing else.
 pub fn pass(
     meter: &Installed,
     check: &Check,

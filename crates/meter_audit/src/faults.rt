@@ -1,27 +1,29 @@
-//! Why a row may not follow the rows before it.
+//! The reasons why an entry row may not follow the rows before it.
 
 use energy_core::{Cause, TermFault};
 
-/// Why a row may not follow the rows before it.
+/// The reason why an entry row may not follow the rows before it.
 #[derive(Clone, Copy, Debug, PartialEq, Eq)]
 pub enum RowFault {
-    /// The row has another sequence number than the next one, which is `wanted`.
+    /// The row does not have the next sequence number, which is `wanted`.
     Place { wanted: u64 },
-    /// The row is an opening, and the meter was opened before.
+    /// The row is an opening, but the meter has an opening already.
     OpenedAgain,
-    /// The row follows a closing, after which no row may come.
+    /// The row follows the closing of the meter, which must be the last row.
     AfterClosing,
-    /// A void names the row. The row is no reading, so it cannot be voided.
+    /// The row is voided but is not a reading. Only readings can be voided.
     CannotBeVoided,
-    /// A column that the kind does not use is not 0: `after` of a step, or `rolls` of a change.
+    /// A column that the row's kind does not use is not 0: `after` in a step, or `rolls` in a
+    /// change.
     Unused,
-    /// The row changes the scale factor and is no rescale.
+    /// The row changes the scale factor but is not a rescale. The expected scale factor is
+    /// `wanted`.
     Scale { wanted: i16 },
-    /// The row is a reading that would have been rejected.
+    /// The row is a reading that the rules would have rejected for this cause.
     Held(Cause),
-    /// The row is a valid reading whose rollovers are not those that the entry before it gives,
-    /// or a voided reading with more than one.
+    /// The rollovers of a reading are wrong, and `wanted` is the expected number. A valid reading
+    /// needs the rollovers computed from the entry before it, and a voided reading has at most one.
     Rolls { wanted: u8 },
-    /// The row is an entry by hand that would have been refused.
+    /// The row is an entry by hand that the rules would have refused for this fault.
     Refused(TermFault),
 }

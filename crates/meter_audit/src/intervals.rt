@@ -1,22 +1,24 @@
-//! Compares the interval rows of a table with those that the entries give.
+//! Compares the interval rows of a table with the interval rows computed from the meter's entries.
 ghost use Rattle.std.specs.Prelude.{◌≡◌, ◌↔◌, ◌<◌, ◌^◌, IsNone, IfSome};
 ghost use Rattle.meter_audit.specs.Comparing.{fault_between, difference_after, IsFirst};
 
 use interval_core::Share;
 
-/// How an interval row of a table differs from the row that the entries give, in mWh.
+/// The difference between an interval row of a table and the row computed from the meter's entries.
+/// Energies are in mWh.
 #[derive(Clone, Copy, Debug, PartialEq, Eq)]
 pub enum IntervalFault {
-    /// The table lacks a row that the entries give.
+    /// The table lacks an interval row that was computed from the entries.
     Missing { start: u64, wanted: u64 },
-    /// The table has a row that the entries do not give.
+    /// The table has an interval row that was not computed from the entries.
     Unwanted { start: u64, has: u64 },
-    /// The row in the table has another energy.
+    /// The interval row in the table has an energy other than the computed energy.
     Differs { start: u64, has: u64, wanted: u64 },
 }
 
-/// The first difference between two lists of interval rows: `same` equal rows come before it.
-/// `wanted_done` and `found_done` count the rows of each list up to and with the difference.
+/// The first difference between computed and stored interval rows, after `same` equal rows.
+/// `wanted_done` and `found_done` count the computed and the stored rows up to and including the
+/// difference.
 #[derive(Clone, Copy, Debug, PartialEq, Eq)]
 pub struct IntervalDifference {
     pub same: usize,
@@ -25,8 +27,8 @@ pub struct IntervalDifference {
     pub found_done: usize,
 }
 
-/// Returns how the two rows differ, or `None` if they are equal. If their starts differ, only the
-/// earlier row is reported.
+/// Returns how a computed and a stored interval row differ, or `None` if they are equal. If the
+/// starts of both rows differ, only the earlier row is reported.
 fn between(wanted: &Share, found: &Share) -> Option<IntervalFault>
     ensures { result ≡ fault_between wanted.now found.now }
 {
@@ -52,7 +54,8 @@ fn between(wanted: &Share, found: &Share) -> Option<IntervalFault>
     })
 }
 
-/// Returns the first difference of two lists of interval rows, after `same` equal rows.
+/// Returns the first difference between two lists of interval rows, given the number of equal rows
+/// before it.
 fn difference_at(same: usize, fault: IntervalFault) -> IntervalDifference
     requires { same < 2 ^ 63 }
     ensures { result ≡ difference_after same fault }
@@ -70,9 +73,9 @@ fn difference_at(same: usize, fault: IntervalFault) -> IntervalDifference
     }
 }
 
-/// Returns the first difference between the rows that the entries give and the rows that were
-/// found, or `None`. Both are in order of their starts. To continue, skip `wanted_done` and
-/// `found_done` rows.
+/// Returns the first difference between computed and stored interval rows, or `None` if the lists
+/// are equal. Both lists must be in order of their starts. To continue, skip `wanted_done` computed
+/// rows and `found_done` stored rows.
 pub fn first_difference(wanted: &[Share], found: &[Share]) -> Option<IntervalDifference>
     ensures none { IsNone result ↔ (found.now ≡ wanted.now) }
     ensures first { IfSome result (IsFirst wanted.now found.now) }

@@ -1,5 +1,6 @@
-//! Theorems on rows that fit: each may follow the rows before it. Each theorem is the contract of
-//! a function, whose body calls the theorem that the proof needs, or is empty.
+//! Theorems about lists of rows in which each row may follow the rows before it. Each theorem is
+//! the contract of a function. The function's body calls the theorem that the proof needs, or is
+//! empty.
 ghost use Rattle.meter_audit.specs.Laws.{RowsOfJournalsFit, FittingRowsStandAlone};
 ghost use Rattle.meter_audit.specs.Laws.{FineTablesAreLawful, LawfulTablesAreFine};
 ghost use Rattle.meter_audit.specs.Laws.{PassedRowsFit, FittingRowsPass, RowsAreToldApart};
@@ -7,50 +8,54 @@ ghost use Rattle.meter_audit.specs.Going.{FinishedIsFine, RefusedIsNotFine};
 
 use meter_journal::interval_rows_add_up;
 
-/// Theorem: the rows of every lawful journal fit, the voided ones included.
+/// Theorem: the rules accept each row of a lawful journal after the rows before it, including
+/// voided rows.
 pub fn rows_of_journals_fit()
     ensures { RowsOfJournalsFit }
 {}
 
-/// Theorem: of rows that fit, the valid ones are a lawful journal by themselves.
+/// Theorem: if the rules accept each row of a list after the rows before it, the valid rows alone
+/// form a lawful journal.
 pub fn fitting_rows_stand_alone()
     ensures { FittingRowsStandAlone }
 {}
 
-/// Theorem: fine tables report what some lawful journal gives, so their interval rows add up to the
-/// energy.
+/// Theorem: consistent tables report the state of a lawful journal, so their interval rows add up
+/// to their energy.
 pub fn fine_tables_are_lawful()
     ensures { FineTablesAreLawful }
 {
     interval_rows_add_up();
 }
 
-/// Theorem: the tables of every lawful journal are fine.
+/// Theorem: the tables of every lawful journal are consistent.
 pub fn lawful_tables_are_fine()
     ensures { LawfulTablesAreFine }
 {}
 
-/// Theorem: each table row that passes is the row of an entry that fits.
+/// Theorem: a table row that passes the check encodes an entry row that the rules accept.
 pub fn passed_rows_fit()
     ensures { PassedRowsFit }
 {}
 
-/// Theorem: the table row of each entry that fits passes.
+/// Theorem: the table row of an entry row that the rules accept passes the check.
 pub fn fitting_rows_pass()
     ensures { FittingRowsPass }
 {}
 
-/// Theorem: rows that fit can be read back from the table.
+/// Theorem: two different lists of entry rows that the rules accept never have the same table rows.
 pub fn rows_are_told_apart()
     ensures { RowsAreToldApart }
 {}
 
-/// Theorem: after all rows of a meter, its tables are fine exactly if they agree with the check.
+/// Theorem: after all rows of a meter passed, the meter's tables are consistent if and only if they
+/// agree with the check.
 pub fn finished_is_fine()
     ensures { FinishedIsFine }
 {}
 
-/// Theorem: after a refused row, no rows that contain it are rows that fit.
+/// Theorem: after the check refuses a row, no table that contains this row and the rows before it
+/// is consistent.
 pub fn refused_is_not_fine()
     ensures { RefusedIsNotFine }
 {}

@@ -1,4 +1,5 @@
-//! Whether the rows of a meter are those of a lawful journal, regardless of who wrote them.
+//! Checks whether the table rows of a meter are the rows of a lawful journal, whichever program
+//! wrote them.
 #![tactic(auto)]
 
 mod carried;

@@ -1,4 +1,4 @@
-//! Checks all rows of a meter at once.
+//! Checks all entry rows of a meter at once.
 ghost use Rattle.std.specs.Prelude.{◌<◌, ◌^◌, All, reverse, IfOk, IfErr};
 ghost use Rattle.meter_audit.specs.Fitting.{AreTold};
 ghost use Rattle.meter_audit.specs.Passing.{MayBeChecked};
@@ -10,15 +10,15 @@ use crate::laws::passed_rows_fit;
 use crate::rows::TableRow;
 use meter_journal::Installed;
 
-/// The first row that may not follow those before it, by its index, and the reason.
+/// The index of the first row that may not follow the rows before it, and the reason.
 #[derive(Clone, Copy, Debug, PartialEq, Eq)]
 pub struct RefusedRow {
     pub index: usize,
     pub fault: RowFault,
 }
 
-/// Checks the rows after an opening, in order of their sequence numbers. Returns the check after
-/// all of them, or the first row that is refused.
+/// Checks the rows after the opening row, in order of their sequence numbers. Returns the state of
+/// the check after all rows. On error, returns the first refused row.
 pub fn check_rows(meter: &Installed, rows: &[TableRow]) -> Result<Check, RefusedRow>
     requires meter { MayBeChecked meter.now }
     requires places { All (λ row. row.place < 2 ^ 63) rows.now }

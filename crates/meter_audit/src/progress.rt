@@ -1,4 +1,4 @@
-//! A check of a meter in progress: of its rows, and of the interval rows that they give.
+//! The progress of a check of a meter's entry rows, and of the interval rows computed from them.
 ghost use Rattle.std.specs.Prelude.{◌≡◌, ◌<◌, ◌^◌, [], drop};
 ghost use Rattle.std.specs.Prelude.{IfOk, OnOk};
 ghost use Rattle.meter_journal.specs.declared.lines.Installed.{Installed as TheMeter};
@@ -13,15 +13,16 @@ use interval_core::{Share, shares_add_up};
 use meter_journal::{Installed, append_shares};
 use std::alloc::{AllocError, Global};
 
-/// The check after a row, and the pending interval rows. The entries so far give these rows, and
-/// nobody has compared them yet. The next entry may add to the last of them, and to no earlier one.
+/// The state of the check after an entry row, and the pending interval rows. These rows were
+/// computed from the entries and have not been compared with the table yet. The next entry may add
+/// energy only to the last pending row.
 #[derive(Debug, Drop)]
 pub struct Progress {
     pub check: Check,
     pub wanted: Vec<Share>,
 }
 
-/// Begins a check after the opening. Keeps the allocator, and allocates nothing.
+/// Begins a check after the opening row. Stores the allocator for later, and allocates nothing.
 pub fn start(alloc: Global, meter: &Installed) -> Progress
     requires { MayBeChecked meter.now }
     ensures sound { IsSoundProgress meter.now result }
@@ -33,10 +34,10 @@ pub fn start(alloc: Global, meter: &Installed) -> Progress
     }
 }
 
-/// Checks the next row. Returns its fault, if it is refused. The check then has the row's sequence
-/// number, and is otherwise unchanged.
+/// Checks the next entry row. Returns the row's fault if the row is refused. In this case, only the
+/// check's sequence number advances.
 ///
-/// The only error is out of memory, after which the pending interval rows are unspecified.
+/// The only error is out of memory. The pending interval rows are unspecified after an error.
 pub fn take_row(
     meter: &Installed,
     progress: &mut Progress,
@@ -65,7 +66,7 @@ pub fn take_row(
     }
 }
 
-// Removes all interval rows except the last.
+// Removes all pending interval rows except the last row.
 fn leave_last(wanted: &mut Vec<Share>)
     ensures { let done = settled_in wanted.old.items in
         wanted.new.items ≡ drop done wanted.old.items }
@@ -78,7 +79,8 @@ fn leave_last(wanted: &mut Vec<Share>)
     }
 }
 
-/// Removes the interval rows that no later entry adds to: all except the last.
+/// Removes the pending interval rows to which no later entry can add energy: all rows except the
+/// last.
 pub fn drop_done(progress: &mut Progress)
     ensures sound { (meter : TheMeter) → IsSoundProgress meter progress.old
         → IsSoundProgress meter progress.new }

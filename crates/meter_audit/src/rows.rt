@@ -1,29 +1,29 @@
-//! Rows of the table of entries, as they were read.
+//! The rows of the table of entries, as they were read from the store.
 ghost use Rattle.std.specs.Prelude.{◌≡◌};
 ghost use Rattle.meter_audit.specs.Passing as passing;
 
 use energy_core::Entry;
 use meter_journal::EntryKind;
 
-/// The kind of an entry, as the table of entries says.
+/// The kind of an entry, as the table of entries states it.
 #[derive(Clone, Copy, Debug, PartialEq, Eq)]
 pub enum RowKind {
-    /// The meter was opened.
+    /// The opening of the meter.
     Opening,
-    /// An accepted reading.
+    /// A reading of the meter that the rules accepted.
     Reading,
-    /// A number that a person read and entered.
+    /// A count that a person read from the meter and entered.
     Manual,
-    /// The last number of a meter, when a person closed it.
+    /// The last count of a meter, entered by the person who closed the meter.
     Closing,
-    /// The counter was set to another number.
+    /// A reset: the counter was set to another count.
     Reset,
-    /// The counter was set to another number, at another scale.
+    /// A rescale: the counter was set to another count and to another scale factor.
     Rescale,
 }
 
-/// A row of the table of entries, without its meter. `moment` is in seconds since 1970-01-01 UTC,
-/// and `sf` is the scale factor after the entry.
+/// A row of the table of entries, without the column of its meter. `moment` is in seconds since
+/// 1970-01-01 UTC, and `sf` is the scale factor after the entry.
 #[derive(Clone, Copy, Debug, PartialEq, Eq)]
 pub struct TableRow {
     pub place: u64,
@@ -33,11 +33,11 @@ pub struct TableRow {
     pub rolls: u8,
     pub after: u32,
     pub sf: i16,
-    /// Whether a row of the table of voids names this row.
+    /// Whether the table of voids has a row that names this entry.
     pub is_voided: bool,
 }
 
-/// Returns the kind of the entry, or `None` for an opening.
+/// Returns the kind of the entry that a table row records, or `None` for an opening.
 pub(crate) fn kind_of(row: &TableRow) -> Option<EntryKind>
     ensures { result ≡ passing.kind_in row.now.kind }
 {
@@ -51,7 +51,7 @@ pub(crate) fn kind_of(row: &TableRow) -> Option<EntryKind>
     }
 }
 
-/// Returns the entry that a table row of this kind records.
+/// Returns the entry that a table row of the kind `kind` records.
 pub(crate) fn entry_of(kind: EntryKind, row: &TableRow) -> Entry
     ensures { result ≡ passing.entry_in kind row.now }
 {
@@ -70,7 +70,7 @@ pub(crate) fn entry_of(kind: EntryKind, row: &TableRow) -> Entry
     }
 }
 
-/// Returns whether a column that entries of this kind do not use is not 0.
+/// Returns whether a column is not 0 although entries of the kind `kind` do not use it.
 pub(crate) fn has_unused(kind: EntryKind, row: &TableRow) -> bool
     ensures { result ≡ passing.has_unused kind row.now }
 {

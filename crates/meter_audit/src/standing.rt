@@ -1,10 +1,10 @@
-//! Compares the row of an installation with what its entries give.
+//! Compares the row of an installation with the values computed from the installation's entries.
 ghost use Rattle.std.specs.Prelude.{◌≡◌, ◌↔◌, IsTrue, IsNone, IfSome};
 
 use crate::checks::Check;
 use energy_core::Last;
 
-/// What the row of an installation says of its meter: its last valid entry, its energy in mWh, and
+/// The values in the row of an installation: the meter's last valid entry, its energy in mWh, and
 /// whether it was closed.
 #[derive(Clone, Copy, Debug, PartialEq, Eq)]
 pub struct Standing {
@@ -13,8 +13,8 @@ pub struct Standing {
     pub is_ended: bool,
 }
 
-/// For each value of the installation's row that differs, the value that the entries give; `None`
-/// for an equal value.
+/// The computed values that differ from those in the row of an installation. A field is `None` if
+/// the row has the computed value.
 #[derive(Clone, Copy, Debug, PartialEq, Eq)]
 pub struct StandingFaults {
     pub last: Option<Last>,
@@ -22,14 +22,15 @@ pub struct StandingFaults {
     pub is_ended: Option<bool>,
 }
 
-/// Returns whether two entries of a counter are the same.
+/// Returns whether two states of a counter are equal.
 fn is_same(last: &Last, other: &Last) -> bool
     ensures { IsTrue result ↔ (last.now ≡ other.now) }
 {
     last.at == other.at && last.raw == other.raw && last.sf == other.sf
 }
 
-/// Returns how the row of an installation differs from the check after all its entries.
+/// Returns the differences between the row of an installation and the state of the check after all
+/// entries.
 pub fn standing_faults(check: &Check, standing: &Standing) -> StandingFaults
     ensures last { IsNone result.last ↔ (standing.now.last ≡ check.now.last) }
     ensures total { IsNone result.total ↔ (standing.now.total ≡ check.now.total) }

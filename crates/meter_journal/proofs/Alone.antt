@@ -1,4 +1,4 @@
--- The valid entries are a journal by themselves.
+-- The valid entries of a journal form a lawful journal without voids.
 use Rattle.std.proofs.Common.{◌≡◌, true, false, List, [], ◌∷◌, map, refl, sym, ap, subst, ◌∙◌, inl, inr}
 use Rattle.std.proofs.lemmas.Bool.{cases_Bool, cond-true, cond-false}
 use Rattle.energy_core.specs.declared.entries.Last.{Last}
@@ -14,12 +14,12 @@ use Rattle.meter_journal.specs.Laws.{VoidsLeaveNoTrace}
 use Rattle.meter_journal.proofs.Keeping.{rows_are_sound}
 use Rattle.meter_journal.proofs.AsEntered.{AreRowsOf, rows_are_entered, stands_on}
 
--- Rows that are entered in order leave their own entries.
+-- The journal that records the entries of a list of rows produces exactly these entries.
 entries_alone : (opening : Last) (rows : List EntryRow) → entries_of opening (entering rows) ≡ map (λ row. row.entry) rows
 entries_alone opening [] = refl
 entries_alone opening (row ∷ rows) = ap (λ (es : List Entry). row.entry ∷ es) (entries_alone opening rows)
 
--- None of the rows is a closing.
+-- No row of the list is a closing of the meter.
 abbrev AllOpen : List EntryRow → Type 0
 AllOpen [] = Unit {0}
 AllOpen (row ∷ rows) = (is_closing row.kind ≡ false) × AllOpen rows

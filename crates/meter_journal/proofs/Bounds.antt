@@ -1,4 +1,4 @@
--- The energy before the beginning of an interval.
+-- The energy of a true run before the start of an interval.
 use Rattle.std.proofs.Common.{◌≡◌, ℕ, ℤ, ◌+◌, ◌-◌, ◌*◌, ◌%◌, ◌<◌, ◌≤◌, ◌==◌, nat_lt, nat_le, Bool, true, false, cond, if◌then◌else◌, List, [], ◌∷◌, refl, sym, ap, ◌∙◌, inl, inr, arith}
 use Rattle.std.proofs.Math.Nat.{add-mul}
 use Rattle.std.proofs.lemmas.Bool.{cases_Bool, cond-true, cond-false, eqb-true}
@@ -26,7 +26,7 @@ joined_before bound row share shares true e =
     ])
 joined_before bound row share shares false e = omega arith
 
--- Rows and shares together have the energy of both.
+-- The energy of merged rows and shares before a time is the sum of both energies before this time.
 pub merged_before : (bound : ℕ) (rows shares : List Share)
     → energy_before bound (with_shares rows shares) ≡ energy_before bound rows + energy_before bound shares
 merged_before bound [] shares = omega arith
@@ -76,7 +76,7 @@ none_before law bound step h whole le =
 most_before : SharesAddUp → (bound : ℕ) (step : Step) → step.from < step.till → share_before bound step ≤ step.mwh
 most_before law bound step h = omega (arith, before_most bound (shares_of step), (law step h).whole)
 
--- The items of a true run never count less than the first item.
+-- The latest count of a true run is never less than the first count.
 later : (ceiling : ℕ) (sf : ℤ) (first : Item) (items : List Item) → IsTrueRun ceiling sf first items → first.count ≤ (newest first items).count
 later ceiling sf first [] h = omega arith
 later ceiling sf first (b ∷ items) h = omega (arith, h.1, later ceiling sf first items h.3)
@@ -93,8 +93,8 @@ rows_before bound sf first items = energy_before bound (rows_of_steps (true_step
 none_counted : (u n : ℕ) → (n - n) * u ≡ 0
 none_counted u n = let z : n - n ≡ 0 = omega arith in let m : (n - n) * u ≡ 0 * u = ap (λ k. k * u) z in omega arith
 
--- The energy up to the bound is all of the run's energy if the newest item is at or before the
--- bound. It is never more.
+-- The energy of a run before the time `bound` never exceeds the energy of the complete run. Both
+-- energies are equal if the latest item is at or before `bound`.
 whole_run : SharesAddUp → (ceiling : ℕ) (sf : ℤ) (first : Item) (items : List Item) (bound : ℕ) → IsTrueRun ceiling sf first items
     → (rows_before bound sf first items ≤ advance sf first (newest first items))
     × ((newest first items).at ≤ bound → rows_before bound sf first items ≡ advance sf first (newest first items))
@@ -111,8 +111,9 @@ whole_run law ceiling sf first (b ∷ items) bound h =
       λ le. let all = whole_before law bound step h.0 le in let before = rest.1 (omega (arith, le, h.0)) in omega (arith, sum, all, before, on),
     )
 
--- The energy before the beginning of an interval is at least the true energy up to the last item at
--- or before it. It is at most the true energy up to the first item at or after it.
+-- The recorded energy before the start of an interval is at least the true energy up to the last
+-- item at or before this start. It is at most the true energy up to the first item at or after this
+-- start.
 pub truth_is_spread : SharesAddUp → (ceiling : ℕ) (sf : ℤ) (first : Item) (items : List Item) (bound : ℕ) → IsTrueRun ceiling sf first items
     → bound % 900 ≡ 0
     → (advance_to sf first items bound ≤ rows_before bound sf first items) × (rows_before bound sf first items ≤ advance_past sf first items bound)

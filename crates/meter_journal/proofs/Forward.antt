@@ -1,4 +1,5 @@
--- Rows in a list, the oldest first, against rows with the latest first.
+-- Conversion between lists of rows that begin with the oldest row and lists that begin with the
+-- latest row.
 use Rattle.std.proofs.Common.{◌≡◌, ℕ, zero, suc, ◌+◌, ◌<◌, ◌≤◌, ◌==◌, Bool, true, false, cond, List, [], ◌∷◌, ◌++◌, map, reverse, take, drop, length, get_or, set, refl, sym, ap, subst, ◌∙◌, inl, inr, ◌⊎◌, Option, Some, None, arith, append_assoc, eq-eqb}
 use Rattle.std.specs.List.{find}
 use Rattle.std.specs.Option.{option_map, option_or}
@@ -17,7 +18,7 @@ reverse_cons x xs = reverse-append (x ∷ []) xs
 pub reverse_onto : {X : Type 0} (x : X) (xs ys : List X) → reverse (x ∷ xs) ++ ys ≡ reverse xs ++ x ∷ ys
 reverse_onto x xs ys = ap (λ zs. zs ++ ys) (reverse_cons x xs) ∙ append_assoc (reverse xs) (x ∷ []) ys
 
--- The last entry after one more row.
+-- The counter's state after one more row follows from the row and the state before it.
 pub last_on : (opening : Last) (row : EntryRow) (rows : List EntryRow) → last_of opening (entries_in (row ∷ rows)) ≡ following (last_of opening (entries_in rows)) row
 last_on opening row rows =
     elim (cases_Bool row.stands) [
@@ -48,7 +49,8 @@ pub numbered_below : (newer older : List EntryRow) → AreNumbered (newer ++ old
 numbered_below [] older h = h
 numbered_below (row ∷ newer) older h = numbered_below newer older h.1
 
--- Rows in order, each with its sequence number, from a number on.
+-- The rows of a list, the oldest first, have consecutive sequence numbers that begin with a given
+-- number.
 abbrev pub NumberedFrom : ℕ → List EntryRow → Type 0
 NumberedFrom n [] = Unit {0}
 NumberedFrom n (row ∷ rows) = (row.place ≡ n) × NumberedFrom (suc n) rows
@@ -64,15 +66,16 @@ numbered_onto (row ∷ rows) done h =
 pub numbered_from : (rows : List EntryRow) → AreNumbered (latest_first rows) → NumberedFrom 2 rows
 numbered_from rows h = numbered_onto rows [] (subst AreNumbered (sym (append-nil (reverse rows))) h)
 
--- Rows that are numbered from a number on are also numbered from an index on.
+-- If a list of rows has consecutive sequence numbers, each of its tails has consecutive sequence
+-- numbers too.
 pub numbered_drop : (n m i : ℕ) (rows : List EntryRow) → m ≡ i + n → NumberedFrom n rows → NumberedFrom m (drop i rows)
 numbered_drop n m zero rows is h = let e : n ≡ m = omega (arith, is) in subst (λ k. NumberedFrom k rows) e h
 numbered_drop n m (suc i) [] is h = tt
 numbered_drop n m (suc i) (row ∷ rows) is h = numbered_drop (suc n) m i rows (omega (arith, is)) h.1
 
--- ---- a void
+-- ---- the rows after a void
 
--- A void changes the newer rows only by the rollovers that their neighbors give.
+-- Voiding an entry changes the rows after it only by recomputing the rollovers of valid readings.
 void_onto : (opening : Last) (place n : ℕ) (newer before done : List EntryRow) → place < n → NumberedFrom n newer
     → with_void opening place before ≡ done
     → with_void opening place (reverse newer ++ before) ≡ reverse (rolled_on (last_of opening (entries_in done)) newer) ++ done
@@ -87,7 +90,7 @@ void_onto opening place n (row ∷ newer) before done lt h is =
     ∙ ap (λ (l : Last). reverse (rolled_on l newer) ++ next ∷ done) (last_on opening next done)
     ∙ sym (reverse_onto next (rolled_on (following (last_of opening (entries_in done)) next) newer) done)
 
--- After one more step of the loop, one more row has the rollovers that its neighbor gives it.
+-- Recomputing the rollovers of one more row preserves the invariant of the loop.
 pub roll_step : (rows : List EntryRow) (i : ℕ) (last stand : Last) (d next : EntryRow) → i < length rows → next ≡ rolled last (get_or rows i d)
     → stand ≡ following last next
     → take (i + 1) (set rows i next) ++ rolled_on stand (drop (i + 1) (set rows i next)) ≡ take i rows ++ rolled_on last (drop i rows)
@@ -104,7 +107,8 @@ roll_step rows i last stand d next lt next_is stand_is =
 pub roll_end : (rows : List EntryRow) (i : ℕ) (last : Last) → length rows ≤ i → take i rows ++ rolled_on last (drop i rows) ≡ rows
 roll_end rows i last le = ap (λ rs. take i rows ++ rolled_on last rs) (drop_all i rows le) ∙ append-nil (take i rows) ∙ take_all i rows le
 
--- The rows after a void: the older rows, the voided row, and the newer rows with their rollovers.
+-- The rows after a void are the unchanged older rows, the marked row, and the newer rows with
+-- recomputed rollovers.
 pub void_at : (opening : Last) (place n : ℕ) (older : List EntryRow) (row : EntryRow) (newer : List EntryRow) → place < n → NumberedFrom n newer
     → row.place == place ≡ true
     → with_void opening place (latest_first (older ++ row ∷ newer))
@@ -119,7 +123,7 @@ void_at opening place n older row newer lt h at =
     ∙ sym (turn (struck row) (rolled_on (last_of opening (entries_in (latest_first older))) newer))
     ∙ ap reverse (sym (append_assoc older (struck row ∷ []) (rolled_on (last_of opening (entries_in (latest_first older))) newer)))
 
--- ---- a row that is searched
+-- ---- the search for a row by its sequence number
 
 or_assoc : {X : Type 0} (a b c : Option X) → option_or (option_or a b) c ≡ option_or a (option_or b c)
 or_assoc None b c = refl
@@ -170,7 +174,7 @@ pub none_there : (place : ℕ) (rows : List EntryRow) → AreNumbered (latest_fi
 none_there place rows h out =
     none_at place (latest_first rows) h (elim out [ inl low ↦ inl low | inr high ↦ inr (omega (arith, high, length-reverse rows)) ])
 
--- ---- a row at its index
+-- ---- the row at an index
 
 split_at : (rows : List EntryRow) (i : ℕ) (d : EntryRow) → i < length rows → rows ≡ take i rows ++ get_or rows i d ∷ drop (i + 1) rows
 split_at rows i d lt = sym (take-append-drop i rows) ∙ ap (λ rs. take i rows ++ rs) (drop_more rows i d lt)

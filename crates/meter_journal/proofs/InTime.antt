@@ -1,4 +1,5 @@
--- The steps of consecutive entries are in time, so their rows are their account.
+-- The steps between consecutive entries are in order of time, so their interval rows are their
+-- account.
 use Rattle.std.proofs.Common.{◌<◌, List, [], ◌∷◌, sym, ◌∙◌, arith}
 use Rattle.std.specs.List.{All}
 use Rattle.std.proofs.lemmas.List.Elements.{All-nil, All-cons}

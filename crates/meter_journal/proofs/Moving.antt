@@ -1,4 +1,4 @@
--- Shares that are removed from interval rows, and others that are added.
+-- Subtracting and adding shares of interval rows.
 use Rattle.std.proofs.Common.{◌≡◌, ℕ, ◌+◌, ◌-◌, ◌%◌, ◌<◌, ◌≤◌, ◌==◌, true, false, cond, List, [], ◌∷◌, ◌++◌, refl, sym, ap, subst, ◌∙◌, inl, inr, arith, nat_lt, eq-eqb}
 use Rattle.std.specs.Prelude.{All, Contains}
 use Rattle.std.specs.List.{filter}
@@ -22,7 +22,7 @@ use Rattle.meter_journal.proofs.InTime.{in_time}
 use Rattle.meter_journal.proofs.Merging.{Among, Above, Rising, EachIs, HasRows, above_among, each_with, total_at, has_rows, rising_of, each_of, among_of, contains_of, ascending}
 use Rattle.meter_journal.proofs.Striking.{weigh, AllBetween, AreMoved}
 
--- ---- the shares in an interval
+-- ---- the sum of the shares in one interval
 
 abbrev one_at : Share → ℕ → ℕ
 one_at share s = cond (s == share.start) share.mwh 0
@@ -64,7 +64,7 @@ amount_append : (xs ys : List Share) (s : ℕ) → amount_at (xs ++ ys) s ≡ am
 amount_append [] ys s = omega arith
 amount_append (x ∷ xs) ys s = omega (arith, amount_append xs ys s)
 
--- The shares of a step have in each interval the energy that is due there.
+-- The shares of a step in a quarter hour add up to the step's energy in this quarter hour.
 amount_of_step : SharesAddUp → (step : Step) (s : ℕ) → step.from < step.till → s % 900 ≡ 0 → amount_at (shares_of step) s ≡ share_at step s
 amount_of_step law step s lt whole =
     let spread = law step lt in
@@ -99,7 +99,7 @@ total_is : (steps : List Step) (s : ℕ) → total_at steps s ≡ weigh (at_star
 total_is [] s = refl
 total_is (step ∷ steps) s = omega (arith, total_is steps s)
 
--- ---- rows with the same starts
+-- ---- lists of rows with the same starts
 
 among_same : (s : ℕ) (rows rows' : List Share) → starts_of rows ≡ starts_of rows' → Among s rows → Among s rows'
 among_same s rows rows' is there = among_of s rows' (subst (λ (ns : List ℕ). Contains ns s) is (contains_of s rows there))
@@ -112,7 +112,7 @@ each_same f g [] is h = tt
 each_same f g (row ∷ rows) is h =
     (h.0 ∙ is row.start (inl refl), each_same f g rows (λ s there. is s (inr there)) h.1)
 
--- ---- shares removed
+-- ---- subtracting shares
 
 less_start : (share row : Share) → (less share row).start ≡ row.start
 less_start share row =
@@ -175,7 +175,7 @@ therein f (share ∷ shares) rows h enough = (
       (λ s there. omega (arith, enough s (among_same s (without_share share rows) rows (starts_less share rows) there))),
 )
 
--- ---- shares added
+-- ---- adding shares
 
 starts_with : (share : Share) (rows : List Share) → Among share.start rows → starts_of (with_share share rows) ≡ starts_of rows
 starts_with share [] there = absurd there
@@ -213,7 +213,7 @@ each_more f share (row ∷ rows) rising h there =
           )
     ]
 
--- Each of these shares has a row in its interval.
+-- The interval of each share has a row in the list.
 abbrev HaveRows : List Share → List Share → Type 0
 HaveRows [] rows = Unit {0}
 HaveRows (share ∷ shares) rows = Among share.start rows × HaveRows shares rows
@@ -247,7 +247,7 @@ each_with_each f (share ∷ shares) rows rising h have =
     (each_with_each (λ s. one_at share s + f s) shares more (rising_same rows more same rising) (each_more f share rows rising h have.0)
     (have_same shares rows more same have.1))
 
--- ---- rows that are the same
+-- ---- equal lists of rows
 
 least : (row : Share) (rows : List Share) (s : ℕ) → Rising (row ∷ rows) → Among s (row ∷ rows) → row.start ≤ s
 least row rows s rising (inl is) = omega (arith, is)
@@ -261,8 +261,8 @@ same_share : (a b : Share) → a.start ≡ b.start → a.mwh ≡ b.mwh → a ≡
 same_share a b start mwh =
     ap (λ s. let r : Share = record { start = s; mwh = a.mwh } in r) start ∙ ap (λ n. let r : Share = record { start = b.start; mwh = n } in r) mwh
 
--- Two lists of rows are equal if both are in order, have the same starts, and have the energy
--- that is due at each start.
+-- Two lists of interval rows are equal if both are in order, have the same starts, and have the
+-- same energy at each start.
 pub same_rows : (f : ℕ → ℕ) (xs ys : List Share) → Rising xs → Rising ys → EachIs f xs → EachIs f ys
     → ((s : ℕ) → Among s xs → Among s ys) → ((s : ℕ) → Among s ys → Among s xs) → xs ≡ ys
 same_rows f [] [] up up' each each' to from = refl
@@ -278,7 +278,7 @@ same_rows f (x ∷ xs) (y ∷ ys) up up' each each' to from =
     (λ s there. let lt = above_among y.start s ys up'.0 there in later x xs s (omega (arith, lt, start)) (from s (inr there))) in
     ap (λ r. r ∷ xs) first ∙ ap (λ rs. y ∷ rs) rest
 
--- ---- rows before a time
+-- ---- the rows before a time
 
 abbrev before_it : (last : ℕ) → List Share → List Share
 before_it last rows = filter (λ row. nat_lt row.start last) rows
@@ -336,7 +336,7 @@ among_kept last s (row ∷ rows) there lt =
           ])
     ]
 
--- ---- their energy
+-- ---- the energy of the rows
 
 with_energy : (share : Share) (rows : List Share) → energy_of (with_share share rows) ≡ energy_of rows + share.mwh
 with_energy share [] = let mwh : Share → ℕ = λ row. row.mwh in omega (arith, sum_by-cons mwh share [])
@@ -378,7 +378,7 @@ all_taken (share ∷ shares) rows = omega (arith, all_taken shares (without_shar
 pub shares_move_energy : SharesMoveEnergy
 shares_move_energy shares rows = record { added = all_added shares rows; taken = all_taken shares rows }
 
--- ---- a void
+-- ---- the rows after a void
 
 put_have : SharesAddUp → (opened last : ℕ) (steps : List Step) (rows : List Share) → AllBetween opened last steps
     → ((s : ℕ) → Lies opened last s → Among s rows) → HaveRows (all_shares steps) rows
@@ -403,7 +403,7 @@ none_there (row ∷ rows) h = absurd (h row.start (inl refl))
 due_then : (steps steps' out put : ℕ) → steps + put ≡ steps' + out → out ≤ steps → put + (steps - out) ≡ steps'
 due_then steps steps' out put is le = omega (arith, is, le)
 
--- Rows with the energy that is due after the void, until its last entry.
+-- The interval rows after a void are the updated rows that begin before the last valid entry.
 pub until_last : (f : ℕ → ℕ) (opened last last' : ℕ) (rows target : List Share) → opened ≤ last' → last' ≤ last
     → Rising rows → EachIs f rows → ((s : ℕ) → Among s rows → Lies opened last s) → ((s : ℕ) → Lies opened last s → Among s rows)
     → Rising target → EachIs f target → ((s : ℕ) → Among s target → Lies opened last' s) → ((s : ℕ) → Lies opened last' s → Among s target)
@@ -431,7 +431,8 @@ until_last f opened last last' rows target begun le up each lie back up' each' l
           ∙ sym (cond-false _ _ _ e)
     ]
 
--- The interval rows after a void.
+-- The interval rows after a void: the shares of removed steps are subtracted, and the shares of
+-- added steps are added.
 pub record AreExchanged (meter : Installed) (es es' : List Entry) (out put : List Step) : Type 0 where
   pub therein : AreTherein (all_shares out) (rows_of_steps (steps_after meter es))
   pub intervals : rows_of_steps (steps_after meter es')

@@ -1,4 +1,5 @@
--- A void changes its own row and that of the next entry, and the steps between these.
+-- A void changes the row of the voided entry, the row of the next valid entry, and the steps to and
+-- from the voided entry.
 use Rattle.std.proofs.Common.{◌≡◌, ℕ, ◌+◌, ◌<◌, ◌≤◌, ◌==◌, Bool, true, false, cond, ◌&&◌, List, [], ◌∷◌, map, length, refl, sym, ap, subst, ◌∙◌, inl, inr, ◌⊎◌, Option, Some, None, arith, eq-eqb, nat_lt, if◌then◌else◌}
 use Rattle.std.specs.Option.{option_or}
 use Rattle.std.proofs.lemmas.Bool.{cases_Bool, cond-true, cond-false, eqb-true}
@@ -25,9 +26,9 @@ use Rattle.meter_journal.proofs.Forward.{last_on}
 use Rattle.meter_journal.proofs.Keeping.{IsGap, entries_standing, entries_struck, follow_rest, above, here, unrolled, mapped_some}
 use Rattle.meter_journal.proofs.StillFitting.{StandFits}
 
--- ---- rows after a void
+-- ---- the rows after a void
 
--- A row that fits has the rollovers that its neighbor gives it.
+-- Recomputing the rollovers of a row that the rules accept leaves the row unchanged.
 rolled_alike : (meter : Installed) (es : List Entry) (n : ℕ) (k : EntryKind) (e : Entry) (stands : Bool)
     → StandFits meter es (row_with n k e stands) → rolled (last_after meter es) (row_with n k e stands) ≡ row_with n k e stands
 rolled_alike meter es n k e false fits = refl
@@ -37,7 +38,7 @@ rolled_alike meter es n k e true fits =
 pub rolled_same : (meter : Installed) (es : List Entry) (row : EntryRow) → StandFits meter es row → rolled (last_after meter es) row ≡ row
 rolled_same meter es row fits = rolled_alike meter es row.place row.kind row.entry row.stands fits
 
--- The named row and the next valid row change, and no other.
+-- A row that is neither the voided row nor the next valid row is unchanged.
 unchanged : (place : ℕ) (next : Option EntryRow) (l : Last) (row : EntryRow) → row.place == place ≡ false → is_next next row ≡ false
     → changed_by place next l row ≡ row
 unchanged place next l row off other = cond-false _ _ _ off ∙ cond-false _ _ _ other
@@ -50,7 +51,7 @@ all_unchanged place l (row ∷ rows) h le =
     ap (λ r. r ∷ map (changed_by place None l) rows) (unchanged place None l row off refl)
     ∙ ap (λ rs. row ∷ rs) (all_unchanged place l rows h.1 (omega (arith, le)))
 
--- The next row is above these.
+-- A row with a later sequence number than all rows of a list is not in the list.
 next_above : (place : ℕ) (next : EntryRow) (l : Last) (rows : List EntryRow) → AreNumbered rows → length rows + 2 ≤ next.place
     → map (changed_by place (Some next) l) rows ≡ map (changed_by place None l) rows
 next_above place next l [] h le = refl
@@ -61,13 +62,13 @@ next_above place next l (row ∷ rows) h le =
     ap (λ r. r ∷ map (changed_by place (Some next) l) rows) same
     ∙ ap (λ rs. changed_by place None l row ∷ rs) (next_above place next l rows h.1 (omega (arith, le)))
 
--- ---- steps, weighed
+-- ---- sums over steps with a weight function
 
 abbrev pub weigh : (Step → ℕ) → List Step → ℕ
 weigh w [] = 0
 weigh w (step ∷ steps) = w step + weigh w steps
 
--- The weight of the step to a row, if the row is valid.
+-- The weight of the step to a row's entry, or 0 if the row is voided.
 abbrev weigh_to : (Step → ℕ) → Installed → Last → EntryRow → ℕ
 weigh_to w meter last row = cond row.stands (w (step_to meter.range last row.entry)) 0
 
@@ -88,9 +89,9 @@ weigh_row w meter row rows =
           omega (arith, here, all)
     ]
 
--- ---- steps that a void removes and adds
+-- ---- the steps that a void removes and adds
 
--- Each step ends after it begins, and lies between these times.
+-- Each step of the list ends after it begins, and lies between the times `opened` and `last`.
 abbrev pub AllBetween : (opened last : ℕ) → List Step → Type 0
 AllBetween opened last [] = Unit {0}
 AllBetween opened last (step ∷ steps) = (opened ≤ step.from) × (step.from < step.till) × (step.till ≤ last) × AllBetween opened last steps
@@ -99,13 +100,13 @@ between_later : (opened m n : ℕ) (steps : List Step) → m ≤ n → AllBetwee
 between_later opened m n [] le h = tt
 between_later opened m n (step ∷ steps) le h = (h.0, h.1, omega (arith, h.2, le), between_later opened m n steps le h.3)
 
--- The step is in the list.
+-- The step is an element of the list.
 abbrev pub IsOneOf : Step → List Step → Type 0
 IsOneOf step [] = ⊥
 IsOneOf step (first ∷ steps) = (first ≡ step) ⊎ IsOneOf step steps
 
--- The steps of the entries `es'` are those of `es`, without the steps `out` and with the steps
--- `put`.
+-- The steps between the entries `es'` are those between `es`, without the steps `out` and with the
+-- steps `put`.
 pub record AreMoved (meter : Installed) (es es' : List Entry) (out put : List Step) : Type 0 where
   pub moves : (w : Step → ℕ) → weigh w (steps_after meter es) + weigh w put ≡ weigh w (steps_after meter es') + weigh w out
   pub within : (w : Step → ℕ) → weigh w out ≤ weigh w (steps_after meter es)
@@ -114,19 +115,19 @@ pub record AreMoved (meter : Installed) (es es' : List Entry) (out put : List St
   pub out_between : AllBetween meter.opening.at (last_after meter es).at out
   pub put_between : AllBetween meter.opening.at (last_after meter es).at put
 
--- The steps that a void removes if this row is the next valid one.
+-- The steps that a void removes if `next` is the next valid row.
 abbrev pub out_to : Installed → Around → Option EntryRow → List Step
 out_to meter x next = steps_out meter (record { before = x.before; row = x.row; next = next })
 
 abbrev pub put_to : Installed → Around → Option EntryRow → List Step
 put_to meter x next = steps_put meter (record { before = x.before; row = x.row; next = next })
 
--- No valid entry follows the voided entry.
+-- The voided entry was the last valid entry of the meter.
 pub record IsLast (meter : Installed) (place : ℕ) (rows : List EntryRow) (x : Around) : Type 0 where
   pub gap : IsGap meter.opening place rows x
   pub rows_are : with_void meter.opening place rows ≡ map (changed_by place None (last_before meter.opening x)) rows
 
--- This valid entry is the next one after the voided entry.
+-- The row `next` is the next valid row after the voided row. Its rollovers are recomputed.
 pub record IsFollowed (meter : Installed) (place : ℕ) (rows : List EntryRow) (x : Around) (next : EntryRow) : Type 0 where
   pub rows_are : with_void meter.opening place rows ≡ map (changed_by place (Some next) (last_before meter.opening x)) rows
   pub last : last_after meter (entries_in (with_void meter.opening place rows)) ≡ last_after meter (entries_in rows)
@@ -137,7 +138,7 @@ abbrev pub Changes : Installed → (place : ℕ) → List EntryRow → Around �
 Changes meter place rows x None = IsLast meter place rows x
 Changes meter place rows x (Some next) = IsFollowed meter place rows x next
 
--- The counter advances from row to row.
+-- The time of the last valid entry never decreases when a row is added.
 last_grows : (meter : Installed) (row : EntryRow) (rows : List EntryRow) → AllFollow meter.range meter.opening (entries_in (row ∷ rows))
     → (last_after meter (entries_in rows)).at ≤ (last_after meter (entries_in (row ∷ rows))).at
 last_grows meter row rows h =
@@ -154,7 +155,7 @@ last_grows meter row rows h =
       | inr off ↦ omega (arith, ap (λ (es : List Entry). (last_after meter es).at) (entries_struck row rows off))
     ]
 
--- A step between the entries of the older rows is also one with this row.
+-- Adding a row to a list retains all steps between the entries of the earlier rows.
 one_below : (meter : Installed) (row : EntryRow) (rows : List EntryRow) (step : Step) → IsOneOf step (steps_after meter (entries_in rows))
     → IsOneOf step (steps_after meter (entries_in (row ∷ rows)))
 one_below meter row rows step there =
@@ -163,7 +164,8 @@ one_below meter row rows step there =
       | inr off ↦ subst (λ (es : List Entry). IsOneOf step (steps_after meter es)) (sym (entries_struck row rows off)) there
     ]
 
--- `IsFollowed` is preserved by one more row after the next valid row.
+-- Adding a row after the next valid row preserves the effect of the void that `IsFollowed`
+-- describes.
 row_after : (meter : Installed) (place : ℕ) (row : EntryRow) (rows : List EntryRow) (x : Around) (next : EntryRow)
     → row.place == place ≡ false → AreNumbered (row ∷ rows) → StandFits meter (entries_in rows) row
     → AllFollow meter.range meter.opening (entries_in (row ∷ rows))
@@ -205,7 +207,7 @@ row_after meter place row rows x next off numbers fits follow h =
       };
     }
 
--- `IsLast` is preserved by one more row that was voided earlier.
+-- Adding a row that was voided earlier keeps the voided entry the last valid entry (`IsLast`).
 struck_after : (meter : Installed) (place : ℕ) (row : EntryRow) (rows : List EntryRow) (x : Around)
     → row.place == place ≡ false → row.stands ≡ false
     → IsLast meter place rows x → IsLast meter place (row ∷ rows) (passed row x)
@@ -223,7 +225,7 @@ struck_after meter place row rows x off struck h =
           ∙ ap (λ r. r ∷ map (changed_by place None l) rows) (sym (unchanged place None l row off refl));
     }
 
--- The row is a reading.
+-- The row is an accepted reading.
 record IsRead (row : EntryRow) : Type 0 where
   reading : is_reading row.kind ≡ true
   at : ℕ
@@ -239,7 +241,7 @@ read_of n kind.Closing e b is = absurd (let f : false ≡ true = is in cc)
 read_of n kind.Reset e b is = absurd (let f : false ≡ true = is in cc)
 read_of n kind.Rescale e b is = absurd (let f : false ≡ true = is in cc)
 
--- A reading leaves the scale unchanged.
+-- A reading leaves the counter's scale factor unchanged.
 after_step : (l l' : Last) (at raw rolls rolls' : ℕ) → l.sf ≡ l'.sf → after l (entry.Step at raw rolls) ≡ after l' (entry.Step at raw rolls')
 after_step l l' at raw rolls rolls' is = ap (λ sf. let k : Last = record { at = at; raw = raw; sf = sf } in k) is
 
@@ -247,7 +249,7 @@ rolled_stands : (l : Last) (row : EntryRow) → row.stands ≡ true → is_readi
     → rolled l row ≡ record row { entry = with_rolls l row.entry }
 rolled_stands l row on reading = cond-true _ _ _ (ap (λ b. b && is_reading row.kind) on ∙ reading)
 
--- The entries around the voided one, if the next one is a reading.
+-- Removing an entry before a reading replaces the two steps around the removed entry by one step.
 next_moved : (meter : Installed) (before : List Entry) (e0 : Entry) (at raw rolls rolls' : ℕ)
     → AllFollow meter.range meter.opening (entry.Step at raw rolls ∷ e0 ∷ before)
     → AreMoved meter (entry.Step at raw rolls ∷ e0 ∷ before) (entry.Step at raw rolls' ∷ before)
@@ -270,8 +272,8 @@ next_moved meter before e0 at raw rolls rolls' h =
       put_between = (begun, omega (arith, there, first, second), omega arith, tt);
     }
 
--- If no valid row followed the voided one, one more valid reading follows it as `IsFollowed`
--- says.
+-- If the voided entry was the last valid entry, the next valid reading becomes the entry after it
+-- (`IsFollowed`).
 next_after : (meter : Installed) (place : ℕ) (row : EntryRow) (rows : List EntryRow) (x : Around)
     → row.place == place ≡ false → row.stands ≡ true → is_read row.kind row.entry ≡ true → is_read x.row.kind x.row.entry ≡ true
     → AreNumbered (row ∷ rows) → AllFollow meter.range meter.opening (entries_in (row ∷ rows))

@@ -1,4 +1,4 @@
--- Worked examples of what an entry and a void change in the state of a meter, computed from the
+-- Worked examples of the change of a meter's state by an entry and by a void, computed from the
 -- definitions.
 use Rattle.std.proofs.Common.{◌≡◌, ℕ, pos, true, false, List, [], ◌∷◌, map, Some, None, refl}
 use Rattle.energy_core.specs.declared.entries.Last.{Last}
@@ -29,14 +29,15 @@ row place e = record { place = place; kind = kind.Reading; entry = e; stands = t
 abbrev house : Installed
 house = record { range = 4294967296; ceiling = 100000; opening = record { at = 1000; raw = 5000; sf = pos 0 } }
 
--- 5200 at 1900, and 5300 at 2800.
+-- A journal of a reading of 5200 counts at 1900 s, and a journal with another reading of 5300
+-- counts at 2800 s.
 abbrev one : Journal
 one = Entered kind.Reading (entry.Step 1900 5200 0) ∷ []
 
 abbrev two : Journal
 two = Entered kind.Reading (entry.Step 2800 5300 0) ∷ one
 
--- The second reading adds its shares, one to an existing row and one as a new row.
+-- The second reading adds its shares: one to an existing row, and one as a new row.
 
 second_step : step_on house one (entry.Step 2800 5300 0) ≡ step 1900 2800 100000
 unfolding unit_of
@@ -53,7 +54,7 @@ second_rows : interval_rows house two ≡ share 900 177777 ∷ share 1800 111111
 unfolding unit_of
 second_rows = refl
 
--- A void of the first reading.
+-- Voiding the first of two readings.
 
 abbrev around_first : Around
 around_first = record { before = []; row = row 2 (entry.Step 1900 5200 0); next = Some (row 3 (entry.Step 2800 5300 0)) }
@@ -77,7 +78,7 @@ first_added : rows_until 1000 2800 (with_each (all_shares (step 1000 2800 300000
     ≡ share 900 133333 ∷ share 1800 150000 ∷ share 2700 16667 ∷ []
 first_added = refl
 
--- A void of the second: the quarter hour that only its step touched is gone.
+-- Voiding the second reading removes the row of the quarter hour that only its step touched.
 
 abbrev around_second : Around
 around_second = record { before = row 2 (entry.Step 1900 5200 0) ∷ []; row = row 3 (entry.Step 2800 5300 0); next = None }
@@ -93,14 +94,14 @@ second_taken : rows_until 1000 1900 (without_each (all_shares (step 1900 2800 10
     ≡ share 900 177777 ∷ share 1800 22223 ∷ []
 second_taken = refl
 
--- A void of the only reading: no row is left, also none in the quarter hour of the opening.
+-- Voiding the only reading leaves no interval row, not even for the quarter hour of the opening
+-- entry.
 
 only_taken : rows_until 1000 1000 (without_each (all_shares (step 1000 1900 200000 ∷ [])) (share 900 177777 ∷ share 1800 22223 ∷ []))
     ≡ []
 only_taken = refl
 
--- A void after which the counter rolled over: the next row then has the rollover, and the first is
--- voided.
+-- Voiding a reading directly after a rollover moves the rollover to the next reading's row.
 
 abbrev turning : Last
 turning = record { at = 1000; raw = 4294967200; sf = pos 0 }

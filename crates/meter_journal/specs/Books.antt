@@ -12,45 +12,46 @@ use Rattle.meter_journal.specs.declared.lines.Installed.{Installed}
 use Rattle.meter_journal.specs.Journal.{Journal, entries_of}
 use Rattle.meter_journal.specs.Intervals.{rows_of_steps}
 
--- The meter's opening shows a number that the counter can show, at a scale factor from -3 to 3.
+-- The opening entry of the meter has a count that the counter can show, and a scale factor from -3
+-- to 3.
 pub record IsWellInstalled (meter : Installed) : Type 0 where
   pub raw : meter.opening.raw < meter.range
   pub scale : IsScale meter.opening.sf
 
--- The counter's state after a meter's opening and these entries.
+-- The counter's state after the opening entry of a meter and a list of entries.
 abbrev pub last_after : Installed → List Entry → Last
 last_after meter es = last_of meter.opening es
 
--- The total energy of a meter with these entries, in mWh.
+-- The total energy in mWh of a meter with a list of entries.
 abbrev pub total_after : Installed → List Entry → ℕ
 total_after meter es = whole_energy meter.range meter.opening es
 
--- The steps between consecutive entries of a meter, the latest first.
+-- The steps between consecutive entries of a meter. The latest step comes first.
 abbrev pub steps_after : Installed → List Entry → List Step
 steps_after meter es = steps_of meter.range meter.opening es
 
--- The verdict on a reading of a meter that has these entries.
+-- The verdict on a reading of a meter after a list of entries.
 abbrev pub verdict_after : Installed → List Entry → Reading → Verdict
 verdict_after meter es reading = verdict_on meter.range meter.ceiling meter.opening es reading
 
--- The entries of this meter have an account: each may follow those before it, and the total
--- energy is within its limit.
+-- The entries of a meter have an account: each entry may follow the entries before it, and the
+-- total energy is within its limit.
 abbrev pub HasAccount : Installed → List Entry → Type 0
 HasAccount meter es =
     IsAccount meter.range meter.opening es (last_after meter es) (total_after meter es)
 
--- The counter's state after the last valid entry of a journal.
+-- The counter's state after the last valid entry of a meter's journal.
 abbrev pub last_in : Installed → Journal → Last
 last_in meter lines = last_after meter (entries_of meter.opening lines)
 
--- The energy of the valid entries of a journal, in mWh.
+-- The energy in mWh of the valid entries of a meter's journal.
 abbrev pub total_in : Installed → Journal → ℕ
 total_in meter lines = total_after meter (entries_of meter.opening lines)
 
--- The steps between the valid entries of a journal, the latest first.
+-- The steps between the valid entries of a meter's journal. The latest step comes first.
 abbrev pub steps_in : Installed → Journal → List Step
 steps_in meter lines = steps_after meter (entries_of meter.opening lines)
 
--- The interval rows that the valid entries of a journal give.
+-- The energy by quarter hour of the valid entries of a meter's journal.
 abbrev pub interval_rows : Installed → Journal → List Share
 interval_rows meter lines = rows_of_steps (steps_in meter lines)

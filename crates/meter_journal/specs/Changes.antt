@@ -1,4 +1,4 @@
--- How one more line of a journal changes the state of a meter.
+-- The change of a meter's state by a new line of the meter's journal.
 use Rattle.std.specs.Prelude.{◌≡◌, ℕ, ◌+◌, ◌%◌, ◌<◌, ◌≤◌, List, ◌∷◌, All, Some, Ok}
 use Rattle.energy_core.specs.declared.entries.Entry.{Entry}
 use Rattle.energy_core.specs.declared.entries.Step.{Step}
@@ -17,32 +17,33 @@ use Rattle.meter_journal.specs.Journal.{Entered, Voided, Journal, Around, entrie
 use Rattle.meter_journal.specs.Lists.{MayGoOn}
 use Rattle.meter_journal.specs.Fitting.{AreFitting}
 
--- The row is a quarter hour that begins before the last entry and ends after the opening. The last
--- entry is later than the opening.
+-- An interval row is a quarter hour that begins before the last entry and ends after the opening
+-- entry. The last entry is later than the opening entry.
 pub record LiesWithin (opened last : ℕ) (row : Share) : Type 0 where
   pub quarter : row.start % INTERVAL_SECONDS ≡ 0
   pub following : opened < row.start + INTERVAL_SECONDS
   pub before : row.start < last
   pub gone_on : opened < last
 
--- Theorem: the interval rows of a journal are between its opening and its last valid entry.
+-- Theorem: each interval row of a journal lies between the opening entry and the last valid entry.
 abbrev pub RowsLieWithin : Type 0
 RowsLieWithin = (meter : Installed) (lines : Journal) → IsWellInstalled meter
     → AreFitting meter lines
     → All (LiesWithin meter.opening.at (last_in meter lines).at) (interval_rows meter lines)
 
--- Theorem: a void does not make the time of the last valid entry later.
+-- Theorem: voiding an entry never makes the time of the last valid entry later.
 abbrev pub VoidsGoNoFurther : Type 0
 VoidsGoNoFurther = (meter : Installed) (lines : Journal) (place : ℕ) → IsWellInstalled meter
     → AreFitting meter (Voided place ∷ lines)
     → (last_in meter (Voided place ∷ lines)).at ≤ (last_in meter lines).at
 
--- The step from the last valid entry of a journal to one more entry.
+-- The step from the last valid entry of a journal to a new entry.
 abbrev pub step_on : Installed → Journal → Entry → Step
 step_on meter lines e = step_to meter.range (last_in meter lines) e
 
--- The meter after one more entry: that entry is the last one, and the energy has grown by its
--- step. `joined` and `added` are two ways to add the step's shares to the interval rows.
+-- The state of a meter after a new entry. The new entry is the last valid entry, and the energy has
+-- grown by the step to it. The fields `joined` and `added` state two ways to add the step's shares
+-- to the interval rows.
 pub record ContinuesJournal (meter : Installed) (lines : Journal) (k : EntryKind) (e : Entry) :
     Type 0 where
   pub may : MayGoOn meter (last_in meter lines) (total_in meter lines) e
@@ -56,29 +57,32 @@ pub record ContinuesJournal (meter : Installed) (lines : Journal) (k : EntryKind
   pub added : interval_rows meter (Entered k e ∷ lines)
       ≡ with_each (shares_of (step_on meter lines e)) (interval_rows meter lines)
 
--- Theorem: one more entry that fits extends a journal as `ContinuesJournal` describes.
+-- Theorem: a new entry that the rules accept changes the meter's state as `ContinuesJournal`
+-- describes.
 abbrev pub EntriesGoOn : Type 0
 EntriesGoOn = (meter : Installed) (lines : Journal) (k : EntryKind) (e : Entry)
     → IsWellInstalled meter
     → AreFitting meter (Entered k e ∷ lines) → ContinuesJournal meter lines k e
 
--- Shares that are added to rows add their energy to that of the rows. Shares that are removed add
--- no energy.
+-- Adding shares to interval rows increases the energy of the rows by the energy of the shares.
+-- Subtracting shares never increases the energy of the rows.
 pub record MoveEnergy (shares rows : List Share) : Type 0 where
   pub added : energy_in_rows (with_each shares rows) ≡ energy_in_rows rows + energy_in_rows shares
   pub taken : energy_in_rows (without_each shares rows) ≤ energy_in_rows rows
 
--- Theorem: `MoveEnergy` applies to all shares and rows.
+-- Theorem: `MoveEnergy` holds for all shares and all interval rows.
 abbrev pub SharesMoveEnergy : Type 0
 SharesMoveEnergy = (shares rows : List Share) → MoveEnergy shares rows
 
--- The entries before the row `around.row` have an account, and that account is sound.
+-- The valid entries before the row `around.row` have an account, whose steps add up to its energy
+-- (`IsSound`).
 pub record WasKept (meter : Installed) (around : Around) : Type 0 where
   pub account : HasAccount meter (entries_in around.before)
   pub sound : let es = entries_in around.before in
       IsSound meter.range meter.opening es (last_after meter es) (total_after meter es)
 
--- Theorem: the entries before any row of a journal have a sound account.
+-- Theorem: the valid entries before any row of a journal have an account whose steps add up to its
+-- energy.
 abbrev pub PlacesWereKept : Type 0
 PlacesWereKept = (meter : Installed) (lines : Journal) (place : ℕ) (around : Around)
     → IsWellInstalled meter

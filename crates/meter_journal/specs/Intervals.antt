@@ -1,12 +1,12 @@
--- The energy of steps by quarter hour, row by row.
+-- The energy of a list of steps by quarter hour, as interval rows.
 use Rattle.std.specs.Prelude.{ℕ, ◌+◌, ◌-◌, ◌==◌, nat_lt, List, [], ◌∷◌, map, if◌then◌else◌}
 use Rattle.std.specs.List.{flat_map}
 use Rattle.energy_core.specs.declared.entries.Step.{Step}
 use Rattle.interval_core.specs.declared.shares.Share.{Share}
 use Rattle.interval_core.specs.Share.{shares_of}
 
--- The row followed by the shares. If the first share is in the row's interval, the two are merged
--- into one row.
+-- An interval row followed by shares. If the first share is in the row's interval, the row and the
+-- share are merged.
 abbrev pub joined : Share → List Share → List Share
 joined row [] = row ∷ []
 joined row (share ∷ shares) =
@@ -14,26 +14,27 @@ joined row (share ∷ shares) =
     then record { start = row.start; mwh = row.mwh + share.mwh } ∷ shares
     else row ∷ share ∷ shares
 
--- The rows followed by the shares of a later step. Shares in the last row's interval are merged
--- with that row.
+-- Interval rows followed by the shares of a later step. A share in the last row's interval is
+-- merged into that row.
 abbrev pub with_shares : List Share → List Share → List Share
 with_shares [] shares = shares
 with_shares (row ∷ []) shares = joined row shares
 with_shares (row ∷ next ∷ rows) shares = row ∷ with_shares (next ∷ rows) shares
 
--- The rows of steps, the latest step first: one for each interval that a step touches, in order.
+-- The interval rows of a list of steps, which begins with the latest step: one row for each
+-- interval that a step touches, in order.
 abbrev pub rows_of_steps : List Step → List Share
 rows_of_steps [] = []
 rows_of_steps (step ∷ steps) = with_shares (rows_of_steps steps) (shares_of step)
 
--- The energy of the rows that start before a time.
+-- The energy of the interval rows that start before the time `bound`.
 abbrev pub energy_before : (bound : ℕ) → List Share → ℕ
 energy_before bound [] = 0
 energy_before bound (row ∷ rows) =
     (if nat_lt row.start bound then row.mwh else 0) + energy_before bound rows
 
--- The rows with a share added to the row of its interval. Without such a row, the share becomes
--- the last row.
+-- Interval rows after a share is added to the row of its interval. Without such a row, the share
+-- becomes the last row.
 abbrev pub with_share : Share → List Share → List Share
 with_share share [] = share ∷ []
 with_share share (row ∷ rows) =
@@ -41,26 +42,26 @@ with_share share (row ∷ rows) =
     then record { start = row.start; mwh = row.mwh + share.mwh } ∷ rows
     else row ∷ with_share share rows
 
--- The rows after each of the shares was added to the row of its interval.
+-- Interval rows after each share of a list is added to the row of its interval.
 abbrev pub with_each : (shares : List Share) → List Share → List Share
 with_each [] rows = rows
 with_each (share ∷ shares) rows = with_each shares (with_share share rows)
 
--- A row less the energy of a share in the same interval.
+-- An interval row less the energy of a share, if the share is in the row's interval.
 abbrev pub less : Share → Share → Share
 less share row =
     if row.start == share.start then record { start = row.start; mwh = row.mwh - share.mwh }
     else row
 
--- The rows after a share was subtracted from the row of its interval.
+-- Interval rows after a share is subtracted from the row of its interval.
 abbrev pub without_share : Share → List Share → List Share
 without_share share rows = map (less share) rows
 
--- The rows after each of the shares was subtracted from the row of its interval.
+-- Interval rows after each share of a list is subtracted from the row of its interval.
 abbrev pub without_each : (shares : List Share) → List Share → List Share
 without_each [] rows = rows
 without_each (share ∷ shares) rows = without_each shares (without_share share rows)
 
--- The shares of all these steps, in the order of the steps.
+-- The shares of all steps of a list, in the order of the steps.
 abbrev pub all_shares : List Step → List Share
 all_shares steps = flat_map shares_of steps

@@ -1,4 +1,4 @@
--- The valid entries of a journal, found without applying its voids one by one.
+-- The valid entries of a journal, defined without applying the voids one by one.
 use Rattle.std.specs.Prelude.{◌≡◌, ℕ, ◌+◌, ◌==◌, Bool, true, false, ◌||◌, List, [], ◌∷◌, map, if◌then◌else◌}
 use Rattle.energy_core.specs.declared.entries.Last.{Last}
 use Rattle.energy_core.specs.Account.{last_of}
@@ -7,22 +7,22 @@ use Rattle.meter_journal.specs.declared.lines.EntryRow.{EntryRow}
 use Rattle.meter_journal.specs.Journal.{Entered, Held, Voided, Journal, standing, entries_in, rolled, rows_of}
 use Rattle.meter_journal.specs.Fitting.{EntryFits}
 
--- A void of the journal names this sequence number.
+-- A void in the journal names the sequence number `place`.
 abbrev pub is_voided : (place : ℕ) → Journal → Bool
 is_voided place [] = false
 is_voided place (Entered k e ∷ lines) = is_voided place lines
 is_voided place (Held reading cause ∷ lines) = is_voided place lines
 is_voided place (Voided named ∷ lines) = (place == named) || is_voided place lines
 
--- The number of entries that a journal records, the voided ones included.
+-- The number of entries that a journal records, including voided entries.
 abbrev pub entered_count : Journal → ℕ
 entered_count [] = 0
 entered_count (Entered k e ∷ lines) = entered_count lines + 1
 entered_count (Held reading cause ∷ lines) = entered_count lines
 entered_count (Voided place ∷ lines) = entered_count lines
 
--- The entries that no void of the whole journal names, with their sequence numbers. Each reading
--- has the rollovers that the entry before it gives.
+-- The rows of the entries that no void of the complete journal `whole` names, with their sequence
+-- numbers. Each reading has the rollovers computed from the valid entry before it.
 abbrev pub unvoided : (opening : Last) → (whole : Journal) → Journal → List EntryRow
 unvoided opening whole [] = []
 unvoided opening whole (Entered k e ∷ lines) =
@@ -35,17 +35,17 @@ unvoided opening whole (Entered k e ∷ lines) =
 unvoided opening whole (Held reading cause ∷ lines) = unvoided opening whole lines
 unvoided opening whole (Voided place ∷ lines) = unvoided opening whole lines
 
--- Each valid row fits after the valid rows before it.
+-- The rules accept the entry of each valid row after the entries of the valid rows before it.
 abbrev pub AllStillFit : Installed → List EntryRow → Type 0
 AllStillFit meter [] = Unit {0}
 AllStillFit meter (row ∷ rows) =
     (row.stands ≡ true → EntryFits meter (entries_in rows) row.kind row.entry)
     × AllStillFit meter rows
 
--- The journal that only enters these rows, without voids.
+-- The journal that only records the entries of a list of rows, without voids.
 abbrev pub entering : List EntryRow → Journal
 entering rows = map (λ row. Entered row.kind row.entry) rows
 
--- The journal that only enters the valid entries of this journal.
+-- The journal that only records the valid entries of another journal, without voids.
 abbrev pub standing_alone : (opening : Last) → Journal → Journal
 standing_alone opening lines = entering (standing (rows_of opening lines))

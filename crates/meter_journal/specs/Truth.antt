@@ -1,4 +1,4 @@
--- A journal whose readings are those of a true run.
+-- Journals whose readings are the readings of a true run of a meter.
 use Rattle.std.specs.Prelude.{◌≡◌, ℕ, ℤ, ◌≤◌, ◌%◌, nat_le, true, List, [], ◌∷◌, map, Option, Some, None, if◌then◌else◌}
 use Rattle.std.specs.List.{filter_map, cons_option}
 use Rattle.energy_core.specs.declared.entries.Last.{Last}
@@ -12,13 +12,14 @@ use Rattle.meter_journal.specs.Books.{total_in, steps_in, interval_rows}
 use Rattle.meter_journal.specs.Intervals.{energy_before}
 use Rattle.meter_journal.specs.Journal.{Entered, Held, Voided, Journal, is_reading, entries_of}
 
--- What an entry showed, as a reading at this scale factor; `None` for a change.
+-- The time and count of a `Step` entry as a reading with the scale factor `sf`. A `Change` has no
+-- reading (`None`).
 abbrev pub reading_by : ℤ → Entry → Option Reading
 reading_by sf (entry.Step at raw rolls) = Some (record { at = at; raw = raw; sf = sf })
 reading_by sf (entry.Change at before after new) = None
 
--- The valid readings after the last void, and all readings since, also rejected ones, the latest
--- first.
+-- The readings that were valid directly after the last void, followed by all later readings,
+-- including rejected readings. The latest reading comes first.
 abbrev pub latest_readings : (opening : Last) → Journal → List Reading
 latest_readings opening [] = []
 latest_readings opening (Entered k e ∷ lines) =
@@ -27,22 +28,24 @@ latest_readings opening (Held reading cause ∷ lines) = reading ∷ latest_read
 latest_readings opening (Voided place ∷ lines) =
     filter_map (reading_by opening.sf) (entries_of opening (Voided place ∷ lines))
 
--- The readings that were rejected since the last void.
+-- The readings that were rejected after the last void of a journal.
 abbrev pub held_since : Journal → List Reading
 held_since [] = []
 held_since (Entered k e ∷ lines) = held_since lines
 held_since (Held reading cause ∷ lines) = reading ∷ held_since lines
 held_since (Voided place ∷ lines) = []
 
--- Each entry of the journal is an accepted reading. Rejected readings and voids do not matter.
+-- Each entry of the journal is an accepted reading. The journal may also contain rejected readings
+-- and voids.
 abbrev pub AreReadings : Journal → Type 0
 AreReadings [] = Unit {0}
 AreReadings (Entered k e ∷ lines) = (is_reading k ≡ true) × AreReadings lines
 AreReadings (Held reading cause ∷ lines) = AreReadings lines
 AreReadings (Voided place ∷ lines) = AreReadings lines
 
--- The opening, the valid readings after the last void, and all readings since are, one for one, the
--- items of a true run. The meter is read often enough.
+-- The readings of the journal are a true run of a meter that is polled often enough. The opening
+-- entry, the readings that were valid directly after the last void, and all later readings are its
+-- items.
 pub record ShowsTrueRun (meter : Installed) (lines : Journal) (first : Item) (items : List Item) :
     Type 0 where
   pub readings_alone : AreReadings lines
@@ -51,22 +54,25 @@ pub record ShowsTrueRun (meter : Installed) (lines : Journal) (first : Item) (it
   pub true_run : IsTrueRun meter.ceiling meter.opening.sf first items
   pub often : IsReadOftenEnough meter.range meter.ceiling meter.opening.sf first items
 
--- The true energy up to the last item at or before a time, or 0 if there is none.
+-- The true energy up to the last item of a run at or before the time `bound`, or 0 without such an
+-- item.
 abbrev pub advance_to : ℤ → Item → List Item → (bound : ℕ) → ℕ
 advance_to sf first [] bound = 0
 advance_to sf first (item ∷ items) bound =
     if nat_le item.at bound then advance sf first item else advance_to sf first items bound
 
--- The true energy up to the first item at or after a time, or all of it if there is none.
+-- The true energy up to the first item of a run at or after the time `bound`. Without such an item,
+-- it is the energy of the complete run.
 abbrev pub advance_past : ℤ → Item → List Item → (bound : ℕ) → ℕ
 advance_past sf first [] bound = 0
 advance_past sf first (item ∷ items) bound =
     if nat_le bound (newest first items).at then advance_past sf first items bound
     else advance sf first item
 
--- No reading since the last void was rejected, the steps are the true ones, and the energy is the
--- true one. The energy before the beginning of an interval is at least the true energy up to the
--- last item at or before it. It is at most the true energy up to the first item at or after it.
+-- The journal records a true run truly. No reading after the last void was rejected, and the steps
+-- and the energy are the true ones. The energy before the start of an interval is at least the true
+-- energy up to the last item at or before this start. It is at most the true energy up to the first
+-- item at or after this start.
 pub record IsKeptTruly (meter : Installed) (lines : Journal) (first : Item) (items : List Item) :
     Type 0 where
   pub none_held : held_since lines ≡ []

@@ -1,4 +1,4 @@
-//! The state of a meter, computed from its valid rows.
+//! The state of a meter after its valid entries: the counter's state and the energy in mWh.
 ghost use Rattle.std.specs.Prelude.{◌≡◌, ◌+◌, ◌≤◌, ◌<◌, true, IfOk, IfSome, IsTrue, is_some};
 ghost use Rattle.energy_core.specs.Account as account;
 ghost use Rattle.meter_journal.specs.Books as books;
@@ -15,14 +15,14 @@ use energy_core::{
 use interval_core::{Share, shares_add_up};
 use std::alloc::{AllocError, Global};
 
-/// The state of a meter's counter after its last valid entry, and its energy in mWh.
+/// The state of a meter's counter after the last valid entry, and the meter's energy so far in mWh.
 #[derive(Clone, Copy, Debug, PartialEq, Eq)]
 pub struct Tally {
     pub last: Last,
     pub total: u64,
 }
 
-/// Advances the tally by one entry, and returns the step to that entry.
+/// Advances the tally by one entry, and returns the step from the previous entry to this entry.
 fn go_on(meter: &Installed, tally: &mut Tally, entry: &Entry) -> Step
     requires range_low { MIN_RANGE ≤ meter.now.range }
     requires range_high { meter.now.range ≤ MAX_RANGE }
@@ -48,8 +48,8 @@ fn go_on(meter: &Installed, tally: &mut Tally, entry: &Entry) -> Step
     }
 }
 
-/// Advances the tally by one row, and returns the step to it. A voided row changes nothing, and has
-/// no step.
+/// Advances the tally by the entry of a row, and returns the step to this entry. A voided row
+/// leaves the tally unchanged and returns `None`.
 fn go_past(meter: &Installed, tally: &mut Tally, row: &EntryRow) -> Option<Step>
     requires range_low { MIN_RANGE ≤ meter.now.range }
     requires range_high { meter.now.range ≤ MAX_RANGE }
@@ -66,7 +66,7 @@ fn go_past(meter: &Installed, tally: &mut Tally, row: &EntryRow) -> Option<Step>
     Some(go_on(meter, tally, &row.entry))
 }
 
-/// Returns the tally of a meter after these rows.
+/// Returns the tally of a meter after the valid entries of a list of rows, the oldest row first.
 pub fn tally_after(meter: &Installed, rows: &[EntryRow]) -> Tally
     requires range_low { MIN_RANGE ≤ meter.now.range }
     requires range_high { meter.now.range ≤ MAX_RANGE }
@@ -87,8 +87,8 @@ pub fn tally_after(meter: &Installed, rows: &[EntryRow]) -> Tally
     tally
 }
 
-/// Returns the tally of a meter after these rows, or `None` if a valid entry may not follow the
-/// valid entries before it.
+/// Returns the tally of a meter after the valid entries of a list of rows. Returns `None` if a
+/// valid entry may not follow the valid entries before it.
 pub fn checked_tally(meter: &Installed, rows: &[EntryRow]) -> Option<Tally>
     requires range_low { MIN_RANGE ≤ meter.now.range }
     requires range_high { meter.now.range ≤ MAX_RANGE }
@@ -126,8 +126,8 @@ pub fn checked_tally(meter: &Installed, rows: &[EntryRow]) -> Option<Tally>
     Some(tally)
 }
 
-/// Returns the interval rows that the valid entries give, in order. The only error is out of
-/// memory.
+/// Returns the energy by quarter hour of the valid entries of a list of rows, in order. The only
+/// error is out of memory.
 pub fn interval_rows(
     alloc: Global,
     meter: &Installed,

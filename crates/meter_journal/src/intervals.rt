@@ -1,4 +1,4 @@
-//! Merges the shares of consecutive steps that are in the same interval.
+//! Merges the shares of consecutive steps that are in the same quarter-hour interval.
 ghost use Rattle.std.specs.Prelude.{◌≡◌, ◌+◌, ◌^◌, ◌≤◌, ◌<◌, ◌++◌, ◌∷◌, [], IsSome};
 ghost use Rattle.std.specs.Prelude.{OnOk, OnErr};
 ghost use Rattle.std.specs.Option.{ForSome, option_to_list};
@@ -11,8 +11,8 @@ use energy_core::{MAX_INTERVALS, MAX_TOTAL, Step};
 use interval_core::{Share, Shares, shares_add_up};
 use std::alloc::AllocError;
 
-/// Adds the next share to the pending row. If the share is in another interval, it becomes the
-/// pending row, and the complete row is returned.
+/// Merges the next share into the pending row. If the share is in another interval, the share
+/// becomes the pending row and the function returns the completed row.
 pub fn join(pending: &mut Option<Share>, share: Share) -> Option<Share>
     requires { ForSome pending.old (λ row. row.mwh + share.mwh < 2 ^ 64) }
     ensures rows { let so_far = option_to_list pending.old in
@@ -35,8 +35,8 @@ pub fn join(pending: &mut Option<Share>, share: Share) -> Option<Share>
     }
 }
 
-/// Adds the next share to these rows: to the last row if both are in one interval, else as a new
-/// row.
+/// Adds the next share to a list of interval rows. A share in the interval of the last row is
+/// merged into that row, and any other share becomes a new row.
 fn join_last(rows: &mut Vec<Share>, share: Share) -> Result<(), AllocError>
     requires { energy_of rows.old.items + share.mwh < 2 ^ 64 }
     ensures ok { OnOk result (rows.new.items ≡ with_shares rows.old.items (share ∷ [])) }
@@ -58,7 +58,7 @@ fn join_last(rows: &mut Vec<Share>, share: Share) -> Result<(), AllocError>
     Ok(())
 }
 
-/// Adds the shares of a later step to these rows. The only error is out of memory.
+/// Adds the shares of a later step to a list of interval rows. The only error is out of memory.
 pub fn append_shares(rows: &mut Vec<Share>, step: &Step) -> Result<(), AllocError>
     requires forward { step.now.from < step.now.till }
     requires intervals { intervals_touched step.now.from step.now.till ≤ MAX_INTERVALS }

@@ -1,32 +1,33 @@
-//! Theorems on every lawful journal. Each is the contract of a function. Its body calls the theorem
-//! that the proof needs, or is empty.
+//! Theorems about every lawful journal of a meter. Each theorem is the contract of a function. The
+//! function's body calls the theorem that the proof needs, or is empty.
 ghost use Rattle.meter_journal.specs.Laws.{JournalsBalance, JournalsAreKept};
 ghost use Rattle.meter_journal.specs.Laws.{IntervalRowsAreAccounts, IntervalRowsAddUp, TruthIsKept};
 ghost use Rattle.meter_journal.specs.Laws.{RowsStand, StandingEntriesFit, VoidsLeaveNoTrace};
 
 use interval_core::{accounts_add_up, shares_add_up};
 
-/// Theorem: the energy of the valid entries is the last value less the opening's, plus one full
-/// range for each recorded rollover. For each change it adds what the counter showed before it,
-/// less what it was set to.
+/// Theorem: the energy of the valid entries is the last value less the opening value, plus one full
+/// range for each recorded rollover. Each reset or rescale adds the value before it less the value
+/// after it.
 pub fn journals_balance()
     ensures { JournalsBalance }
 {}
 
-/// Theorem: the valid entries have an account, for any voids. Their steps add up to its energy.
+/// Theorem: the valid entries of a journal have an account, whatever voids the journal contains.
+/// The steps between these entries add up to the energy of the account.
 pub fn journals_are_kept()
     ensures { JournalsAreKept }
 {}
 
 /// Theorem: the interval rows are the account of the steps between valid entries. One row exists
-/// for each interval that a step touches, in order, with the sum of all shares there.
+/// for each interval that a step touches, in order, with the sum of all shares in the interval.
 pub fn interval_rows_are_accounts()
     ensures { IntervalRowsAreAccounts }
 {
     shares_add_up();
 }
 
-/// Theorem: the interval rows add up to the energy of the valid entries.
+/// Theorem: the interval rows of a journal add up to the energy of its valid entries.
 pub fn interval_rows_add_up()
     ensures { IntervalRowsAddUp }
 {
@@ -34,26 +35,28 @@ pub fn interval_rows_add_up()
     accounts_add_up();
 }
 
-/// Theorem on a true run: its items are the valid readings after the last void, and all readings
-/// since then. None of these later readings was rejected, and the energy is the true one. That also
-/// holds before the beginning of any interval, up to the step in progress there.
+/// Theorem: suppose that the readings that were valid after the last void and all later readings
+/// show a true run. Then no later reading was rejected, and the energy is the true energy. The
+/// energy before the start of any interval is also true, except for the step in progress at that
+/// start.
 pub fn truth_is_kept()
     ensures { TruthIsKept }
 {
     shares_add_up();
 }
 
-/// Theorem: the valid entries of a journal are those that no void names.
+/// Theorem: the valid entries of a journal are the entries that no void in the journal names.
 pub fn rows_stand()
     ensures { RowsStand }
 {}
 
-/// Theorem: each valid entry fits after the valid entries before it.
+/// Theorem: the rules accept each valid entry after the valid entries before it.
 pub fn standing_entries_fit()
     ensures { StandingEntriesFit }
 {}
 
-/// Theorem: the valid entries leave the same state as if the journal had no other lines.
+/// Theorem: the valid entries of a journal lead to the same state as a journal that contains only
+/// these entries.
 pub fn voids_leave_no_trace()
     ensures { VoidsLeaveNoTrace }
 {}

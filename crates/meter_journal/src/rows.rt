@@ -1,4 +1,4 @@
-//! The rows of a meter in a list, the oldest first.
+//! The entry rows of a meter, the oldest row first.
 ghost use Rattle.std.specs.Prelude.{◌≡◌, ◌+◌, ◌≤◌, ◌<◌, ◌++◌, length, take, drop, find, IfSome};
 ghost use Rattle.std.specs.Prelude.{IfNone, IsTrue, None};
 ghost use Rattle.energy_core.specs.Account.{last_of};
@@ -9,7 +9,7 @@ ghost use Rattle.meter_journal.specs.Lists as lists;
 use crate::lines::{EntryKind, EntryRow};
 use energy_core::{Entry, Last};
 
-/// Returns the row of a new entry after these rows, with the next sequence number.
+/// Returns the row of a new entry after a list of rows, with the next sequence number.
 pub fn row_after(rows: &[EntryRow], kind: EntryKind, entry: Entry) -> EntryRow
     ensures { result ≡ journal.new_row rows.now kind entry }
 {
@@ -21,7 +21,7 @@ pub fn row_after(rows: &[EntryRow], kind: EntryKind, entry: Entry) -> EntryRow
     }
 }
 
-/// Returns whether each row has the sequence number of its index.
+/// Returns whether each row has the sequence number of its index: 2 for the first row, and so on.
 pub fn are_numbered(rows: &[EntryRow]) -> bool
     ensures so { IsTrue result → lists.AreNumbered (lists.latest_first rows.now) }
     ensures if_so { lists.AreNumbered (lists.latest_first rows.now) → IsTrue result }
@@ -34,7 +34,7 @@ pub fn are_numbered(rows: &[EntryRow]) -> bool
     true
 }
 
-/// Returns whether entries of this kind are readings.
+/// Returns whether entries of this kind are accepted readings of the meter.
 fn is_reading(kind: EntryKind) -> bool
     ensures { result ≡ journal.is_reading kind }
 {
@@ -44,7 +44,7 @@ fn is_reading(kind: EntryKind) -> bool
     }
 }
 
-/// Returns whether the row is an accepted reading.
+/// Returns whether the entry of the row is an accepted reading of the meter.
 fn is_read(row: &EntryRow) -> bool
     ensures { result ≡ journal.is_read row.now.kind row.now.entry }
 {
@@ -54,7 +54,8 @@ fn is_read(row: &EntryRow) -> bool
     }
 }
 
-/// Returns whether a row may be voided, by its kind and the kind of the next valid row.
+/// Returns whether an entry may be voided, given its row and the next valid row. The entry must be
+/// a valid reading, and the next valid entry, if any, must be a reading.
 pub fn is_voidable(row: &EntryRow, next: &Option<EntryRow>) -> bool
     ensures { result ≡ fitting.is_voidable row.now next.now }
 {
@@ -65,8 +66,8 @@ pub fn is_voidable(row: &EntryRow, next: &Option<EntryRow>) -> bool
     row.stands && is_read(row) && is_free
 }
 
-/// Returns the counter's state after a row, from the state before it. A voided row changes
-/// nothing.
+/// Returns the counter's state after a row, given the state `last` before the row. A voided row
+/// leaves the state unchanged.
 fn following(last: &Last, row: &EntryRow) -> Last
     ensures { result ≡ lists.following last.now row.now }
 {
@@ -83,7 +84,7 @@ fn following(last: &Last, row: &EntryRow) -> Last
     }
 }
 
-/// Returns the counter's state after the opening and these rows.
+/// Returns the counter's state after the opening entry and the valid rows of a list.
 pub fn last_of_rows(opening: &Last, rows: &[EntryRow]) -> Last
     ensures { let es = journal.entries_in (lists.latest_first rows.now) in
         result ≡ last_of opening.now es }
@@ -95,8 +96,8 @@ pub fn last_of_rows(opening: &Last, rows: &[EntryRow]) -> Last
     last
 }
 
-/// Returns the entry with the rollovers of a reading: one if it shows less than `last`, otherwise
-/// none. A change is unchanged.
+/// Returns an entry with its rollovers computed from `last`. A `Step` has one rollover if it shows
+/// less than `last`, otherwise none. A `Change` is returned unchanged.
 fn with_rolls(last: &Last, entry: &Entry) -> Entry
     ensures { result ≡ journal.with_rolls last.now entry.now }
 {
@@ -110,8 +111,8 @@ fn with_rolls(last: &Last, entry: &Entry) -> Entry
     }
 }
 
-/// Returns the row as it follows `last`. A valid reading gets the rollovers that `last` gives.
-/// Any other row is unchanged.
+/// Returns a row with its rollovers computed from the counter's state `last` before it. Only the
+/// row of a valid reading changes.
 fn rolled(last: &Last, row: &EntryRow) -> EntryRow
     ensures { result ≡ journal.rolled last.now row.now }
 {
@@ -122,8 +123,8 @@ fn rolled(last: &Last, row: &EntryRow) -> EntryRow
     next
 }
 
-/// Updates the rollovers of the valid readings from index `from` on. `last` is the counter's
-/// state before them.
+/// Updates the rollovers of the valid readings from the index `from` to the end of the list. `last`
+/// is the counter's state before the row at this index.
 fn roll_on(last: &Last, rows: &mut [EntryRow], from: usize)
     requires { from ≤ length rows.old }
     ensures { rows.new ≡ take from rows.old ++ lists.rolled_on last.now (drop from rows.old) }
@@ -136,8 +137,8 @@ fn roll_on(last: &Last, rows: &mut [EntryRow], from: usize)
     }
 }
 
-/// Voids the entry with a sequence number: marks its row as voided, and updates the rollovers of
-/// the readings after it.
+/// Voids the entry with the sequence number `place`. Marks the entry's row as voided, and updates
+/// the rollovers of all later readings.
 pub fn strike(opening: &Last, rows: &mut [EntryRow], place: u64)
     requires numbered { lists.AreNumbered (lists.latest_first rows.old) }
     requires after_the_opening { 2 ≤ place }
@@ -153,7 +154,7 @@ pub fn strike(opening: &Last, rows: &mut [EntryRow], place: u64)
     roll_on(&last, rows, index + 1);
 }
 
-/// A row, its index in the list, and the next valid row.
+/// A row of a list, the row's index, and the next valid row after it.
 #[derive(Clone, Copy, Debug, PartialEq, Eq)]
 pub struct FoundRow {
     pub index: usize,
@@ -161,7 +162,7 @@ pub struct FoundRow {
     pub next: Option<EntryRow>,
 }
 
-/// Returns the first valid row from index `from` on, or `None`.
+/// Returns the first valid row at or after the index `from`, or `None` if no such row exists.
 fn next_standing(rows: &[EntryRow], from: usize) -> Option<EntryRow>
     requires { from ≤ length rows.now }
     ensures { result ≡ find (λ row. row.stands) (drop from rows.now) }
@@ -174,8 +175,8 @@ fn next_standing(rows: &[EntryRow], from: usize) -> Option<EntryRow>
     None
 }
 
-/// Returns the row with a sequence number, or `None`. The number gives the index, so no search is
-/// needed.
+/// Returns the row with the sequence number `place`, or `None` if no such row exists. The index
+/// follows from the sequence number, so no search is needed.
 pub fn find_row(rows: &[EntryRow], place: u64) -> Option<FoundRow>
     requires { lists.AreNumbered (lists.latest_first rows.now) }
     ensures missing { IfNone result (journal.row_at place (lists.latest_first rows.now) ≡ None) }

@@ -1,11 +1,12 @@
-//! The responses of a simulated device.
+//! Tests the responses of a simulated device to single requests.
 use crate::devices::{GAPS, answers_all};
 use crate::examples::{EXAMPLES, Exchange};
 use mb_device::{Area, Bank, Kind};
 use std::alloc::Global;
 use std::process::Abort;
 
-// Reads of a device whose areas have gaps. Its holding register 11 is 7, and register 12 is 8.
+// Exchanges with a device whose register addresses have gaps. Its holding register 11 is 7, and
+// register 12 is 8.
 static IN_GAPS: [Exchange; 6] = [
     Exchange {
         request: &[3, 0, 10, 0, 4],
@@ -33,7 +34,7 @@ static IN_GAPS: [Exchange; 6] = [
     },
 ];
 
-/// A device refuses addresses between its areas.
+/// A device refuses requests for addresses between its areas.
 #[test]
 fn gaps_are_no_addresses(rt: HostRuntime) {
     let mut bank = Bank::new(rt.alloc(), &GAPS).ok().expect(&rt, "no bank");
@@ -64,14 +65,14 @@ static AREAS: [Area; 4] = [
     },
 ];
 
-// The addresses of the coils that are on, and then of the discrete inputs that are on.
+// The addresses of the coils that are on, followed by those of the discrete inputs that are on.
 static COILS: [u16; 12] = [19, 21, 22, 25, 26, 27, 28, 30, 32, 33, 35, 37];
 
 static DISCRETES: [u16; 14] = [
     198, 199, 201, 203, 204, 205, 207, 208, 210, 211, 212, 214, 216, 217,
 ];
 
-// Returns a device with the values of the standard's examples.
+// Returns a device with the values that the standard's examples read.
 fn bank_of_examples(rt: &impl Abort, alloc: Global) -> Bank {
     let mut bank = Bank::new(alloc, &AREAS).ok().expect(rt, "no bank");
     for address in COILS {
@@ -86,7 +87,7 @@ fn bank_of_examples(rt: &impl Abort, alloc: Global) -> Bank {
     bank
 }
 
-// Reads of the values that the examples of writes have written.
+// Reads that return the values written by the standard's examples of writes.
 static READ_BACK: [Exchange; 2] = [
     Exchange {
         request: &[3, 0, 1, 0, 2],

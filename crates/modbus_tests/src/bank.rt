@@ -1,9 +1,9 @@
-//! The register map of a simulated device.
+//! Tests the register map of a simulated device.
 use crate::devices::GAPS;
 use mb_device::{Area, Bank, BankFault, Kind};
 
-// A write of a value at an address: whether the device has the address, and the value that a read
-// returns afterwards.
+// A write of a value at an address, whether the device has the address, and the value that a later
+// read returns.
 struct Write {
     kind: Kind,
     address: u16,
@@ -50,7 +50,7 @@ static WRITES: [Write; 6] = [
     },
 ];
 
-/// A device stores values at the addresses of its areas. It refuses any other address.
+/// A device stores values at the addresses of its areas, and refuses any other address.
 #[test]
 fn values_are_kept_where_there_are_addresses(rt: HostRuntime) {
     let mut bank = Bank::new(rt.alloc(), &GAPS).ok().expect(&rt, "no bank");
@@ -63,7 +63,8 @@ fn values_are_kept_where_there_are_addresses(rt: HostRuntime) {
     }
 }
 
-// An area that is refused beside ten coils from address 0, its fault, and the fault's number.
+// An area that is invalid in a device with ten coils from address 0, its fault, and the fault's
+// number.
 struct Refused {
     area: Area,
     fault: BankFault,
@@ -109,7 +110,7 @@ static REFUSED: [Refused; 4] = [
     },
 ];
 
-/// An area that overlaps, is empty or extends past the last address is refused.
+/// An area that overlaps another, is empty or extends past address 65535 is refused.
 #[test]
 fn areas_have_their_faults(rt: HostRuntime) {
     let coils = Area {

@@ -1,11 +1,11 @@
-//! The least and the greatest window and timeout of a session: 1 and 16 pending polls, 1 and 60
-//! seconds.
+//! Tests a session with the least and the greatest window (1 and 16 pending polls) and timeout (1
+//! and 60 seconds).
 use crate::first_poll::first_poll;
 use crate::session_script::{Asked, Event, GOOD, Line, play, refuse, start};
 use poll_core::{Outcome, Session, StartFault};
 use std::process::Abort;
 
-// Starts as many polls as the window holds, and checks that one more is refused.
+// Starts as many polls as the window allows, and asserts that one more poll is refused.
 fn fill(rt: &impl Abort, session: &mut Session, window: u8) {
     for number in 0..window {
         let asked = Asked {
@@ -20,15 +20,15 @@ fn fill(rt: &impl Abort, session: &mut Session, window: u8) {
     refuse(rt, session, 1000, StartFault::WindowFull)
 }
 
-/// A window of 1 or of 16 polls holds exactly this many.
+/// A window of 1 or of 16 allows exactly this number of pending polls.
 #[test]
 fn windows_hold_1_to_16_polls(rt: HostRuntime) {
     fill(&rt, &mut Session::new(5, 1), 1);
     fill(&rt, &mut Session::new(5, 16), 16)
 }
 
-/// Timeouts in seconds. Each has the events in the last second of a poll that was started at 100,
-/// and at its deadline.
+/// Each timeout in seconds, with the events in the last second before the deadline and at the
+/// deadline of a poll started at 100.
 static TIMEOUTS: [(u64, &[Line]); 4] = [
     (
         1,
@@ -90,7 +90,7 @@ static TIMEOUTS: [(u64, &[Line]); 4] = [
     ),
 ];
 
-/// A poll with a timeout of 1 or of 60 seconds times out exactly then.
+/// A poll with a timeout of 1 or of 60 seconds times out exactly at its deadline.
 #[test]
 fn polls_wait_for_1_to_60_seconds(rt: HostRuntime) {
     for (timeout, lines) in &TIMEOUTS {

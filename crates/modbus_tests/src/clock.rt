@@ -1,9 +1,10 @@
-//! Events whose time is earlier than that of the event before.
+//! Tests events whose time is earlier than the time of the previous event.
 use crate::first_poll::first_poll;
 use crate::session_script::{Event, GOOD, Line, play};
 use poll_core::{ClockBack, Closing, Outcome, StartFault};
 
-/// After a start was refused, the response still answers the poll.
+/// The events after a refused call: a start is refused too, and the response still completes the
+/// first poll.
 static AFTERWARDS: [Line; 2] = [
     Line {
         event: Event::Refused {
@@ -21,7 +22,7 @@ static AFTERWARDS: [Line; 2] = [
     },
 ];
 
-/// Received bytes with an earlier time are refused, and change nothing.
+/// A session refuses received bytes with an earlier time, and does not change.
 #[test]
 fn a_piece_of_an_earlier_moment_is_refused(rt: HostRuntime) {
     let mut session = first_poll(&rt, 5, 2);
@@ -30,7 +31,7 @@ fn a_piece_of_an_earlier_moment_is_refused(rt: HostRuntime) {
     play(&rt, rt.alloc(), &mut session, &AFTERWARDS)
 }
 
-/// A timer event with an earlier time is refused, and changes nothing.
+/// A session refuses a timer event with an earlier time, and does not change.
 #[test]
 fn a_tick_of_an_earlier_moment_is_refused(rt: HostRuntime) {
     let mut session = first_poll(&rt, 5, 2);
@@ -39,7 +40,7 @@ fn a_tick_of_an_earlier_moment_is_refused(rt: HostRuntime) {
     play(&rt, rt.alloc(), &mut session, &AFTERWARDS)
 }
 
-/// A closing with an earlier time is refused, and changes nothing.
+/// A session refuses a close of the connection with an earlier time, and does not change.
 #[test]
 fn a_closing_of_an_earlier_moment_is_refused(rt: HostRuntime) {
     let mut session = first_poll(&rt, 5, 2);

@@ -1,10 +1,10 @@
-//! Simulated devices that the tests share, and their responses.
+//! Simulated devices that several tests use, and checks of their responses.
 use crate::examples::Exchange;
 use mb_device::{Area, Bank, Kind};
 use std::alloc::Global;
 use std::process::Abort;
 
-/// The areas of a device: two adjacent areas of holding registers, one after a gap, and a coil.
+/// The areas of a device: two adjacent areas of holding registers, a third after a gap, and a coil.
 pub(crate) static GAPS: [Area; 4] = [
     Area {
         kind: Kind::Holding,
@@ -34,14 +34,14 @@ static REGISTERS: [Area; 1] = [Area {
     count: 125,
 }];
 
-/// Returns a device whose holding register 0 is 9.
+/// Returns a device whose holding register 0 has the value 9.
 pub(crate) fn bank_with_nine(rt: &impl Abort, alloc: Global) -> Bank {
     let mut bank = Bank::new(alloc, &REGISTERS).ok().expect(rt, "no bank");
     bank.set(Kind::Holding, 0, 9);
     bank
 }
 
-/// Returns whether the device responds to a PDU with these bytes.
+/// Returns whether the device responds to the request `pdu` with the bytes of `answer`.
 pub(crate) fn answers(bank: &mut Bank, pdu: &[u8], answer: &[u8]) -> bool {
     if pdu.is_empty() || pdu.len() > 253 {
         return false;
@@ -51,7 +51,8 @@ pub(crate) fn answers(bank: &mut Bank, pdu: &[u8], answer: &[u8]) -> bool {
     out.get(..count) == Some(answer)
 }
 
-/// Asserts that the device responds to each request with the response beside it.
+/// Asserts that the device responds to the request of each exchange with the response of that
+/// exchange.
 pub(crate) fn answers_all(rt: &impl Abort, bank: &mut Bank, exchanges: &[Exchange]) {
     for (i, exchange) in exchanges.iter().enumerate() {
         assert!(rt;

@@ -1,4 +1,4 @@
-//! The texts of faults of frames, servers and sessions.
+//! Tests the English texts of the faults of frames, servers and sessions.
 use crate::texts::tells;
 use mb_device::{BankFault, ServeFault};
 use mb_wire::{ReplyFault, RequestFault};
@@ -120,7 +120,7 @@ const LOST: [(LostCause, &str); 4] = [
     (LostCause::Restart, "the program was started again"),
 ];
 
-/// Each fault of a frame has its text.
+/// Each fault of a request or a response, and each kind of malformed outcome, has its text.
 #[test]
 fn frames(rt: HostRuntime) {
     tells(&rt, rt.alloc(), &REQUESTS);
@@ -135,7 +135,7 @@ fn servers(rt: HostRuntime) {
     tells(&rt, rt.alloc(), &SERVERS)
 }
 
-/// Each fault of starting a poll and each cause of a lost poll has its text.
+/// Each fault of starting a poll, and each cause of a lost poll, has its text.
 #[test]
 fn sessions(rt: HostRuntime) {
     tells(&rt, rt.alloc(), &STARTS);

@@ -1,10 +1,10 @@
-//! Events of a session whose first poll was started at time 100.
+//! Tests the events of a session whose first poll was started at time 100.
 use crate::session_script::{Asked, Event, GOOD, Line, feed, play, start};
 use poll_core::{LostCause, Malformation, Outcome, Session};
 use std::alloc::Global;
 use std::process::Abort;
 
-/// The first poll, which reads 3 registers from address 40094.
+/// The first poll of the session, which reads 3 registers from address 40094.
 static FIRST: Asked = Asked {
     moment: 100,
     poll: 1,
@@ -13,7 +13,7 @@ static FIRST: Asked = Asked {
     frame: [0, 0, 0, 0, 0, 6, 1, 3, 0x9c, 0x9e, 0, 3],
 };
 
-/// Creates a session with this timeout and window, and starts the first poll.
+/// Creates a session with this timeout in seconds and this window, and starts the first poll.
 pub fn first_poll(rt: &impl Abort, timeout: u64, window: usize) -> Session {
     assert!(rt; 1 <= timeout && timeout <= 60);
     assert!(rt; 1 <= window && window <= 16);
@@ -22,7 +22,7 @@ pub fn first_poll(rt: &impl Abort, timeout: u64, window: usize) -> Session {
     session
 }
 
-/// Responses within a timeout of 5 seconds.
+/// Responses to a poll with a timeout of 5 seconds that was started at time 100.
 static REPLIES: [[Line; 2]; 4] = [
     [
         Line {
@@ -32,7 +32,7 @@ static REPLIES: [[Line; 2]; 4] = [
             },
             told: &[(1, Outcome::Answered)],
         },
-        // A second response belongs to no poll.
+        // A second response with the same identifier belongs to no poll.
         Line {
             event: Event::Piece {
                 moment: 104,
@@ -41,7 +41,7 @@ static REPLIES: [[Line; 2]; 4] = [
             told: &[],
         },
     ],
-    // A response at the deadline.
+    // A response that arrives at the poll's deadline.
     [
         Line {
             event: Event::Piece {
@@ -55,7 +55,7 @@ static REPLIES: [[Line; 2]; 4] = [
             told: &[],
         },
     ],
-    // The same response twice in one piece of the stream.
+    // Two copies of one response in one chunk of the stream.
     [
         Line {
             event: Event::Piece {
@@ -75,7 +75,8 @@ static REPLIES: [[Line; 2]; 4] = [
             told: &[],
         },
     ],
-    // A response with another transaction identifier, 9. The poll stays pending.
+    // A response with the transaction identifier 9, which belongs to no poll. The first poll is
+    // still pending after it.
     [
         Line {
             event: Event::Piece {
@@ -139,8 +140,8 @@ static OTHER_FRAMES: [[Line; 1]; 6] = [
     }],
 ];
 
-/// Plays the events on sessions with a timeout of 5 seconds, one for each window, after their first
-/// poll was started.
+/// Plays the events on sessions with a timeout of 5 seconds and windows of 1, 2 and 16, after the
+/// first poll was started.
 pub fn play_at_windows(rt: &impl Abort, alloc: Global, lines: &[Line]) {
     for window in [1, 2, 16] {
         let mut session = first_poll(rt, 5, window);
@@ -148,7 +149,7 @@ pub fn play_at_windows(rt: &impl Abort, alloc: Global, lines: &[Line]) {
     }
 }
 
-/// Feeds the response byte by byte: the last byte settles the poll.
+/// Feeds the response byte by byte, and asserts that only the last byte completes the poll.
 fn feed_bytes(rt: &impl Abort, alloc: Global, session: &mut Session) {
     for (i, byte) in GOOD.iter().enumerate() {
         let told = feed(rt, alloc, session, 104, &[*byte]);
@@ -156,7 +157,7 @@ fn feed_bytes(rt: &impl Abort, alloc: Global, session: &mut Session) {
     }
 }
 
-/// A response before the deadline answers the poll, once.
+/// A response before the deadline completes the poll once.
 #[test]
 fn a_reply_in_time_answers(rt: HostRuntime) {
     for lines in &REPLIES {
@@ -164,7 +165,7 @@ fn a_reply_in_time_answers(rt: HostRuntime) {
     }
 }
 
-/// Frames that are no response to the poll don't answer it.
+/// A frame that is no valid response to the poll does not answer the poll.
 #[test]
 fn other_frames_are_no_answers(rt: HostRuntime) {
     for lines in &OTHER_FRAMES {

@@ -1,7 +1,7 @@
-//! Frames in streams of bytes.
+//! Tests the reading of frames from streams of bytes.
 use mb_wire::{Fed, FrameReader, Framing, Request, decode_reply, encode_request, write_frame};
 
-// A request of unit 17 for three registers from 107, and the response to it.
+// A request to unit 17 for three registers from address 107, and the response.
 static REQUEST: [u8; 12] = [0, 1, 0, 0, 0, 6, 17, 3, 0, 107, 0, 3];
 
 static REPLY: [u8; 15] = [0, 1, 0, 0, 0, 9, 17, 3, 6, 2, 43, 0, 0, 0, 100];
@@ -11,7 +11,8 @@ static ASKED: Request<'static> = Request::ReadHolding {
     quantity: 3,
 };
 
-// The result of feeding bytes to a reader of frames: to a new reader, or to that of the row before.
+// The result of feeding bytes to a frame reader. `anew` is true for a new reader, otherwise the
+// reader of the previous entry continues.
 struct Feed {
     anew: bool,
     bytes: &'static [u8],
@@ -21,7 +22,7 @@ struct Feed {
 }
 
 static FEEDS: [Feed; 6] = [
-    // Two responses, where the second ends in another piece of the stream.
+    // Two responses in one stream. The second ends in the next chunk.
     Feed {
         anew: true,
         bytes: &[0, 1, 0, 0, 0, 9, 17, 3, 6, 2, 43, 0, 0, 0, 100, 0, 1, 0, 0],
@@ -43,7 +44,7 @@ static FEEDS: [Feed; 6] = [
         what: Framing::Whole,
         buffered: true,
     },
-    // A frame with another protocol identifier than Modbus.
+    // A frame with a protocol identifier other than 0 (Modbus).
     Feed {
         anew: true,
         bytes: &[0, 1, 0, 1, 0, 6, 17, 3, 0, 107, 0, 3, 0],
@@ -51,7 +52,7 @@ static FEEDS: [Feed; 6] = [
         what: Framing::Foreign,
         buffered: false,
     },
-    // After a length field of 1 the stream can't be read any more.
+    // A length field of 1, after which the reader consumes no further bytes.
     Feed {
         anew: true,
         bytes: &[0, 1, 0, 0, 0, 1, 9],
@@ -68,7 +69,7 @@ static FEEDS: [Feed; 6] = [
     },
 ];
 
-/// A feed stops at the end of a frame.
+/// A feed consumes bytes only up to the end of a frame.
 #[test]
 fn a_feed_ends_with_a_frame(rt: HostRuntime) {
     let mut reader = FrameReader::new();
@@ -88,7 +89,7 @@ fn a_feed_ends_with_a_frame(rt: HostRuntime) {
     }
 }
 
-/// A request is written as the bytes of its frame.
+/// A request is written as the bytes of a Modbus TCP frame.
 #[test]
 fn a_request_is_written(rt: HostRuntime) {
     let mut pdu = [0; 253];
@@ -98,7 +99,7 @@ fn a_request_is_written(rt: HostRuntime) {
     assert!(rt; out.get(..size) == Some(REQUEST.as_slice()));
 }
 
-// Returns whether the reader holds a frame with these fields.
+// Returns whether the reader has a complete frame with these fields.
 fn holds(reader: &FrameReader, tid: u16, unit: u8, pdu: &[u8]) -> bool {
     match reader.frame() {
         Some(frame) => frame.tid == tid && frame.unit == unit && frame.pdu == pdu,
@@ -123,7 +124,7 @@ fn single_bytes_make_a_frame(rt: HostRuntime) {
     assert!(rt; holds(&reader, 1, 17, &REPLY[7..]));
 }
 
-/// The longest frame is read.
+/// The longest frame of 260 bytes is read.
 #[test]
 fn the_longest_frame_is_read(rt: HostRuntime) {
     let mut longest = [0; 260];
@@ -140,7 +141,7 @@ fn the_longest_frame_is_read(rt: HostRuntime) {
     assert!(rt; holds(&reader, 5, 0, &longest[7..]));
 }
 
-// Returns whether these bytes are accepted as a response to the request.
+// Returns whether the bytes are accepted as a response to the request.
 fn is_taken(bytes: &[u8; 15]) -> bool {
     let mut reader = FrameReader::new();
     let fed = reader.feed(bytes);
@@ -155,7 +156,7 @@ fn is_taken(bytes: &[u8; 15]) -> bool {
     }
 }
 
-/// A frame with any wrong byte in its header is no response to the request.
+/// A frame with a wrong byte in its header is not accepted as a response to the request.
 #[test]
 fn a_corrupt_header_is_no_reply(rt: HostRuntime) {
     assert!(rt; is_taken(&REPLY));

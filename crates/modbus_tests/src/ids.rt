@@ -1,5 +1,5 @@
-//! A transaction identifier that is due again after 65,535 more starts, while a poll with it is
-//! still pending.
+//! Tests that a transaction identifier is not reused after 65,535 further starts, while the poll
+//! with the identifier is still pending.
 use crate::session_script::{Asked, Event, Line, feed, play, start};
 use poll_core::{Outcome, Session, StartFault};
 use std::alloc::Global;
@@ -35,7 +35,7 @@ static BUSY: [Line; 4] = [
     },
 ];
 
-/// Starts the poll with this number and identifier, and answers it.
+/// Starts the poll with this number and identifier, and feeds its response.
 fn ask(rt: &impl Abort, alloc: Global, session: &mut Session, poll: u16) {
     let [high, low] = poll.to_be_bytes();
     let asked = Asked {
@@ -52,7 +52,7 @@ fn ask(rt: &impl Abort, alloc: Global, session: &mut Session, poll: u16) {
     assert!(rt; told.as_slice() == answered.as_slice());
 }
 
-/// The identifier of a pending poll is not used again.
+/// The transaction identifier of a pending poll is not used for another poll.
 #[test]
 fn an_id_that_waits_is_not_used_again(rt: HostRuntime) {
     let mut session = Session::new(60, 2);

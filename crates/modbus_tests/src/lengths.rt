@@ -1,12 +1,12 @@
-//! The lengths that a header may have: those of a unit and a PDU of 1 to 253 bytes (Messaging on
-//! TCP/IP Implementation Guide V1.0b, section 3.1.3).
+//! Tests the valid length fields of a header: a unit identifier and a PDU of 1 to 253 bytes
+//! (Messaging on TCP/IP Implementation Guide V1.0b, section 3.1.3).
 use crate::devices::bank_with_nine;
 use mb_device::{ServeFault, Server};
 use mb_wire::{Fed, FrameReader, Framing, MemoryLink, write_frame};
 use std::alloc::Global;
 use std::process::Abort;
 
-// A length field, how many bytes of the frame the reader accepts, and the kind of frame.
+// A length field, the number of bytes that the frame reader consumes, and the result of the feed.
 static LENGTHS: [(u16, usize, Framing); 7] = [
     (0, 6, Framing::Garbled),
     (1, 6, Framing::Garbled),
@@ -17,7 +17,7 @@ static LENGTHS: [(u16, usize, Framing); 7] = [
     (65535, 6, Framing::Garbled),
 ];
 
-// Returns a frame with a function code that no device has, and bytes after it.
+// Returns a frame with this length field and an unknown function code.
 fn frame_of(length: u16) -> [u8; 261] {
     let [high, low] = length.to_be_bytes();
     let mut frame = [0x2B; 261];
@@ -25,7 +25,7 @@ fn frame_of(length: u16) -> [u8; 261] {
     frame
 }
 
-/// A reader accepts length fields from 2 to 254.
+/// A frame reader accepts length fields from 2 to 254.
 #[test]
 fn frames_have_lawful_lengths(rt: HostRuntime) {
     for (length, taken, what) in LENGTHS {
@@ -34,7 +34,8 @@ fn frames_have_lawful_lengths(rt: HostRuntime) {
     }
 }
 
-// A length field, the result of a server for a single frame with it, and what the server writes.
+// A length field, the result of a server that reads one frame with it, and the bytes that the
+// server writes.
 static SERVED: [(u16, Result<u64, ServeFault>, &[u8]); 4] = [
     (1, Err(ServeFault::Garbled), &[]),
     (2, Ok(1), &[0, 9, 0, 0, 0, 3, 7, 0xAB, 1]),
@@ -67,10 +68,11 @@ fn frames_of_lawful_lengths_are_served(rt: HostRuntime) {
     }
 }
 
-// The length of a PDU, the length of its frame, and the length field of that frame.
+// The length of a PDU in bytes, the length of its frame, and the two bytes of the frame's length
+// field.
 static WRITTEN: [(usize, usize, [u8; 2]); 2] = [(1, 8, [0, 2]), (253, 260, [0, 254])];
 
-/// A frame is written with its length field.
+/// A frame is written with the length field that its PDU requires.
 #[test]
 fn frames_are_written_with_their_lengths(rt: HostRuntime) {
     let pdu = [3; 253];

@@ -1,5 +1,4 @@
-//! Tests of Modbus: frames, requests, responses and links, the simulated device, and polling
-//! sessions.
+//! Tests Modbus frames, requests, responses and links, the simulated device, and polling sessions.
 #![tactic(auto)]
 
 #[cfg(test)]

@@ -1,14 +1,14 @@
-//! A link over memory, for tests.
+//! Tests the link in memory that other tests use.
 use mb_wire::{LastTake, Link, LinkFailed, MemoryLink, Took};
 
-// The result of each read, and the buffer after it.
+// The result of each read from the link, and the buffer after the read.
 static TAKES: [(Took, [u8; 4]); 3] = [
     (Took::Bytes(2), [1, 2, 9, 9]),
     (Took::Bytes(1), [3, 2, 9, 9]),
     (Took::End, [3, 2, 9, 9]),
 ];
 
-/// Reads return the input in pieces, in order.
+/// Reads return the input in chunks, in order.
 #[test]
 fn an_input_is_handed_out_in_pieces(rt: HostRuntime) {
     let mut output = [0; 5];
@@ -23,8 +23,8 @@ fn an_input_is_handed_out_in_pieces(rt: HostRuntime) {
     assert!(rt; (link.takes(), link.failures()) == (3, 0));
 }
 
-// The bytes of each write to an output with room for five bytes, and its result. A call writes at
-// most two bytes.
+// The bytes of each write to an output with room for five bytes, and the result of the write. A
+// call accepts at most two bytes.
 static GIVES: [(&[u8], Result<usize, LinkFailed>); 5] = [
     (&[7, 8, 9], Ok(2)),
     (&[9], Ok(1)),
@@ -33,7 +33,7 @@ static GIVES: [(&[u8], Result<usize, LinkFailed>); 5] = [
     (&[4], Err(LinkFailed)),
 ];
 
-/// Writes fill the output in pieces, in order.
+/// Writes fill the output in chunks, in order.
 #[test]
 fn an_output_is_given_in_pieces(rt: HostRuntime) {
     let mut output = [0; 5];
@@ -45,7 +45,7 @@ fn an_output_is_given_in_pieces(rt: HostRuntime) {
     assert!(rt; link.given() == [7, 8, 9, 5, 6].as_slice());
 }
 
-// Returns whether two reads and two writes, in turn, all succeed except call number `fails`.
+// Returns whether, of two reads and two writes in turn, exactly call number `fails` fails.
 fn is_told(fails: u64) -> bool {
     let mut output = [0; 4];
     let mut link = MemoryLink::new(&[1, 2], &mut output, 1, Some(fails));
@@ -57,7 +57,7 @@ fn is_told(fails: u64) -> bool {
         && (link.failures(), link.takes()) == (1, 2)
 }
 
-/// A test can make any call of the link fail.
+/// A test can make any single call of the link fail.
 #[test]
 fn each_call_fails_in_turn(rt: HostRuntime) {
     for fails in 1..5u64 {

@@ -1,13 +1,13 @@
-//! The quantities that the standard allows, and one more or less (Modbus Application Protocol
-//! V1.1b3, sections 6.1 to 6.12).
+//! Tests each quantity limit of the standard and the first value beyond it (Modbus Application
+//! Protocol V1.1b3, sections 6.1 to 6.12).
 use crate::replies::{bit_in, comes_back, word_in};
 use crate::requests::{self, is_written_as};
 use mb_wire::{Request, decode_reply, decode_request};
 
-// A PDU: its function code, the number after its address, its byte count, and its length in bytes.
-// The last number is that of its fault, or 0 if the PDU is a request.
+// A request PDU: its function code, the number after its address, its byte count, and its length in
+// bytes. The last number is that of the fault, or 0 if the PDU is valid.
 static REQUESTS: [(u8, u16, u8, usize, u8); 36] = [
-    // Reads of coils and discrete inputs.
+    // Requests that read coils and discrete inputs.
     (1, 0, 0, 5, 3),
     (1, 1, 0, 5, 0),
     (1, 2000, 0, 5, 0),
@@ -18,7 +18,7 @@ static REQUESTS: [(u8, u16, u8, usize, u8); 36] = [
     (2, 2000, 0, 5, 0),
     (2, 2001, 0, 5, 3),
     (2, 65535, 0, 5, 3),
-    // Reads of registers.
+    // Requests that read registers.
     (3, 0, 0, 5, 3),
     (3, 1, 0, 5, 0),
     (3, 125, 0, 5, 0),
@@ -29,20 +29,20 @@ static REQUESTS: [(u8, u16, u8, usize, u8); 36] = [
     (4, 125, 0, 5, 0),
     (4, 126, 0, 5, 3),
     (4, 65535, 0, 5, 3),
-    // Writes of one coil that is off, on or neither, and of one register.
+    // Requests that write one coil with a valid or an invalid value, or one register.
     (5, 0x0000, 0, 5, 0),
     (5, 0xFF00, 0, 5, 0),
     (5, 0xFF01, 0, 5, 5),
     (5, 0x00FF, 0, 5, 5),
     (6, 0, 0, 5, 0),
     (6, 65535, 0, 5, 0),
-    // Writes of several coils.
+    // Requests that write several coils.
     (15, 0, 0, 6, 3),
     (15, 8, 1, 7, 0),
     (15, 1968, 246, 252, 0),
     (15, 1968, 247, 253, 4),
     (15, 1969, 247, 253, 3),
-    // Writes of several registers.
+    // Requests that write several registers.
     (16, 0, 0, 6, 3),
     (16, 1, 2, 8, 0),
     (16, 123, 246, 252, 0),
@@ -50,7 +50,7 @@ static REQUESTS: [(u8, u16, u8, usize, u8); 36] = [
     (16, 124, 248, 254, 3),
 ];
 
-/// Returns a request with the same value in each byte after its byte count.
+/// Returns a request with the same value in each byte after the byte count.
 pub(crate) fn request_of(
     function: u8,
     address: u16,
@@ -65,7 +65,8 @@ pub(crate) fn request_of(
     pdu
 }
 
-// Returns the number of a PDU's fault, or 0 if it is a request that encodes to the same PDU.
+// Returns the number of the PDU's fault as a request, or 0 if the PDU decodes and encodes to the
+// same bytes.
 fn told(pdu: &[u8]) -> Option<u8> {
     if is_written_as(pdu, pdu) {
         Some(0)
@@ -74,7 +75,7 @@ fn told(pdu: &[u8]) -> Option<u8> {
     }
 }
 
-/// Requests may have exactly the quantities that the standard allows.
+/// Requests are accepted with exactly the quantities that the standard allows.
 #[test]
 fn requests_have_lawful_quantities(rt: HostRuntime) {
     for (function, number, count, length, fault) in REQUESTS {
@@ -84,8 +85,8 @@ fn requests_have_lawful_quantities(rt: HostRuntime) {
     }
 }
 
-// The function code and the quantity of a read. Then a PDU's byte count, its length in bytes, and
-// the number of its fault, or 0 if the PDU is a response to the read.
+// The function code and quantity of a read, and the byte count and length in bytes of a response
+// PDU. The last number is that of the response's fault, or 0 if the PDU is valid.
 static REPLIES: [(u8, u16, u8, usize, u8); 20] = [
     (1, 1, 1, 3, 0),
     (1, 8, 1, 3, 0),
@@ -109,15 +110,15 @@ static REPLIES: [(u8, u16, u8, usize, u8); 20] = [
     (4, 125, 252, 254, 3),
 ];
 
-// Returns a response whose bytes after its byte count are all 1.
+// Returns a response in which all bytes after the byte count are 1.
 fn reply_of(function: u8, count: u8) -> [u8; 254] {
     let mut pdu = [1; 254];
     pdu[..2].copy_from_slice(&[function, count]);
     pdu
 }
 
-// Returns the number of a PDU's fault, or 0 if it is a response to the request that encodes to the
-// same PDU.
+// Returns the number of the PDU's fault as a response, or 0 if the PDU decodes and encodes to the
+// same bytes.
 fn told_of_reply(asked: &[u8], pdu: &[u8]) -> Option<u8> {
     if comes_back(asked, pdu) == Some(true) {
         return Some(0);
@@ -126,7 +127,7 @@ fn told_of_reply(asked: &[u8], pdu: &[u8]) -> Option<u8> {
     Some(decode_reply(&request, pdu).err()?.number())
 }
 
-/// Responses have exactly the data that was requested.
+/// Responses are accepted with exactly the quantity of data that was requested.
 #[test]
 fn replies_bring_what_was_asked_for(rt: HostRuntime) {
     for (function, quantity, count, length, fault) in REPLIES {
@@ -137,8 +138,8 @@ fn replies_bring_what_was_asked_for(rt: HostRuntime) {
     }
 }
 
-// The last two coils of the longest response, by index, and none after them. The highest bit of
-// each byte is on.
+// The index and value of the last two coils of the longest response, and the index after them. Only
+// the highest bit of each byte is on.
 static LAST_BITS: [(usize, Option<bool>); 3] = [
     (1998, Some(false)),
     (1999, Some(true)),
@@ -147,7 +148,7 @@ static LAST_BITS: [(usize, Option<bool>); 3] = [
 
 static LAST_WORDS: [(usize, Option<u16>); 2] = [(124, Some(0x8080)), (125, None)];
 
-// Returns a response of 252 bytes, each 0x80 except the first two.
+// Returns a response of 252 bytes, all 0x80 except the function code and the byte count.
 fn longest_reply(function: u8) -> [u8; 252] {
     let mut pdu = [0x80; 252];
     pdu[..2].copy_from_slice(&[function, 250]);

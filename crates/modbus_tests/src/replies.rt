@@ -1,4 +1,4 @@
-//! Responses in PDUs.
+//! Tests the decoding and encoding of responses.
 use crate::examples::EXAMPLES;
 use mb_wire::{Reply, ReplyFault, Request, decode_reply, decode_request, encode_reply};
 
@@ -17,8 +17,8 @@ static COIL: Request<'static> = Request::WriteCoil {
     on: true,
 };
 
-/// Returns whether a PDU decodes as a response to the request in another PDU, and encodes to the
-/// same bytes. None if it does not decode.
+/// Returns whether the response `answered` to the request `asked` decodes and encodes to the same
+/// bytes, or `None` if it does not decode.
 pub(crate) fn comes_back(asked: &[u8], answered: &[u8]) -> Option<bool> {
     let mut out = [0; 253];
     let request = decode_request(asked).ok()?;
@@ -38,8 +38,8 @@ fn examples_of_the_standard_come_back(rt: HostRuntime) {
     }
 }
 
-// PDUs that are no response to the read of holding registers, and then PDUs that are no response to
-// the write of a coil. Each has its fault and the fault's number.
+// Invalid responses to a read of holding registers, and after them invalid responses to a write of
+// a coil. Each has its fault and the fault's number.
 static READ_FAULTS: [(&[u8], ReplyFault, u8); 6] = [
     (&[0x84, 2], ReplyFault::WrongFunction, 1),
     (&[4, 6, 0, 1, 0, 2, 0, 3], ReplyFault::WrongFunction, 1),
@@ -54,7 +54,7 @@ static ECHO_FAULTS: [(&[u8], ReplyFault, u8); 2] = [
     (&[5, 0, 172, 0xFF], ReplyFault::WrongLength, 2),
 ];
 
-// Returns the fault of a PDU, and its number.
+// Returns the fault of a PDU as a response to the request, and the fault's number.
 fn fault_in(request: &Request<'_>, pdu: &[u8]) -> Option<(ReplyFault, u8)> {
     let fault = decode_reply(request, pdu).err()?;
     Some((fault, fault.number()))
@@ -71,19 +71,21 @@ fn faults_have_their_numbers(rt: HostRuntime) {
     }
 }
 
-/// Returns register `i` of a response.
+/// Returns register `i` of a response, or `None` if the response does not decode or has no such
+/// register.
 pub(crate) fn word_in(request: &Request<'_>, pdu: &[u8], i: usize) -> Option<u16> {
     decode_reply(request, pdu).ok()?.word(i)
 }
 
-/// Returns coil or discrete input `i` of a response.
+/// Returns coil or discrete input `i` of a response, or `None` if the response does not decode or
+/// has no such bit.
 pub(crate) fn bit_in(request: &Request<'_>, pdu: &[u8], i: usize) -> Option<bool> {
     decode_reply(request, pdu).ok()?.bit(i)
 }
 
 static WORDS: [(usize, Option<u16>); 4] = [(0, Some(555)), (1, Some(0)), (2, Some(100)), (3, None)];
 
-/// The registers in a response have the right values.
+/// The registers of a response have the values that its bytes encode.
 #[test]
 fn registers_are_read(rt: HostRuntime) {
     for (i, word) in WORDS {
@@ -94,7 +96,7 @@ fn registers_are_read(rt: HostRuntime) {
     assert!(rt; word_in(&INPUT, &[4, 2, 0, 10], 1).is_none());
 }
 
-/// Exceptions and responses to writes have the right values.
+/// Exception responses and responses to writes have the values that their bytes encode.
 #[test]
 fn exceptions_and_echoes_are_read(rt: HostRuntime) {
     let refused = decode_reply(&HOLDING, &[0x83, 2]);
@@ -123,7 +125,7 @@ static BITS: [(usize, Option<bool>); 10] = [
     (19, None),
 ];
 
-/// The coils in a response begin with the lowest bit of each byte.
+/// The first coil of a response is the lowest bit of the first byte.
 #[test]
 fn coils_are_read_from_the_lowest_bit(rt: HostRuntime) {
     for (i, on) in BITS {

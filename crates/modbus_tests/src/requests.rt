@@ -1,8 +1,8 @@
-//! Requests in PDUs.
+//! Tests the decoding and encoding of requests.
 use crate::examples::EXAMPLES;
 use mb_wire::{decode_request, encode_request};
 
-// PDUs that are no requests, and the numbers of their faults.
+// PDUs that are not valid requests, and the numbers of their faults.
 static FAULTS: [(&[u8], u8); 12] = [
     (&[0x2B, 0x0E], 1),
     (&[0x83, 0], 1),
@@ -18,7 +18,7 @@ static FAULTS: [(&[u8], u8); 12] = [
     (&[5, 0, 1, 0, 1], 5),
 ];
 
-/// Returns whether a PDU decodes as a request that encodes to these bytes.
+/// Returns whether `pdu` decodes as a request that encodes to `bytes`.
 pub(crate) fn is_written_as(pdu: &[u8], bytes: &[u8]) -> bool {
     let mut out = [0; 253];
     match decode_request(pdu) {
@@ -41,7 +41,7 @@ fn examples_of_the_standard_come_back(rt: HostRuntime) {
     }
 }
 
-/// Spare bits are written as 0.
+/// Spare bits of a request are encoded as 0.
 #[test]
 fn spare_bits_are_written_as_zero(rt: HostRuntime) {
     let asked = [15, 0, 19, 0, 10, 2, 0xCD, 0xFD];
@@ -49,19 +49,19 @@ fn spare_bits_are_written_as_zero(rt: HostRuntime) {
     assert!(rt; is_written_as(&asked, &written));
 }
 
-// Returns the function and the address of the request in a PDU.
+// Returns the function code and the address of the request that a PDU encodes.
 fn head_of(pdu: &[u8]) -> Option<(u8, u16)> {
     let request = decode_request(pdu).ok()?;
     Some((request.function(), request.address()))
 }
 
-/// A request has its function and address.
+/// A decoded request has the function code and the address of its PDU.
 #[test]
 fn a_request_has_its_function_and_address(rt: HostRuntime) {
     assert!(rt; head_of(&[1, 0, 19, 0, 19]) == Some((1, 19)));
 }
 
-/// Returns the number of a PDU's fault.
+/// Returns the number of the PDU's fault as a request, or `None` if the PDU is valid.
 pub(crate) fn fault_in(pdu: &[u8]) -> Option<u8> {
     let fault = decode_request(pdu).err()?;
     Some(fault.number())

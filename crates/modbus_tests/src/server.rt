@@ -1,11 +1,11 @@
-//! A server of a simulated device over a link.
+//! Tests the server of a simulated device over a link.
 use crate::devices::bank_with_nine;
 use mb_device::{Bank, Kind, ServeFault, Server, Turned};
 use mb_wire::{Link, MemoryLink};
 use std::alloc::Global;
 use std::process::Abort;
 
-// A read of holding register 0 by unit 1, and the response if the register is 9.
+// A read of holding register 0 by unit 1, and the response if the register has the value 9.
 const READ: &[u8] = &[0, 7, 0, 0, 0, 6, 1, 3, 0, 0, 0, 1];
 
 const NINE: &[u8] = &[0, 7, 0, 0, 0, 5, 1, 3, 2, 0, 9];
@@ -18,8 +18,8 @@ const TWO_NINES: &[u8] = &[
     0, 7, 0, 0, 0, 5, 1, 3, 2, 0, 9, 0, 7, 0, 0, 0, 5, 1, 3, 2, 0, 9,
 ];
 
-// A frame of another protocol, a write of 5 to holding register 0, and a read of it. The three have
-// different transaction identifiers and units.
+// A frame of another protocol, a write of 5 to holding register 0, and a read of that register. The
+// frames have different transaction and unit identifiers.
 const MIXED: &[u8] = &[
     0, 1, 0, 9, 0, 3, 1, 3, 0, 0, 2, 0, 0, 0, 6, 2, 6, 0, 0, 0, 5, 1, 3, 0, 0, 0, 6, 3, 3, 0, 0, 0,
     1,
@@ -29,13 +29,13 @@ const MIXED_ANSWERS: &[u8] = &[
     0, 2, 0, 0, 0, 6, 2, 6, 0, 0, 0, 5, 1, 3, 0, 0, 0, 5, 3, 3, 2, 0, 5,
 ];
 
-// A read, and then a frame of a bad length.
+// A read followed by a frame with an invalid length field.
 const GARBLED: &[u8] = &[
     0, 7, 0, 0, 0, 6, 1, 3, 0, 0, 0, 1, 0, 8, 0, 0, 0, 1, 1, 3, 0, 0, 0, 1,
 ];
 
-// A stream, the bytes that a call of the link returns, the call that fails, if any, and the number
-// of turns of the server. Then the expected result.
+// An input stream, the greatest chunk of the link in bytes, the failing call if any, the number of
+// turns, and the expected results.
 struct Case {
     input: &'static [u8],
     piece: usize,
@@ -48,7 +48,7 @@ struct Case {
 }
 
 static CASES: [Case; 11] = [
-    // Enough turns for the stream, or too few.
+    // Servers with enough turns for the input, or with too few.
     Case {
         input: READ,
         piece: 12,
@@ -69,7 +69,7 @@ static CASES: [Case; 11] = [
         takes: 1,
         failures: 0,
     },
-    // A stream that arrives one byte at a time.
+    // An input that arrives one byte at a time.
     Case {
         input: MIXED,
         piece: 1,
@@ -80,7 +80,7 @@ static CASES: [Case; 11] = [
         takes: 34,
         failures: 0,
     },
-    // No call of the link fails, or one call does, each in turn.
+    // Links without a failing call, and links on which each call fails in turn.
     Case {
         input: TWO_READS,
         piece: 12,
@@ -141,7 +141,8 @@ static CASES: [Case; 11] = [
         takes: 3,
         failures: 0,
     },
-    // The responses before a frame of a bad length are sent, and then the fault is returned.
+    // The server sends the responses to the frames before an invalid length field, and then returns
+    // the fault.
     Case {
         input: GARBLED,
         piece: 1,
@@ -164,14 +165,15 @@ static CASES: [Case; 11] = [
     },
 ];
 
-// Returns whether a server returns `Garbled` and reads and writes nothing.
+// Returns whether a server returns `Garbled` without reading or writing.
 fn is_over(server: &mut Server, link: &mut MemoryLink<'_>, bank: &mut Bank) -> bool {
     let before = (link.given().len(), link.takes());
     let served = server.serve(link, bank, 9);
     served == Err(ServeFault::Garbled) && (link.given().len(), link.takes()) == before
 }
 
-// Returns whether serving has the expected result, and whether a fault is final.
+// Returns whether a server has the expected results, and returns `Garbled` again exactly after a
+// fault.
 fn is_served(rt: &impl Abort, alloc: Global, case: &Case) -> bool {
     let mut bank = bank_with_nine(rt, alloc);
     let mut output = [0; 40];
@@ -184,7 +186,7 @@ fn is_served(rt: &impl Abort, alloc: Global, case: &Case) -> bool {
     is_told && counts == (case.takes, case.failures) && is_over == served.is_err()
 }
 
-/// A server serves a stream in pieces, up to the stream's end or a fault.
+/// A server serves a stream in chunks, up to the stream's end or a fault.
 #[test]
 fn streams_are_served(rt: HostRuntime) {
     for (i, case) in CASES.iter().enumerate() {
@@ -192,7 +194,7 @@ fn streams_are_served(rt: HostRuntime) {
     }
 }
 
-/// In one turn, a server responds to each frame that ends in the received piece.
+/// In one turn, a server responds to each frame that ends in the received chunk.
 #[test]
 fn one_turn_answers_each_frame_of_its_piece(rt: HostRuntime) {
     let mut bank = bank_with_nine(&rt, rt.alloc());
@@ -206,7 +208,7 @@ fn one_turn_answers_each_frame_of_its_piece(rt: HostRuntime) {
     assert!(rt; link.given() == MIXED_ANSWERS);
 }
 
-/// A response is broken off if the output is full.
+/// A server sends only a part of a response if the output is full.
 #[test]
 fn a_full_output_breaks_an_answer_off(rt: HostRuntime) {
     let mut bank = bank_with_nine(&rt, rt.alloc());

@@ -1,4 +1,4 @@
-//! A session that ends after four bytes of the response to its first poll.
+//! Tests a session that ends after four bytes of the response to its first poll.
 use crate::first_poll::play_at_windows;
 use crate::session_script::{Event, Line};
 use poll_core::{Closing, LostCause, Outcome, StartFault};

@@ -1,19 +1,19 @@
-//! Plays lists of a session's events. Each event has the outcomes that it must report.
+//! Plays lists of session events, and asserts the outcomes that the session reports for each event.
 use mb_wire::ReadSpan;
 use poll_core::{Closing, Outcome, Session, StartFault};
 use std::alloc::Global;
 use std::process::Abort;
 
-/// The latest time that a session accepts.
+/// The latest time that a session accepts, in seconds since 1970-01-01 UTC.
 const LATEST: u64 = 4_102_444_800;
 
-/// A response of unit 1 to the poll with transaction identifier 0. Its registers are 0, 5200 and 0.
+/// A response of unit 1 with transaction identifier 0 and the registers 0, 5200 and 0.
 pub const GOOD: [u8; 15] = [0, 0, 0, 0, 0, 9, 1, 3, 6, 0, 0, 20, 80, 0, 0];
 
-/// The number of a poll, and how it ended.
+/// The number of a poll, and the outcome of the poll.
 pub type Told = (u64, Outcome);
 
-/// An event, and the outcomes that it must report.
+/// A session event, and the outcomes that the session must report for it.
 pub struct Line {
     pub event: Event,
     pub told: &'static [Told],
@@ -28,7 +28,7 @@ pub enum Event {
     Close { moment: u64, closing: Closing },
 }
 
-/// A poll of holding registers of unit 1, and the frame of its request.
+/// A poll of holding registers of unit 1, and the expected frame of its request.
 #[derive(Clone, Copy)]
 pub struct Asked {
     pub moment: u64,
@@ -38,7 +38,7 @@ pub struct Asked {
     pub frame: [u8; 12],
 }
 
-/// Plays the events in order, and asserts the outcomes that each reports.
+/// Plays the events in order, and asserts the outcomes that the session reports for each event.
 pub fn play(rt: &impl Abort, alloc: Global, session: &mut Session, lines: &[Line]) {
     for (i, line) in lines.iter().enumerate() {
         let told = bring(rt, alloc, session, &line.event);
@@ -58,7 +58,7 @@ fn bring(rt: &impl Abort, alloc: Global, session: &mut Session, event: &Event) -
     Vec::new(alloc)
 }
 
-// Tries to start a poll, and returns the length of its frame.
+// Tries to start a poll, and returns the length of the request's frame in bytes.
 fn try_start(
     rt: &impl Abort,
     session: &mut Session,
@@ -71,14 +71,14 @@ fn try_start(
     session.start(asked.moment, asked.poll, 1, span, out)
 }
 
-/// Starts a poll, and asserts its frame.
+/// Starts a poll, and asserts the frame of its request.
 pub fn start(rt: &impl Abort, session: &mut Session, asked: &Asked) {
     let mut out = [0; 260];
     let started = try_start(rt, session, asked, &mut out);
     assert!(rt; started == Ok(12) && out[..12] == asked.frame[..]);
 }
 
-/// Tries to start a poll, and asserts why it is refused.
+/// Tries to start a poll, and asserts the fault by which the session refuses it.
 pub fn refuse(rt: &impl Abort, session: &mut Session, moment: u64, fault: StartFault) {
     let asked = Asked {
         moment,
@@ -92,13 +92,13 @@ pub fn refuse(rt: &impl Abort, session: &mut Session, moment: u64, fault: StartF
     assert!(rt; started == Err(fault));
 }
 
-/// Asserts the next transaction identifier, and how many polls may be started.
+/// Asserts the next transaction identifier, and the number of polls that may be started.
 pub fn assert_ready(rt: &impl Abort, session: &Session, id: u16, count: usize) {
     let ready = session.ready();
     assert!(rt; ready.id == id && ready.count == count);
 }
 
-/// Feeds a piece of the stream, and returns the polls that it settles.
+/// Feeds received bytes to the session, and returns the polls that they complete.
 pub fn feed(
     rt: &impl Abort,
     alloc: Global,
@@ -122,7 +122,7 @@ pub fn feed(
     }
 }
 
-/// Feeds a timer event, and returns the polls that it settles.
+/// Feeds a timer event to the session, and returns the polls that time out.
 fn tick(rt: &impl Abort, alloc: Global, session: &mut Session, moment: u64) -> Vec<Told> {
     assert!(rt; !session.settling());
     assert!(rt; moment <= LATEST);
@@ -137,7 +137,7 @@ fn tick(rt: &impl Abort, alloc: Global, session: &mut Session, moment: u64) -> V
     }
 }
 
-/// Ends the session, and returns the polls that the end settles.
+/// Ends the session, and returns the polls that its end completes.
 fn close(
     rt: &impl Abort,
     alloc: Global,

@@ -1,4 +1,4 @@
-//! Several polls, one after another and at the same time.
+//! Tests several polls of one session, one after another and at the same time.
 use crate::session_script::{Asked, Event, GOOD, Line, play};
 use poll_core::{Closing, LostCause, Outcome, Session, StartFault};
 
@@ -17,7 +17,7 @@ static ONE_AFTER_ANOTHER: [Line; 7] = [
         event: Event::Tick { moment: 1903 },
         told: &[(1, Outcome::Silent)],
     },
-    // A frame that answers no poll.
+    // A response that arrives after its poll timed out.
     Line {
         event: Event::Piece {
             moment: 1903,
@@ -58,7 +58,7 @@ static ONE_AFTER_ANOTHER: [Line; 7] = [
     },
 ];
 
-/// Two polls in a window of two.
+/// The starts of two polls in a session with a window of two.
 static TWO_STARTS: [Line; 6] = [
     Line {
         event: Event::Ready { id: 0, count: 2 },
@@ -147,7 +147,8 @@ static THREE_ENDS: [Line; 7] = [
         }),
         told: &[],
     },
-    // The second poll's response, and a frame of a bad length.
+    // The second poll's response, followed by a frame with an invalid length field, at the first
+    // poll's deadline.
     Line {
         event: Event::Piece {
             moment: 1005,
@@ -166,7 +167,7 @@ static THREE_ENDS: [Line; 7] = [
         },
         told: &[],
     },
-    // Pieces after a frame of a bad length are dropped.
+    // Bytes received after an invalid length field are discarded.
     Line {
         event: Event::Piece {
             moment: 1006,
@@ -183,14 +184,14 @@ static THREE_ENDS: [Line; 7] = [
     },
 ];
 
-/// Polls are started and settled one after another.
+/// Polls can be started and completed one after another.
 #[test]
 fn one_poll_after_another(rt: HostRuntime) {
     let mut session = Session::new(5, 1);
     play(&rt, rt.alloc(), &mut session, &ONE_AFTER_ANOTHER)
 }
 
-/// Two polls are settled in the order of their frames.
+/// Two polls are completed in the order of their responses.
 #[test]
 fn two_polls_settle_in_the_order_of_their_frames(rt: HostRuntime) {
     let mut session = Session::new(5, 2);
@@ -206,7 +207,8 @@ fn two_polls_are_silent_in_the_order_of_their_starts(rt: HostRuntime) {
     play(&rt, rt.alloc(), &mut session, &BOTH_SILENT)
 }
 
-/// One event settles first the polls that timed out, then the answered ones, then the lost ones.
+/// One event first completes the polls that timed out, then the polls with a response, and last the
+/// lost polls.
 #[test]
 fn silence_comes_before_frames_and_these_before_loss(rt: HostRuntime) {
     let mut session = Session::new(5, 3);

@@ -1,4 +1,4 @@
-//! Consecutive registers that one request reads.
+//! Tests ranges of consecutive registers that one request reads.
 use mb_wire::{ReadFunction, ReadSpan, Request};
 
 const THREE: ReadSpan = ReadSpan {
@@ -13,8 +13,8 @@ const LAST: ReadSpan = ReadSpan {
     count: 1,
 };
 
-// The function code, address and count of reads that are allowed. The next list has reads that are
-// not.
+// The function code, address and count of valid ranges of registers. The second list has invalid
+// ranges.
 static LAWFUL: [(u8, u16, u16); 4] = [(3, 0, 125), (4, 0, 125), (3, 65411, 125), (4, 65535, 1)];
 
 static UNLAWFUL: [(u8, u16, u16); 8] = [
@@ -28,7 +28,7 @@ static UNLAWFUL: [(u8, u16, u16); 8] = [
     (4, 0, 65535),
 ];
 
-/// A span has 1 to 125 registers within the addresses of a device.
+/// A range has 1 to 125 registers within the 65536 addresses of a device.
 #[test]
 fn spans_are_lawful(rt: HostRuntime) {
     assert!(rt; ReadSpan::new(3, 107, 3) == Some(THREE));
@@ -41,7 +41,7 @@ fn spans_are_lawful(rt: HostRuntime) {
     }
 }
 
-/// A span gives the request that reads its registers.
+/// A range of registers returns the request that reads its registers.
 #[test]
 fn a_span_is_asked_for(rt: HostRuntime) {
     assert!(rt; (THREE.function.code(), LAST.function.code()) == (3, 4));

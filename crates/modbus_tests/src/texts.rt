@@ -1,9 +1,9 @@
-//! Checks the texts of faults.
+//! Asserts the texts of faults.
 use std::alloc::Global;
 use std::fmt::Display;
 use std::process::Abort;
 
-/// Asserts that each fault has this text, without a full stop.
+/// Asserts that each fault is printed as its expected text, which does not end with a full stop.
 pub(crate) fn tells<F: Display>(rt: &impl Abort, alloc: Global, texts: &[(F, &str)]) {
     for (fault, text) in texts {
         let said = format!(in alloc; "{fault}").expect(rt, "no memory");

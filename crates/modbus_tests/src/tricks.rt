@@ -1,30 +1,30 @@
-//! A server of a simulated device with injected faults, over a link.
+//! Tests the server of a simulated device with injected faults.
 use crate::devices::bank_with_nine;
 use mb_device::{Bank, Kind, Server, Trick, Turned};
 use mb_wire::{Link, MemoryLink};
 use std::alloc::Global;
 use std::process::Abort;
 
-// A write of 5 to holding register 0 by unit 2, and then a read of the register by unit 1.
+// A write of 5 to holding register 0 by unit 2, followed by a read of that register by unit 1.
 const WRITE_READ: &[u8] = &[
     0, 2, 0, 0, 0, 6, 2, 6, 0, 0, 0, 5, 0, 7, 0, 0, 0, 6, 1, 3, 0, 0, 0, 1,
 ];
 
-// The read of holding register 0 by unit 1, and then the write of 5 by unit 2.
+// A read of holding register 0 by unit 1, followed by a write of 5 to that register by unit 2.
 const READ_WRITE: &[u8] = &[
     0, 7, 0, 0, 0, 6, 1, 3, 0, 0, 0, 1, 0, 2, 0, 0, 0, 6, 2, 6, 0, 0, 0, 5,
 ];
 
-// A frame of another protocol, and a read by unit 255 with transaction identifier 65535.
+// A frame of another protocol, followed by a read by unit 255 with transaction identifier 65535.
 const HIGHEST: &[u8] = &[
     0, 1, 0, 9, 0, 3, 1, 3, 0, 255, 255, 0, 0, 0, 6, 255, 3, 0, 0, 0, 1,
 ];
 
-// A read of 125 registers.
+// A read of 125 registers, which has the longest response.
 const LONGEST: &[u8] = &[0, 7, 0, 0, 0, 6, 1, 3, 0, 0, 0, 125];
 
-// Injected faults, and a stream in pieces of this length. Then the server's expected result, what
-// the server writes and reads, and the value of holding register 0.
+// Injected faults, an input stream and the greatest chunk in bytes. After them, the expected
+// results: frames executed, bytes written, number of reads, and holding register 0.
 #[derive(Drop)]
 struct Case {
     tricks: &'static [(u64, Trick)],
@@ -36,7 +36,7 @@ struct Case {
     register: u16,
 }
 
-// Returns whether serving has the expected result.
+// Returns whether a server with injected faults has the expected results.
 fn is_served(rt: &impl Abort, alloc: Global, case: &Case) -> bool {
     let mut bank = bank_with_nine(rt, alloc);
     let mut output = [0; 48];
@@ -48,7 +48,7 @@ fn is_served(rt: &impl Abort, alloc: Global, case: &Case) -> bool {
     is_told && link.takes() == case.takes && register == Some(case.register)
 }
 
-// Injected faults, and what the server writes for the write and the read in one piece.
+// Injected faults, and the bytes that the server writes for a write and a read in one chunk.
 static ON_BOTH: [(&[(u64, Trick)], &[u8]); 16] = [
     (
         &[],
@@ -56,7 +56,7 @@ static ON_BOTH: [(&[(u64, Trick)], &[u8]); 16] = [
             0, 2, 0, 0, 0, 6, 2, 6, 0, 0, 0, 5, 0, 7, 0, 0, 0, 5, 1, 3, 2, 0, 5,
         ],
     ),
-    // The server executes the write, although its response is dropped.
+    // The server executes a write whose response is dropped.
     (&[(1, Trick::Drop)], &[0, 7, 0, 0, 0, 5, 1, 3, 2, 0, 5]),
     (&[(2, Trick::Drop)], &[0, 2, 0, 0, 0, 6, 2, 6, 0, 0, 0, 5]),
     (
@@ -65,7 +65,8 @@ static ON_BOTH: [(&[(u64, Trick)], &[u8]); 16] = [
             0, 7, 0, 0, 0, 5, 1, 3, 2, 0, 5, 0, 7, 0, 0, 0, 5, 1, 3, 2, 0, 5,
         ],
     ),
-    // A response that is held back follows the next frame, whatever fault that frame has.
+    // A delayed response follows the response to the next frame, whatever fault is injected into
+    // that response.
     (
         &[(1, Trick::Later)],
         &[
@@ -83,7 +84,7 @@ static ON_BOTH: [(&[(u64, Trick)], &[u8]); 16] = [
             6, 0, 0, 0, 5,
         ],
     ),
-    // When a second response is held back, the first one is sent.
+    // When a second response is delayed, the first delayed response is sent.
     (
         &[(1, Trick::Later), (2, Trick::Later)],
         &[0, 2, 0, 0, 0, 6, 2, 6, 0, 0, 0, 5],
@@ -107,12 +108,12 @@ static ON_BOTH: [(&[(u64, Trick)], &[u8]); 16] = [
             0, 2, 0, 0, 0, 0, 2, 6, 0, 0, 0, 5, 0, 7, 0, 0, 0, 5, 1, 3, 2, 0, 5,
         ],
     ),
-    // If several faults have the number of a frame, the first one applies.
+    // If several faults have the number of one frame, the first fault applies.
     (
         &[(1, Trick::Drop), (1, Trick::Twice)],
         &[0, 7, 0, 0, 0, 5, 1, 3, 2, 0, 5],
     ),
-    // Faults for frames that do not exist change nothing.
+    // Faults for frame numbers that do not occur change nothing.
     (
         &[
             (0, Trick::Drop),
@@ -123,7 +124,7 @@ static ON_BOTH: [(&[(u64, Trick)], &[u8]); 16] = [
             0, 2, 0, 0, 0, 6, 2, 6, 0, 0, 0, 5, 0, 7, 0, 0, 0, 5, 1, 3, 2, 0, 5,
         ],
     ),
-    // The last response is cut off, so a response that was held back is not sent.
+    // The last response is cut off, so a delayed response is not sent.
     (
         &[(2, Trick::Cut(4))],
         &[0, 2, 0, 0, 0, 6, 2, 6, 0, 0, 0, 5, 0, 7, 0, 0],
@@ -131,7 +132,7 @@ static ON_BOTH: [(&[(u64, Trick)], &[u8]); 16] = [
     (&[(1, Trick::Later), (2, Trick::Cut(4))], &[0, 7, 0, 0]),
 ];
 
-/// Each injected fault changes what the server sends.
+/// Each injected fault changes the bytes that the server sends.
 #[test]
 fn each_trick_shows(rt: HostRuntime) {
     for (i, (tricks, given)) in ON_BOTH.iter().enumerate() {
@@ -148,8 +149,8 @@ fn each_trick_shows(rt: HostRuntime) {
     }
 }
 
-// The first response is cut off. The next frame is not executed, and is not read if it is in
-// another piece.
+// After the first response is cut off, the server does not execute the next frame. If that frame is
+// in another chunk, the server does not read it.
 static CUTS: [Case; 7] = [
     Case {
         tricks: &[(1, Trick::Cut(0))],
@@ -197,8 +198,8 @@ static CUTS: [Case; 7] = [
         takes: 1,
         register: 9,
     },
-    // A frame of another protocol has no number. The transaction identifier and the unit wrap
-    // around.
+    // A frame of another protocol has no frame number. The transaction identifier wraps to 0 after
+    // 65535, and the unit identifier after 255.
     Case {
         tricks: &[(1, Trick::Id)],
         input: HIGHEST,
@@ -219,7 +220,7 @@ static CUTS: [Case; 7] = [
     },
 ];
 
-/// The fault injected for a frame applies to that frame alone.
+/// An injected fault applies only to the response to its frame.
 #[test]
 fn one_frame_is_answered_by_its_trick(rt: HostRuntime) {
     for (i, case) in CUTS.iter().enumerate() {
@@ -227,8 +228,8 @@ fn one_frame_is_answered_by_its_trick(rt: HostRuntime) {
     }
 }
 
-// Returns how many bytes the server writes of the response to the longest read, which has 259
-// bytes, if it is cut off after `count` bytes.
+// Returns the number of bytes that the server writes of a response of 259 bytes, if the injected
+// fault cuts it off after `count` bytes.
 fn longest_given(rt: &impl Abort, alloc: Global, count: u16) -> usize {
     let mut bank = bank_with_nine(rt, alloc);
     let mut output = [0; 300];
@@ -239,7 +240,7 @@ fn longest_given(rt: &impl Abort, alloc: Global, count: u16) -> usize {
     link.given().len()
 }
 
-/// The longest response is cut off where the injected fault says.
+/// The longest response is cut off after the number of bytes that the injected fault allows.
 #[test]
 fn the_longest_answer_is_cut_off(rt: HostRuntime) {
     for (count, given) in [(258, 258), (259, 259), (260, 259)] {
@@ -247,7 +248,7 @@ fn the_longest_answer_is_cut_off(rt: HostRuntime) {
     }
 }
 
-// Returns whether a server reports the end of the input without reading or writing anything.
+// Returns whether a server reports the end of the input without reading or writing.
 fn is_over(server: &mut Server<'_>, link: &mut MemoryLink<'_>, bank: &mut Bank) -> bool {
     let before = (link.given().len(), link.takes());
     let nothing = Turned {
@@ -258,7 +259,7 @@ fn is_over(server: &mut Server<'_>, link: &mut MemoryLink<'_>, bank: &mut Bank) 
     is_told && (link.given().len(), link.takes()) == before
 }
 
-/// After a response was cut off, the server reads nothing more.
+/// A server reads nothing more after a response was cut off.
 #[test]
 fn after_a_cut_nothing_is_taken(rt: HostRuntime) {
     let mut bank = bank_with_nine(&rt, rt.alloc());

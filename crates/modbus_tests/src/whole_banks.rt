@@ -1,5 +1,5 @@
-//! The greatest requests, up to the last address, to a device that has all addresses. The standard
-//! is Modbus Application Protocol V1.1b3, sections 4.3 and 6.1 to 6.12.
+//! Tests the largest requests, up to address 65535, to a device that has all addresses (Modbus
+//! Application Protocol V1.1b3, sections 4.3 and 6.1 to 6.12).
 use crate::devices::{answers, answers_all};
 use crate::examples::Exchange;
 use crate::quantities::request_of;
@@ -34,9 +34,8 @@ fn whole_bank(rt: &impl Abort, alloc: Global) -> Bank {
     Bank::new(alloc, &ALL_ADDRESSES).ok().expect(rt, "no bank")
 }
 
-// A request: its function code, its address, the number after the address, its byte count, and its
-// length in bytes. Then the length of the response, and its first two bytes. Each byte after the
-// byte count is 0xFF.
+// A request: its function code, address, number after the address, byte count and length in bytes,
+// with 0xFF in each byte after the byte count. After it, the response's length and first two bytes.
 struct Case {
     function: u8,
     address: u16,
@@ -62,7 +61,8 @@ macro_rules! case {
 }
 
 static CASES: [Case; 21] = [
-    // Requests up to the last address, past it, and with one address too many.
+    // Requests that end at address 65535, that extend past it, and that have a quantity beyond the
+    // limit.
     case!(1, 63536, 2000, 0, 5, 252, [1, 250]),
     case!(1, 63537, 2000, 0, 5, 2, [0x81, 2]),
     case!(1, 0, 2001, 0, 5, 2, [0x81, 3]),
@@ -81,7 +81,7 @@ static CASES: [Case; 21] = [
     case!(16, 65413, 123, 246, 252, 5, [16, 0xFF]),
     case!(16, 65414, 123, 246, 252, 2, [0x90, 2]),
     case!(16, 0, 124, 247, 253, 2, [0x90, 3]),
-    // Requests that begin at the last address.
+    // Requests that begin at address 65535.
     case!(5, 65535, 0xFF00, 0, 5, 5, [5, 0xFF]),
     case!(6, 65535, 0xFFFF, 0, 5, 5, [6, 0xFF]),
     case!(3, 65535, 2, 0, 5, 2, [0x83, 2]),
@@ -94,7 +94,7 @@ fn is_answered(bank: &mut Bank, case: &Case) -> bool {
     count == case.answered && out[..2] == case.front[..]
 }
 
-// The values at the address before the first written one, at the first, and at the last.
+// The values at the address before the first one written, at the first one, and at the last one.
 static WRITTEN: [(Kind, u16, u16); 6] = [
     (Kind::Coil, 63567, 0),
     (Kind::Coil, 63568, 1),
@@ -104,7 +104,7 @@ static WRITTEN: [(Kind, u16, u16); 6] = [
     (Kind::Holding, 65535, 0xFFFF),
 ];
 
-/// A device with all addresses responds to requests up to the last address.
+/// A device with all addresses responds to requests up to address 65535.
 #[test]
 fn whole_banks_answer_to_their_last_address(rt: HostRuntime) {
     let mut bank = whole_bank(&rt, rt.alloc());
@@ -116,7 +116,7 @@ fn whole_banks_answer_to_their_last_address(rt: HostRuntime) {
     }
 }
 
-// Reads and other requests to registers that are all 0.
+// Reads and other requests to a device whose registers are all 0.
 static AMONG_ZEROS: [Exchange; 5] = [
     Exchange {
         request: &[3, 0xFF, 0xFF, 0, 1],

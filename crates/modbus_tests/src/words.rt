@@ -1,10 +1,10 @@
-//! The response that an answered poll lends, and a call that has reported the poll.
+//! Tests the registers of a completed poll, and a call that has more outcomes to report.
 use crate::first_poll::first_poll;
 use crate::session_script::{GOOD, assert_ready};
 
 static REGISTERS: [Option<u16>; 4] = [Some(0), Some(5200), Some(0), None];
 
-/// An answered poll lends the registers of its response to the caller.
+/// A completed poll returns the registers of its response to the caller.
 #[test]
 fn words_are_lent(rt: HostRuntime) {
     let mut session = first_poll(&rt, 5, 1);
@@ -16,7 +16,7 @@ fn words_are_lent(rt: HostRuntime) {
     }
 }
 
-/// A call that reported a poll is still in progress.
+/// A call of `next` that reported a poll is still in progress, and must be called again.
 #[test]
 fn a_call_that_told_is_under_way(rt: HostRuntime) {
     let mut session = first_poll(&rt, 5, 2);

@@ -1,4 +1,4 @@
--- Calls in succession that only read the store, with memory that runs out between them.
+-- Properties of several lookups in the store, if memory runs out or a lookup fails between them.
 use Rattle.std.proofs.Common.{◌≡◌, subst, sym, refl, inr, Result, Ok, Err}
 use Rattle.std.specs.Prelude.{IfErr}
 use Rattle.std.specs.Result.{IsErrAnd}
@@ -7,7 +7,8 @@ use Rattle.office_books.specs.declared.faults.BooksFault.TheVariants.{Memory}
 use Rattle.office_books.specs.Ledgers.{Ledger, LedgerAfterCalls, Consults}
 use Rattle.office_books.proofs.Moving.{consults_then, passes_well, passes_failed, passes_without}
 
--- A call that lacks memory makes no query of the store.
+-- If memory runs out after successful lookups in the store, then the guarantees of lookups still
+-- hold.
 pub reads_without : {T U : Type 0} (a b : Ledger) (x : T) (r : Result U BooksFault) → Consults a b (Ok x) → IfErr r (λ fault. fault ≡ Memory)
     → Consults a b r
 reads_without a b x (Ok y) reads lacks = record { goes = passes_well a b x y reads.goes; keeps = reads.keeps }
@@ -19,7 +20,7 @@ pub reads_lacking : {T U : Type 0} (a b : Ledger) (x : T) (r : Result U BooksFau
 reads_lacking a b x (Ok y) reads lacks = absurd lacks
 reads_lacking a b x (Err fault) reads lacks = reads_without a b x (Err fault) reads lacks
 
--- No query was made.
+-- If memory runs out before the first query, then the store is unchanged.
 pub passes_lacking : {U : Type 0} (a : Ledger) (r : Result U BooksFault) → IsErrAnd r (λ fault. fault ≡ Memory) → LedgerAfterCalls a a r
 passes_lacking a (Ok y) lacks = absurd lacks
 passes_lacking {U} a (Err fault) lacks =
@@ -28,7 +29,8 @@ passes_lacking {U} a (Err fault) lacks =
 pub asks_lacking : {U : Type 0} (a : Ledger) (r : Result U BooksFault) → IsErrAnd r (λ fault. fault ≡ Memory) → Consults a a r
 asks_lacking a r lacks = record { goes = passes_lacking a r lacks; keeps = record { facts = λ known h. h; left = λ left may. may } }
 
--- A failure that is passed up.
+-- If a caller returns the failure of a call, then the guarantees of the failed call also hold for
+-- the caller.
 pub passes_as : {T U : Type 0} (a b : Ledger) (fault : BooksFault) (r : Result U BooksFault) → LedgerAfterCalls {T = T} a b (Err fault) → IsErrAnd r (λ f. f ≡ fault)
     → LedgerAfterCalls a b r
 passes_as a b fault (Ok y) goes is = absurd is
@@ -38,7 +40,8 @@ pub reads_as : {T U : Type 0} (a b : Ledger) (fault : BooksFault) (r : Result U 
     → Consults a b r
 reads_as a b fault r reads is = record { goes = passes_as a b fault r reads.goes is; keeps = reads.keeps }
 
--- A call that fails after others.
+-- If a lookup fails after successful lookups, then the guarantees of lookups hold for all of these
+-- lookups together.
 pub reads_failed : {T U V : Type 0} (a b c : Ledger) (x : T) (fault : BooksFault) (r : Result V BooksFault) → Consults a b (Ok x)
     → Consults {T = U} b c (Err fault) → IsErrAnd r (λ f. f ≡ fault) → Consults a c r
 reads_failed {T} {U} {V} a b c x fault r first second is = consults_then a b c x r first (reads_as b c fault r second is)

@@ -1,4 +1,4 @@
-//! Executes the commands that an office accepts.
+//! Executes the commands that the office accepts, on its store and on the sessions of its devices.
 
 mod additions;
 mod effects;

@@ -1,6 +1,6 @@
-//! Executes what an office accepts: device events, commands and its own opening.
+//! Executes the accepted device events, commands and openings of an office.
 //!
-//! The records of each are written completely or not at all.
+//! Each call writes all of its records to the store, or none of its records.
 #![tactic(auto)]
 
 mod commands;

@@ -1,4 +1,4 @@
-//! The devices of an office, and the session of each connected device.
+//! Defines the slot of a device with its session, and finds slots by device name.
 
 mod places;
 mod slots;

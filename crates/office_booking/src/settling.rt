@@ -1,5 +1,5 @@
-//! Settles the polls that device events end, and records the outcomes and readings of an event all
-//! at once.
+//! Finds the polls that a device event ends, and records all outcomes and readings of the event in
+//! one write.
 
 mod drafts;
 mod events;

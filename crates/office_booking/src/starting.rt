@@ -1,4 +1,4 @@
-//! Starts reads on the session of a device.
+//! Starts Modbus reads on the session of a device.
 
 mod output;
 mod starts;

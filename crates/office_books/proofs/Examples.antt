@@ -1,4 +1,4 @@
--- Queries of a store by range, over a register with two meters, one after another.
+-- Examples of queries by time span, at an accounting register with two consecutive meters.
 use Rattle.std.proofs.Common.{◌≡◌, ℕ, pos, List, [], ◌∷◌, true, false, refl}
 use Rattle.energy_core.specs.declared.entries.Last.{Last}
 use Rattle.energy_core.specs.declared.entries.Entry.TheVariants as entry
@@ -30,7 +30,8 @@ first = record { meter = m1; register = main; ceiling = 100000; range = 42949672
 abbrev second : Opening
 second = record { meter = m2; register = main; ceiling = 100000; range = 4294967296; at = 2000; raw = 7; sf = pos 1 }
 
--- A reading, an entry by hand that was voided, the closing, and the next meter.
+-- The example records: a reading, a manual entry that was voided, the closing of the meter, and the
+-- opening of the next meter.
 abbrev facts : List Fact
 facts =
     fact.Opening second
@@ -51,7 +52,8 @@ all_rows : rows_within All (rows_of_meter facts m1) ≡ in_first ∷ in_second �
 unfolding unit_of
 all_rows = refl
 
--- A quarter hour that starts at `from` is included, and one at `till` is not.
+-- A time span includes the quarter hour that starts at the span's start, and excludes the quarter
+-- hour that starts at the span's end.
 from_the_start : rows_within (Between 900 1800) (rows_of_meter facts m1) ≡ in_first ∷ []
 unfolding unit_of
 from_the_start = refl
@@ -68,7 +70,8 @@ of_the_register : rows_within (Between 1800 9000) (rows_of_register facts main) 
 unfolding unit_of
 of_the_register = refl
 
--- The entries by sequence number. A voided entry is included, and marked as void.
+-- The expected list of the meter's entries by sequence number. The list includes the voided entry,
+-- marked as void.
 abbrev opened : Last
 opened = record { at = 1000; raw = 5000; sf = pos 0 }
 
@@ -99,7 +102,7 @@ none_of_them = refl
 no_meter : entries_from facts main 1 9 ≡ []
 no_meter = refl
 
--- The meters at the register, the closed one first.
+-- The list of a register's meters begins with the closed meter, which was installed first.
 both_meters : installations_of facts main
     ≡ record { opening = first; last = record { at = 2000; raw = 5300; sf = pos 0 }; total = 300000; ended = true }
     ∷ record { opening = second; last = record { at = 2000; raw = 7; sf = pos 1 }; total = 0; ended = false }

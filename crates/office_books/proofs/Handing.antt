@@ -1,8 +1,8 @@
--- Rows that a sink received one after another.
+-- Properties of a sink that receives rows one after another.
 use Rattle.std.proofs.Common.{List, [], ◌∷◌, ◌++◌, refl, subst}
 use Rattle.office_books.specs.Rows.{TakesAll}
 
--- A sink that received some rows and then one more has received all of them.
+-- A sink that received a list of rows and then one more row received the extended list.
 pub takes_more : {S T : Type 0} (takes : S → T → S → Type 0) (before now after : S) (rows : List T) (row : T)
     → TakesAll takes before rows now → takes now row after → TakesAll takes before (rows ++ row ∷ []) after
 takes_more {S} takes before now after [] row took more =
@@ -11,7 +11,8 @@ takes_more {S} takes before now after [] row took more =
 takes_more takes before now after (first ∷ rows) row took more =
     (took.0, took.1, takes_more takes took.0 now after rows row took.2 more)
 
--- Rows after others.
+-- A sink that received one list of rows and then another received the concatenation of the two
+-- lists.
 pub takes_both : {S T : Type 0} (takes : S → T → S → Type 0) (before now after : S) (rows others : List T)
     → TakesAll takes before rows now → TakesAll takes now others after → TakesAll takes before (rows ++ others) after
 takes_both {S} takes before now after [] others took more =

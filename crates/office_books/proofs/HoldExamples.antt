@@ -1,4 +1,4 @@
--- Rejected readings by range: two of a meter, and one of another meter between them.
+-- Examples of queries for rejected readings by time span, with readings of two meters.
 use Rattle.std.proofs.Common.{◌≡◌, ℕ, pos, List, [], ◌∷◌, refl}
 use Rattle.energy_core.specs.declared.verdicts.Cause.TheVariants as cause
 use Rattle.office_events.specs.declared.facts.HeldReading.{HeldReading}
@@ -22,14 +22,14 @@ another = record { meter = m2; poll = 2; at = 1500; raw = 9; sf = pos 1; cause =
 abbrev second : HeldReading
 second = record { meter = m1; poll = 3; at = 2000; raw = 8; sf = pos 0; cause = cause.TooFast }
 
--- The latest record is first.
+-- The example records, the latest first.
 abbrev facts : List Fact
 facts = fact.Hold second ∷ fact.Hold another ∷ fact.Hold first ∷ []
 
 all_of_a_meter : holds_within All (holds_of facts m1) ≡ first ∷ second ∷ []
 all_of_a_meter = refl
 
--- A reading at `from` is included, and one at `till` is not.
+-- A time span includes a reading at its start and excludes a reading at its end.
 from_the_first : holds_within (Between 1000 2000) (holds_of facts m1) ≡ first ∷ []
 from_the_first = refl
 

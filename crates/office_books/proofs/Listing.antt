@@ -1,4 +1,4 @@
--- Entries that are listed one by one.
+-- Properties of the loop that lists the entries of a meter in order.
 use Rattle.std.proofs.Common.{◌≡◌, ℕ, zero, suc, ◌+◌, ◌<◌, ◌≤◌, Bool, true, false, List, [], ◌∷◌, ◌++◌, reverse, take, length, get_or, inl, inr, refl, ap, ◌∙◌, arith, nat_le, append-nil}
 use Rattle.std.specs.List.{filter}
 use Rattle.std.proofs.lemmas.Bool.{cases_Bool, cond-true, cond-false}
@@ -47,7 +47,7 @@ module _ (from most : ℕ) (before : List MeterEntry) (e : MeterEntry) where
     | inr is ↦ too_early is
   ]
 
--- Row by row.
+-- Each further row adds one entry to the end of the list.
 
 pub turned_rows : (rows : List EntryRow) (i : ℕ) (d : EntryRow) → i < length rows → latest_first (take (i + 1) rows) ≡ get_or rows i d ∷ latest_first (take i rows)
 turned_rows rows i d lt = ap reverse (take_more rows i d lt) ∙ reverse-append (take i rows) (get_or rows i d ∷ [])

@@ -1,4 +1,4 @@
--- Sequences of calls of the store.
+-- Properties of sequences of calls of a store.
 use Rattle.std.proofs.Common.{◌≡◌, ◌⊎◌, List, [], ◌∷◌, inl, inr, refl, subst, ◌∙◌, Result, Ok, Err, ap}
 use Rattle.office_events.specs.declared.facts.Fact.{Fact}
 use Rattle.office_rules.specs.Lawful.{AreLawful}
@@ -8,7 +8,7 @@ use Rattle.office_books.specs.declared.failures.Failures.{Failures}
 use Rattle.office_books.specs.Faults.{FailuresAfterCalls}
 use Rattle.office_books.specs.Ledgers.{Ledger, LedgerAfterCall, LedgerAfterCalls, KeepsFacts, OnlyReads, Consults, Books, Moves, with_facts}
 
--- A single call is a sequence of calls.
+-- The guarantees of a single call are also those of a sequence with only this call.
 pub passes : {T : Type 0} (old new : Ledger) (result : Result T BooksFault) → LedgerAfterCall old new result → LedgerAfterCalls old new result
 passes old new (Ok x) goes = record { clean = goes.clean; faults = goes.faults; zone = goes.zone }
 passes old new (Err (Store fault)) goes = record { clean = goes.clean; faults = goes.faults; zone = goes.zone }
@@ -17,7 +17,8 @@ passes old new (Err Memory) goes = record { clean = goes.clean; faults = inl goe
 pub consults : {T : Type 0} (old new : Ledger) (result : Result T BooksFault) → OnlyReads old new result → Consults old new result
 consults old new result reads = record { goes = passes old new result reads.goes; keeps = reads.keeps }
 
--- A success continues as a success, and a failure as a failure, for any result.
+-- The guarantees of a sequence of calls depend only on success or failure, not on the value that it
+-- returns.
 pub passes_well : {T S : Type 0} (old new : Ledger) (x : T) (y : S) → LedgerAfterCalls old new (Ok x) → LedgerAfterCalls old new (Ok y)
 passes_well old new x y goes = record { clean = goes.clean; faults = goes.faults; zone = goes.zone }
 
@@ -25,7 +26,7 @@ pub passes_failed : {T S : Type 0} (old new : Ledger) (why : BooksFault) → Led
 passes_failed old new (Store fault) goes = record { clean = goes.clean; faults = goes.faults; zone = goes.zone }
 passes_failed old new Memory goes = record { clean = goes.clean; faults = goes.faults; zone = goes.zone }
 
--- Memory ran out after a success.
+-- If memory runs out after successful calls, the sequence counts no failure of the store.
 pub passes_without : {T S : Type 0} (old new : Ledger) (x : T) → LedgerAfterCalls old new (Ok x) → LedgerAfterCalls {T = S} old new (Err Memory)
 passes_without old new x goes = record { clean = goes.clean; faults = inr goes.faults; zone = goes.zone }
 
@@ -50,7 +51,7 @@ consults_then old between new x result first after = record {
   keeps = keeps_then old between new first.keeps after.keeps;
 }
 
--- Lookups that fail move nothing.
+-- A sequence of lookups that ends with an error satisfies the guarantees of a write that failed.
 pub failed_reading : {T S : Type 0} (old new : Ledger) (known later : List Fact) (why : BooksFault) → Consults {T = T} old new (Err why)
     → Moves {T = S} old new known later (Err why)
 failed_reading old new known later why reads = record {
@@ -61,7 +62,7 @@ failed_reading old new known later why reads = record {
   goes = passes_failed old new why reads.goes;
 }
 
--- A move after lookups.
+-- Lookups before a write do not change the guarantees of the write.
 pub read_then : {T S : Type 0} (old between new : Ledger) (known later : List Fact) (x : T) (result : Result S BooksFault)
     → Consults old between (Ok x) → Moves between new known later result → Moves old new known later result
 read_then old between new known later x result reads moves = record {
@@ -72,14 +73,15 @@ read_then old between new known later x result reads moves = record {
   goes = passes_then old between new x result reads.goes moves.goes;
 }
 
--- After records were stored, a crash leaves them. If there were none, it leaves the same as before.
+-- After a successful write of records a crash leaves exactly the written records. A write of no
+-- records leaves the possible states after a crash unchanged.
 pub settled_or_none : (old new : Ledger) (known : List Fact) (left : List (List Fact)) (facts : List Fact) (x : Unit {0})
     → Books old new facts (Ok x) → old.holds known → AreLawful (with_facts facts known) → old.may_leave left
     → new.may_leave (with_facts facts known ∷ []) ⊎ ((facts ≡ []) × new.may_leave left)
 settled_or_none old new known left [] x books h lawful may = inr (refl, (books.nothing refl).1.left left may)
 settled_or_none old new known left (fact ∷ facts) x books h lawful may = inl (books.settled (λ none. absurd (cc)) known h lawful)
 
--- The same in the form of a move.
+-- A successful write of any number of records satisfies the guarantee of `Moves` about crashes.
 pub settles : (old new : Ledger) (known : List Fact) (left : List (List Fact)) (facts : List Fact) (x : Unit {0})
     → Books old new facts (Ok x) → old.holds known → AreLawful (with_facts facts known) → old.may_leave left
     → new.may_leave (with_facts facts known ∷ []) ⊎ ((with_facts facts known ≡ known) × new.may_leave left)
@@ -88,7 +90,7 @@ settles old new known left facts x books h lawful may = elim (settled_or_none ol
   | inr none ↦ inr (ap (λ (fs : List Fact). with_facts fs known) none.0, none.1)
 ]
 
--- Records that are stored.
+-- A call of `book` that writes lawful records satisfies all guarantees of `Moves`.
 pub booked : (old new : Ledger) (known facts : List Fact) (result : Result (Unit {0}) BooksFault)
     → (old.holds known → AreLawful (with_facts facts known)) → Books old new facts result
     → Moves old new known (with_facts facts known) result
@@ -107,7 +109,7 @@ booked old new known facts (Err why) lawful books = record {
   goes = passes old new (Err why) books.goes;
 }
 
--- The final result is another value.
+-- The guarantees of a successful write do not depend on the value that it returns.
 pub answered : {T S : Type 0} (old new : Ledger) (known later : List Fact) (x : T) (y : S) → Moves old new known later (Ok x) → Moves old new known later (Ok y)
 answered old new known later x y moves = record {
   holds = moves.holds;

@@ -1,4 +1,4 @@
--- Entries that are listed in chunks, by their sequence numbers.
+-- Properties of the lists of a meter's entries that are read in chunks by sequence number.
 use Rattle.std.proofs.Common.{◌≡◌, ℕ, Some, zero, suc, ◌+◌, ◌<◌, ◌≤◌, ◌==◌, ◌&&◌, nat_le, List, [], ◌∷◌, ◌++◌, reverse, take, drop, length, inl, inr, refl, sym, ap, subst, ◌∙◌, arith}
 use Rattle.std.specs.List.{filter}
 use Rattle.std.proofs.lemmas.Bool.{cases_Bool, cond-true, cond-false, le-leb, lt-leb}
@@ -16,7 +16,7 @@ use Rattle.office_books.specs.declared.entries.MeterEntry.{MeterEntry}
 use Rattle.office_books.specs.declared.entries.MeterEntry.TheVariants as entry
 use Rattle.office_books.specs.Entries.{entries_at, first_from, listed_rows, place_of, scale_after}
 
--- Each row has its sequence number.
+-- A void changes no row's sequence number.
 
 rolled_place : (last : Last) (row : EntryRow) → (journal.rolled last row).place ≡ row.place
 rolled_place last row =
@@ -50,7 +50,7 @@ rows_numbered o (journal.Entered k e ∷ lines) = (refl, rows_numbered o lines)
 rows_numbered o (journal.Held reading cause ∷ lines) = rows_numbered o lines
 rows_numbered o (journal.Voided place ∷ lines) = void_numbered o place (journal.rows_of o lines) (rows_numbered o lines)
 
--- The entries in order have the sequence numbers from 1.
+-- The entries of a meter have the consecutive sequence numbers 1, 2 and so on.
 
 abbrev Ascends : ℕ → List MeterEntry → Type 0
 Ascends k [] = Unit {0}
@@ -89,7 +89,8 @@ from_place k (suc n) m (e ∷ es) is h =
     cond-false _ _ _ (lt-leb m (place_of e) (omega (arith, is, h.0)))
     ∙ from_place (k + 1) n m es (omega (arith, is)) h.1
 
--- A chunk.
+-- The chunk from sequence number `n + 1` on consists of the entries after the first `n`, at most
+-- `most` of them.
 
 pub piece_at : (facts : List Fact) (opening : Opening) (n most : ℕ)
     → first_from (n + 1) most (entries_at facts (Some opening)) ≡ take most (drop n (entries_at facts (Some opening)))
@@ -109,7 +110,7 @@ not_full zero xs lt = absurd (omega (arith, lt))
 not_full (suc m) [] lt = refl
 not_full (suc m) (x ∷ xs) lt = ap (λ more. x ∷ more) (not_full m xs (omega (arith, lt)))
 
--- A chunk that is not full is the last.
+-- A chunk with fewer than `m` entries is the last chunk.
 pub last_piece : {X : Type 0} (n m : ℕ) (xs : List X) → length (take m (drop n xs)) < m → take n xs ++ take m (drop n xs) ≡ xs
 last_piece n m xs lt =
     ap (λ rest. take n xs ++ rest) (not_full m (drop n xs) lt) ∙ take-append-drop n xs

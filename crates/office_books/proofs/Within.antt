@@ -29,7 +29,7 @@ module _ (range : ℕ) (opening : Last) where
   abbrev energy : List Entry → ℕ
   energy es = sum_by (λ (s : Step). s.mwh) (steps_of range opening es)
 
-  -- One more row never lowers the energy.
+  -- An entry row added to a meter never lowers the meter's energy.
   one_more : (row : EntryRow) (rows : List EntryRow) → energy (entries_in rows) ≤ energy (entries_in (row ∷ rows))
   one_more row rows = elim (cases_Bool row.stands) [
     | inl on ↦
@@ -73,11 +73,11 @@ module _ (kept : JournalsAreKept) (places : PlacesWereKept) (facts : List Fact) 
       let less = of_opening o place around.0 (installed_so facts meter o named) around.1 in
       subst (λ (w : Installation). p.before.total ≤ w.total) (same_Some _ whole is) (subst (λ (q : EntryPlace). q.before.total ≤ (installation_of facts o).total) around.2 less)
 
-  -- The energy before an entry is at most the total energy.
+  -- The energy of a meter before any of its entries is at most the meter's total energy.
   pub within_whole : (meter : List ℕ) (place : ℕ) → IsWithinWhole facts meter place
   within_whole meter place = λ whole p is at. by_opening meter place (opening_of facts meter) whole p refl is at
 
--- The result of a lookup of an entry of an installed meter.
+-- The result of a lookup of an entry is correct if its meter is installed.
 pub tells_near : (facts : List Fact) (meter : List ℕ) (place : ℕ) (whole : Installation) (found : Option EntryPlace) → Some whole ≡ meter_of facts meter → found ≡ entry_at facts meter place
     → IsWithinWhole facts meter place → TellsNear facts meter place (option_map (with_energy whole.total) found)
 tells_near facts meter place whole found is at within = record {
@@ -85,7 +85,7 @@ tells_near facts meter place whole found is at within = record {
   within = within;
 }
 
--- Without the meter a lookup finds nothing.
+-- A lookup of an entry finds nothing if its meter is not installed.
 pub tells_none : (facts : List Fact) (meter : List ℕ) (place : ℕ) → None ≡ meter_of facts meter → IsWithinWhole facts meter place → TellsNear facts meter place None
 tells_none facts meter place is within = record {
   near = ap (option_and_then (λ (w : Installation). option_map (with_energy w.total) (entry_at facts meter place))) is;

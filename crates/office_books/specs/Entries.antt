@@ -1,5 +1,5 @@
--- The entries of a meter in order, from a sequence number on, and the installations at an
--- accounting register.
+-- Lists of a meter's entries by sequence number, and of the installations at an accounting
+-- register.
 use Rattle.std.specs.Prelude.{ℕ, ℤ, nat_le, List, [], ◌∷◌, map, reverse, take, Option, Some, None}
 use Rattle.std.specs.List.{filter}
 use Rattle.energy_core.specs.Account.{last_of}
@@ -14,42 +14,43 @@ use Rattle.office_rules.specs.Meters.{opened, rows_of, installation_of}
 use Rattle.office_books.specs.declared.entries.MeterEntry.{MeterEntry}
 use Rattle.office_books.specs.declared.entries.MeterEntry.TheVariants as entry
 
--- The sequence number of an entry: 1 for the opening, then 2 and above.
+-- The sequence number of an entry: 1 for the opening, then 2, 3 and so on.
 abbrev pub place_of : MeterEntry → ℕ
 place_of (entry.Opening last) = 1
 place_of (entry.Later row sf) = row.place
 
--- The scale of the counter after the valid entries among these rows.
+-- The scale factor of a meter's counter after the valid entries among these rows.
 abbrev pub scale_after : Opening → List EntryRow → ℤ
 scale_after opening rows = (last_of (opened opening) (entries_in rows)).sf
 
--- The opening and these entry rows, the latest first, each with the counter's scale after it.
+-- The entries for an opening and these rows, the latest first, each with the counter's scale factor
+-- after it.
 abbrev pub listed_rows : Opening → List EntryRow → List MeterEntry
 listed_rows opening [] = entry.Opening (opened opening) ∷ []
 listed_rows opening (row ∷ rows) =
     entry.Later row (scale_after opening (row ∷ rows)) ∷ listed_rows opening rows
 
--- All entries of a meter in order: its opening, and then all entries, voided ones included. Empty
--- for `None`.
+-- All entries of a meter in order: its opening, then its other entries, voided ones included. The
+-- list is empty if the opening is `None`.
 abbrev pub entries_at : List Fact → Option Opening → List MeterEntry
 entries_at facts None = []
 entries_at facts (Some opening) = reverse (listed_rows opening (rows_of facts opening))
 
--- All entries of the meter with this name, its opening first; empty if no meter has the name.
+-- All entries of the meter with this name, its opening first. The list is empty if no meter has the
+-- name.
 abbrev pub all_entries : List Fact → (meter : List ℕ) → List MeterEntry
 all_entries facts meter = entries_at facts (opening_of facts meter)
 
--- The entries with sequence number `from` or more, at most `most` of them.
+-- The entries with a sequence number of at least `from`, at most `most` entries.
 abbrev pub first_from : (from most : ℕ) → List MeterEntry → List MeterEntry
 first_from from most entries = take most (filter (λ e. nat_le from (place_of e)) entries)
 
--- The entries of the meter with this name that have sequence number `from` or more, at most `most`
--- of them.
+-- The entries of the named meter with a sequence number of at least `from`, at most `most` entries.
 abbrev pub entries_from : List Fact → (meter : List ℕ) → (from most : ℕ) → List MeterEntry
 entries_from facts meter from most = first_from from most (all_entries facts meter)
 
--- The installations at the accounting register with this name, closed ones included, in the order
--- in which they were installed.
+-- The installations at the named accounting register in order of installation, closed meters
+-- included.
 abbrev pub installations_of : List Fact → (register : List ℕ) → List Installation
 installations_of facts register =
     map (installation_of facts) (installations_at facts register)

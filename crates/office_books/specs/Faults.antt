@@ -1,4 +1,4 @@
--- The refusal and the failure counts after a failure of the store.
+-- Definitions of the refusal that reports a store failure, and of the store's failure counter.
 use Rattle.std.specs.Prelude.{◌≡◌, ◌⊎◌, ◌+◌, min, Some, None, Result, Ok, Err}
 use Rattle.office_events.specs.declared.refusals.Refusal.{Refusal}
 use Rattle.office_events.specs.declared.refusals.Refusal.TheVariants as refusal
@@ -10,22 +10,22 @@ use Rattle.office_books.specs.declared.faults.StoreFault.TheVariants.{Refused, D
 use Rattle.office_books.specs.declared.faults.BooksFault.{BooksFault}
 use Rattle.office_books.specs.declared.faults.BooksFault.TheVariants.{Store, Memory}
 
--- The cause in a refusal that reports this failure of the store.
+-- The cause that a refusal reports for this failure of the store.
 abbrev pub as_cause : StoreFault → StoreCause
 as_cause Refused = cause.Refused
 as_cause Damaged = cause.Damaged
 
--- The refusal that reports this failure of the store or of its memory.
+-- The refusal that reports a failure of the store or a lack of memory.
 abbrev pub as_refusal : BooksFault → Refusal
 as_refusal (Store fault) = refusal.Store (as_cause fault)
 as_refusal Memory = refusal.Memory
 
--- The failure counts of a store that never failed.
+-- The failure counter of a store that never failed.
 abbrev pub no_failures : Failures
 no_failures = record { count = 0; last = None }
 
--- The failure counts after one more failure. The count includes failures of the store only, not of
--- memory, and stays at 2^64 - 1.
+-- The failure counter after one more failure. It counts failures of the store up to 2^64 - 1, and
+-- does not count a lack of memory.
 abbrev pub failed_by : BooksFault → Failures → Failures
 failed_by (Store fault) failures = record {
   count = min (failures.count + 1) 18446744073709551615;
@@ -33,14 +33,14 @@ failed_by (Store fault) failures = record {
 }
 failed_by Memory failures = record { count = failures.count; last = Some Memory }
 
--- The failure counts after one call of the store with this result.
+-- The failure counter after one call of the store with this result.
 abbrev pub faults_after : {T : Type 0} → Result T BooksFault → Failures → Failures
 faults_after (Ok x) failures = failures
 faults_after (Err fault) failures = failed_by fault failures
 
--- The failure counts after several calls of the store and the work between them. On an error
--- exactly the fault in the result was counted. Memory that ran out between the calls is not
--- counted.
+-- The relation between the failure counters before and after several calls of a store. If the calls
+-- fail with a fault of the store, the counter counts exactly this fault. A lack of memory between
+-- two calls is not counted.
 abbrev pub FailuresAfterCalls : {T : Type 0} → Result T BooksFault → (old new : Failures) → Type 0
 FailuresAfterCalls (Ok x) old new = new ≡ old
 FailuresAfterCalls (Err (Store fault)) old new = new ≡ failed_by (Store fault) old

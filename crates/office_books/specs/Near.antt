@@ -1,4 +1,5 @@
--- The entry of a meter with a sequence number, as a store finds it from the rows around it alone.
+-- The lookup of a meter's entry from only the rows around the entry, with the meter's present total
+-- energy.
 use Rattle.std.specs.Prelude.{◌≡◌, ℕ, ◌≤◌, List, Option, Some}
 use Rattle.std.specs.Option.{option_map, option_and_then}
 use Rattle.office_events.specs.declared.facts.Fact.{Fact}
@@ -6,28 +7,30 @@ use Rattle.office_events.specs.declared.questions.Installation.{Installation}
 use Rattle.office_events.specs.declared.questions.EntryPlace.{EntryPlace}
 use Rattle.office_rules.specs.Meters.{meter_of, entry_at}
 
--- The entry with its sequence number and neighbours, but with this total energy of the meter before
--- it.
+-- The entry and its neighbors, with the energy of the meter before the entry replaced by `mwh`, in
+-- mWh.
 abbrev pub with_energy : (mwh : ℕ) → EntryPlace → EntryPlace
 with_energy mwh place = record place { before = record place.before { total = mwh } }
 
--- The entry of a meter with a sequence number, where `before` has the meter's present total energy.
--- No row has the energy before the entry, so it would have to be added up.
+-- The entry of a meter with the sequence number `place`. Its state `before` has the meter's present
+-- total energy, because finding the energy before the entry would require adding up all earlier
+-- entries.
 abbrev pub entry_near : List Fact → (meter : List ℕ) → (place : ℕ) → Option EntryPlace
 entry_near facts meter place =
     option_and_then
     (λ (whole : Installation). option_map (with_energy whole.total) (entry_at facts meter place))
     (meter_of facts meter)
 
--- The energy of a meter before each of its entries is at most the meter's present total.
+-- True if the energy of the meter before the entry `place` is at most the meter's present total
+-- energy.
 abbrev pub IsWithinWhole : List Fact → (meter : List ℕ) → (place : ℕ) → Type 0
 IsWithinWhole facts meter place = (whole : Installation) (found : EntryPlace)
     → meter_of facts meter ≡ Some whole
     → entry_at facts meter place ≡ Some found
     → found.before.total ≤ whole.total
 
--- The lookup returns the entry with the meter's present total, which is at least the energy before
--- the entry.
+-- The guarantees of the lookup of an entry: it returns the entry with the meter's present total
+-- energy, which is at least the energy before the entry.
 pub record TellsNear (facts : List Fact) (meter : List ℕ) (place : ℕ) (found : Option EntryPlace) :
     Type 0 where
   pub near : found ≡ entry_near facts meter place

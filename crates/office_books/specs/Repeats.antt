@@ -1,4 +1,4 @@
--- Comparing a request with the stored request of the same idempotency key.
+-- Detection of retried requests by idempotency key.
 use Rattle.std.specs.Prelude.{ℕ, List, Option, if◌then◌else◌}
 use Rattle.std.specs.Option.{option_map}
 use Rattle.std.specs.Str.{bytes_eq}
@@ -8,12 +8,13 @@ use Rattle.office_rules.specs.Facts.{reply_of}
 use Rattle.office_books.specs.declared.books.Repeat.{Repeat}
 use Rattle.office_books.specs.declared.books.Repeat.TheVariants.{Same, Other}
 
--- `Same` with the kind of the stored command if both requests have equal bytes, otherwise `Other`.
+-- `Same` with the kind of the stored command if the request has the bytes of the stored request,
+-- otherwise `Other`.
 abbrev pub as_repeat : (request : List ℕ) → Reply → Repeat
 as_repeat request reply = if bytes_eq reply.request request then Same reply.kind else Other
 
--- Compares a request with the stored request of the same caller and number; `None` if none is
--- stored.
+-- Compares a request with the stored request of the same idempotency key, or returns `None` if the
+-- store has no request with this key.
 abbrev pub repeat_of : List Fact → (caller : List ℕ) → (number : ℕ) → (request : List ℕ)
     → Option Repeat
 repeat_of facts caller number request =

@@ -1,23 +1,24 @@
--- Rows that a query passes to a sink one by one.
+-- Guarantees of queries that pass rows to a sink one by one.
 use Rattle.std.specs.Prelude.{◌≡◌, ℕ, List, [], ◌∷◌, take, Result, OnOk}
 use Rattle.office_events.specs.declared.facts.Fact.{Fact}
 use Rattle.office_books.specs.declared.faults.BooksFault.{BooksFault}
 use Rattle.office_books.specs.Ledgers.{Ledger}
 
--- The sink received these rows one by one, in order.
+-- True if the sink received exactly these rows one by one, in order.
 abbrev pub TakesAll : {S T : Type 0} → (takes : S → T → S → Type 0) → (before : S) → List T
     → (after : S) → Type 0
 TakesAll takes before [] after = after ≡ before
 TakesAll {S} takes before (row ∷ rows) after =
     (next : S) × takes before row next × TakesAll takes next rows after
 
--- The sink received the first rows of this list, in order; possibly none, possibly all.
+-- True if the sink received the first rows of this list in order, possibly none or all of them.
 abbrev pub TakesFirst : {S T : Type 0} → (takes : S → T → S → Type 0) → (before : S) → List T
     → (after : S) → Type 0
 TakesFirst takes before rows after = (n : ℕ) × TakesAll takes before (take n rows) after
 
--- A query passes rows to a sink. The sink received the first of the rows that the store's records
--- give, and all of them on `Ok`. Whatever the store returned, the sink received nothing but rows.
+-- The guarantees of a query that passes rows to a sink. The sink receives the first of the expected
+-- rows, and all of them if the query returns `Ok`. The query never changes the sink in any other
+-- way.
 pub record HandsOn {S T : Type 0} (takes : S → T → S → Type 0) (old new : Ledger)
     (before after : S)
     (result : Result (Unit {0}) BooksFault) (rows : List Fact → List T) : Type 0 where

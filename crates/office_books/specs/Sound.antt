@@ -1,4 +1,5 @@
--- Lookups that return only installations whose numbers are in range, whatever the store holds.
+-- Guarantees of lookups that return only installations with all numbers in range, even from a
+-- damaged store.
 use Rattle.std.specs.Prelude.{◌≡◌, ◌≤◌, ◌<◌, ◌+◌, false, List, Option, Result, Ok, Err, IfOk, IfSome}
 use Rattle.energy_core.specs.declared.limits.TheConstants.{MAX_CEILING, MAX_RANGE, MIN_RANGE}
 use Rattle.energy_core.specs.declared.admission.TermFault.{TermFault}
@@ -19,50 +20,50 @@ use Rattle.office_rules.specs.Ranges.{IsSound}
 use Rattle.office_books.specs.declared.faults.BooksFault.{BooksFault}
 use Rattle.office_books.specs.Ledgers.{Ledger, OnlyReads}
 
--- The state of an installation directly after its opening.
+-- The state of a meter directly after its opening, with an energy of 0 mWh.
 abbrev pub as_begun : Opening → Installation
 as_begun opening = record { opening = opening; last = opened opening; total = 0; ended = false }
 
--- The range, the ceiling, the count and the scale of an opening are in range.
+-- True if the range, the maximum power, the count and the scale factor of an opening are in range.
 pub record HasNumbers (opening : Opening) : Type 0 where
   pub range : (MIN_RANGE ≤ opening.range) × (opening.range ≤ MAX_RANGE)
   pub ceiling : (1 ≤ opening.ceiling) × (opening.ceiling ≤ MAX_CEILING)
   pub raw : opening.raw < opening.range
   pub scale : IsScale opening.sf
 
--- The valid entries among these rows of a meter, given oldest first, can be added up without a
--- fault.
+-- True if the energy of a meter's valid entries can be added up without a fault. The rows are given
+-- oldest first.
 abbrev pub HaveAccount : Opening → List EntryRow → Type 0
 HaveAccount opening rows = HasAccount (installed opening) (entries_in (latest_first rows))
 
--- A lookup of an installation changes nothing, and returns only an installation with all numbers in
--- range, whatever the store holds.
+-- The guarantees of a lookup of an installation: it changes nothing, and returns only an
+-- installation with all numbers in range, even from a damaged store.
 pub record ReadsInstallation (old new : Ledger) (result : Result (Option Installation) BooksFault) :
     Type 0 where
   pub reads : OnlyReads old new result
   pub sound : IfOk result (λ row. IfSome row IsSound)
 
--- A lookup of an entry changes nothing, and the meter's state before the returned entry has all
--- numbers in range.
+-- The guarantees of a lookup of an entry: it changes nothing, and all numbers of the meter's state
+-- before the entry are in range.
 pub record ReadsPlace (old new : Ledger) (result : Result (Option EntryPlace) BooksFault) : Type 0
   where
     pub reads : OnlyReads old new result
     pub sound : IfOk result (λ place. IfSome place (λ p. IsSound p.before))
 
--- The entry may be stored as the next one of this installation.
+-- True if the entry may follow as the next entry of this installation.
 abbrev pub MayEnter : Installation → Entry → Type 0
 MayEnter row e =
     entered row.opening.range row.total row.last e
     ≡ Ok (after row.last e, step_to row.opening.range row.last e)
 
--- If the entry is admissible, `moved` has the counter's state after the entry, and the energy of
--- its step added.
+-- If the entry is admissible, `moved` is the meter's state after the entry, with the
+-- energy of the entry added.
 abbrev pub MovesBy : Entry → (row moved : Installation) → Type 0
 MovesBy e row moved =
     (last : Last) (step : Step) → entered row.opening.range row.total row.last e ≡ Ok (last, step)
     → (moved.last ≡ last) × (moved.total ≡ row.total + step.mwh)
 
--- If the entry is not admissible, the installation is unchanged.
+-- If the entry is not admissible, the meter's state is unchanged.
 abbrev pub StaysAt : Entry → (row moved : Installation) → Type 0
 StaysAt e row moved =
     (fault : TermFault) → entered row.opening.range row.total row.last e ≡ Err fault → moved ≡ row

@@ -1,4 +1,4 @@
-//! Computes the state of a meter from rows that may be damaged.
+//! Computes the state of a meter from stored rows, which may be damaged.
 ghost use Rattle.std.specs.Prelude.{◌≡◌, None, IfSome};
 ghost use Rattle.meter_journal.specs.Journal.{entries_in};
 ghost use Rattle.meter_journal.specs.Lists.{latest_first};
@@ -13,8 +13,8 @@ use office_events::{Installation, Opening};
 
 /// Returns the installation with this opening after these entry rows, given oldest first.
 ///
-/// Returns `None` if a number of the opening is out of range, or the valid entries cannot be added
-/// up.
+/// Returns `None` if a number of the opening is out of range, or if the energy of the valid entries
+/// cannot be added up.
 pub fn installation_after(opening: &Opening, rows: &[EntryRow], ended: bool) -> Option<Installation>
     ensures stands { IfSome result
         (λ row. row ≡ standing opening.now (entries_in (latest_first rows.now)) ended) }

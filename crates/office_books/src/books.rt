@@ -1,4 +1,4 @@
-//! The trait `Books` of a store of records.
+//! Declares the trait `Books`, which a store of the office's records implements.
 
 use crate::entries::MeterEntry;
 use crate::faults::BooksFault;
@@ -10,10 +10,10 @@ use office_events::{
     PollRow, Register,
 };
 
-/// A sink that receives rows one by one. It cannot fail. A sink that writes rows elsewhere keeps
+/// A sink that receives rows one by one and cannot fail. A sink that forwards its rows must record
 /// its own errors.
 pub trait RowSink<T> {
-    /// The relation between the sink before a row, the row, and the sink after it received the row.
+    /// The relation between the sink before it receives a row, the row, and the sink afterwards.
     ghost takes: { Self → T → Self → Type 0 };
 
     /// Receives one more row.
@@ -21,24 +21,25 @@ pub trait RowSink<T> {
         ensures { takes self.old row self.new };
 }
 
-/// How a request compares with the stored request of the same caller and number.
+/// The result of comparing a request with the stored request of the same idempotency key.
 #[derive(Clone, Copy, Debug, PartialEq, Eq)]
 pub enum Repeat {
-    /// The stored request has the same bytes. Its response was that this command was executed.
+    /// The stored request has the same bytes, so the request is a retry. The office has executed a
+    /// command of this kind for it.
     Same(CommandKind),
-    /// The stored request has other bytes.
+    /// The stored request has other bytes, so the idempotency key was reused.
     Other,
 }
 
-/// A store of lawful records, the latest first.
+/// A store of lawful records.
 ///
-/// A lookup answers from the records, and changes none. `book` adds all of its records, or none.
+/// A lookup reads the records and never changes them. `book` adds all of its records, or none.
 ///
-/// The postconditions on results hold if `is_clean` holds after the call: the store returned what
-/// was written to it. A store in memory is always clean.
+/// The postconditions on results require `is_clean` after the call: the storage returned what was
+/// written to it. A store in memory is always clean.
 ///
-/// For a store that is not clean only a few postconditions remain: failures are counted, a lookup
-/// keeps the records, the zone stays, and the numbers of an installation are in range.
+/// Without `is_clean` four guarantees remain. The store counts failures, and a lookup changes no
+/// records. The time zone stays the same, and all numbers of an installation are in range.
 pub trait Books: Drop {
     ghost use Rattle.std.specs.Prelude.{◌≡◌, List, reverse, length};
     ghost use Rattle.std.specs.List.{filter};
@@ -60,19 +61,19 @@ pub trait Books: Drop {
     ghost use Rattle.office_books.specs.Spans.{rows_within};
     ghost use Rattle.office_books.specs.Plans.{read_count_of, reads_from};
 
-    /// The model of the store.
+    /// The model of the store: its records, failure counter and time zone.
     ghost ledger: { Self → Ledger };
 
-    /// Returns how often the store failed. The count stays at 2^64 - 1.
+    /// Returns the number of failures of the store, at most 2^64 - 1.
     fn faults(&self) -> u64
         ensures { result ≡ (ledger self.now).failures.count };
 
-    /// Returns the zone of the civil days.
+    /// Returns the time zone of the civil days.
     fn zone(&self) -> Zone
         ensures { result ≡ (ledger self.now).zone };
 
-    /// Proves that two lists of records have the same tables if the store holds both of them, and
-    /// is clean and open.
+    /// Proves that two lists of records have the same tables if the model of this clean and open
+    /// store allows both.
     fn tables_are_known(&self)
         ensures { AreKnown (ledger self.now) };
 
@@ -101,7 +102,8 @@ pub trait Books: Drop {
             (λ known v. v.items ≡ reads_from from most (list_of known device.now)) }
         ensures reads { OnlyReads (ledger self.old) (ledger self.new) result };
 
-    /// Returns the accounting register with the name; `None` if no register has it.
+    /// Returns the accounting register with the name, or `None` if no accounting register has this
+    /// name.
     fn register(&mut self, name: &Name) -> Result<Option<Register>, BooksFault>
         ensures found { Finds (ledger self.old) (ledger self.new) result
             (λ known row. row ≡ register_of known name.now) }
@@ -126,80 +128,83 @@ pub trait Books: Drop {
             (λ known n. n ≡ length (registers_of known device.now)) }
         ensures reads { OnlyReads (ledger self.old) (ledger self.new) result };
 
-    /// Returns the installation of the meter with the name; `None` if no meter has it.
+    /// Returns the installation of the meter with the name, or `None` if no meter has this name.
     fn meter(&mut self, name: &Name) -> Result<Option<Installation>, BooksFault>
         ensures found { Finds (ledger self.old) (ledger self.new) result
             (λ known row. row ≡ meter_of known name.now) }
         ensures reads { ReadsInstallation (ledger self.old) (ledger self.new) result };
 
-    /// Returns the latest installation at an accounting register, open or closed; `None` if there
-    /// is none.
+    /// Returns the latest installation at an accounting register, open or closed, or `None` if no
+    /// meter was installed there.
     fn installation(&mut self, register: &Name) -> Result<Option<Installation>, BooksFault>
         ensures found { Finds (ledger self.old) (ledger self.new) result
             (λ known row. row ≡ installation_at known register.now) }
         ensures reads { ReadsInstallation (ledger self.old) (ledger self.new) result };
 
-    /// Returns the installations at an accounting register, closed ones included, in the order in
-    /// which they were installed.
+    /// Returns the installations at an accounting register in order of installation, closed meters
+    /// included.
     fn meters(&mut self, register: &Name) -> Result<Vec<Installation>, BooksFault>
         ensures found { Finds (ledger self.old) (ledger self.new) result
             (λ known v. v.items ≡ installations_of known register.now) }
         ensures reads { OnlyReads (ledger self.old) (ledger self.new) result };
 
-    /// Returns how many meters were installed.
+    /// Returns the number of meters that were installed, closed meters included.
     fn installation_count(&mut self) -> Result<usize, BooksFault>
         ensures found { Finds (ledger self.old) (ledger self.new) result
             (λ known n. n ≡ length (openings_in known)) }
         ensures reads { OnlyReads (ledger self.old) (ledger self.new) result };
 
-    /// Returns the entry of a meter with a sequence number of at least 2; `None` if there is none.
-    /// The result also has the meter's state before the entry, and the next valid entry.
+    /// Returns the entry of a meter with a sequence number of at least 2, or `None` if the meter
+    /// has no such entry. The result includes the meter's state before the entry, and the next
+    /// valid entry.
     fn entry(&mut self, meter: &Name, place: u64) -> Result<Option<EntryPlace>, BooksFault>
         ensures found { Finds (ledger self.old) (ledger self.new) result
             (λ known row. row ≡ entry_at known meter.now place) }
         ensures reads { ReadsPlace (ledger self.old) (ledger self.new) result };
 
-    /// Returns the entry as `entry` does, but reads only the rows around it. Instead of the energy
-    /// before the entry it has the meter's present total, which is never less.
+    /// Returns the entry of a meter with a sequence number, reading only the rows around the entry.
+    /// The meter's state in the result has the present total energy, which is at least the energy
+    /// before the entry.
     fn entry_near(&mut self, meter: &Name, place: u64) -> Result<Option<EntryPlace>, BooksFault>
         ensures found { Finds (ledger self.old) (ledger self.new) result
             (λ known row. TellsNear known meter.now place row) }
         ensures reads { ReadsPlace (ledger self.old) (ledger self.new) result };
 
-    /// Returns at most `most` entries of a meter from sequence number `from` on, voided ones
-    /// included, in order. The opening has number 1.
+    /// Returns at most `most` entries of a meter from sequence number `from` on, in order, voided
+    /// entries included. The opening has number 1.
     fn entries(&mut self, meter: &Name, from: u64, most: u32) -> Result<Vec<MeterEntry>, BooksFault>
         ensures found { Finds (ledger self.old) (ledger self.new) result
             (λ known v. v.items ≡ entries_from known meter.now from most) }
         ensures reads { OnlyReads (ledger self.old) (ledger self.new) result };
 
-    /// Returns the poll with the number, with its outcome if it has one; `None` if it was not
-    /// started.
+    /// Returns the poll with the number, and its outcome if the poll has ended; `None` if no poll
+    /// has the number.
     fn poll(&mut self, number: u64) -> Result<Option<PollRow>, BooksFault>
         ensures found { Finds (ledger self.old) (ledger self.new) result
             (λ known row. row ≡ poll_row_of known number) }
         ensures reads { OnlyReads (ledger self.old) (ledger self.new) result };
 
-    /// Returns how many polls were started.
+    /// Returns the number of polls that were started.
     fn poll_count(&mut self) -> Result<u64, BooksFault>
         ensures found { Finds (ledger self.old) (ledger self.new) result
             (λ known n. n ≡ length (polls_in known)) }
         ensures reads { OnlyReads (ledger self.old) (ledger self.new) result };
 
-    /// Returns the polls without an outcome, in the order in which they were started.
+    /// Returns the pending polls, in the order in which they were started.
     fn pending(&mut self) -> Result<Vec<Poll>, BooksFault>
         ensures found { Finds (ledger self.old) (ledger self.new) result
             (λ known v. v.items ≡ pending_in known) }
         ensures reads { OnlyReads (ledger self.old) (ledger self.new) result };
 
-    /// Returns the greatest recorded timestamp, in seconds since 1970-01-01 UTC; 0 without records.
+    /// Returns the greatest timestamp of a record, in seconds since 1970-01-01 UTC, or 0 if the
+    /// store has no records.
     fn latest(&mut self) -> Result<u64, BooksFault>
         ensures found { Finds (ledger self.old) (ledger self.new) result
             (λ known n. n ≡ latest_in known) }
         ensures reads { OnlyReads (ledger self.old) (ledger self.new) result };
 
-    /// Compares a request with the stored request of the same caller and number; `None` if none is
-    /// stored.
+    /// Compares a request with the stored request of the same idempotency key, or returns `None` if
+    /// the store has no request with this key.
     fn repeat(
         &mut self,
         caller: &Name,
@@ -210,8 +215,8 @@ pub trait Books: Drop {
             (λ known kept. kept ≡ repeat_of known caller.now number request.now) }
         ensures reads { OnlyReads (ledger self.old) (ledger self.new) result };
 
-    /// Passes the energy of a meter to the sink, one row for each quarter hour in the span, in
-    /// order of their starts.
+    /// Passes the energy of a meter to the sink: one row for each quarter hour in the span, in
+    /// order of time.
     fn intervals<K: RowSink<Share>>(
         &mut self,
         meter: &Name,
@@ -222,9 +227,8 @@ pub trait Books: Drop {
             (λ known. rows_within span (rows_of_meter known meter.now)) }
         ensures reads { OnlyReads (ledger self.old) (ledger self.new) result };
 
-    /// Passes the energy of an accounting register to the sink, one row for each quarter hour in
-    /// the span. The rows of its meters follow one another, in the order in which the meters were
-    /// installed.
+    /// Passes the energy of an accounting register to the sink: one row for each meter and quarter
+    /// hour in the span. The rows are sorted by the installation of their meter, then by time.
     fn register_intervals<K: RowSink<Share>>(
         &mut self,
         register: &Name,
@@ -247,7 +251,7 @@ pub trait Books: Drop {
             (λ known. holds_within span (holds_of known meter.now)) }
         ensures reads { OnlyReads (ledger self.old) (ledger self.new) result };
 
-    /// Adds these records all at once, or none of them. Each must be lawful after the records
+    /// Adds all of these records, or none of them. Each record must be lawful after the records
     /// before it.
     fn book(&mut self, facts: Vec<Fact>) -> Result<(), BooksFault>
         ensures books { ledgers.Books (ledger self.old) (ledger self.new) facts.items result };

@@ -11,14 +11,14 @@ use meter_journal::EntryRow;
 use office_events::Opening;
 use std::alloc::{AllocError, Global};
 
-/// An entry of a meter. A later void changes only whether the entry is valid, and, if the entry
-/// before it was voided, how many rollovers it counts.
+/// An entry of a meter. A later void can only mark it as invalid, or change its number of rollovers
+/// if the entry before it is voided.
 #[derive(Clone, Copy, Debug, PartialEq, Eq)]
 pub enum MeterEntry {
-    /// The state of the counter when the meter was installed. The opening has sequence number 1,
-    /// and is always valid.
+    /// The opening: the state of the counter when the meter was installed. The opening has sequence
+    /// number 1, and cannot be voided.
     Opening(Last),
-    /// A later entry, and the scale of the counter after it.
+    /// An entry after the opening, with the scale factor of the counter after this entry.
     Later { row: EntryRow, sf: i16 },
 }
 
@@ -34,8 +34,8 @@ impl MeterEntry {
     }
 }
 
-/// The scale after an entry row: a valid change sets it, a step or a voided change leaves it as it
-/// was.
+/// Returns the scale factor after an entry row. A valid change of scale sets a new scale factor,
+/// and any other entry keeps the old one.
 fn scale_with(sf: i16, row: &EntryRow) -> i16
     ensures { (opening : RecordedOpening) (rows : List JournalRow) → sf ≡ scale_after opening rows
         → result ≡ scale_after opening (row.now ∷ rows) }
@@ -46,8 +46,8 @@ fn scale_with(sf: i16, row: &EntryRow) -> i16
     }
 }
 
-/// Lists the entries from sequence number `from` on, at most `most`. Entries outside this range are
-/// skipped.
+/// Appends an entry to the list, if its sequence number is at least `from` and the list has fewer
+/// than `most` entries.
 fn list(
     listed: &mut Vec<MeterEntry>,
     entry: MeterEntry,
@@ -63,8 +63,8 @@ fn list(
     Ok(())
 }
 
-/// Returns at most `most` entries of a meter from a sequence number on. `rows` are the entry rows
-/// after the opening, the oldest first.
+/// Returns at most `most` entries of a meter from sequence number `from` on. `rows` has the meter's
+/// entries after its opening, the oldest first.
 pub fn list_entries(
     alloc: Global,
     opening: &Opening,

@@ -4,17 +4,17 @@ ghost use Rattle.office_books.specs.Faults.{failed_by, faults_after, no_failures
 
 use crate::faults::BooksFault;
 
-/// The number of failures of a store so far, and the last failure. The last failure may be that
-/// memory ran out, which is not counted.
+/// The number of failures of a store, and its last failure. The last failure may be a lack of
+/// memory, which is not counted.
 #[derive(Clone, Copy, Debug, PartialEq, Eq)]
 pub struct Failures {
-    /// The number of failures of the store. It stays at 2^64 - 1.
+    /// The number of failures of the store, at most 2^64 - 1.
     pub count: u64,
     pub last: Option<BooksFault>,
 }
 
 impl Failures {
-    /// Creates the counts of a store that never failed.
+    /// Creates the failure counter of a store that never failed.
     pub fn new() -> Failures
         ensures { result ≡ no_failures }
     {
@@ -24,7 +24,7 @@ impl Failures {
         }
     }
 
-    /// Counts one failure. Memory that ran out is noted as the last failure, but not counted.
+    /// Counts one failure. A lack of memory is recorded as the last failure, but not counted.
     fn note(&mut self, fault: BooksFault)
         ensures { self.new ≡ failed_by fault self.old }
     {
@@ -34,7 +34,7 @@ impl Failures {
         self.last = Some(fault);
     }
 
-    /// Counts the failure of a call, if any, and returns the result of the call.
+    /// Counts the failure of a call, if the call failed, and returns the result of the call.
     pub fn noted<T>(&mut self, answer: Result<T, BooksFault>) -> Result<T, BooksFault>
         ensures answer { result ≡ answer }
         ensures noted { self.new ≡ faults_after answer self.old }

@@ -1,16 +1,16 @@
-//! Faults of a store.
+//! The faults of a store, and their conversion to refusals.
 use office_events::{Refusal, StoreCause};
 use std::alloc::{AllocError, AllocFailed};
 use std::error::Error;
 use std::fmt;
 use std::fmt::{Display, Formatter};
 
-/// How a store failed.
+/// The kind of a store failure.
 #[derive(Clone, Copy, Debug, PartialEq, Eq)]
 pub enum StoreFault {
-    /// The store refused or failed.
+    /// The store rejected a record, or its storage failed.
     Refused,
-    /// The store holds impossible data.
+    /// The store contains inconsistent data.
     Damaged,
 }
 
@@ -25,7 +25,7 @@ impl Display for StoreFault {
 
 impl Error for StoreFault {}
 
-/// Why a call of the store failed.
+/// The cause of a failed call of the store: a failure of the store, or a lack of memory.
 #[derive(Clone, Copy, Debug, PartialEq, Eq)]
 pub enum BooksFault {
     Store(StoreFault),

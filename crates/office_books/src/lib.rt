@@ -1,4 +1,4 @@
-//! What an office requires of the store that holds its records.
+//! The trait of a store of the office's records, and helpers for its implementations.
 #![tactic(auto)]
 
 mod accounts;

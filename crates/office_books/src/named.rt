@@ -1,4 +1,4 @@
-//! Lookups by a name that may be invalid.
+//! Lookups by a name that is `None` if the caller's text was not a valid name.
 ghost use Rattle.std.specs.Prelude.{◌≡◌};
 ghost use Rattle.std.specs.Option.{option_and_then};
 ghost use Rattle.office_rules.specs.Facts.{list_of};
@@ -13,7 +13,8 @@ use mb_wire::ReadSpan;
 use office_events::{Installation, Name, PlannedList};
 use std::alloc::Global;
 
-/// Returns the point list of the device with the name. An invalid name (`None`) finds none.
+/// Returns the point list of the named device, or `None` if the name is invalid or the device has
+/// no point list.
 pub fn list_at<B: Books>(
     books: &mut B,
     given: &Option<Name>,
@@ -28,8 +29,8 @@ pub fn list_at<B: Books>(
     }
 }
 
-/// Returns the number of reads in the plan of the device with the name; `None` if it has no point
-/// list.
+/// Returns the number of reads in the named device's plan, or `None` if the name is invalid or the
+/// device has no point list.
 pub fn read_count_at<B: Books>(
     books: &mut B,
     given: &Option<Name>,
@@ -44,7 +45,7 @@ pub fn read_count_at<B: Books>(
     }
 }
 
-/// Returns at most `most` reads of the device's plan from index `from` on.
+/// Returns at most `most` reads of the named device's plan from index `from` on.
 pub fn reads_at<B: Books>(
     alloc: Global,
     books: &mut B,
@@ -62,8 +63,8 @@ pub fn reads_at<B: Books>(
     }
 }
 
-/// Returns the latest installation at the accounting register with the name. An invalid name
-/// (`None`) finds none.
+/// Returns the latest installation at the named accounting register, or `None` if the name is
+/// invalid or no meter was installed there.
 pub fn meter_at<B: Books>(
     books: &mut B,
     given: &Option<Name>,

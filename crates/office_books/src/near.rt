@@ -1,11 +1,11 @@
-//! Replaces the energy before an entry by the total energy of its meter.
+//! Replaces the energy before an entry by the total energy of the entry's meter.
 ghost use Rattle.std.specs.Prelude.{◌≡◌};
 ghost use Rattle.office_books.specs.Near.{with_energy};
 ghost use Rattle.office_rules.specs.Ranges.{IsSound};
 
 use office_events::{EntryPlace, Installation};
 
-/// Returns the entry with its meter's total energy instead of the energy before the entry.
+/// Returns the entry with its meter's total energy in place of the meter's energy before the entry.
 pub fn with_whole_energy(place: &EntryPlace, whole: &Installation) -> EntryPlace
     ensures same { result ≡ with_energy whole.now.total place.now }
     ensures sound { IsSound place.now.before → IsSound whole.now → IsSound result.before }

@@ -19,7 +19,7 @@ fn terms_of(row: &Installation) -> Terms
     }
 }
 
-/// Returns the verdict on a reading, judged at the present state of an installation.
+/// Returns the verdict on a reading that follows the present state of an installation.
 pub fn verdict_at(row: &Installation, reading: &Reading) -> Verdict
     requires { IsSound row.now }
     ensures { result ≡ judgement row.now reading.now }
@@ -30,7 +30,8 @@ pub fn verdict_at(row: &Installation, reading: &Reading) -> Verdict
     energy_core::judge(&counter, &terms_of(row), &row.last, reading)
 }
 
-/// Returns the installation after one more entry; unchanged if the entry is not admissible.
+/// Returns the installation after one more entry, or the unchanged installation if the entry is not
+/// admissible.
 pub fn after_entry(row: &Installation, entry: &Entry) -> Installation
     requires { IsSound row.now }
     ensures sound { IsSound result }
@@ -52,8 +53,8 @@ pub fn after_entry(row: &Installation, entry: &Entry) -> Installation
     }
 }
 
-/// Returns the installation after an entry that the store holds; a closing entry closes it. An
-/// installation whose numbers are out of range is unchanged.
+/// Returns the installation after a stored entry, which closes the installation if it is a closing
+/// entry. An installation with a number out of range is returned unchanged.
 pub fn moved(row: &Installation, booked: &BookedEntry) -> Installation
     ensures { IsSound row.now → MayEnter row.now booked.now.entry
         → result ≡ moved_by booked.now.kind booked.now.entry row.now }

@@ -8,7 +8,7 @@ use energy_core::Last;
 use meter_journal::Installed;
 use office_events::{Installation, Opening};
 
-/// Returns the state of a meter's counter at its opening: timestamp, count and scale.
+/// Returns the state of a meter's counter at its opening: timestamp, count and scale factor.
 pub fn opened(opening: &Opening) -> Last
     ensures { result ≡ meters.opened opening.now }
 {
@@ -19,7 +19,7 @@ pub fn opened(opening: &Opening) -> Last
     }
 }
 
-/// Returns the range, the ceiling and the opening state of a meter.
+/// Returns the range, the maximum power and the opening state of a meter.
 pub fn installed(opening: &Opening) -> Installed
     ensures { result ≡ meters.installed opening.now }
 {
@@ -30,7 +30,7 @@ pub fn installed(opening: &Opening) -> Installed
     }
 }
 
-/// Returns the state of an installation directly after its opening.
+/// Returns the state of a meter directly after its opening, with an energy of 0 mWh.
 pub fn begun(opening: &Opening) -> Installation
     ensures { result ≡ as_begun opening.now }
 {
@@ -42,7 +42,7 @@ pub fn begun(opening: &Opening) -> Installation
     }
 }
 
-/// Returns whether the numbers of an opening are in range.
+/// Returns true if the numbers of an opening are in range.
 pub fn has_numbers(opening: &Opening) -> bool
     ensures so { IsTrue result → HasNumbers opening.now }
     ensures if_so { HasNumbers opening.now → IsTrue result }

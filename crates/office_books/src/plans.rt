@@ -1,4 +1,4 @@
-//! Selects reads of a point list's plan.
+//! Selects reads from the plan of a point list.
 ghost use Rattle.std.specs.Prelude.{◌≡◌, IfOk, Some, map};
 ghost use Rattle.office_books.specs.Plans.{read_count_of, reads_from};
 
@@ -20,7 +20,7 @@ pub fn read_count(list: &PlannedList) -> usize
     list.reads().len()
 }
 
-/// Returns at most `most` reads of the plan from index `from` on. The points are not copied.
+/// Returns at most `most` reads of the plan from index `from` on, without copying the points.
 pub fn reads_from(
     alloc: Global,
     list: &PlannedList,

@@ -1,4 +1,4 @@
-//! Selects the accounting registers that a read covers.
+//! Selects the accounting registers that a Modbus read covers.
 ghost use Rattle.std.specs.Prelude.{◌≡◌, ◌≤◌, IfOk};
 ghost use Rattle.std.specs.List.{filter};
 ghost use Rattle.office_rules.specs.Readings as readings;
@@ -16,8 +16,8 @@ fn contains(span: ReadSpan, address: u16, count: u32) -> bool
     from <= address && address + count <= from + u32::from(span.count)
 }
 
-/// Whether the read contains the Modbus register of the scale; true for a fixed scale, which needs
-/// none.
+/// Returns true if the read contains the Modbus register with the scale factor, or if the scale is
+/// fixed.
 fn contains_scale(span: ReadSpan, scale: ScaleSource) -> bool
     ensures { result ≡ readings.contains_scale span scale }
 {
@@ -27,10 +27,10 @@ fn contains_scale(span: ReadSpan, scale: ScaleSource) -> bool
     }
 }
 
-/// Returns whether a read of the span gives a reading of the accounting register.
+/// Returns true if a Modbus read gives a reading of the accounting register.
 ///
-/// The span must have the register's function code, and contain both Modbus registers of its
-/// counter. If the device has the scale in a Modbus register, the span must contain that too.
+/// The read must have the register's function code and contain both Modbus registers of the
+/// counter. It must also contain the Modbus register with the scale factor, if there is one.
 pub fn is_read_by(span: ReadSpan, register: &Register) -> bool
     ensures { result ≡ readings.is_read_by span register.now }
 {
@@ -39,7 +39,7 @@ pub fn is_read_by(span: ReadSpan, register: &Register) -> bool
         && contains_scale(span, register.scale)
 }
 
-/// Returns the accounting registers that a read of the span covers. The others are not copied.
+/// Returns copies of only those accounting registers that the Modbus read covers.
 pub fn registers_read(
     alloc: Global,
     registers: &[Register],
@@ -56,7 +56,7 @@ pub fn registers_read(
     Ok(read)
 }
 
-/// Removes the accounting registers that a read of the span does not cover. Allocates no memory.
+/// Removes the accounting registers that the Modbus read does not cover, without allocating memory.
 pub fn keep_read(registers: &mut Vec<Register>, span: ReadSpan)
     ensures { registers.new.items ≡ filter (readings.is_read_by span) registers.old.items }
 {

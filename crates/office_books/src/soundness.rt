@@ -1,12 +1,12 @@
-//! Checks whether the next reading of an installation can be judged.
+//! Checks whether all numbers of an installation are in range.
 ghost use Rattle.std.specs.Prelude.{◌≡◌, false, IsTrue};
 ghost use Rattle.office_rules.specs.Ranges.{IsSound};
 
 use energy_core::{MAX_CEILING, MAX_RANGE, MAX_SCALE, MAX_TOTAL, MIN_RANGE, MIN_SCALE};
 use office_events::Installation;
 
-/// Returns whether all numbers of an installation are in range, so that its next reading can be
-/// judged.
+/// Returns true if all numbers of an installation are in range, as judging its next reading
+/// requires.
 pub fn is_sound(row: &Installation) -> bool
     ensures so { IsTrue result → IsSound row.now }
     ensures if_so { IsSound row.now → IsTrue result }

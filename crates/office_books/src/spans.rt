@@ -1,19 +1,19 @@
-//! Spans of time.
+//! Time spans that limit the rows of a query.
 ghost use Rattle.std.specs.Prelude.{◌≡◌};
 ghost use Rattle.office_books.specs.Spans.{is_within};
 
-/// A range of time, in seconds since 1970-01-01 UTC. A quarter hour lies in the range if its start
-/// does.
+/// A time span, in seconds since 1970-01-01 UTC. A quarter hour lies in the span if its start lies
+/// in the span.
 #[derive(Clone, Copy, Debug, PartialEq, Eq)]
 pub enum Span {
-    /// All times.
+    /// The span of all times.
     All,
-    /// Times from `from` to before `till`.
+    /// The span of times from `from`, inclusive, to `till`, exclusive.
     Between { from: u64, till: u64 },
 }
 
 impl Span {
-    /// Returns whether the timestamp lies in the range.
+    /// Returns true if the timestamp lies in the time span.
     pub fn contains(self, moment: u64) -> bool
         ensures { result ≡ is_within self moment }
     {

@@ -1,4 +1,5 @@
--- The booked energy of a meter is the energy that its readings give.
+-- Lemmas that a meter's booked energy follows from the meter's readings, rollovers, resets and
+-- changes of scale.
 use Rattle.std.proofs.Common.{◌≡◌, ℕ, ◌+◌, ◌*◌, List, [], ◌∷◌, get_or, refl, arith}
 use Rattle.std.specs.Prelude.{ℤ, pos, ◌+ℤ◌, ◌-ℤ◌}
 use Rattle.std.proofs.lemmas.Int.{ints}
@@ -26,7 +27,8 @@ changed : (before after r s f : ℕ) (d : ℤ) → pos r -ℤ pos s ≡ pos f +�
     → pos (before + r) -ℤ pos (after + s) ≡ pos f +ℤ (pos before -ℤ pos after +ℤ d)
 changed before after r s f d h = omega (arith, ints)
 
--- Recorded energy, less what the counter was set to, is the full ranges plus the differences.
+-- The recorded energy minus the values to which the counter was set equals the full ranges plus the
+-- differences at resets and changes of scale.
 recorded_is : (range : ℕ) (first : Last) (es : List Entry)
     → pos (recorded range first es) -ℤ pos (set_anew es) ≡ pos (full_ranges range first es) +ℤ differences first es
 recorded_is range first [] = refl

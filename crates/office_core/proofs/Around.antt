@@ -1,4 +1,4 @@
--- The seconds that a day can contain by the clocks of some zone.
+-- Lemmas about the range of timestamps that one civil day can contain in any time zone.
 use Rattle.std.proofs.Common.{◌≡◌, ℕ, ◌<◌, ◌≤◌, true, false, Option, Some, None, refl, arith}
 use Rattle.std.specs.Prelude.{ℤ, pos, negsuc, ◌+ℤ◌, ◌-ℤ◌, ◌*ℤ◌, ◌<ℤ◌, ◌≤ℤ◌, ◌&&◌, nat_le, nat_lt}
 use Rattle.std.specs.Int.{int_div_euclid}
@@ -22,7 +22,7 @@ use Rattle.interval_core.specs.Ranges.{begins_by_number, ends_after_number}
 use Rattle.office_books.specs.Spans.{is_within}
 use Rattle.office_core.specs.DayRange.{span_between, utc_start}
 
--- No UTC offset exceeds 25:59:59.
+-- No UTC offset exceeds 25 hours, 59 minutes and 59 seconds.
 offset_bound : (zone : TimeZone) (n : ℤ) → IsOffsetSeconds (offset_at zone n)
 unfolding offset_at
 offset_bound UTC n = (omega (arith, signed_arith), omega (arith, signed_arith))
@@ -57,7 +57,8 @@ before : (till off : ℤ) (start : ℕ) → IsOffsetSeconds off → (int_div_euc
     → pos start <ℤ ((till +ℤ pos 2) *ℤ pos 86400)
 before till off start bound lt = omega (arith, signed_arith, bound.0, lt)
 
--- A timestamp whose day is requested is between the starts of the days two before and two after.
+-- If a timestamp is on a requested day, then it lies between the UTC days two days before `from`
+-- and two days after `till`.
 lies_around : (from till : Date) (zone : Zone) (start : ℕ) → (is_le (int_cmp (epoch_day from) (day_at zone start)) && is_lt (int_cmp (day_at zone start) (epoch_day till))) ≡ true
     → (nat_le (utc_start (epoch_day from -ℤ pos 2)) start && nat_lt start (utc_start (epoch_day till +ℤ pos 2))) ≡ true
 lies_around from till zone start is =
@@ -72,7 +73,8 @@ lies_around from till zone start is =
     let ends_later : nat_lt start (utc_start (epoch_day till +ℤ pos 2)) ≡ true = grind (arith, nat_tests, high) in
     and_from _ _ has_begun ends_later
 
--- A span contains each timestamp whose day is in the range, with either end open or not.
+-- If a timestamp is on a day of a range, then the range's time span contains the timestamp. An end
+-- of the range may be open.
 pub has_each : (from till : Option Date) (zone : Zone) (start : ℕ)
     → (begins_by_number from (day_at zone start) && ends_after_number till (day_at zone start)) ≡ true → is_within (span_between from till) start ≡ true
 has_each (Some from) (Some till) zone start is = lies_around from till zone start is

@@ -1,4 +1,5 @@
--- The headline of one meter as a worked example: its counter turns over, is rescaled, and is reset.
+-- A worked example of the promise in `Headline.antt`: the energy of a meter with a rollover, a
+-- change of scale and a reset.
 use Rattle.std.proofs.Common.{◌≡◌, pos, List, ℕ, [], ◌∷◌, refl}
 use Rattle.energy_core.specs.Value.{unit_of}
 use Rattle.energy_core.specs.declared.entries.Entry.{Entry}
@@ -17,21 +18,21 @@ m1 = 109 ∷ 49 ∷ []
 abbrev main : List ℕ
 main = 109 ∷ 97 ∷ 105 ∷ 110 ∷ []
 
--- The meter is installed at 4294967000, 296 counts before the counter turns over.
+-- The example meter, installed at the count 4294967000, which is 296 counts before a rollover.
 abbrev meter : Opening
 meter = record { meter = m1; register = main; ceiling = 100000; range = 4294967296; at = 1000; raw = 4294967000; sf = pos 0 }
 
 abbrev entry : EntryKind → Entry → Fact
 entry kind e = fact.Entry (record { meter = m1; kind = kind; entry = e })
 
--- The meter is read at 200 after the counter turned over. At 300 it is rescaled to tens of Wh,
--- where it shows 31; at 40 it is reset to 5.
+-- The example entries: a reading of 200 after a rollover, and a change of scale from 300 to 31
+-- (tens of Wh). Then a manual reading of 35, and a reset from 40 to 5.
 abbrev facts : List Fact
 facts = entry Reset (Change 4600 40 5 (pos 1)) ∷ entry Manual (Step 3700 35 0)
     ∷ entry Rescale (Change 2800 300 31 (pos 1)) ∷ entry Reading (Step 1900 200 1) ∷ fact.Opening meter ∷ []
 
--- 496 Wh up to the reading, 100 Wh to the rescaling, 40 Wh to the reading by hand, and 50 Wh to the
--- reset.
+-- The booked energy in mWh: 496 Wh up to the reading, and 100 Wh to the change of scale. Then 40 Wh
+-- to the manual reading, and 50 Wh to the reset.
 booked : energy_booked facts meter ≡ 686000
 unfolding unit_of
 booked = refl
@@ -44,12 +45,13 @@ last : value (last_reading facts meter) ≡ pos 50000
 unfolding unit_of
 last = refl
 
--- one rollover, at 1 Wh a count
+-- One rollover of 4294967296 counts at 1 Wh each, in mWh.
 ranges : full_ranges 4294967296 (first_reading meter) (entries_of facts meter) ≡ 4294967296000
 unfolding unit_of
 ranges = refl
 
--- 300 Wh less 310 Wh at the rescaling, and 400 Wh less 50 Wh at the reset
+-- The differences in mWh: 300 Wh minus 310 Wh at the change of scale, and 400 Wh minus 50 Wh at the
+-- reset.
 changes : differences (first_reading meter) (entries_of facts meter) ≡ pos 340000
 unfolding unit_of
 changes = refl

@@ -1,4 +1,5 @@
--- All quarter hours of a meter, as a span.
+-- The lemma that the interval rows of a meter in the span of all times are all interval rows of the
+-- meter.
 use Rattle.std.proofs.Common.{◌≡◌, ℕ, List, refl, subst}
 use Rattle.std.specs.Prelude.{Option, Some, None, Result}
 use Rattle.std.specs.Option.{option_map}

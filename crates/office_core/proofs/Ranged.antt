@@ -1,4 +1,5 @@
--- The days of a range, from the rows of a span around it.
+-- Lemmas that the days of a range can be computed from the interval rows of a time span around the
+-- range.
 use Rattle.std.proofs.Common.{◌≡◌, ℕ, ◌<◌, Bool, true, false, cond, Some, None, List, [], ◌∷◌, length, refl, sym, ap, subst, ◌∙◌, inl, inr, arith}
 use Rattle.std.specs.Prelude.{ℤ, ◌<ℤ◌, ◌&&◌, Contains, filter, map}
 use Rattle.std.specs.Ordering.{int_eq}
@@ -18,7 +19,7 @@ use Rattle.office_books.specs.declared.spans.Span.TheVariants as span
 use Rattle.office_books.specs.Spans.{is_within, rows_within}
 use Rattle.office_core.specs.DayRange.{accounts_within}
 
--- ---- filters in succession
+-- ---- a list that two filters process one after the other
 
 filter_through : {X : Type 0} (p q : X → Bool) → ((x : X) → p x ≡ true → q x ≡ true) → (xs : List X) → filter p (filter q xs) ≡ filter p xs
 filter_through p q through [] = refl
@@ -48,7 +49,7 @@ filter_apart p q apart (x ∷ xs) =
       | inr fails ↦ ap (filter p) (cond-false _ _ _ fails) ∙ rest
     ]
 
--- ---- the days of a filter of the rows
+-- ---- the civil days of interval rows that a filter keeps
 
 module _ (zone : Zone) (asked : ℤ → Bool) where
   abbrev row_asked : Share → Bool
@@ -117,7 +118,7 @@ module _ (zone : Zone) (asked : ℤ → Bool) where
   abbrev of_rows : ℤ → List Share → DayAccount
   of_rows day rows = record { day = day; count = distinct_count (starts_of rows); mwh = energy_of rows }
 
-  -- The accounts of the rows whose days are requested.
+  -- The requested days equal the days of those interval rows whose days are requested.
   pub accounts_asked : (rows : List Share) (accounts : List DayAccount) → AreAccounts zone rows accounts → AreAccounts zone (filter row_asked rows) (filter account_asked accounts)
   accounts_asked rows accounts are = record {
     in_order = in_order accounts are.in_order;
@@ -137,7 +138,8 @@ module _ (zone : Zone) (asked : ℤ → Bool) where
         whole ∙ sym (ap (of_rows _) (rows_asked rows _ is));
   }
 
-  -- If a filter keeps all rows whose days are requested, the requested days are the same.
+  -- If a filter keeps all interval rows of the requested days, then the requested days are
+  -- unchanged.
   pub same_days : (among : Share → Bool) → ((row : Share) → row_asked row ≡ true → among row ≡ true)
       → AccountsAreOne → (rows : List Share) (some all : List DayAccount)
       → AreAccounts zone (filter among rows) some → AreAccounts zone rows all → filter account_asked some ≡ filter account_asked all
@@ -148,9 +150,9 @@ module _ (zone : Zone) (asked : ℤ → Bool) where
       let unique = one zone (filter row_asked rows) in
       unique.2 _ left ∙ sym (unique.2 _ right)
 
--- ---- the requested days
+-- ---- the requested days of an accounting register
 
--- A span keeps what passes its test.
+-- If a filter accepts each element, then the filtered list equals the complete list.
 all_kept : {X : Type 0} (xs : List X) → filter (λ x. true) xs ≡ xs
 all_kept [] = refl
 all_kept (x ∷ xs) = ap (λ l. x ∷ l) (all_kept xs)
@@ -159,7 +161,7 @@ by_test : (asked : Span) (rows : List Share) → rows_within asked rows ≡ filt
 by_test span.All rows = sym (all_kept rows)
 by_test (span.Between from till) rows = refl
 
--- A range contains a day by its date if it contains it by its number.
+-- A range contains a day by its date if and only if it contains the day by its day number.
 is_in_number : (range : DayRange) (total : DayTotal) → is_in range total.day ≡ has_day range (account_of total).day
 is_in_number range total =
     elim range.from as (λ from. (begins_by from total.day && ends_after range.till total.day)

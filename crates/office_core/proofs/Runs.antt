@@ -1,4 +1,4 @@
--- A run with one more event at its end.
+-- Lemmas about a run of events over an office after one more event.
 use Rattle.std.proofs.Common.{◌≡◌, ◌↔◌, ◌||◌, ℕ, ◌+◌, ◌<◌, Bool, true, false, List, [], ◌∷◌, ◌++◌, take, length, ◌≤◌, get_or, Result, Err, refl, ap, sym, subst, ◌∙◌, arith, take_all}
 use Rattle.std.specs.Prelude.{All, IfErr}
 use Rattle.std.proofs.lemmas.List.{take_more}
@@ -62,7 +62,8 @@ left_push past before between after [] one h k = (after, rw (sym h) k, refl)
 left_push past before between after (f ∷ fed) one h k =
     (h.0, h.1, left_push (with_answer past f.at f.event f.result) h.0 between after fed one h.2 k)
 
--- One more event, after what a run has left so far.
+-- After one more event, the records that a crash may leave have changed as the event's answer
+-- requires.
 run_push : (old between new : Ledger) (past : History) (opened : ℕ) (fed : List Answered) (one : Answered)
     → Leaves old between (LeftByRun past opened fed)
     → Leaves between new (LeftByEvent (history_after (Opened opened ∷ past) fed) one.at one.event one.result)
@@ -90,14 +91,14 @@ counts_push : (before between after : Failures) (fed : List Answered) (one : Ans
 counts_push before between after [] one h k = (after, rw (sym h) k, refl)
 counts_push before between after (f ∷ fed) one h k = (h.0, h.1, counts_push h.0 between after fed one h.2 k)
 
--- No event was refused because a row has no civil day.
+-- True if the event was not refused because a quarter hour has no civil day.
 abbrev pub HasItsDay : Answered → Type 0
 HasItsDay fed = IfErr fed.result IsNotForWantOfDay
 
 no_day_push : (fed : List Answered) (one : Answered) → All HasItsDay fed → HasItsDay one → All HasItsDay (fed ++ one ∷ [])
 no_day_push fed one h k = All-append HasItsDay fed (one ∷ []) h (All-cons HasItsDay one [] k (All-nil HasItsDay))
 
--- The state of a run after these events.
+-- The state of a run of events after the first events of its list.
 pub record SoFar {B : Type 0} (ledger : B → Ledger) (books : B) (opened : ℕ) (fed : List Answered) (office : Office B) : Type 0 where
   pub stands : (past : History) → BooksStand (ledger books) past → (ledger (books_in office)).is_clean
       → Stands ledger (history_after (Opened opened ∷ past) fed) office
@@ -113,7 +114,7 @@ pub record SoFar {B : Type 0} (ledger : B → Ledger) (books : B) (opened : ℕ)
   pub clean : (ledger (books_in office)).is_clean → (ledger books).is_clean
   pub zone : (ledger (books_in office)).zone ≡ (ledger books).zone
 
--- The contract of feeding one more event.
+-- The guarantees of `feed` for one event of a run of events.
 pub record Feeds {B : Type 0} (ledger : B → Ledger) (old new : Office B) (one : Answered) : Type 0 where
   pub answers : After ledger old new (λ past. IsAnswer past one.at one.event (failures_of ledger old) (failures_of ledger new) one.result)
   pub stands : After ledger old new (λ past. Stands ledger (with_answer past one.at one.event one.result) new)
@@ -123,7 +124,8 @@ pub record Feeds {B : Type 0} (ledger : B → Ledger) (old new : Office B) (one 
       → IsQuiet old new one.result
   pub ends : Ends ledger old new one.event one.result
 
--- An office that had stopped answers so, which is no failure.
+-- If an office has stopped, then it refuses each event as stopped, and the refusal does not count
+-- as a failure.
 not_failing : {B : Type 0} (ledger : B → Ledger) (past : History) (old new : Office B) (one : Answered) → Feeds ledger old new one
     → Stands ledger past old → SettlesNothing past one.at one.event → (stopped : Bool) → is_stopped old ≡ stopped
     → is_failure one.result ≡ false
@@ -158,7 +160,7 @@ further ledger books opened fed old new one so feeds = record {
   zone = feeds.ends.zone ∙ so.zone;
 }
 
--- The last event was fed.
+-- After the last event of the list, the state of the run of events is its final state.
 pub all_fed : {B : Type 0} (ledger : B → Ledger) (books : B) (opened : ℕ) (events : Events) (i : ℕ) (results : Results) (office : Office B)
     → length events ≤ i → SoFar ledger books opened (in_turn (take i events) results) office
     → SoFar ledger books opened (in_turn events results) office

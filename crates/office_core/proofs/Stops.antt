@@ -1,4 +1,4 @@
--- What a crash leaves after a run is complete.
+-- Lemmas that after a crash the store has all records of an event or none.
 use Rattle.std.proofs.Common.{◌≡◌, ◌⊎◌, ℕ, true, List, [], ◌∷◌, inl, inr, refl, sym, subst, ◌∙◌, Result, Ok, Err, arith}
 use Rattle.std.specs.Prelude.{Contains}
 use Rattle.std.proofs.lemmas.List.Elements.{Contains-get_or, Contains-push_cases}
@@ -19,8 +19,7 @@ use Rattle.office_core.specs.Stopping.{AreOfEvents, AreOfBefore, EventsAreLeftWh
 abbrev Lists : Type 0
 Lists = List (List Fact)
 
--- Where records after a crash come from: they are those after the event; or it failed, and they are
--- those with it; or it recorded nothing, and a crash might have left them earlier.
+-- True if the event failed, and a crash left the records with this event.
 record IsOfOne (past : History) (at : ℕ) (e : Event) (result : Result Answer Refusal) (facts : List Fact) : Type 0 where
   failed : is_failure result ≡ true
   stays : with_answer past at e result ≡ past
@@ -41,7 +40,8 @@ is_only only facts has = elim (Contains-push_cases [] only facts has) [
   | inr is ↦ sym is
 ]
 
--- The opening or the event was accepted.
+-- After an accepted event or opening, a crash leaves the records with this event, or the event
+-- added no record.
 once_done : (past : History) (next : Accepted) (before after : Lists) (facts : List Fact) → LeftOnceDone past next before after → Contains after facts
     → (facts ≡ facts_of (next ∷ past)) ⊎ ((facts_of (next ∷ past) ≡ facts_of past) × Contains before facts)
 once_done past next before after facts (inl is) has =
@@ -79,7 +79,8 @@ of_one past at e (Err (refusal.Store why)) before after facts left has = of_fail
 of_one past at e (Err refusal.Memory) before after facts left has = of_failed past at e refusal.Memory before after facts refl left has
 of_one past at e (Err why) before after facts left has = of_same past at e (Err why) before after facts refl left has
 
--- One event, and those after it.
+-- The records that a crash leaves after a list of events follow from the first event and the later
+-- events.
 of_first : (past : History) (fed : Answered) (later : List Answered) (before : Lists) (facts : List Fact)
     → facts_of (history_after past (fed ∷ later)) ≡ facts_of (with_answer past fed.at fed.event fed.result)
     → ComesFrom past fed.at fed.event fed.result before facts
@@ -114,7 +115,8 @@ left_whole past (fed ∷ later) before after facts left has =
 pub events_left : EventsAreLeftWhole
 events_left past fed before after left = λ k d less. left_whole past fed before after _ left (Contains-get_or after k d less)
 
--- The opening, and the events of the run.
+-- The records that a crash leaves after a run of events follow from the opening and the events of
+-- the run.
 opened_first : (past : History) (opened : ℕ) (fed : List Answered) (before between : Lists) (facts : List Fact) → LeftOnceDone past (Opened opened) before between
     → AreOfEvents (Opened opened ∷ past) fed facts ⊎ AreOfBefore (Opened opened ∷ past) (history_after (Opened opened ∷ past) fed) between facts
     → AreOfEvents (Opened opened ∷ past) fed facts ⊎ AreOfBefore past (history_after (Opened opened ∷ past) fed) before facts

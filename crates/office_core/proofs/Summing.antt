@@ -1,4 +1,4 @@
--- A sink adds up rows by day, one by one.
+-- Lemmas about a sink that adds up interval rows by civil day.
 use Rattle.std.proofs.Common.{◌≡◌, ℕ, ◌+◌, ◌≤◌, ◌<◌, Bool, not, List, [], ◌∷◌, ◌++◌, length, get_or, Option, Some, None, inr, refl, sym, ap, subst, ◌∙◌, arith, append_assoc, length-append}
 use Rattle.std.specs.Prelude.{MatchOption, MatchResult, Result, Ok, Err, map, unwrap_or}
 use Rattle.std.specs.declared.alloc.Global.{Global}
@@ -32,7 +32,8 @@ use Rattle.office_core.specs.Asking.{ListsDays}
 use Rattle.office_core.specs.DaySums.{MayFollow, UnlessFailed, HasAdded, AddsRow, TakesShare, EndsAs}
 use Rattle.office_core.specs.Failing.{IsOutside}
 
--- A row of a list may follow those before it.
+-- If the energy of a list of interval rows can be added up, then each row may be added after the
+-- earlier rows.
 may_follow : (done rest : List Share) (row : Share) → CanBeFolded (done ++ row ∷ rest) → MayFollow done row
 may_follow done rest row folds =
     let start : Share → ℕ = λ r. r.start in
@@ -51,7 +52,7 @@ may_follow done rest row folds =
           omega (arith, folds.energy, more, first);
     }
 
--- The sink has added one more row after the rows `done`, or it has failed.
+-- After one more interval row, the sink has added the row, or the sink has failed.
 add_one : (failed : Option DayFault) (done : List Share) (row : Share) (s next : DaySink) → s.fault ≡ failed → MayFollow done row
     → UnlessFailed failed (HasTaken s.zone done s.fold) → MatchOption failed (AddsRow s row next) (λ fault. next ≡ s)
     → (next.zone ≡ s.zone) × HasAdded next (done ++ row ∷ [])
@@ -62,7 +63,7 @@ add_one (Some fault.Memory) done row s next is may added step =
     subst Q (sym step) (refl, subst P (sym is) tt)
 add_one (Some fault.Zone) done row s next is may added step = absurd added
 
--- The sink has added all further rows after the rows `done`, or it has failed.
+-- After the remaining interval rows, the sink has added all rows, or the sink has failed.
 add_all : (zone : Zone) (done rest : List Share) (s after : DaySink) → s.zone ≡ zone → CanBeFolded (done ++ rest) → HasAdded s done
     → TakesAll TakesShare s rest after → (after.zone ≡ zone) × HasAdded after (done ++ rest)
 add_all zone done [] s after is folds added took =
@@ -74,14 +75,14 @@ add_all zone done (row ∷ rest) s after is folds added took =
     let all = add_all zone (done ++ row ∷ []) rest took.0 after (step.0 ∙ is) (subst CanBeFolded (sym same) folds) step.1 took.2 in
     (all.0, subst (HasAdded after) same all.1)
 
--- The state of a new sink after rows whose days can be added up.
+-- If a new sink received interval rows, then it has added all of the rows, or it has failed.
 pub added_up : (fresh after : DaySink) (rows : List Share) → CanBeFolded rows → fresh.fault ≡ None → HasTaken fresh.zone [] fresh.fold
     → TakesAll TakesShare fresh rows after → (after.zone ≡ fresh.zone) × HasAdded after rows
 added_up fresh after rows folds works empty took =
     let P : Option DayFault → Type 0 = λ f. UnlessFailed f (HasTaken fresh.zone [] fresh.fold) in
     add_all fresh.zone [] rows fresh after refl folds (subst P (sym works) empty) took
 
--- A row that may follow starts no earlier than the latest one.
+-- If an interval row may be added to the sink, then it starts no earlier than the latest added row.
 after_latest : (rows : List Share) (latest : Option ℕ) (row : Share) → IsLatest rows latest → MayFollow rows row → unwrap_or latest 0 ≤ row.start
 after_latest rows None row at may = omega arith
 after_latest rows (Some start) row at may =
@@ -92,7 +93,7 @@ pub no_earlier : (zone : Zone) (rows : List Share) (fold : FoldState) (latest : 
     → MayFollow rows row → unwrap_or latest 0 ≤ row.start
 no_earlier zone rows fold latest row same taken may = after_latest rows latest row (subst (IsLatest rows) same taken.latest) may
 
--- The sink's final days are those of the rows.
+-- The days of the sink equal the civil days of its interval rows.
 days_by : (failed : Option DayFault) (old new : Ledger) (zone : Zone) (rows : List Share) (fold : FoldState)
     (result : Result (Vec DayTotal Global) Refusal) → new.failures ≡ old.failures → UnlessFailed failed (HasTaken zone rows fold)
     → EndsAs failed fold.accounts result
@@ -105,7 +106,8 @@ days_by (Some fault.Memory) old new zone rows fold (Err why) same added ends =
     subst (IsOutside (Unit {0}) old.failures new.failures) (sym ends) (inr (tt, same))
 days_by (Some fault.Zone) old new zone rows fold (Err why) same added ends = absurd added
 
--- The days of the requested rows can be added up.
+-- If the energy of all interval rows can be added up, then the energy of the rows in a time span
+-- can be added up.
 folds_within : (span : Span) (rows : List Share) → CanBeFolded rows → CanBeFolded (rows_within span rows)
 folds_within All rows folds = folds
 folds_within (Between from till) rows folds =

@@ -1,4 +1,4 @@
--- What an accepted event leaves and reports.
+-- Lemmas about the state and the answer of the office after an accepted event.
 use Rattle.std.proofs.Common.{◌≡◌, ℕ, Bool, true, false, cond, List, [], ◌∷◌, inl, inr, refl, sym, ap, subst, ◌∙◌, Option, Some, None, Result, Ok, Err}
 use Rattle.office_events.specs.declared.answers.Answer.{Answer}
 use Rattle.office_events.specs.declared.answers.Answer.TheVariants as answer
@@ -33,13 +33,13 @@ use Rattle.office_core.specs.Standing.{Goes, notes_in, outgoing_in}
 use Rattle.office_core.specs.Taking.{LeavesEvent, MayTake, Takes}
 use Rattle.office_core.proofs.Left.{moved_on, moved_not, done_left, failed_left}
 
--- An accepted event has the answer of the definition.
+-- If an event is accepted, then its answer is the answer that `decision_of` defines.
 pub accepted_decision : (past : History) (at : ℕ) (e : Event) → IsAccepted past at e → decision_of past at e ≡ Ok (answer_of (slots_of past) (facts_of past) at e)
 accepted_decision past at e accepted =
     ap (λ kept. unless_kept (unless_refused (answer_of (slots_of past) (facts_of past) at e) (refusal_of past at e)) kept) accepted.new
     ∙ ap (unless_refused (answer_of (slots_of past) (facts_of past) at e)) accepted.right
 
--- An accepted event is never answered as a retry.
+-- If an event is accepted, then its answer is not the answer to a retry.
 by_start : (So : Answer → Type 0) → ((n m k : ℕ) → So (answer.Started n m k)) → ((k : CommandKind) → So (answer.Done k))
     → (b : Bool) (n m k : ℕ) (kind : CommandKind) → So (cond b (answer.Started n m k) (answer.Done kind))
 by_start So started done true n m k kind = started n m k
@@ -54,11 +54,12 @@ by_answer So started done noted slots facts at (event.Gone given closing) = note
 by_answer So started done noted slots facts at (event.Command c) = by_start So started done (is_start c) _ _ _ _
 by_answer So started done noted slots facts at (event.Asked asked) = by_start So started done (is_start asked.command) _ _ _ _
 
--- An accepted event may follow.
+-- If a history is valid and one more event is accepted, then the history with this event is valid.
 pub one_more_past : (past : History) (at : ℕ) (e : Event) → IsPast past → IsAccepted past at e → PutsPlanned (command_in e) → IsPast (Fed at e ∷ past)
 one_more_past past at e is accepted planned = record { accepted = (accepted, is.accepted); planned = (planned, is.planned) }
 
--- What a crash leaves if an event failed or changes nothing.
+-- If an event fails or changes nothing, then a crash leaves the records from before the event or
+-- the records with the event.
 pub event_failed : (old new : Ledger) (past : History) (at : ℕ) (e : Event) (why : BooksFault) → Leaves old new (LeftOnceFailed past (Fed at e))
     → Leaves old new (LeftByEvent past at e (Err (as_refusal why)))
 event_failed old new past at e (Store fault) left = left
@@ -81,7 +82,7 @@ unchanged_left old new past at e (Err why) keeps none = λ before may. (before, 
 pub refused_left : (old new : Ledger) (past : History) (at : ℕ) (e : Event) (why : Refusal) → KeepsFacts old new → Leaves old new (LeftByEvent past at e (Err why))
 refused_left old new past at e why keeps = λ before may. (before, left_by_refused past at e why before, keeps.left before may)
 
--- How failures of the store are reported and counted.
+-- If the store fails, then the failure is reported with its cause and counted once.
 pub failed_outside : (T takes_memory : Type 0) (before after : Failures) (why : BooksFault) → FailuresAfterCalls {T = T} (Err why) before after → takes_memory
     → IsOutside takes_memory before after (as_refusal why)
 failed_outside T takes_memory before after (Store Refused) is takes = is
@@ -89,7 +90,8 @@ failed_outside T takes_memory before after (Store Damaged) is takes = is
 failed_outside T takes_memory before after Memory (inl told) takes = inl told
 failed_outside T takes_memory before after Memory (inr same) takes = inr (takes, same)
 
--- The office needs memory outside the store in more cases.
+-- If a failure report is correct, then it stays correct if the office may need memory outside the
+-- store in more cases.
 pub outside_more : (few many : Type 0) (before after : Failures) (why : Refusal) → (few → many) → IsOutside few before after why → IsOutside many before after why
 outside_more few many before after (refusal.Store cause) more is = is
 outside_more few many before after refusal.Memory more (inl told) = inl told
@@ -103,7 +105,7 @@ books_failed T takes_memory before after (Store Refused) is = is
 books_failed T takes_memory before after (Store Damaged) is = is
 books_failed T takes_memory before after Memory is = inl is
 
--- If a failing device event does not stop the office, it is no event that may settle polls.
+-- If a device event fails and does not stop the office, then the event cannot end polls.
 pub goes_on_unsettling : (e : Event) (why : BooksFault) → stops e (Err (as_refusal why)) ≡ false → may_settle e ≡ false
 goes_on_unsettling (event.Connected given) why on = refl
 goes_on_unsettling (event.Bytes given piece) (Store fault) on = absurd (cc)
@@ -123,7 +125,7 @@ connected_settles : (number at : ℕ) (given : Option (List ℕ)) (slots : List 
 connected_settles number at given [] = tt
 connected_settles number at given (slot ∷ slots) = (settled_none number at given slot.device slot.present, connected_settles number at given slots)
 
--- An event that requests no command and may not settle polls settles nothing on any slot.
+-- If an event has no command and cannot end polls, then it ends no poll of any slot.
 pub unsettling : (e : Event) (number at : ℕ) (slots : List Slot) → is_command e ≡ false → may_settle e ≡ false → SettleNothing number at e slots
 unsettling (event.Connected given) number at slots device none = connected_settles number at given slots
 unsettling (event.Bytes given piece) number at slots device none = absurd (cc)
@@ -132,7 +134,7 @@ unsettling (event.Gone given closing) number at slots device none = absurd (cc)
 unsettling (event.Command c) number at slots device none = absurd (cc)
 unsettling (event.Asked asked) number at slots device none = absurd (cc)
 
--- An event of a device is noted and sends nothing; an event with a command brings no notifications.
+-- A device event gets the answer `Noted` and sends no frames. A command causes no notifications.
 pub noted : (slots : List Slot) (facts : List Fact) (at : ℕ) (e : Event) → is_command e ≡ false → answer.Noted ≡ answer_of slots facts at e
 noted slots facts at (event.Connected given) device = refl
 noted slots facts at (event.Bytes given piece) device = refl
@@ -157,7 +159,7 @@ unnoted number at (event.Gone given closing) slots facts asks = absurd (cc)
 unnoted number at (event.Command c) slots facts asks = refl
 unnoted number at (event.Asked asked) slots facts asks = refl
 
--- The event was executed or settled.
+-- If no call of the store fails, then the office processes an accepted event correctly.
 pub taken : {B T : Type 0} (ledger : B → Ledger) (past : History) (at : ℕ) (e : Event) (old new : Office B) (x : T) (given : Answer)
     → MayTake ledger past e old → IsAccepted past at e → (ledger new.books).is_clean
     → Moves (ledger old.books) (ledger new.books) (facts_of past) (facts_of (Fed at e ∷ past)) (Ok x)
@@ -187,7 +189,7 @@ taken ledger past at e old new x given may accepted clean moves is latest slots 
       told = record { notes = notes ∙ sym told; outgoing = outgoing ∙ sym sent };
     }
 
--- The event failed.
+-- If a call of the store fails, then the office reports the failure correctly.
 pub not_taken : {B T : Type 0} (ledger : B → Ledger) (past : History) (at : ℕ) (e : Event) (old new : Office B) (fault : BooksFault) (why : Refusal)
     → MayTake ledger past e old → IsAccepted past at e → (ledger new.books).is_clean
     → Moves {T = T} (ledger old.books) (ledger new.books) (facts_of past) (facts_of (Fed at e ∷ past)) (Err fault)

@@ -1,4 +1,4 @@
--- How the office answers a query, and what a query leaves.
+-- The office's answers to queries, and the effect of a query on the office.
 use Rattle.std.specs.Prelude.{◌≡◌, ◌⊎◌, ◌↔◌, ℕ, ◌<◌, ◌^◌, length, true, List, [], map, Option, Some, None, Result, Ok, Err, MatchResult, IfErr, OnOk, OnErr}
 use Rattle.std.specs.Option.{option_map, option_and_then}
 use Rattle.std.specs.declared.alloc.Global.{Global}
@@ -28,60 +28,62 @@ use Rattle.office_core.specs.Failing.{FailsOutside, IsNotStopped, IsOutside, Mem
 use Rattle.office_core.specs.Standing.{Stands, After, books_in, is_stopped, notes_in, outgoing_in}
 use Rattle.office_core.specs.Taking.{failures_of}
 
--- The answer to a query for a row that the records have or lack: the row, or `NotFound`.
+-- The answer to a query for one row, which is the row, or the refusal `NotFound` if the row does
+-- not exist.
 abbrev pub or_not_found : {T : Type 0} → Option T → Result T Refusal
 or_not_found None = Err refusal.NotFound
 or_not_found (Some found) = Ok found
 
--- The office's answer if the store's lookup has this result: the row, `NotFound`, or the store's
--- failure as a refusal.
+-- The office's answer for this result of a lookup in the store. The answer is the row, the refusal
+-- `NotFound`, or the refusal that reports the store's failure.
 abbrev pub answered : {T : Type 0} → Result (Option T) BooksFault → Result T Refusal
 answered (Ok found) = or_not_found found
 answered (Err why) = Err (as_refusal why)
 
--- A query's result is the row or `NotFound` without a failure, or the failure of the store or of
--- memory.
+-- True if the result of a query is correct. Without a failure, it is the row or `NotFound`.
+-- Otherwise it reports the failure of the store or of memory.
 abbrev pub IsFound : {T : Type 0} → (takes_memory : Type 0) → Option T → (before after : Failures)
     → Result T Refusal → Type 0
 IsFound takes_memory found before after result =
     ((result ≡ or_not_found found) × (after ≡ before))
     ⊎ FailsOutside takes_memory before after result
 
--- `Some` if the row exists, without its content.
+-- `Some` without content if the row exists, otherwise `None`.
 abbrev pub is_there : {T : Type 0} → Option T → Option (Unit {0})
 is_there found = option_map (λ x. tt) found
 
--- The rows of a list; none if the list does not exist.
+-- The rows of an optional list, or an empty list for `None`.
 abbrev pub rows_in : {T : Type 0} → Option (List T) → List T
 rows_in None = []
 rows_in (Some rows) = rows
 
--- The interval rows of the meter with the name; `None` if no meter has it or the name is invalid.
+-- The interval rows of the named meter, or `None` if no meter has the name or the name is invalid.
 abbrev pub intervals_of : List Fact → (meter : Option (List ℕ)) → Option (List Share)
 intervals_of facts meter =
     option_map (rows_of_opening facts) (option_and_then (opening_of facts) meter)
 
--- The result of a query for one row. Such a query needs no memory outside the store.
+-- True if the result of a query for one row is correct. Such a query needs no memory outside the
+-- store.
 abbrev pub IsRowFound : {T : Type 0} → Option T → (before after : Failures) → Result T Refusal
     → Type 0
 IsRowFound found before after result = IsFound ⊥ found before after result
 
--- A query passes rows to a sink. The sink took the first of the rows, all of them on `Ok`, and the
--- result says whether the rows exist.
+-- The guarantees of a query that passes rows to a sink. The sink got the first of the rows, and all
+-- of them on `Ok`. The result is `NotFound` if the rows do not exist.
 pub record HandsRows {S T : Type 0} (takes : S → T → S → Type 0) (rows : Option (List T))
     (before after : Failures) (from to : S) (result : Result (Unit {0}) Refusal) : Type 0 where
   pub answer : IsRowFound (is_there rows) before after result
   pub begun : TakesFirst takes from (rows_in rows) to
   pub whole : OnOk result (TakesAll takes from (rows_in rows) to)
 
--- These are the days of the register with the name, by the clocks of the zone. An invalid name has
--- no days.
+-- True if `days` are the civil days of the accounting register with this name in this time zone.
+-- False if the name is invalid (`None`).
 abbrev pub AreDaysNamed : Zone → List Fact → (register : Option (List ℕ)) → List DayAccount → Type 0
 AreDaysNamed zone facts None days = ⊥
 AreDaysNamed zone facts (Some register) days = AreDaysOf zone facts register days
 
--- The sink took the days of a register in order: one for each civil day on which an interval row
--- begins. Fewer than 2^64 days exist.
+-- True if the sink got the days of an accounting register in order. The days are those on which a
+-- quarter hour with energy begins, and are fewer than 2^64.
 pub record TakesDays {S : Type 0} (takes : S → DayTotal → S → Type 0) (zone : Zone)
     (facts : List Fact) (register : Option (List ℕ)) (from to : S) : Type 0 where
   pub days : List DayTotal
@@ -89,8 +91,8 @@ pub record TakesDays {S : Type 0} (takes : S → DayTotal → S → Type 0) (zon
   pub few : length days < 2 ^ 64
   pub took : TakesAll takes from days to
 
--- A query passes days to a sink. The sink took all of them on `Ok` and none on an error. The query
--- needs memory outside the store only if a register has the name.
+-- The guarantees of a query that passes days to a sink. The sink got all days on `Ok` and none on
+-- an error. Memory outside the store is needed only if the register exists.
 pub record HandsDays {S : Type 0} (takes : S → DayTotal → S → Type 0) (zone : Zone)
     (facts : List Fact) (register : Option (List ℕ)) (before after : Failures) (from to : S)
     (result : Result (Unit {0}) Refusal) : Type 0 where
@@ -99,32 +101,32 @@ pub record HandsDays {S : Type 0} (takes : S → DayTotal → S → Type 0) (zon
   pub whole : OnOk result (TakesDays takes zone facts register from to)
   pub none : OnErr result (to ≡ from)
 
--- A query for a row has the answer that the store's records give, if the store returned no wrong
--- result that was taken as true.
+-- True if the result of a query for one row agrees with the store's records. The premise is that no
+-- wrong result of the store went undetected.
 abbrev pub FoundIn : {T : Type 0} → (old new : Ledger) → Result T Refusal → (List Fact → Option T)
     → Type 0
 FoundIn old new result row =
     (known : List Fact) → old.holds known → new.is_clean
     → IsRowFound (row known) old.failures new.failures result
 
--- A query for rows has the answer that the store's records give, if the store returned no wrong
--- result that was taken as true.
+-- True if the rows of a query agree with the store's records. The premise is that no wrong result
+-- of the store went undetected.
 abbrev pub RowsIn : {S T : Type 0} → (S → T → S → Type 0) → (old new : Ledger) → (from to : S)
     → Result (Unit {0}) Refusal → (List Fact → Option (List T)) → Type 0
 RowsIn takes old new from to result rows =
     (known : List Fact) → old.holds known → new.is_clean
     → HandsRows takes (rows known) old.failures new.failures from to result
 
--- A query for days has the answer that the store's lawful records give, if the store returned no
--- wrong result that was taken as true.
+-- True if the days of a query agree with the store's lawful records. The premise is that no wrong
+-- result of the store went undetected.
 abbrev pub DaysIn : {S : Type 0} → (S → DayTotal → S → Type 0) → (old new : Ledger) → (from to : S)
     → Result (Unit {0}) Refusal → (register : Option (List ℕ)) → Type 0
 DaysIn takes old new from to result register =
     (known : List Fact) → AreLawful known → old.holds known → new.is_clean
     → HandsDays takes old.zone known register old.failures new.failures from to result
 
--- The result is the list of days of a register's rows in a span, or a failure of the store or of
--- memory. The records must be lawful, and no wrong result of the store was taken as true.
+-- True if the result is the list of an accounting register's days in a time span, or a failure.
+-- This requires lawful records, and that no wrong result of the store went undetected.
 abbrev pub ListsDays : (old new : Ledger) → (register : List ℕ) → Span
     → Result (Vec DayTotal Global) Refusal → Type 0
 ListsDays old new register span result =
@@ -135,13 +137,14 @@ ListsDays old new register span result =
     × (new.failures ≡ old.failures))
     (IsOutside (Unit {0}) old.failures new.failures)
 
--- A query of the office for a row has the answer that the records of all accepted events give.
+-- True if the office's answer to a query for one row agrees with the records of all accepted
+-- events.
 abbrev pub TellsRow : {B T : Type 0} → (B → Ledger) → (old new : Office B) → Result T Refusal
     → (List Fact → Option T) → Type 0
 TellsRow ledger old new result row = After ledger old new (λ past.
     IsRowFound (row (facts_of past)) (failures_of ledger old) (failures_of ledger new) result)
 
--- A query of the office for rows has the answer that the records of all accepted events give.
+-- True if the rows of a query to the office agree with the records of all accepted events.
 abbrev pub TellsRows : {B S T : Type 0} → (S → T → S → Type 0) → (B → Ledger)
     → (old new : Office B) → (from to : S) → Result (Unit {0}) Refusal
     → (List Fact → Option (List T)) → Type 0
@@ -149,7 +152,7 @@ TellsRows takes ledger old new from to result rows = After ledger old new (λ pa
     HandsRows takes (rows (facts_of past))
     (failures_of ledger old) (failures_of ledger new) from to result)
 
--- A query of the office for days has the answer that the records of all accepted events give.
+-- True if the days of a query to the office agree with the records of all accepted events.
 abbrev pub TellsDays : {B S : Type 0} → (S → DayTotal → S → Type 0) → (B → Ledger)
     → (old new : Office B) → (from to : S) → Result (Unit {0}) Refusal
     → (register : Option (List ℕ)) → Type 0
@@ -157,21 +160,21 @@ TellsDays takes ledger old new from to result register = After ledger old new (�
     HandsDays takes (ledger (books_in old)).zone (facts_of past) register
     (failures_of ledger old) (failures_of ledger new) from to result)
 
--- The sink took rows and nothing else, whatever the store returned.
+-- True if the sink received some list of rows, whatever the store returned.
 abbrev pub TakesRows : {S T : Type 0} → (S → T → S → Type 0) → (from to : S) → Type 0
 TakesRows {S} {T} takes from to = (rows : List T) × TakesAll takes from rows to
 
--- The failure counts after a query that failed by this cause of the store. A row without a civil
--- day is not counted; each other cause adds one.
+-- The failure counter after a query that failed with this cause. If a quarter hour without a civil
+-- day is the cause, the failure is not counted. Each other failure is counted once.
 abbrev pub CountsCause : (before after : Failures) → StoreCause → Type 0
 CountsCause before after store.NoDay = after ≡ before
 CountsCause before after why = StoreFailed why before after
 
--- The failure counts after a refused query. A query is refused because nothing was found, the store
--- or memory failed, or the office had stopped; no other reason occurs.
+-- The failure counter after a refused query. The reason is `NotFound`, a failure of the store, that
+-- memory ran out, or that the office has stopped.
 --
--- Exactly the store's failures are counted, whatever the store returned. Memory may also be missing
--- outside the store.
+-- Each failure of the store is counted once, whatever the store returned. If memory ran out outside
+-- the store, the failure is not counted.
 abbrev pub CountsWhy : (before after : Failures) → Refusal → Type 0
 CountsWhy before after refusal.NotFound = after ≡ before
 CountsWhy before after (refusal.Store cause) = CountsCause before after cause
@@ -179,15 +182,14 @@ CountsWhy before after refusal.Memory = MemoryLacked (Unit {0}) before after
 CountsWhy before after refusal.Stopped = after ≡ before
 CountsWhy before after _ = ⊥
 
--- The failure counts after a query: unchanged on `Ok`, and as `CountsWhy` gives them after a
--- refusal.
+-- The failure counter after a query, which is unchanged on `Ok`. After a refusal, it changed as
+-- `CountsWhy` defines.
 abbrev pub CountsAsked : {T : Type 0} → (before after : Failures) → Result T Refusal → Type 0
 CountsAsked before after (Ok x) = after ≡ before
 CountsAsked before after (Err why) = CountsWhy before after why
 
--- A query leaves the store's records, what a crash may leave of them, and the zone unchanged,
--- whatever the store returned. If a wrong result was taken as true earlier, the store stays not
--- clean.
+-- The effect of a query on the store. The records, the records that a crash may leave, and the time
+-- zone are unchanged. A store with an undetected wrong result is still not clean after the query.
 pub record Asks {T : Type 0} (old new : Ledger) (result : Result T Refusal) : Type 0 where
   pub keeps : KeepsFacts old new
   pub counts : CountsAsked old.failures new.failures result
@@ -195,8 +197,9 @@ pub record Asks {T : Type 0} (old new : Ledger) (result : Result T Refusal) : Ty
   pub clean : new.is_clean → old.is_clean
   pub zone : new.zone ≡ old.zone
 
--- A query leaves the office's state, notifications, bytes to send, and what a crash leaves
--- unchanged. It is refused as stopped exactly if the office had stopped, and stops no office.
+-- The effect of a query on the office. The state, the notifications, the bytes to send and the
+-- records that a crash may leave are unchanged. The query is refused as stopped if and only if the
+-- office has stopped, and never stops the office.
 pub record OnlyAsks {B T : Type 0} (ledger : B → Ledger) (old new : Office B)
     (result : Result T Refusal) : Type 0 where
   pub stands : (past : History) → Stands ledger past old → Stands ledger past new

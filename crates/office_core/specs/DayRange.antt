@@ -1,4 +1,4 @@
--- The civil days of an accounting register that lie in a range of days.
+-- The civil days of an accounting register within a range of days.
 use Rattle.std.specs.Prelude.{◌≡◌, ℕ, ◌*◌, ◌<◌, ◌^◌, ℤ, pos, negsuc, ◌+ℤ◌, ◌-ℤ◌, length, List, map, filter, Option, Some, None, Result, MatchResult, OnOk, OnErr}
 use Rattle.std.specs.Option.{option_and_then}
 use Rattle.std.specs.declared.alloc.Global.{Global}
@@ -26,38 +26,39 @@ use Rattle.office_core.specs.Failing.{IsOutside}
 use Rattle.office_core.specs.Standing.{After, books_in}
 use Rattle.office_core.specs.Taking.{failures_of}
 
--- Those of the days that lie in the range, in their order.
+-- The given days that lie in the range, in unchanged order.
 abbrev pub accounts_within : DayRange → List DayAccount → List DayAccount
 accounts_within range accounts = filter (λ account. has_day range account.day) accounts
 
--- The start of the UTC day with this number, in seconds since 1970-01-01 UTC; 0 for days before
--- 1970.
+-- The start of the UTC day with this day number, in seconds since 1970-01-01 UTC. For a day before
+-- 1970, the start is 0.
 abbrev pub utc_start : ℤ → ℕ
 utc_start (pos n) = n * 86_400
 utc_start (negsuc n) = 0
 
--- The timestamps from two days before `from` to two days after `till`, in UTC. They cover the days
--- of the range in every zone, since no UTC offset exceeds two days.
+-- The time span from two days before `from` to two days after `till`, in UTC. No UTC offset exceeds
+-- two days. Therefore the span contains the days of the range in every time zone.
 --
--- If an end is open, all timestamps.
+-- If an end of the range is open, the span contains all times.
 abbrev pub span_between : (from till : Option Date) → Span
 span_between (Some from) (Some till) =
     span.Between (utc_start (epoch_day from -ℤ pos 2)) (utc_start (epoch_day till +ℤ pos 2))
 span_between (Some from) None = span.All
 span_between None till = span.All
 
--- All timestamps that the days of a range may have in any zone.
+-- The time span that contains all days of the range in every time zone.
 abbrev pub span_of : DayRange → Span
 span_of range = span_between range.from range.till
 
--- These are the days, among all days of the register with the name, that lie in the range.
+-- True if `days` are the days of the accounting register with this name that lie in the range.
 pub record AreDaysWithin (zone : Zone) (facts : List Fact) (register : Option (List ℕ))
     (range : DayRange) (days : List DayAccount) : Type 0 where
   pub all : List DayAccount
   pub are : AreDaysNamed zone facts register all
   pub asked : days ≡ accounts_within range all
 
--- The sink took the register's days in the range, in order. Fewer than 2^64 days exist.
+-- True if the sink got the accounting register's days in the range, in order. The days are fewer
+-- than 2^64.
 pub record TakesDaysWithin {S : Type 0} (takes : S → DayTotal → S → Type 0) (zone : Zone)
     (facts : List Fact) (register : Option (List ℕ)) (range : DayRange) (before after : S) :
     Type 0 where
@@ -66,8 +67,9 @@ pub record TakesDaysWithin {S : Type 0} (takes : S → DayTotal → S → Type 0
   pub few : length days < 2 ^ 64
   pub took : TakesAll takes before days after
 
--- A query passes the days of a range to a sink. The sink took all of them on `Ok` and none on an
--- error. The query needs memory outside the store only if a register has the name.
+-- The guarantees of a query that passes the days of a range to a sink. The sink got all of these
+-- days on `Ok` and none on an error. Memory outside the store is needed only if the register
+-- exists.
 pub record HandsDaysWithin {S : Type 0} (takes : S → DayTotal → S → Type 0) (zone : Zone)
     (facts : List Fact) (register : Option (List ℕ)) (range : DayRange) (old new : Failures)
     (before after : S) (result : Result (Unit {0}) Refusal) : Type 0 where
@@ -76,8 +78,8 @@ pub record HandsDaysWithin {S : Type 0} (takes : S → DayTotal → S → Type 0
   pub whole : OnOk result (TakesDaysWithin takes zone facts register range before after)
   pub none : OnErr result (after ≡ before)
 
--- A query for a range of days has the answer that the store's lawful records give. No wrong result
--- of the store was taken as true.
+-- True if the days of a query for a range agree with the store's lawful records. The premise is
+-- that no wrong result of the store went undetected.
 abbrev pub DaysWithinIn : {S : Type 0} → (S → DayTotal → S → Type 0) → (old new : Ledger)
     → (before after : S) → Result (Unit {0}) Refusal → (register : Option (List ℕ))
     → DayRange → Type 0
@@ -86,8 +88,8 @@ DaysWithinIn takes old new before after result register range =
     → HandsDaysWithin takes old.zone known register range old.failures new.failures
     before after result
 
--- The result is the list of a recorded register's days in the range, or a failure of the store or
--- of memory. No wrong result of the store was taken as true.
+-- True if the result is the list of an accounting register's days in the range, or a failure. This
+-- requires lawful records, and that no wrong result of the store went undetected.
 abbrev pub ListsDaysWithin : (old new : Ledger) → (register : List ℕ) → DayRange
     → Result (Vec DayTotal Global) Refusal → Type 0
 ListsDaysWithin old new register range result =
@@ -97,8 +99,7 @@ ListsDaysWithin old new register range result =
     × (new.failures ≡ old.failures))
     (IsOutside (Unit {0}) old.failures new.failures)
 
--- A query of the office for a range of days has the answer that the records of all accepted events
--- give.
+-- True if the days of a query for a range agree with the records of all accepted events.
 abbrev pub TellsDaysWithin : {B S : Type 0} → (S → DayTotal → S → Type 0) → (B → Ledger)
     → (old new : Office B) → (before after : S) → Result (Unit {0}) Refusal
     → (register : Option (List ℕ)) → DayRange → Type 0

@@ -1,4 +1,4 @@
--- How an event is decided before anything is executed.
+-- The decision whether an event is accepted, before the office executes the event.
 use Rattle.std.specs.Prelude.{◌≡◌, ℕ, List, false, Option, Some, None, Result, Ok, Err, IfOk, IfSome, IsOk}
 use Rattle.office_events.specs.declared.answers.Answer.{Answer}
 use Rattle.office_events.specs.declared.answers.Answer.TheVariants as answer
@@ -14,21 +14,23 @@ use Rattle.office_books.specs.Ledgers.{Ledger}
 use Rattle.office_core.specs.Refusing.Asking.{IsOfEvent}
 use Rattle.office_core.specs.Failing.{is_failure}
 
--- The decision on an event after this past: `None` if it is accepted, otherwise its answer.
+-- The decision on an event after the history `past`. The decision is `None` if the event is
+-- accepted, otherwise the answer to the event.
 abbrev pub Decides : History → (at : ℕ) → Event → Option (Result Answer Refusal) → Type 0
 Decides past at e None = IsAccepted past at e
 Decides past at e (Some given) = given ≡ decision_of past at e
 
--- The result decides the event after every past that left these slots and these records of the
--- store. No wrong result of the store was taken as true.
+-- True if the result, computed from the slots and the store, is the correct decision on the event.
+-- This requires that no wrong result of the store went undetected.
 abbrev pub Decided : (old new : Ledger) → List Slot → (latest at : ℕ) → Event
     → Result (Option (Result Answer Refusal)) BooksFault → Type 0
 Decided old new kept latest at e result =
     (past : History) → latest ≡ latest_of past → KeepsSlots kept (slots_of past)
     → old.holds (facts_of past) → new.is_clean → IfOk result (Decides past at e)
 
--- A device event is decided without a query of the store. If the result is `None`, no reason to
--- refuse it applies. Any other result is an answer, and no failure.
+-- The guarantees for a device event, which the office decides without a query of the store. The
+-- result is `None` if no reason to refuse the event applies. Otherwise it is the answer to the
+-- event, and never a failure.
 pub record DecidesAlone {B : Type 0} (old new : B) (kept : List Slot) (latest at : ℕ) (e : Event)
     (result : Result (Option (Result Answer Refusal)) BooksFault) : Type 0 where
   pub books : new ≡ old
@@ -37,7 +39,8 @@ pub record DecidesAlone {B : Type 0} (old new : B) (kept : List Slot) (latest at
       → IfOk result (λ given. given ≡ None → refusal_of past at e ≡ None)
   pub answers : IfOk result (λ given. IfSome given (λ r. is_failure r ≡ false))
 
--- The answer leaves the office unchanged: it is the stored answer of a retry, or a refusal.
+-- True if the answer leaves the office unchanged. Such an answer is the stored answer to a retry,
+-- or a refusal.
 abbrev pub IsNoChange : Result Answer Refusal → Type 0
 IsNoChange (Ok (answer.Again kind)) = Unit {0}
 IsNoChange (Ok _) = ⊥

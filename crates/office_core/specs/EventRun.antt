@@ -1,4 +1,5 @@
--- A run of events: its office at the end, the answer to each event, and the final records.
+-- A run of events over an office: the office after the run, the answer to each event, and the final
+-- records.
 use Rattle.std.specs.Prelude.{◌≡◌, ◌⊎◌, ◌↔◌, ◌||◌, ℕ, Bool, true, false}
 use Rattle.std.specs.Prelude.{List, [], ◌∷◌, length, Result, Err, IfOk, IfErr, All}
 use Rattle.office_events.specs.declared.answers.Answer.{Answer}
@@ -26,7 +27,7 @@ pub record Answered : Type 0 where
   pub event : Event
   pub result : Result Answer Refusal
 
--- Pairs each event with its answer, in order.
+-- The events, each paired with its answer, in order.
 abbrev pub in_turn : List (ℕ × Event) → List (Result Answer Refusal) → List Answered
 in_turn [] results = []
 in_turn (fed ∷ events) [] = []
@@ -37,136 +38,138 @@ in_turn (fed ∷ events) (result ∷ results) =
 abbrev pub events_of : {B : Type 0} → List (ℕ × Event) → Run B → List Answered
 events_of events run = in_turn events run.results.items
 
--- The openings and events accepted so far, after these answered events.
+-- The history after these answered events, which has the openings and the accepted events.
 abbrev pub history_after : History → List Answered → History
 history_after past [] = past
 history_after past (fed ∷ later) =
     history_after (with_answer past fed.at fed.event fed.result) later
 
--- All that was accepted by the end of a run: the given past, then the run's opening, then its
--- accepted events.
+-- The history after a run of events. It has the given history, the opening of the run, and the
+-- run's accepted events.
 abbrev pub accepted_by : {B : Type 0} → History → (opened : ℕ) → List (ℕ × Event) → Run B → History
 accepted_by past opened events run = history_after (Opened opened ∷ past) (events_of events run)
 
--- The event has the answer that `decision_of` gives and the store did not fail, or it was refused
--- for a failure. An event that settles no poll does not fail.
+-- True if the event has the answer that `decision_of` defines, or was refused for a failure. An
+-- event that ends no poll never fails.
 pub record IsAnswered (past : History) (before after : Failures) (fed : Answered) : Type 0 where
   pub answer : IsAnswer past fed.at fed.event before after fed.result
   pub quiet : SettlesNothing past fed.at fed.event → is_failure fed.result ≡ false
 
--- Each event has the right answer, given what was accepted before that event.
+-- True if each event has the correct answer, given the history before it.
 abbrev pub AreAnswered : History → (before after : Failures) → List Answered → Type 0
 AreAnswered past before after [] = after ≡ before
 AreAnswered past before after (fed ∷ later) =
     (between : Failures) × IsAnswered past before between fed
     × AreAnswered (with_answer past fed.at fed.event fed.result) between after later
 
--- At its end the office holds the notifications and bytes of the last event only; none if no event
--- arrived.
+-- True if the office has the notifications and bytes of the last event, or none if no event was
+-- processed.
 abbrev pub TellsOfLast : {B : Type 0} → History → List Answered → Office B → Type 0
 TellsOfLast past [] office = (notes_in office ≡ []) × (outgoing_in office ≡ [])
 TellsOfLast past (fed ∷ []) office = IsTold past fed.at fed.event fed.result office
 TellsOfLast past (fed ∷ next ∷ later) office =
     TellsOfLast (with_answer past fed.at fed.event fed.result) (next ∷ later) office
 
--- The office refuses an event as stopped exactly if it had stopped before the event. It stops if an
--- event that may settle polls fails.
+-- True if the office refused exactly the events after its stop as stopped. If an event that may end
+-- polls fails, the office stops.
 abbrev pub StopsInTurn : (before after : Bool) → List Answered → Type 0
 StopsInTurn before after [] = after ≡ before
 StopsInTurn before after (fed ∷ later) =
     ((fed.result ≡ Err refusal.Stopped) ↔ (before ≡ true))
     × StopsInTurn (before || stops fed.event fed.result) after later
 
--- The failure counts change with each answer as `Counts` describes.
+-- True if the failure counter changes with each answer as `Counts` defines.
 abbrev pub CountInTurn : (before after : Failures) → List Answered → Type 0
 CountInTurn before after [] = after ≡ before
 CountInTurn before after (fed ∷ later) =
     (between : Failures) × Counts before between fed.result × CountInTurn between after later
 
--- What a crash leaves changes with each event and its answer as `LeftByEvent` describes.
+-- True if the records that a crash may leave change with each answer as `LeftByEvent` defines.
 abbrev pub LeftInTurn : History → List Answered → (before after : List (List Fact)) → Type 0
 LeftInTurn past [] before after = after ≡ before
 LeftInTurn past (fed ∷ later) before after =
     (between : List (List Fact)) × LeftByEvent past fed.at fed.event fed.result before between
     × LeftInTurn (with_answer past fed.at fed.event fed.result) later between after
 
--- What a crash leaves changes with the opening of a run, which was accepted, and then with each
--- event.
+-- True if the records that a crash may leave change with the accepted opening of a run of events,
+-- and then with each answer.
 abbrev pub LeftByRun : History → (opened : ℕ) → List Answered → (before after : List (List Fact))
     → Type 0
 LeftByRun past opened fed before after =
     (between : List (List Fact)) × LeftOnceDone past (Opened opened) before between
     × LeftInTurn (Opened opened ∷ past) fed between after
 
--- `says` is true of each successful run over a store in the state of a past. No wrong result of the
--- store was taken as true.
+-- True if `says` holds for each successful run of events over a store that agrees with a history.
+-- The premise is that no wrong result of the store went undetected.
 abbrev pub Ran : {B : Type 0} → (B → Ledger) → (books : B)
     → Result (Run B) (B × Refusal) → (History → Run B → Type 0) → Type 0
 Ran ledger books result says = (past : History) → BooksStand (ledger books) past
     → IfOk result (λ run. (ledger (books_in run.office)).is_clean → says past run)
 
--- After a run the office is in the state after all accepted events, and reports the last event.
+-- True if the office after a run of events has processed all accepted events, and reports the last
+-- event.
 pub record StandsAfter {B : Type 0} (ledger : B → Ledger)
     (begun : History) (events : List (ℕ × Event)) (run : Run B) : Type 0 where
   pub office : Stands ledger (history_after begun (events_of events run)) run.office
   pub told : TellsOfLast begun (events_of events run) run.office
 
--- A run that does not start returns the store with the reason: memory for the answers was missing
--- and the store is unchanged, or the opening was refused or failed.
+-- True if a run of events that does not start returns the store with the reason. Either memory for
+-- the answers ran out and the store is unchanged, or the opening was refused or failed.
 abbrev pub HandsBack : {B : Type 0} → (B → Ledger) → (books : B) → (opened : ℕ) → History
     → B × Refusal → Type 0
 HandsBack ledger books opened past back =
     ((back.1 ≡ refusal.Memory) × (back.0 ≡ books))
     ⊎ HandsBackUnopened ledger books opened past back
 
--- What a crash leaves after a run depends only on the events, their answers, and what a crash could
--- leave before the run.
+-- True if the records that a crash may leave after a run of events follow from the answers. They
+-- also depend on the records that a crash could leave before the run.
 abbrev pub LeavesInTurn : {B : Type 0} → (B → Ledger) → (books : B) → (opened : ℕ)
     → List (ℕ × Event) → History → Run B → Type 0
 LeavesInTurn ledger books opened events past run =
     Leaves (ledger books) (ledger (books_in run.office))
     (LeftByRun past opened (events_of events run))
 
--- Each event of a run has the right answer, and the failure counts change with each answer.
+-- True if each event of a run has the correct answer, and each answer changes the failure counter
+-- correctly.
 abbrev pub AnswersEach : {B : Type 0} → (B → Ledger) → (books : B)
     → History → List (ℕ × Event) → Run B → Type 0
 AnswersEach ledger books begun events run =
     AreAnswered begun (ledger books).failures
     (ledger (books_in run.office)).failures (events_of events run)
 
--- The store holds the records of all that was accepted, and the headline is true of them. Voided
--- entries leave no trace. Honest meters that are read often enough have their true energy and
--- interval rows.
+-- True if the store has the records of the history, and the promise in `Headline.antt` holds for
+-- these records. Voided entries have no effect. If a meter has correct readings and is read often
+-- enough, it has its true energy in each quarter hour.
 pub record BooksRecord (books : Ledger) (history : History) : Type 0 where
   pub accepted : IsPast history
   pub holds : books.holds (facts_of history)
   pub headline : HeadlineHolds history
   pub laws : AreTrue history
 
--- After a run the store holds the records of all that was accepted by its end, and the headline is
--- true of them.
+-- True if the store has the records of all accepted events after a run of events, and the promise
+-- in `Headline.antt` holds for these records.
 abbrev pub RecordsAccepted : {B : Type 0} → (B → Ledger) → (opened : ℕ) → List (ℕ × Event)
     → History → Run B → Type 0
 RecordsAccepted ledger opened events past run =
     BooksRecord (ledger (books_in run.office)) (accepted_by past opened events run)
 
--- If no wrong result of the store was taken as true, the store holds the records of all that was
--- accepted by the run's end.
+-- True if the store has the records of all accepted events after a run of events. The premise is
+-- that no wrong result of the store went undetected.
 abbrev pub RecordsIfClean : {B : Type 0} → (B → Ledger) → (opened : ℕ) → List (ℕ × Event)
     → History → Run B → Type 0
 RecordsIfClean ledger opened events past run =
     (ledger (books_in run.office)).is_clean → RecordsAccepted ledger opened events past run
 
--- A store that is clean after a run was clean before it.
+-- True if a store that is clean after a run of events was also clean before the run.
 abbrev pub IsCleanOnlyIfWas : {B : Type 0} → (B → Ledger) → (books : B) → Run B → Type 0
 IsCleanOnlyIfWas ledger books run =
     (ledger (books_in run.office)).is_clean → (ledger books).is_clean
 
--- Properties of every run, whatever the store returned. Each event has one answer, and no refusal
--- says that a row has no civil day. The stop and the failure counts change with each answer as
--- defined.
+-- The guarantees of every run of events, whatever the store returned. Each event has one answer,
+-- and no event is refused because a quarter hour has no civil day. The stop and the failure counter
+-- follow from the answers.
 --
--- A store that is clean after the run was clean before it. The zone stays.
+-- If the store is clean after the run, it was clean before the run. The time zone stays the same.
 pub record EndsInTurn {B : Type 0} (ledger : B → Ledger)
     (books : B) (events : List (ℕ × Event)) (run : Run B) : Type 0 where
   pub each : length run.results.items ≡ length events

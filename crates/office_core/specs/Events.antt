@@ -1,9 +1,9 @@
--- Kinds of events: those that may settle polls, and those that request a command.
+-- Kinds of events: events that may end polls, and events that request a command.
 use Rattle.std.specs.Prelude.{Bool, true, false}
 use Rattle.office_events.specs.declared.events.Event.{Event}
 use Rattle.office_events.specs.declared.events.Event.TheVariants as event
 
--- Whether the event requests a command, with or without an idempotency key.
+-- True if the event requests a command, with or without an idempotency key.
 abbrev pub is_command : Event → Bool
 is_command (event.Connected given) = false
 is_command (event.Bytes given piece) = false
@@ -12,8 +12,8 @@ is_command (event.Gone given closing) = false
 is_command (event.Command c) = true
 is_command (event.Asked asked) = true
 
--- Whether the event may settle polls: bytes from a device, the end of a connection, or a timer
--- event. A new connection and a command settle none.
+-- True if the event may end polls. Such an event is bytes from a device, the end of a connection,
+-- or a timer event.
 abbrev pub may_settle : Event → Bool
 may_settle (event.Connected given) = false
 may_settle (event.Bytes given piece) = true

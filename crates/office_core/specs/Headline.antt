@@ -1,12 +1,12 @@
--- The headline, word for word:
+-- The first promise of the project, word for word:
 --
 --   "Over every list of device bytes, silences and office commands, each started poll has exactly
 --   one recorded outcome or is pending, and each installed meter's booked energy over all intervals
 --   is its last accepted reading less its first, plus one full range for each recorded rollover and
 --   the recorded differences of its resets and rescalings."
 --
--- The definitions state it of a history: what was accepted of such a list. Energy is in mWh. Only
--- valid readings count: a voided reading is none, and leaves no trace.
+-- The definitions below state this promise for a history of accepted events. Energy is in mWh.
+-- Voided readings are not counted.
 use Rattle.std.specs.Prelude.{◌≡◌, ℕ, ◌+◌, ◌*◌, ℤ, pos, ◌+ℤ◌, ◌-ℤ◌, List, [], ◌∷◌, All, sum_by}
 use Rattle.energy_core.specs.declared.entries.Last.{Last}
 use Rattle.energy_core.specs.declared.entries.Entry.{Entry}
@@ -21,23 +21,25 @@ use Rattle.office_rules.specs.Intervals.{rows_of_opening}
 use Rattle.office_rules.specs.History.{History, facts_of}
 use Rattle.office_rules.specs.Endings.{EndsOnce}
 
--- "booked energy over all intervals": the sum of the meter's interval rows.
+-- The meter's "booked energy over all intervals": the sum over all quarter hours, in mWh.
 abbrev pub energy_booked : List Fact → Opening → ℕ
 energy_booked facts meter = sum_by (λ row. row.mwh) (rows_of_opening facts meter)
 
--- "its first" accepted reading: what the counter showed when the meter was installed.
+-- The meter's "first" accepted reading: the count of the counter at the meter's installation.
 abbrev pub first_reading : Opening → Last
 first_reading meter = opened meter
 
--- "its last accepted reading": what the counter showed, or was set to, at its latest valid entry.
+-- The meter's "last accepted reading": the count that the counter showed, or was set to, at the
+-- latest valid entry.
 abbrev pub last_reading : List Fact → Opening → Last
 last_reading facts meter = last_of (first_reading meter) (entries_of facts meter)
 
--- The energy value of a reading at its own scale, in mWh.
+-- The energy value of a reading at its own scale factor, in mWh.
 abbrev pub value : Last → ℤ
 value reading = pos (value_of reading)
 
--- "one full range for each recorded rollover", at the scale at which the counter turned over.
+-- The "one full range for each recorded rollover": the energy of the counter's full range at the
+-- scale factor of each rollover, in mWh.
 abbrev pub full_ranges : (range : ℕ) → (first : Last) → List Entry → ℕ
 full_ranges range first [] = 0
 full_ranges range first (entry.Step at raw rolls ∷ earlier) =
@@ -45,8 +47,8 @@ full_ranges range first (entry.Step at raw rolls ∷ earlier) =
 full_ranges range first (entry.Change at before after sf ∷ earlier) =
     full_ranges range first earlier
 
--- "the recorded differences of its resets and rescalings": what the counter showed before each,
--- less what it was set to, each at its own scale.
+-- The "recorded differences of its resets and rescalings": the value that the counter showed minus
+-- the value that it was set to, in mWh.
 abbrev pub differences : (first : Last) → List Entry → ℤ
 differences first [] = pos 0
 differences first (entry.Step at raw rolls ∷ earlier) = differences first earlier
@@ -54,8 +56,8 @@ differences first (entry.Change at before after sf ∷ earlier) =
     pos (before * unit_of (last_of first earlier).sf) -ℤ pos (after * unit_of sf)
     +ℤ differences first earlier
 
--- The headline for one meter: its booked energy is its last accepted reading less its first, plus
--- the full ranges and the differences.
+-- True if the promise holds for one meter. Its booked energy equals its last reading minus its
+-- first reading, plus the full ranges and the differences.
 abbrev pub AddsUp : List Fact → Opening → Type 0
 AddsUp facts meter =
     pos (energy_booked facts meter)
@@ -63,8 +65,8 @@ AddsUp facts meter =
     +ℤ pos (full_ranges meter.range (first_reading meter) (entries_of facts meter))
     +ℤ differences (first_reading meter) (entries_of facts meter)
 
--- The headline: each started poll has exactly one recorded outcome or is pending, and each
--- installed meter's booked energy adds up.
+-- True if the complete promise holds. Each started poll has exactly one recorded outcome or is
+-- pending, and the booked energy of each installed meter adds up.
 pub record HeadlineHolds (history : History) : Type 0 where
   pub polls : All (EndsOnce history) (polls_in (facts_of history))
   pub meters : All (AddsUp (facts_of history)) (openings_in (facts_of history))

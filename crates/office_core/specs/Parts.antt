@@ -1,5 +1,5 @@
--- Queries for a part of a list: interval rows or rejected readings in a span, entries from an index
--- on, and the meters at an accounting register.
+-- Queries for a part of a list. The parts are interval rows or rejected readings in a time span,
+-- entries by sequence number, and the meters of an accounting register.
 use Rattle.std.specs.Prelude.{◌≡◌, ◌⊎◌, ℕ, List, Option, Some, None, Result, Ok, Err}
 use Rattle.std.specs.Option.{option_map, option_and_then}
 use Rattle.std.specs.declared.alloc.Global.{Global}
@@ -25,39 +25,41 @@ use Rattle.office_core.specs.Failing.{IsOutside}
 use Rattle.office_core.specs.Standing.{After}
 use Rattle.office_core.specs.Taking.{failures_of}
 
--- The interval rows in a span of the meter with the name; `None` if no meter has it.
+-- The interval rows of the named meter in a time span, or `None` if no meter has the name.
 abbrev pub intervals_within : List Fact → (meter : Option (List ℕ)) → Span → Option (List Share)
 intervals_within facts meter span = option_map (rows_within span) (intervals_of facts meter)
 
--- The rejected readings in a span of the meter with the name, in the order of their recording;
--- `None` if no meter has it.
+-- The rejected readings of the named meter in a time span, in the order in which they were
+-- recorded, or `None` if no meter has the name.
 abbrev pub holds_at : List Fact → (meter : List ℕ) → Span → Option (List HeldReading)
 holds_at facts meter span =
     option_map (λ opening. holds_within span (holds_of facts meter)) (opening_of facts meter)
 
--- The rejected readings in a span of the meter with the name; `None` also if the name is invalid.
+-- The rejected readings of the named meter in a time span, or `None` if no meter has the name or
+-- the name is invalid.
 abbrev pub holds_named : List Fact → (meter : Option (List ℕ)) → Span → Option (List HeldReading)
 holds_named facts meter span = option_and_then (λ name. holds_at facts name span) meter
 
--- The entries from index `from` on of the meter with the name, at most `most`; `None` if no meter
--- has it.
+-- At most `most` entries of the named meter from sequence number `from` on, or `None` if no meter
+-- has the name.
 abbrev pub entries_within : List Fact → (meter : Option (List ℕ)) → (from most : ℕ)
     → Option (List MeterEntry)
 entries_within facts meter from most =
     option_map (λ opening. first_from from most (entries_at facts (Some opening)))
     (option_and_then (opening_of facts) meter)
 
--- The installations at the accounting register with the name; `None` if no register has it.
+-- The installations at the named accounting register, or `None` if no register has the name.
 abbrev pub meters_at : List Fact → (register : List ℕ) → Option (List Installation)
 meters_at facts register =
     option_map (λ row. installations_of facts register) (register_of facts register)
 
--- The installations at the register with the name; `None` also if the name is invalid.
+-- The installations at the named accounting register, or `None` if no register has the name or the
+-- name is invalid.
 abbrev pub meters_named : List Fact → (register : Option (List ℕ)) → Option (List Installation)
 meters_named facts register = option_and_then (meters_at facts) register
 
--- The result is these rows without a failure. Otherwise it is `NotFound` if the list does not
--- exist, or a failure of the store or of its memory.
+-- True if the result of a query is correct. The result is the list, `NotFound` if the list does not
+-- exist, or a failure of the store or of memory.
 abbrev pub IsListed : {T : Type 0} → Option (List T) → (before after : Failures)
     → Result (Vec T Global) Refusal → Type 0
 IsListed rows before after (Ok listed) = (rows ≡ Some listed.items) × (after ≡ before)
@@ -65,14 +67,14 @@ IsListed None before after (Err why) =
     ((why ≡ refusal.NotFound) × (after ≡ before)) ⊎ IsOutside ⊥ before after why
 IsListed (Some rows) before after (Err why) = IsOutside ⊥ before after why
 
--- A query for a list has the answer that the store's records give, if no wrong result of the store
--- was taken as true.
+-- True if the list agrees with the store's records. The premise is that no wrong result of the
+-- store went undetected.
 abbrev pub ListsIn : {T : Type 0} → (old new : Ledger) → Result (Vec T Global) Refusal
     → (List Fact → Option (List T)) → Type 0
 ListsIn old new result rows = (known : List Fact) → old.holds known → new.is_clean
     → IsListed (rows known) old.failures new.failures result
 
--- A query of the office for a list has the answer that the records of all accepted events give.
+-- True if the list agrees with the records of all accepted events.
 abbrev pub ListsAccepted : {B T : Type 0} → (B → Ledger) → (old new : Office B)
     → Result (Vec T Global) Refusal → (List Fact → Option (List T)) → Type 0
 ListsAccepted ledger old new result rows = After ledger old new (λ past.

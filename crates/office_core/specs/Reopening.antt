@@ -1,4 +1,4 @@
--- What the opening of an office leaves of its store, if it succeeds or fails.
+-- The effect of an opening of the office on the store.
 use Rattle.std.specs.Prelude.{◌≡◌, ◌⊎◌, ℕ, max, List, ◌∷◌, None, Some, Result, Ok, Err, IfErr}
 use Rattle.std.specs.declared.alloc.Global.{Global}
 use Rattle.std.specs.declared.vec.Vec.{Vec}
@@ -14,11 +14,12 @@ use Rattle.office_core.specs.declared.office.Office.{Office}
 use Rattle.office_core.specs.Leaving.{BooksStand, Leaves, LeftByOpening}
 use Rattle.office_core.specs.Standing.{books_in}
 
--- The opening was refused for its timestamp, or it failed outside; the store's records are
--- unchanged. The opening needs memory outside the store only if no reason to refuse it applies.
+-- The effect of an opening that was refused for its timestamp or that failed. The store's records
+-- are unchanged. Memory outside the store is needed only if no reason to refuse the opening
+-- applies.
 --
--- A crash leaves what it could leave before. If the opening failed, a crash may also leave the
--- records with all that the opening would have recorded.
+-- A crash may leave the same records as before. If the opening failed, a crash may also leave the
+-- complete records of the opening.
 pub record IsNotOpened (past : History) (at : ℕ) (old new : Ledger) (why : Refusal) : Type 0 where
   pub books : BooksStand new past
   pub leaves : Leaves old new (LeftByOpening {T = Unit {0}} past at (Err why))
@@ -26,43 +27,44 @@ pub record IsNotOpened (past : History) (at : ℕ) (old new : Ledger) (why : Ref
       ((opening_refusal_of (facts_of past) at ≡ Some why) × (new.failures ≡ old.failures))
       ⊎ IsOutside (opening_refusal_of (facts_of past) at ≡ None) old.failures new.failures why
 
--- A refused opening returns the store, in the state that `IsNotOpened` describes. This assumes that
--- no wrong result of the store was taken as true.
+-- True if a refused opening returns the store as `IsNotOpened` defines. The premise is that no
+-- wrong result of the store went undetected.
 abbrev pub HandsBackUnopened : {B : Type 0} → (B → Ledger) → (books : B) → (at : ℕ) → History
     → B × Refusal → Type 0
 HandsBackUnopened ledger books at past back =
     (ledger back.0).is_clean → IsNotOpened past at (ledger books) (ledger back.0) back.1
 
--- After an opening a crash leaves the records with those of the opening. If the opening recorded
--- nothing, a crash leaves what it could leave before.
+-- The records that a crash may leave after an opening. A crash leaves the records with those of the
+-- opening. If the opening added no record, a crash may leave the same lists of records as before.
 abbrev pub LeavesOpening : {B : Type 0} → (B → Ledger) → (books : B) → (at : ℕ) → History
     → Office B → Type 0
 LeavesOpening ledger books at past office = (ledger (books_in office)).is_clean
     → Leaves (ledger books) (ledger (books_in office)) (LeftByOpening past at (Ok office))
 
--- The timestamp with which an office is opened for queries only: the given one, or the latest
--- recorded one if that is later.
+-- The timestamp of an opening for queries only. It is the given timestamp, or the latest recorded
+-- timestamp if that timestamp is later.
 abbrev pub asking_moment : History → (given : ℕ) → ℕ
 asking_moment past given = max given (latest_in (facts_of past))
 
--- The office was opened at timestamp `at`: the store holds the records with those of the opening,
--- and each device has a slot.
+-- The effect of an opening at timestamp `at`. The store has the records of the opening, and each
+-- device has a slot.
 pub record IsReopened (past : History) (at : ℕ) (old new : Ledger) (slots : List Slot) :
     Type 0 where
   pub books : BooksStand new (Opened at ∷ past)
   pub leaves : Leaves old new (LeftByOpening past at (Ok slots))
   pub keeps : KeepsSlots slots (slots_of (Opened at ∷ past))
 
--- What holds after an opening: `IsReopened` on `Ok`, `IsNotOpened` on an error.
+-- The effect of an opening, which is `IsReopened` on `Ok` and `IsNotOpened` on an error.
 abbrev pub Reopens : History → (at : ℕ) → (old new : Ledger) → Result (Vec Slot Global) Refusal
     → Type 0
 Reopens past at old new (Ok slots) = IsReopened past at old new slots.items
 Reopens past at old new (Err why) = IsNotOpened past at old new why
 
--- Properties of an opening, whatever the store returned. It reports exactly the store's failures. A
--- store that is clean after it was clean before. The zone stays.
+-- The guarantees of an opening, whatever the store returned. The opening reports exactly the
+-- store's failures. If the store is clean after the opening, it was clean before. The time zone
+-- stays the same.
 --
--- No refusal says that the office had stopped, or that a row has no civil day.
+-- No opening is refused as stopped, or because a quarter hour has no civil day.
 pub record Passed {T : Type 0} (old new : Ledger) (result : Result T Refusal) : Type 0 where
   pub counts : CountsFailures old.failures new.failures result
   pub clean : new.is_clean → old.is_clean

@@ -1,5 +1,5 @@
--- What a crash leaves after a run of events: the records of all acknowledged events. One complete
--- event may be added that failed after the last event with a record.
+-- Definition of the records that a crash leaves after a list of events. They are the records of all
+-- acknowledged events, and possibly the complete records of one failed event.
 use Rattle.std.specs.Prelude.{◌≡◌, ◌⊎◌, ℕ, true, List, [], ◌∷◌, All, Contains}
 use Rattle.office_events.specs.declared.facts.Fact.{Fact}
 use Rattle.office_rules.specs.History.{History, Opened, Fed, facts_of}
@@ -8,8 +8,8 @@ use Rattle.office_rules.specs.Lawfulness.{IsPast}
 use Rattle.office_core.specs.Failing.{is_failure}
 use Rattle.office_core.specs.EventRun.{Answered, LeftByRun, LeftInTurn, history_after}
 
--- The event failed (answer 13 or 14) although no reason to refuse it applied, and no later event
--- made a record. `facts` are the records with all of this event.
+-- True if the event failed (refusal 13 or 14) although no reason to refuse the event applied, and
+-- no later event added a record. `facts` are the records including this event.
 pub record IsWithFailed (past : History) (fed : Answered) (later : List Answered)
     (facts : List Fact) : Type 0 where
   pub failed : is_failure fed.result ≡ true
@@ -17,26 +17,26 @@ pub record IsWithFailed (past : History) (fed : Answered) (later : List Answered
   pub none_later : facts_of (history_after past (fed ∷ later)) ≡ facts_of past
   pub are : facts ≡ facts_of (Fed fed.at fed.event ∷ past)
 
--- `facts` are the records with all of one event that failed, after which no event made a record.
+-- True if `facts` are the records including one failed event after which no event added a record.
 abbrev pub AreWithFailed : History → List Answered → List Fact → Type 0
 AreWithFailed past [] facts = ⊥
 AreWithFailed past (fed ∷ later) facts =
     IsWithFailed past fed later facts
     ⊎ AreWithFailed (with_answer past fed.at fed.event fed.result) later facts
 
--- `facts` are the records of all acknowledged events, with or without those of one event that
--- failed.
+-- True if `facts` are the records of all acknowledged events, possibly with the records of one
+-- failed event.
 abbrev pub AreOfEvents : History → List Answered → List Fact → Type 0
 AreOfEvents past fed facts =
     (facts ≡ facts_of (history_after past fed)) ⊎ AreWithFailed past fed facts
 
--- The later events recorded nothing, and a crash could already leave `facts` before them.
+-- True if the later events added no record, and a crash could leave `facts` before these events.
 abbrev pub AreOfBefore : (past later : History) → (before : List (List Fact)) → List Fact → Type 0
 AreOfBefore past later before facts = (facts_of later ≡ facts_of past) × Contains before facts
 
--- Whatever a crash leaves after answered events is the records of these events, with or without one
--- failed event. If none of them made a record, a crash may also leave what it could leave before
--- them.
+-- Theorem: a crash after a list of events leaves the records of all acknowledged events, possibly
+-- with one failed event. If no event added a record, a crash may leave the same lists of records as
+-- before the events.
 abbrev pub EventsAreLeftWhole : Type 0
 EventsAreLeftWhole =
     (past : History) (fed : List Answered) (before after : List (List Fact))
@@ -44,7 +44,8 @@ EventsAreLeftWhole =
     → All (λ facts. AreOfEvents past fed facts
     ⊎ AreOfBefore past (history_after past fed) before facts) after
 
--- `EventsAreLeftWhole` for a run, whose first step is its opening.
+-- Theorem: the theorem on crashes also holds for a run of events, which starts with the opening of
+-- the office.
 abbrev pub RunsAreLeftWhole : Type 0
 RunsAreLeftWhole =
     (past : History) (opened : ℕ) (fed : List Answered) (before after : List (List Fact))

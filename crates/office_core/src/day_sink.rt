@@ -7,8 +7,8 @@ use office_books::RowSink;
 use office_events::{Refusal, StoreCause};
 use std::alloc::Global;
 
-/// Adds up interval rows by civil day as they arrive. The sink keeps its first failure and drops
-/// all later rows.
+/// A sink that adds up interval rows by civil day. After its first failure, the sink ignores all
+/// further rows.
 #[derive(Drop)]
 pub struct DaySink {
     zone: Zone,
@@ -23,7 +23,7 @@ impl DaySink {
     ghost use Rattle.interval_core.specs.Fold.{HasTaken};
     ghost use Rattle.office_core.specs.DaySums.{AddsRow, EndsAs};
 
-    /// Creates a sink that has no rows yet. The call allocates no memory.
+    /// Creates a sink that has received no interval rows, without allocating memory.
     pub fn new(alloc: Global, zone: Zone) -> DaySink
         ensures zone { result.zone ≡ zone }
         ensures works { result.fault ≡ None }
@@ -37,8 +37,8 @@ impl DaySink {
         }
     }
 
-    /// Adds a row. If it starts before an earlier row, or after the last timestamp, the sink fails:
-    /// the row has no civil day.
+    /// Adds an interval row to its civil day. The sink fails if the row starts before an earlier
+    /// row or after the last timestamp that has a civil day.
     fn add(&mut self, row: Share)
         requires works { self.old.fault ≡ None }
         ensures { AddsRow self.old row self.new }
@@ -53,7 +53,7 @@ impl DaySink {
         }
     }
 
-    /// Returns the days in order; or, if the sink failed, its first failure as a refusal.
+    /// Returns the days in order, or the refusal that reports the sink's first failure.
     pub fn into_days(self) -> Result<Vec<DayTotal>, Refusal>
         ensures { EndsAs self.fault self.fold.accounts result }
     {

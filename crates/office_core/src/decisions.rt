@@ -1,4 +1,4 @@
-//! Decides whether an event is accepted, before anything is executed.
+//! Decides whether an event is accepted, before the office executes the event.
 ghost use Rattle.std.specs.Prelude.{◌≡◌, None, false, IfOk, IfSome};
 ghost use Rattle.office_rules.specs.Sessions.{command_in};
 ghost use Rattle.office_booking.specs.Sessions.Places.{AsksOnSlot};
@@ -14,7 +14,7 @@ use office_booking::{Slot, puts_planned};
 use office_books::{Books, BooksFault};
 use office_events::{Answer, Event, Refusal};
 
-/// Returns whether the event requests a command.
+/// Returns true if the event requests a command.
 pub fn is_command(event: &Event) -> bool
     ensures { result ≡ events.is_command event.now }
 {
@@ -28,8 +28,8 @@ pub fn is_command(event: &Event) -> bool
     }
 }
 
-/// Whether the event may settle polls: bytes from a device, the end of a connection, or a timer
-/// event.
+/// Returns true if the event may end polls: bytes from a device, the end of a connection, or a
+/// timer event.
 fn may_settle(event: &Event) -> bool
     ensures { result ≡ events.may_settle event.now }
 {
@@ -43,22 +43,22 @@ fn may_settle(event: &Event) -> bool
     }
 }
 
-/// Whether the answer reports that the store or memory failed.
+/// Returns true if the answer reports that the store failed or memory ran out.
 fn is_failure(given: &Result<Answer, Refusal>) -> bool
     ensures { result ≡ failing.is_failure given.now }
 {
     matches!(given, Err(Refusal::Store(_)) | Err(Refusal::Memory))
 }
 
-/// Returns whether the office stops after this answer: the event may have settled polls, and the
-/// store or memory failed.
+/// Returns true if the office stops after this answer: the event may end polls, and the store
+/// failed or memory ran out.
 pub fn stops(event: &Event, given: &Result<Answer, Refusal>) -> bool
     ensures { result ≡ failing.stops event.now given.now }
 {
     may_settle(event) && is_failure(given)
 }
 
-/// Proves that if the event has a point list, the list has the reads of its plan.
+/// Proves that a point list in the event has a plan of its reads.
 pub fn asks_planned(event: &Event)
     ensures { PutsPlanned (command_in event.now) }
 {
@@ -72,7 +72,8 @@ pub fn asks_planned(event: &Event)
     }
 }
 
-/// Returns the answer to an event that is a retry or is refused; `None` if the event is accepted.
+/// Returns the answer to an event that is a retry or is refused, or `None` if the event is
+/// accepted.
 pub fn decide<B: Books>(
     books: &mut B,
     slots: &[Slot],

@@ -1,4 +1,4 @@
-//! Runs a list of events over a store.
+//! Opens an office over a store and processes a list of events.
 ghost use Rattle.std.specs.Prelude.{◌∷◌, Err, IfOk, IfErr};
 ghost use Rattle.office_rules.specs.History.{History, Opened};
 ghost use Rattle.office_core.specs.Leaving.{BooksStand};
@@ -13,14 +13,14 @@ use office_events::{Event, Refusal};
 use office_rules::books_are_true;
 use std::alloc::Global;
 
-/// Opens an office over a store and feeds it these events, each at its timestamp.
+/// Opens an office over a store and processes these events, each at its timestamp.
 ///
-/// Timestamps are in seconds since 1970-01-01 UTC. Each event has one answer. In the end the store
-/// holds the records of the accepted events, and the headline is true of them. This assumes that no
-/// wrong result of the store was taken as true.
+/// Timestamps are in seconds since 1970-01-01 UTC. Each event has one answer. At the end the store
+/// has the records of the accepted events, and the promise in `Headline.antt` holds for them. This
+/// requires that no wrong result of the store went undetected.
 ///
-/// The run allocates all answers first, and then opens the office. If either step fails, the caller
-/// gets the store back.
+/// The run allocates memory for all answers before it opens the office. If either step fails, the
+/// caller gets the store back.
 pub fn run<B: Books>(
     alloc: Global,
     books: B,

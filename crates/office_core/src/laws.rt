@@ -1,16 +1,17 @@
-//! Theorems on what a crash leaves of the store.
+//! Theorems about the records of the store after a crash.
 ghost use Rattle.office_core.specs.Stopping.{EventsAreLeftWhole, RunsAreLeftWhole};
 
-/// Proves that after a crash the store holds the records of all acknowledged events.
+/// Proves that after a crash the store has the records of all acknowledged events.
 ///
-/// It may also hold, complete, one event that was answered 13 or 14 after the last event with a
-/// record. If no event recorded anything, the store may also hold what a crash would have left
-/// before the events.
+/// The store may also have the complete records of one failed event after the last recorded event.
+/// Failed means refusal 13 (the store failed) or 14 (out of memory). If no event added a record, a
+/// crash may leave the same records as before the events.
 pub fn events_are_left_whole()
     ensures { EventsAreLeftWhole }
 {}
 
-/// Proves the theorem of `events_are_left_whole` for a run, which begins with an opening.
+/// Proves the theorem of `events_are_left_whole` for a run of events, which starts with the opening
+/// of the office.
 pub fn runs_are_left_whole()
     ensures { RunsAreLeftWhole }
 {}

@@ -1,4 +1,4 @@
-//! The office: accepts events, polls devices, and records the energy of their meters.
+//! The office, which accepts events, polls devices, and records the energy of their meters.
 #![tactic(auto)]
 
 mod day_range;

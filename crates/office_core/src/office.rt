@@ -1,4 +1,4 @@
-//! The office: its opening, its events and its queries.
+//! The office, with its opening, its events and its queries.
 ghost use Rattle.std.specs.Prelude.{◌≡◌, ◌≤◌, ◌∷◌, true, false, None, Ok, Err};
 ghost use Rattle.std.specs.Prelude.{IfOk, IfErr, MatchResult};
 ghost use Rattle.std.specs.Option.{option_and_then};
@@ -41,7 +41,7 @@ use office_events::{
 use office_rules::facts_are_lawful;
 use std::alloc::Global;
 
-/// An office: accepts events, polls devices, and records the energy of their meters.
+/// An office, which accepts events, polls devices, and records the energy of their meters.
 #[derive(Drop)]
 pub struct Office<B: Books> {
     alloc: Global,
@@ -54,10 +54,10 @@ pub struct Office<B: Books> {
 }
 
 impl<B: Books> Office<B> {
-    /// Opens an office over a store, at a timestamp in seconds since 1970-01-01 UTC.
+    /// Opens an office over a store, at the timestamp `moment` in seconds since 1970-01-01 UTC.
     ///
-    /// Each poll without an outcome is recorded as lost, and no device is connected. If the opening
-    /// is refused, the caller gets the store back.
+    /// The office records each pending poll as lost, and no device is connected. If the opening is
+    /// refused, the caller gets the store back.
     pub fn open(alloc: Global, mut books: B, moment: u64) -> Result<Office<B>, (B, Refusal)>
         ensures opened { (past : History) → BooksStand (B.ledger books) past
             → IfOk result (StandsIfClean B.ledger (Opened moment ∷ past)) }
@@ -84,11 +84,10 @@ impl<B: Books> Office<B> {
         }
     }
 
-    /// Opens an office for queries, at `moment` or at the latest timestamp in the store, whichever
-    /// is later.
+    /// Opens an office for queries, at the later of `moment` and the latest timestamp in the store.
     ///
-    /// A clock that was set back therefore does not prevent queries. As with `open`, each poll
-    /// without an outcome is recorded as lost.
+    /// A clock that was set back therefore does not prevent queries. The office records each
+    /// pending poll as lost.
     pub fn open_to_ask(alloc: Global, mut books: B, moment: u64) -> Result<Office<B>, (B, Refusal)>
         ensures opened { (past : History) → BooksStand (B.ledger books) past
             → IfOk result (StandsIfClean B.ledger (Opened (asking_moment past moment) ∷ past)) }
@@ -107,7 +106,7 @@ impl<B: Books> Office<B> {
         }
     }
 
-    /// Settles the polls that an accepted device event ends.
+    /// Records the outcomes of the polls that an accepted device event ends.
     fn settle(&mut self, moment: u64, event: &Event) -> Result<Answer, Refusal>
         requires settling { events.is_command event.now ≡ false }
         requires limit { moment ≤ moment_limit }
@@ -147,7 +146,7 @@ impl<B: Books> Office<B> {
     }
 
     /// Processes an event while the office is running. A retry gets its stored answer, and an
-    /// unacceptable event is refused; any other event settles polls or executes its command.
+    /// invalid event is refused. Any other event ends polls or executes its command.
     fn take(&mut self, moment: u64, event: &Event) -> Result<Answer, Refusal>
         ensures takes { TakesAny B.ledger moment event.now self.old self.new result }
         ensures quiet { (past : History) → MayTake B.ledger past event.now self.old
@@ -167,12 +166,12 @@ impl<B: Books> Office<B> {
         }
     }
 
-    /// Processes an event at a timestamp, in seconds since 1970-01-01 UTC.
+    /// Processes an event at the timestamp `moment`, in seconds since 1970-01-01 UTC.
     ///
-    /// A refused event and a retry change nothing, except that they clear `notes` and `outgoing`.
-    /// If the store or memory fails while polls are settled, the office stops: it refuses every
-    /// event until it is opened again. A device event that is refused, or that settles no poll,
-    /// makes no query of the store and needs no memory.
+    /// A refused event or a retry only clears `notes` and `outgoing`. If the store fails or memory
+    /// runs out while polls end, the office stops and refuses all events until it is opened again.
+    /// A device event that is refused, or that ends no poll, needs no query of the store and no
+    /// memory.
     pub fn feed(&mut self, moment: u64, event: &Event) -> Result<Answer, Refusal>
         ensures answers { After B.ledger self.old self.new
             (AnswersEvent B.ledger moment event.now self.old self.new result) }
@@ -198,7 +197,7 @@ impl<B: Books> Office<B> {
         answer
     }
 
-    /// Returns the device with the name. `None` is a name that no device can have.
+    /// Returns the device with the name. The name `None` is invalid, and no device has it.
     pub fn device(&mut self, name: &Option<Name>) -> Result<Device, Refusal>
         ensures found { TellsRow B.ledger self.old self.new result
             (λ facts. option_and_then (device_of facts) name.now) }
@@ -211,7 +210,8 @@ impl<B: Books> Office<B> {
         questions::device(&mut self.books, name)
     }
 
-    /// Returns the accounting register with the name. `None` is a name that no register can have.
+    /// Returns the accounting register with the name. The name `None` is invalid, and no register
+    /// has it.
     pub fn register(&mut self, name: &Option<Name>) -> Result<Register, Refusal>
         ensures found { TellsRow B.ledger self.old self.new result
             (λ facts. option_and_then (register_of facts) name.now) }
@@ -224,8 +224,8 @@ impl<B: Books> Office<B> {
         questions::register(&mut self.books, name)
     }
 
-    /// Returns the installation of the meter with the name, in its present state. `None` is a name
-    /// that no meter can have.
+    /// Returns the present installation of the meter with the name. The name `None` is invalid, and
+    /// no meter has it.
     pub fn meter(&mut self, name: &Option<Name>) -> Result<Installation, Refusal>
         ensures found { TellsRow B.ledger self.old self.new result
             (λ facts. option_and_then (meter_of facts) name.now) }
@@ -238,8 +238,8 @@ impl<B: Books> Office<B> {
         questions::meter(&mut self.books, name)
     }
 
-    /// Returns the latest installation at an accounting register, open or closed, in its present
-    /// state. `None` is a name that no register can have.
+    /// Returns the latest installation at an accounting register, open or closed. The name `None`
+    /// is invalid, and no register has it.
     pub fn installation(&mut self, register: &Option<Name>) -> Result<Installation, Refusal>
         ensures found { TellsRow B.ledger self.old self.new result
             (λ facts. option_and_then (installation_at facts) register.now) }
@@ -252,10 +252,10 @@ impl<B: Books> Office<B> {
         questions::installation(&mut self.books, register)
     }
 
-    /// Compares a request with the stored request of the same caller and number: `Same` or `Other`.
+    /// Compares a request with the stored request of the same idempotency key. The result is `Same`
+    /// or `Other`.
     ///
-    /// The result is the refusal `NotFound` if the store has no request with this caller and
-    /// number.
+    /// Returns `NotFound` if the store has no request with this key.
     pub fn repeat(
         &mut self,
         caller: &Option<Name>,
@@ -273,7 +273,7 @@ impl<B: Books> Office<B> {
         questions::repeat(&mut self.books, caller, number, request)
     }
 
-    /// Returns the poll with this number, and its outcome if it has one.
+    /// Returns the poll with this number, and its outcome if the poll has ended.
     pub fn poll(&mut self, number: u64) -> Result<PollRow, Refusal>
         ensures found { TellsRow B.ledger self.old self.new result
             (λ facts. poll_row_of facts number) }
@@ -304,8 +304,8 @@ impl<B: Books> Office<B> {
         questions::intervals(&mut self.books, meter, sink)
     }
 
-    /// Passes the energy of a meter in the quarter hours of `span` to the sink, in mWh: one row for
-    /// each quarter hour, in order.
+    /// Passes the energy of a meter in a time span to the sink, in mWh: one row for each quarter
+    /// hour, in order.
     pub fn intervals_within<K: RowSink<Share>>(
         &mut self,
         meter: &Option<Name>,
@@ -324,8 +324,8 @@ impl<B: Books> Office<B> {
         questions::intervals_of_span(&mut self.books, meter, span, sink)
     }
 
-    /// Passes the rejected readings of a meter with timestamps in `span` to the sink, in the order
-    /// in which they were recorded.
+    /// Passes the rejected readings of a meter in a time span to the sink, in the order in which
+    /// they were recorded.
     pub fn holds<K: RowSink<HeldReading>>(
         &mut self,
         meter: &Option<Name>,
@@ -344,9 +344,8 @@ impl<B: Books> Office<B> {
         questions::holds(&mut self.books, meter, span, sink)
     }
 
-    /// Returns the installations at an accounting register in their present state, closed ones
-    /// included, in the order in which they were installed. `None` is a name that no register can
-    /// have.
+    /// Returns the installations at an accounting register in order of installation, closed meters
+    /// included. The name `None` is invalid, and no register has it.
     pub fn meters(&mut self, register: &Option<Name>) -> Result<Vec<Installation>, Refusal>
         ensures listed { ListsAccepted B.ledger self.old self.new result
             (λ facts. meters_named facts register.now) }
@@ -359,8 +358,8 @@ impl<B: Books> Office<B> {
         questions::meters(&mut self.books, register)
     }
 
-    /// Returns at most `most` entries of a meter from index `from` on, voided ones included, in
-    /// order. The opening has index 1.
+    /// Returns at most `most` entries of a meter from sequence number `from` on, in order, voided
+    /// entries included. The opening has number 1.
     pub fn entries(
         &mut self,
         meter: &Option<Name>,
@@ -379,10 +378,10 @@ impl<B: Books> Office<B> {
     }
 
     /// Passes the energy of an accounting register to the sink, in mWh: one row for each civil day
-    /// of the store's zone, in order.
+    /// in the store's time zone.
     ///
-    /// The sink gets the days once all of them are added up. A register at which no meter was ever
-    /// installed has no days.
+    /// The sink gets the days in order, after all of them are added up. A register without an
+    /// installed meter has no days.
     pub fn days<K: RowSink<DayTotal>>(
         &mut self,
         register: &Option<Name>,
@@ -400,10 +399,11 @@ impl<B: Books> Office<B> {
         questions::days(self.alloc, &mut self.books, register, sink)
     }
 
-    /// Passes those days of an accounting register that are in `range` to the sink, as `days` does.
+    /// Passes the energy of an accounting register on the days of `range` to the sink, one row for
+    /// each civil day.
     ///
-    /// If the range has both ends, the office reads only the quarter hours of the range's days, and
-    /// of two more days at each end.
+    /// If both ends of the range are given, the office reads only the quarter hours of these days,
+    /// and of two more days at each end.
     pub fn days_within<K: RowSink<DayTotal>>(
         &mut self,
         register: &Option<Name>,
@@ -422,8 +422,8 @@ impl<B: Books> Office<B> {
         questions::days_within(self.alloc, &mut self.books, register, range, sink)
     }
 
-    /// Returns each accounting register of each device with the latest meter at it, if there is
-    /// one.
+    /// Returns all accounting registers, each with the latest meter that was installed at it, if
+    /// any.
     ///
     /// The devices, and the registers of each device, are in the order in which they were added.
     pub fn site(&mut self) -> Result<Vec<SiteRow>, Refusal>
@@ -445,15 +445,15 @@ impl<B: Books> Office<B> {
         self.outgoing.as_slice()
     }
 
-    /// Returns the notifications of the last event: outcomes of polls, each followed by its
-    /// readings.
+    /// Returns the notifications of the last event: the outcomes of polls, each followed by the
+    /// readings of the poll.
     pub fn notes(&self) -> &[Note]
         ensures { result.now ≡ notes_in self.now }
     {
         &self.notes
     }
 
-    /// Returns the store, and ends the office.
+    /// Closes the office and returns its store.
     pub fn into_books(self) -> B
         ensures { result ≡ books_in self }
     {

@@ -22,8 +22,8 @@ use office_events::{Device, HeldReading, Installation, Name, PollRow, Refusal, R
 use office_rules::registers_are_in_turn;
 use std::alloc::Global;
 
-/// The answer if the store's lookup has this result: the row, `NotFound`, or the store's failure as
-/// a refusal.
+/// Returns the office's answer for this result of a lookup: the row, `NotFound`, or the refusal
+/// that reports the store's failure.
 fn found<T: Drop>(answer: Result<Option<T>, BooksFault>) -> Result<T, Refusal>
     ensures { result ≡ answered answer }
 {
@@ -34,7 +34,7 @@ fn found<T: Drop>(answer: Result<Option<T>, BooksFault>) -> Result<T, Refusal>
     }
 }
 
-/// The last device with this name in a list; `None` if there is none.
+/// Returns the last device with this name in a list, or `None` if no device has the name.
 #[tactic(auto, using(office_rules::proofs::Lists::find_more))]
 fn last_named(devices: &[Device], name: &Name) -> Option<Device>
     ensures { result ≡ find (λ device. same device.name name.now) (reverse devices.now) }
@@ -48,8 +48,7 @@ fn last_named(devices: &[Device], name: &Name) -> Option<Device>
     last
 }
 
-/// The device with this name in the store, found by a search of all devices; a store has at most
-/// 64.
+/// Returns the device with this name, or `None`. It searches all devices, at most 64.
 fn device_in<B: Books>(books: &mut B, name: &Name) -> Result<Option<Device>, BooksFault>
     ensures found { Finds (B.ledger books.old) (B.ledger books.new) result
         (λ known row. row ≡ device_of known name.now) }
@@ -61,7 +60,7 @@ fn device_in<B: Books>(books: &mut B, name: &Name) -> Result<Option<Device>, Boo
     }
 }
 
-/// Returns the device with this name, or `NotFound`.
+/// Returns the device with this name, or the refusal `NotFound`.
 pub fn device<B: Books>(books: &mut B, name: &Option<Name>) -> Result<Device, Refusal>
     ensures found { FoundIn (B.ledger books.old) (B.ledger books.new) result
         (λ known. option_and_then (device_of known) name.now) }
@@ -74,7 +73,7 @@ pub fn device<B: Books>(books: &mut B, name: &Option<Name>) -> Result<Device, Re
     found(device_in(books, name))
 }
 
-/// Returns the accounting register with this name, or `NotFound`.
+/// Returns the accounting register with this name, or the refusal `NotFound`.
 pub fn register<B: Books>(books: &mut B, name: &Option<Name>) -> Result<Register, Refusal>
     ensures found { FoundIn (B.ledger books.old) (B.ledger books.new) result
         (λ known. option_and_then (register_of known) name.now) }
@@ -87,7 +86,7 @@ pub fn register<B: Books>(books: &mut B, name: &Option<Name>) -> Result<Register
     found(books.register(name))
 }
 
-/// Returns the installation of a meter in its present state, or `NotFound`.
+/// Returns the present installation of a meter, or the refusal `NotFound`.
 pub fn meter<B: Books>(books: &mut B, name: &Option<Name>) -> Result<Installation, Refusal>
     ensures found { FoundIn (B.ledger books.old) (B.ledger books.new) result
         (λ known. option_and_then (meter_of known) name.now) }
@@ -100,7 +99,7 @@ pub fn meter<B: Books>(books: &mut B, name: &Option<Name>) -> Result<Installatio
     found(books.meter(name))
 }
 
-/// Returns the latest installation at an accounting register in its present state, or `NotFound`.
+/// Returns the latest installation at an accounting register, or the refusal `NotFound`.
 pub fn installation<B: Books>(
     books: &mut B,
     register: &Option<Name>,
@@ -116,8 +115,8 @@ pub fn installation<B: Books>(
     found(books.installation(name))
 }
 
-/// Compares a request with the stored request of the same caller and number; `NotFound` if none is
-/// stored.
+/// Compares a request with the stored request of the same idempotency key, or returns the refusal
+/// `NotFound` if the store has no request with this key.
 pub fn repeat<B: Books>(
     books: &mut B,
     caller: &Option<Name>,
@@ -135,7 +134,7 @@ pub fn repeat<B: Books>(
     found(books.repeat(name, number, request))
 }
 
-/// Returns the poll with the number, and its outcome if it has one.
+/// Returns the poll with this number, and its outcome if the poll has ended.
 pub fn poll<B: Books>(books: &mut B, number: u64) -> Result<PollRow, Refusal>
     ensures found { FoundIn (B.ledger books.old) (B.ledger books.new) result
         (λ known. poll_row_of known number) }
@@ -145,7 +144,7 @@ pub fn poll<B: Books>(books: &mut B, number: u64) -> Result<PollRow, Refusal>
     found(books.poll(number))
 }
 
-/// Passes the energy of a meter to the sink: one row for each quarter hour, in order.
+/// Passes the energy of a meter to the sink, in mWh: one row for each quarter hour, in order.
 pub fn intervals<B: Books, K: RowSink<Share>>(
     books: &mut B,
     meter: &Option<Name>,
@@ -160,8 +159,8 @@ pub fn intervals<B: Books, K: RowSink<Share>>(
     intervals_of_span(books, meter, Span::All, sink)
 }
 
-/// Passes the energy of a meter in the quarter hours of `span` to the sink: one row for each
-/// quarter hour, in order.
+/// Passes the energy of a meter in a time span to the sink, in mWh: one row for each quarter hour,
+/// in order.
 pub fn intervals_of_span<B: Books, K: RowSink<Share>>(
     books: &mut B,
     meter: &Option<Name>,
@@ -182,8 +181,8 @@ pub fn intervals_of_span<B: Books, K: RowSink<Share>>(
     Ok(())
 }
 
-/// Passes the rejected readings of a meter with timestamps in `span` to the sink, in the order in
-/// which they were recorded.
+/// Passes the rejected readings of a meter in a time span to the sink, in the order in which they
+/// were recorded.
 pub fn holds<B: Books, K: RowSink<HeldReading>>(
     books: &mut B,
     meter: &Option<Name>,
@@ -204,8 +203,8 @@ pub fn holds<B: Books, K: RowSink<HeldReading>>(
     Ok(())
 }
 
-/// Returns the installations at an accounting register in their present state, closed ones
-/// included, in the order in which they were installed.
+/// Returns the installations at an accounting register in order of installation, closed meters
+/// included.
 pub fn meters<B: Books>(
     books: &mut B,
     register: &Option<Name>,
@@ -222,8 +221,8 @@ pub fn meters<B: Books>(
     Ok(books.meters(register)?)
 }
 
-/// Returns at most `most` entries of a meter from index `from` on, voided ones included, in order.
-/// The opening has index 1.
+/// Returns at most `most` entries of a meter from sequence number `from` on, in order, voided
+/// entries included. The opening has number 1.
 pub fn entries<B: Books>(
     books: &mut B,
     meter: &Option<Name>,
@@ -242,7 +241,7 @@ pub fn entries<B: Books>(
     Ok(books.entries(meter, from, most)?)
 }
 
-/// Passes all days to the sink, in order.
+/// Passes all of these days to the sink, in order.
 fn hand_on<K: RowSink<DayTotal>>(days: &[DayTotal], sink: &mut K)
     ensures took { TakesAll K.takes sink.old days.now sink.new }
     ensures few { length days.now < 2 ^ 64 }
@@ -252,7 +251,7 @@ fn hand_on<K: RowSink<DayTotal>>(days: &[DayTotal], sink: &mut K)
     }
 }
 
-/// The civil days of a recorded register's interval rows in `span`, in order.
+/// Returns the civil days of a recorded register's quarter hours in a time span, in order.
 fn days_of<B: Books>(
     alloc: Global,
     books: &mut B,
@@ -268,8 +267,8 @@ fn days_of<B: Books>(
     days.into_days()
 }
 
-/// Passes the energy of an accounting register to the sink: one row for each civil day of the
-/// store's zone, in order.
+/// Passes the energy of an accounting register to the sink, in mWh: one row for each civil day in
+/// the store's time zone.
 pub fn days<B: Books, K: RowSink<DayTotal>>(
     alloc: Global,
     books: &mut B,
@@ -290,7 +289,7 @@ pub fn days<B: Books, K: RowSink<DayTotal>>(
     Ok(())
 }
 
-/// Those civil days of a recorded register that are in the range.
+/// Returns the civil days of a recorded register that are in the range, in order.
 fn days_in<B: Books>(
     alloc: Global,
     books: &mut B,
@@ -307,8 +306,8 @@ fn days_in<B: Books>(
     Ok(days)
 }
 
-/// Passes the energy of an accounting register on the days of a range to the sink: one row for each
-/// civil day of the store's zone, in order.
+/// Passes the energy of an accounting register on the days of a range to the sink, in mWh: one row
+/// for each civil day.
 pub fn days_within<B: Books, K: RowSink<DayTotal>>(
     alloc: Global,
     books: &mut B,

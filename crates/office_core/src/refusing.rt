@@ -1,4 +1,4 @@
-//! Finds why the office refuses an event, and whether an event is a retry.
+//! Finds the reason to refuse an event, and recognizes retries.
 
 mod arrivals;
 mod commands;

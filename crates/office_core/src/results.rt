@@ -1,10 +1,10 @@
-//! The result of a run. The type is in a module apart from the function `run`, because one module
-//! can't have both names.
+//! The result of a run of events. The type is not in the module of the function `run`, because a
+//! module cannot contain both names.
 use crate::office::Office;
 use office_books::Books;
 use office_events::{Answer, Refusal};
 
-/// The office after a run, and the answer to each event, in order.
+/// The office after a run of events, and the answer to each event, in order.
 #[derive(Drop)]
 pub struct Run<B: Books> {
     pub office: Office<B>,

@@ -1,4 +1,4 @@
-//! Queries the store for all accounting registers and their meters.
+//! Queries the store for all accounting registers with their meters.
 ghost use Rattle.std.specs.Prelude.{◌≡◌, ◌∷◌, [], IfErr};
 ghost use Rattle.office_books.specs.Ledgers.{Consults, Finds};
 ghost use Rattle.office_core.specs.Asking.{Asks};
@@ -10,15 +10,14 @@ use office_books::{Books, BooksFault};
 use office_events::{Device, Installation, Refusal, Register};
 use std::alloc::Global;
 
-/// An accounting register with the latest meter that was installed at it, open or closed; `None` if
-/// there was none.
+/// An accounting register, with the latest meter that was installed at it, open or closed, if any.
 #[derive(Clone, Copy, Debug, PartialEq, Eq)]
 pub struct SiteRow {
     pub register: Register,
     pub meter: Option<Installation>,
 }
 
-/// Appends the row of an accounting register.
+/// Appends the row of an accounting register to `rows`.
 fn add_register<B: Books>(
     rows: &mut Vec<SiteRow>,
     books: &mut B,
@@ -36,7 +35,7 @@ fn add_register<B: Books>(
     Ok(())
 }
 
-/// Appends the rows of these accounting registers, in order.
+/// Appends the rows of these accounting registers to `rows`, in order.
 fn add_registers<B: Books>(
     rows: &mut Vec<SiteRow>,
     books: &mut B,
@@ -52,7 +51,7 @@ fn add_registers<B: Books>(
     Ok(())
 }
 
-/// Appends the rows of a device's accounting registers.
+/// Appends the rows of a device's accounting registers to `rows`.
 fn add_device<B: Books>(
     rows: &mut Vec<SiteRow>,
     books: &mut B,
@@ -66,7 +65,7 @@ fn add_device<B: Books>(
     add_registers(rows, books, &registers)
 }
 
-/// Appends the rows of these devices' accounting registers, in order.
+/// Appends the rows of these devices' accounting registers to `rows`, in order.
 fn add_devices<B: Books>(
     rows: &mut Vec<SiteRow>,
     books: &mut B,
@@ -82,7 +81,7 @@ fn add_devices<B: Books>(
     Ok(())
 }
 
-/// The rows of all accounting registers in the store.
+/// Returns the rows of all accounting registers in the store.
 fn rows_in<B: Books>(alloc: Global, books: &mut B) -> Result<Vec<SiteRow>, BooksFault>
     ensures found { Finds (B.ledger books.old) (B.ledger books.new) result
         (λ known rows. rows.items ≡ site_of known) }
@@ -94,8 +93,8 @@ fn rows_in<B: Books>(alloc: Global, books: &mut B) -> Result<Vec<SiteRow>, Books
     Ok(rows)
 }
 
-/// Returns each accounting register of each device with its latest meter. The devices, and the
-/// registers of each device, are in the order in which they were added.
+/// Returns all accounting registers with their latest meters. The devices, and the registers of
+/// each device, are in the order in which they were added.
 pub fn rows<B: Books>(alloc: Global, books: &mut B) -> Result<Vec<SiteRow>, Refusal>
     ensures found { SiteIn (B.ledger books.old) (B.ledger books.new) result }
     ensures asks { Asks (B.ledger books.old) (B.ledger books.new) result }

@@ -1,8 +1,8 @@
--- The definition of names, computed at both ends of its limits.
+-- Examples of valid and invalid names, at the limits of the length and of the allowed characters.
 use Rattle.std.proofs.Common.{◌≡◌, ℕ, true, false, List, [], ◌∷◌, Some, None, replicate, refl}
 use Rattle.office_events.specs.Names.{is_name, named}
 
--- A letter, and then `n` letters `a`.
+-- A name of the letter `m` followed by `n` letters `a`.
 abbrev letters : ℕ → List ℕ
 letters more = 109 ∷ replicate more 97
 
@@ -18,7 +18,8 @@ sixteen_bytes = refl
 seventeen_bytes : is_name (letters 16) ≡ false
 seventeen_bytes = refl
 
--- `A`, `Z`, `a`, `z`, and their neighbours in ASCII: `@`, `[`, a backquote, `{`.
+-- A name may consist of one letter: `A`, `Z`, `a` and `z` are valid, and their ASCII neighbours
+-- `@`, `[`, a backquote and `{` are not.
 first_letters : (is_name (65 ∷ []) ≡ true) × (is_name (90 ∷ []) ≡ true) × (is_name (97 ∷ []) ≡ true)
     × (is_name (122 ∷ []) ≡ true)
 first_letters = (refl, refl, refl, refl)
@@ -27,15 +28,15 @@ no_letters : (is_name (64 ∷ []) ≡ false) × (is_name (91 ∷ []) ≡ false) 
     × (is_name (123 ∷ []) ≡ false)
 no_letters = (refl, refl, refl, refl)
 
--- `0`, `9`, `_` and `-` are allowed after the first byte.
+-- The characters `0`, `9`, `_` and `-` are allowed after the first character of a name.
 digits_and_dashes : is_name (109 ∷ 48 ∷ 57 ∷ 95 ∷ 45 ∷ []) ≡ true
 digits_and_dashes = refl
 
--- `0` and `_` are not allowed as the first byte.
+-- The characters `0` and `_` are not allowed as the first character of a name.
 first_digit : (is_name (48 ∷ 109 ∷ []) ≡ false) × (is_name (95 ∷ 109 ∷ []) ≡ false)
 first_digit = (refl, refl)
 
--- `/`, `:`, a dot, a space, and a byte past ASCII.
+-- A name must not contain `/`, `:`, a dot, a space, or a byte above 127.
 no_name_bytes : (is_name (109 ∷ 47 ∷ []) ≡ false) × (is_name (109 ∷ 58 ∷ []) ≡ false) × (is_name (109 ∷ 46 ∷ []) ≡ false)
     × (is_name (109 ∷ 32 ∷ []) ≡ false) × (is_name (109 ∷ 195 ∷ []) ≡ false)
 no_name_bytes = (refl, refl, refl, refl, refl)

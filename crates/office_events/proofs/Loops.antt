@@ -1,9 +1,10 @@
--- Loops over a list, with a change of a value at each step.
+-- Properties of loops over a list that change an accumulator at each element.
 use Rattle.std.proofs.Common.{◌≡◌, ℕ, ◌+◌, ◌<◌, ◌≤◌, suc, List, [], ◌∷◌, length, drop, get_or, add-one, sym, ap, ◌∙◌}
 use Rattle.std.proofs.lemmas.List.{drop_all}
 use Rattle.std.proofs.Math.Seq.{drop-cons}
 
--- After one more element, the loop continues with the changed value.
+-- Running the loop over the elements after the current one equals running it with the current
+-- element on the changed accumulator.
 pub one_on : {X T : Type 0} (run : List X → T → T) (step : X → T → T) → ((x : X) (xs : List X) (t : T) → run (x ∷ xs) t ≡ run xs (step x t))
     → (xs : List X) (i : ℕ) (x : X) (t u z : T) → i < length xs → x ≡ get_or xs i x → run (drop i xs) t ≡ z → u ≡ step x t
     → run (drop (i + 1) xs) u ≡ z
@@ -11,7 +12,7 @@ one_on run step law xs i x t u z inside item so_far is =
     ap (run (drop (i + 1) xs)) is ∙ sym (law x (drop (i + 1) xs) t) ∙ ap (λ ys. run (x ∷ ys) t) (ap (λ k. drop k xs) (add-one i))
     ∙ ap (λ y. run (y ∷ drop (suc i) xs) t) item ∙ ap (λ ys. run ys t) (sym (drop-cons xs i x inside)) ∙ so_far
 
--- If no element is left, the loop has its final value.
+-- When no element is left, the accumulator is the final result of the loop.
 pub all_on : {X T : Type 0} (run : List X → T → T) → ((t : T) → run [] t ≡ t) → (xs : List X) (i : ℕ) (t z : T) → length xs ≤ i
     → run (drop i xs) t ≡ z → t ≡ z
 all_on run none xs i t z all so_far = sym (none t) ∙ ap (λ ys. run ys t) (sym (drop_all i xs all)) ∙ so_far

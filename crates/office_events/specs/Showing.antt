@@ -1,12 +1,12 @@
--- What an observer is shown of each event that reaches the office.
+-- The report that an observer gets of each event that reaches the office.
 use Rattle.std.specs.Prelude.{ℕ, List, Option, Result}
 use Rattle.office_events.specs.declared.answers.Answer.{Answer}
 use Rattle.office_events.specs.declared.answers.Note.{Note}
 use Rattle.office_events.specs.declared.events.Event.{Event}
 use Rattle.office_events.specs.declared.refusals.Refusal.{Refusal}
 
--- An event at a time, with its answer, its notifications, and the frames to send. `place` is the
--- index of the device whose round caused the event, or `None`.
+-- The report of an event: its time, the event, its answer, its notifications and the frames to
+-- send. `place` is the index of the device whose polling round caused the event, or `None`.
 pub record Shown : Type 0 where
   pub place : Option ℕ
   pub at : ℕ
@@ -15,8 +15,8 @@ pub record Shown : Type 0 where
   pub notes : List Note
   pub frames : List ℕ
 
--- What an observer is shown of an event with this device index, time, answer, notifications and
--- frames.
+-- The report of an event, built from the device index, the time, the event, the answer, the
+-- notifications and the frames.
 abbrev pub shown : Option ℕ → ℕ → Event → Result Answer Refusal → List Note → List ℕ → Shown
 shown place at event answer notes frames =
     record {

@@ -1,6 +1,5 @@
-//! Commands for the office, the program's state over one store. Numbers are as the caller gave
-//! them, and the office checks their ranges. A name is `None` if the caller's text is not a valid
-//! name.
+//! Commands to the office, which is the program's state over one store. The office checks the
+//! ranges of all numbers in a command. A name is `None` if the caller's text is not a valid name.
 use crate::names::Name;
 use mb_wire::ReadSpan;
 use read_plan::PlannedList;
@@ -11,37 +10,37 @@ pub struct AddDevice {
     pub name: Option<Name>,
     /// The Modbus unit identifier, 0 to 255.
     pub unit: u64,
-    /// The time limit for the response to a poll, 1 to 60 seconds.
+    /// The time limit for the device's response to a poll, 1 to 60 seconds.
     pub timeout: u64,
-    /// The maximum number of pending polls, 1 to 16.
+    /// The maximum number of the device's pending polls, 1 to 16.
     pub window: u64,
 }
 
-/// The command to set the point list of a device, or to replace it.
+/// The command to set or replace the point list of a device.
 #[derive(Drop)]
 pub struct PutList {
     pub device: Option<Name>,
     pub list: PlannedList,
 }
 
-/// The source of the scale of an accounting register, as the caller gave it.
+/// The source of an accounting register's scale, before the office checks its range.
 #[derive(Clone, Copy, Debug, PartialEq, Eq)]
 pub enum GivenScale {
-    /// A fixed power of ten, -3 to 3.
+    /// A fixed scale: a power of ten, -3 to 3.
     Fixed(i64),
     /// The device's scale factor at this address, 0 to 65535.
     Register(u64),
 }
 
-/// The command to add an accounting register: a counter of energy in two consecutive Modbus
-/// registers of a device.
+/// The command to add an accounting register: an energy counter in two consecutive Modbus registers
+/// of a device.
 #[derive(Clone, Copy, Debug, PartialEq, Eq)]
 pub struct AddRegister {
     pub name: Option<Name>,
     pub device: Option<Name>,
-    /// The function code of the read, 3 or 4.
+    /// The Modbus function code of the read, 3 or 4.
     pub function: u64,
-    /// The address of the high word, 0 to 65534.
+    /// The Modbus address of the counter's high word, 0 to 65534.
     pub address: u64,
     pub scale: GivenScale,
 }
@@ -51,21 +50,22 @@ pub struct AddRegister {
 pub struct Install {
     pub register: Option<Name>,
     pub meter: Option<Name>,
-    /// The meter's count at its installation, below its range.
+    /// The meter's count at its installation, at least 0 and below `range`.
     pub raw: u64,
     /// The power of ten of the meter's counts, -3 to 3.
     pub sf: i64,
     /// The greatest power that can flow through the meter, 1 to 1,000,000,000 W.
     pub ceiling: u64,
-    /// The number of counts in a full turn of the meter's counter, 65,536 to 4,294,967,296.
+    /// The number of counts after which the meter's counter rolls over, 65,536 to 4,294,967,296.
     pub range: u64,
 }
 
-/// The command to close the meter at an accounting register, and to install another meter there.
+/// The command to close the meter at an accounting register and to install another meter at this
+/// register.
 #[derive(Clone, Copy, Debug, PartialEq, Eq)]
 pub struct Exchange {
     pub register: Option<Name>,
-    /// The last count of the old meter.
+    /// The last count of the meter that is closed.
     pub last: u64,
     /// The number of rollovers since the old meter's last entry, 0 to 255.
     pub rolls: u64,
@@ -76,8 +76,8 @@ pub struct Exchange {
     pub range: u64,
 }
 
-/// The command to record a reset: the counter at an accounting register rose to `before` and was
-/// set to `after`.
+/// The command to record a counter reset: the counter of an accounting register had reached
+/// `before` and was set to `after`.
 #[derive(Clone, Copy, Debug, PartialEq, Eq)]
 pub struct Reset {
     pub register: Option<Name>,
@@ -85,8 +85,8 @@ pub struct Reset {
     pub after: u64,
 }
 
-/// The command to record a rescale: the counter rose to `before` and was set to `after`, which is
-/// counted at another scale factor.
+/// The command to record a change of scale: the counter had reached `before`, and was set to
+/// `after` at another scale factor.
 #[derive(Clone, Copy, Debug, PartialEq, Eq)]
 pub struct Rescale {
     pub register: Option<Name>,
@@ -95,18 +95,19 @@ pub struct Rescale {
     pub sf: i64,
 }
 
-/// The command to enter a reading of a meter by hand.
+/// The command to enter a manual reading of a meter.
 #[derive(Clone, Copy, Debug, PartialEq, Eq)]
 pub struct Manual {
     pub register: Option<Name>,
     pub raw: u64,
     /// The number of rollovers since the meter's last entry, 0 to 255.
     pub rolls: u64,
-    /// The time of the reading, if it is earlier than that of the command.
+    /// The time of the reading in seconds since 1970-01-01 UTC, or `None` for the time of the
+    /// command.
     pub at: Option<u64>,
 }
 
-/// The command to close the meter at an accounting register, with its last count.
+/// The command to close the meter at an accounting register, with the meter's last count.
 #[derive(Clone, Copy, Debug, PartialEq, Eq)]
 pub struct Close {
     pub register: Option<Name>,
@@ -114,30 +115,30 @@ pub struct Close {
     pub rolls: u64,
 }
 
-/// The command to send a single read to a device.
+/// The command to send one Modbus read to a device.
 #[derive(Clone, Copy, Debug, PartialEq, Eq)]
 pub struct StartPoll {
     pub device: Option<Name>,
     pub span: ReadSpan,
 }
 
-/// The command to send the reads of a device's plan to it. `from` is the index of the first read
-/// to send, from 0.
+/// The command to send the reads of a device's plan. `from` is the index of the first read to send,
+/// counted from 0.
 #[derive(Clone, Copy, Debug, PartialEq, Eq)]
 pub struct StartRound {
     pub device: Option<Name>,
     pub from: u64,
 }
 
-/// The command to void an entry. `place` is the entry's sequence number in the meter's journal. The
-/// opening has number 1.
+/// The command to void an entry. `place` is the entry's sequence number in the meter's journal,
+/// where the opening has number 1.
 #[derive(Clone, Copy, Debug, PartialEq, Eq)]
 pub struct VoidEntry {
     pub meter: Option<Name>,
     pub place: u64,
 }
 
-/// A command for the office.
+/// A command to the office.
 #[derive(Drop)]
 pub enum Command {
     AddDevice(AddDevice),

@@ -1,10 +1,10 @@
-//! Events that reach the office, the program's state over one store.
+//! Events that reach the office, which is the program's state over one store.
 use crate::commands::Command;
 use crate::names::Name;
 use poll_core::Closing;
 use std::marker::Model;
 
-/// Bytes from a device, or of a request with an idempotency key.
+/// A byte string: bytes received from a device, or the text of a request with an idempotency key.
 #[derive(Clone, Drop)]
 pub struct Piece {
     bytes: Vec<u8>,
@@ -21,14 +21,14 @@ impl Model for Piece {
 impl Piece {
     ghost use Rattle.std.specs.Prelude.{◌≡◌};
 
-    /// Creates a piece from its bytes.
+    /// Creates a byte string that owns these bytes.
     pub fn new(bytes: Vec<u8>) -> Piece
         ensures { result ≡ bytes.items }
     {
         Piece { bytes }
     }
 
-    /// Returns the bytes of the piece.
+    /// Returns the bytes as a slice.
     pub fn as_slice(&self) -> &[u8]
         ensures { result.now ≡ self.now }
     {
@@ -36,28 +36,27 @@ impl Piece {
     }
 }
 
-/// A command with an idempotency key, which consists of the caller's name and a number that the
-/// caller chose. The office executes the command once, and keeps its answer with the bytes of the
-/// request.
+/// A command with an idempotency key: the caller's name and a number that the caller chose. The
+/// office executes the command once, and stores its answer with the request's bytes.
 #[derive(Drop)]
 pub struct Asked {
     pub caller: Option<Name>,
-    /// The number of the request, 0 to 9,223,372,036,854,775,807.
+    /// The number in the idempotency key, 0 to 9,223,372,036,854,775,807.
     pub number: u64,
     pub request: Piece,
     pub command: Command,
 }
 
-/// An event that reaches the office. A name is `None` if the given text is not a valid name.
+/// An event that reaches the office. A device name is `None` if the given text is not a valid name.
 #[derive(Drop)]
 pub enum Event {
-    /// The connection to a device was opened.
+    /// A connection to the device was opened.
     Connected(Option<Name>),
-    /// Bytes arrived from a device.
+    /// Bytes arrived from the device.
     Bytes(Option<Name>, Piece),
-    /// A timer event: no input arrived before this time.
+    /// A timer event: no input arrived before the time of this event.
     Tick,
-    /// The connection to a device ended.
+    /// The connection to the device ended.
     Gone(Option<Name>, Closing),
     /// A command without an idempotency key.
     Command(Command),

@@ -1,4 +1,4 @@
-//! The records that the office keeps in its store.
+//! The records that the office writes to its store.
 use crate::answers::CommandKind;
 use crate::events::Piece;
 use crate::names::Name;
@@ -9,7 +9,8 @@ use meter_journal::EntryKind;
 use poll_core::Outcome;
 use read_plan::PlannedList;
 
-/// A device of the office, with its unit and the terms of its polls.
+/// A device of the office: its name, its Modbus unit identifier, its timeout, and its maximum
+/// number of pending polls.
 #[derive(Clone, Copy, Debug, PartialEq, Eq)]
 pub struct Device {
     pub name: Name,
@@ -19,24 +20,24 @@ pub struct Device {
     pub window: Window,
 }
 
-/// The point list of a device, with its plan.
+/// The point list of a device, with the plan of reads that covers its points.
 #[derive(Clone, Drop)]
 pub struct DeviceList {
     pub device: Name,
     pub list: PlannedList,
 }
 
-/// The source of the scale of an accounting register.
+/// The source of an accounting register's scale.
 #[derive(Clone, Copy, Debug, PartialEq, Eq)]
 pub enum ScaleSource {
-    /// A fixed power of ten, -3 to 3.
+    /// A fixed scale: a power of ten, -3 to 3.
     Fixed(i16),
-    /// The device's scale factor at this address.
+    /// The scale factor that the device has in the Modbus register at this address.
     Register(u16),
 }
 
-/// An accounting register of the office: a counter of energy in two consecutive Modbus registers
-/// of a device, the high word first.
+/// An accounting register: an energy counter in two consecutive Modbus registers of a device, the
+/// high word first.
 #[derive(Clone, Copy, Debug, PartialEq, Eq)]
 pub struct Register {
     pub name: Name,
@@ -46,46 +47,46 @@ pub struct Register {
     pub scale: ScaleSource,
 }
 
-/// The opening of a meter: its installation at an accounting register, with its count at that
-/// time.
+/// The opening of a meter: its installation at an accounting register, with the meter's count at
+/// the installation.
 #[derive(Clone, Copy, Debug, PartialEq, Eq)]
 pub struct Opening {
     pub meter: Name,
     pub register: Name,
     /// The greatest power that can flow through the meter, in W.
     pub ceiling: u64,
-    /// The number of counts in a full turn of the meter's counter.
+    /// The number of counts after which the meter's counter rolls over.
     pub range: u64,
-    /// Seconds since 1970-01-01 UTC.
+    /// The time of the installation, in seconds since 1970-01-01 UTC.
     pub at: u64,
     pub raw: u32,
     pub sf: i16,
 }
 
-/// A poll: one read that was sent to a device.
+/// A poll: one Modbus read that was sent to a device.
 #[derive(Clone, Copy, Debug, PartialEq, Eq)]
 pub struct Poll {
     /// The number of the poll, from 1.
     pub number: u64,
     pub device: Name,
     pub unit: u8,
-    /// Seconds since 1970-01-01 UTC.
+    /// The time of the poll's start, in seconds since 1970-01-01 UTC.
     pub at: u64,
-    /// The transaction identifier of the poll's frame.
+    /// The Modbus TCP transaction identifier of the poll's frame.
     pub id: u16,
     pub span: ReadSpan,
 }
 
-/// How and when a poll ended.
+/// The end of a poll: its time and its outcome.
 #[derive(Clone, Copy, Debug, PartialEq, Eq)]
 pub struct EndedPoll {
     pub poll: u64,
-    /// Seconds since 1970-01-01 UTC.
+    /// The time of the poll's end, in seconds since 1970-01-01 UTC.
     pub at: u64,
     pub outcome: Outcome,
 }
 
-/// An entry of a meter after its opening.
+/// An entry of a meter other than its opening.
 #[derive(Clone, Copy, Debug, PartialEq, Eq)]
 pub struct BookedEntry {
     pub meter: Name,
@@ -93,40 +94,40 @@ pub struct BookedEntry {
     pub entry: Entry,
 }
 
-/// A rejected reading, which is kept with its cause. It changes nothing else.
+/// A rejected reading with the cause of its rejection. It does not change the meter's state or
+/// energy.
 #[derive(Clone, Copy, Debug, PartialEq, Eq)]
 pub struct HeldReading {
     pub meter: Name,
     pub poll: u64,
-    /// Seconds since 1970-01-01 UTC.
+    /// The time of the reading, in seconds since 1970-01-01 UTC.
     pub at: u64,
     pub raw: u32,
     pub sf: i16,
     pub cause: Cause,
 }
 
-/// A void: the record that an entry of a meter was false, and no longer counts.
+/// A void: the record that an entry of a meter was wrong and no longer counts.
 #[derive(Clone, Copy, Debug, PartialEq, Eq)]
 pub struct VoidedEntry {
     pub meter: Name,
     pub place: u64,
-    /// Seconds since 1970-01-01 UTC.
+    /// The time of the void, in seconds since 1970-01-01 UTC.
     pub at: u64,
 }
 
-/// The answer to a command with an idempotency key. It is kept under the caller's name and
-/// number, and never deleted.
+/// The stored answer to a command with an idempotency key. The store never deletes it.
 #[derive(Clone, Drop)]
 pub struct Reply {
     pub caller: Name,
     pub number: u64,
     pub request: Piece,
     pub kind: CommandKind,
-    /// Seconds since 1970-01-01 UTC.
+    /// The time of the answer, in seconds since 1970-01-01 UTC.
     pub at: u64,
 }
 
-/// A record that the office keeps in its store.
+/// A record that the office writes to its store.
 #[derive(Drop)]
 pub enum Fact {
     Device(Device),

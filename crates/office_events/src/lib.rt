@@ -1,5 +1,5 @@
-//! The events that reach the office, which is the program's state over one store. Also its
-//! records, its answers and its notifications.
+//! The types of the events that reach the office, of its answers, notifications and records. The
+//! office is the program's state over one store.
 #![tactic(auto)]
 
 mod answers;

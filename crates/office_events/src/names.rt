@@ -26,7 +26,8 @@ impl Model for Name {
 
     ghost view = { λ n. take n.len n.bytes };
 
-    // Zeros follow the bytes of the name, so equal names have equal bytes.
+    // The bytes after the name are zero, so derived equality of the arrays is equality of the
+    // names.
     ghost invariant = { λ n. (n.len ≤ MAX_NAME)
         × (take n.len n.bytes ++ replicate (MAX_NAME - length (take n.len n.bytes)) 0 ≡ n.bytes)
         × (length (take n.len n.bytes) ≡ n.len) × (length n.bytes ≡ MAX_NAME)
@@ -89,7 +90,7 @@ impl Name {
         }
     }
 
-    /// Returns whether two names are equal.
+    /// Returns true if two names are equal.
     pub fn is(&self, other: &Name) -> bool
         ensures { result ≡ bytes_eq self.now other.now }
     {

@@ -1,16 +1,16 @@
-//! The observer of an office's events.
+//! The trait of an observer that gets a report of each event of an office.
 use crate::answers::{Answer, Note};
 use crate::events::Event;
 use crate::refusals::Refusal;
 
-/// An observer of each event that reaches an office. It is shown the event with its answer, its
-/// notifications, and the frames to send. `place` is the index of the device whose round caused
-/// the event, or `None` if no round did.
+/// An observer that gets a report of each event: the event, its answer, its notifications and the
+/// frames to send. `place` is the index of the device whose polling round caused the event, or
+/// `None`.
 pub trait Observer {
     ghost use Rattle.std.specs.Prelude.{Option};
     ghost use Rattle.office_events.specs.Showing.{Shown, shown};
 
-    // Holds if the observer, shown this event, is afterwards in the second state.
+    // The relation between the observer before a report, the report, and the observer after it.
     ghost sees: { Self → Shown → Self → Type 0 };
 
     fn observe(

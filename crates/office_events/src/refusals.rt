@@ -4,14 +4,14 @@ use std::error::Error;
 use std::fmt;
 use std::fmt::{Display, Formatter};
 
-/// The reason why the store failed.
+/// The cause of a store failure.
 #[derive(Clone, Copy, Debug, PartialEq, Eq)]
 pub enum StoreCause {
-    /// The store refused a record or failed, or has no more poll numbers.
+    /// The store rejected a record, its storage failed, or all poll numbers are used.
     Refused,
-    /// The store holds impossible data.
+    /// The store contains inconsistent data.
     Damaged,
-    /// An interval row has no civil day in the store's zone. The store itself did not fail.
+    /// A quarter hour has no civil day in the store's time zone. The store itself did not fail.
     NoDay,
 }
 
@@ -19,7 +19,7 @@ impl StoreCause {
     ghost use Rattle.std.specs.Prelude.{◌≡◌};
     ghost use Rattle.office_events.specs.Numbers.{store_number};
 
-    /// Returns the number of the cause. The program does not print it.
+    /// Returns the numeric code of the cause, which the program does not print.
     pub fn number(self) -> u8
         ensures { result ≡ store_number self }
     {
@@ -43,47 +43,49 @@ impl Display for StoreCause {
 
 impl Error for StoreCause {}
 
-/// The reason why the office refuses an event or a query. If several apply, `Stopped` comes first,
-/// then `Reused`, then the one with the smallest number. The exception is `Store`, which comes
+/// The reason why the office refuses an event or a query. If several reasons apply, the office
+/// reports `Stopped` first, then `Reused`, then the reason with the smallest number. `Store` comes
 /// after `NotPlausible`.
 #[derive(Clone, Copy, Debug, PartialEq, Eq)]
 pub enum Refusal {
-    /// The office has no device, accounting register, meter, list, entry or poll with this name
-    /// or number.
+    /// The office has no device, accounting register, meter, point list, entry or poll with this
+    /// name or number.
     NotFound,
-    /// A device, accounting register or meter has this name already, or a meter is open at the
-    /// accounting register.
+    /// A device, accounting register or meter already has this name, or the accounting register
+    /// already has an open meter.
     Exists,
-    /// The timestamp is before that of the latest accepted event.
+    /// The event's timestamp is before the timestamp of the latest accepted event.
     ClockBack,
-    /// A scale is not from -3 to 3.
+    /// A scale factor is not from -3 to 3.
     BadScale,
-    /// The count, also with its rollovers, is lower than the last one.
+    /// The count, with its rollovers added, is lower than the meter's last count.
     NegativeStep,
-    /// The last entry has the same timestamp or a later one.
+    /// The meter's last entry has the same or a later timestamp.
     NotLater,
-    /// The step would touch more than 3,000 quarter hours.
+    /// The time since the meter's last entry covers more than 3,000 quarter hours.
     SpanTooLong,
-    /// The energy of the meter would pass 4 * 10^18 mWh.
+    /// The time since the meter's last entry touches more than 3,000 quarter hours.
     TotalFull,
-    /// The meter at the accounting register was closed.
+    /// The meter at the accounting register is closed.
     Ended,
-    /// The device is not connected or is connected already, or its session can start no poll.
+    /// The device is not connected or is already connected, or its session can start no further
+    /// poll.
     Busy,
-    /// The caller already used the number of its idempotency key for another request.
+    /// The caller already used this idempotency key for a different request.
     Reused,
     /// A name, a number or a timestamp is out of range, or a limit of the office is reached.
     Limit,
-    /// The store failed or has no more poll numbers, or an interval row has no civil day.
+    /// The store failed, all poll numbers are used, or a quarter hour has no civil day.
     Store(StoreCause),
     /// Memory ran out.
     Memory,
-    /// The office has stopped, because the store or memory failed while the office settled polls.
+    /// The office stopped earlier, because the store failed or memory ran out while the office
+    /// processed the outcomes of polls.
     Stopped,
-    /// The entry is already void, or is no reading from the device. Or the next valid entry is no
-    /// reading from the device.
+    /// The entry is already void or is not a reading from the device, or the next valid entry is
+    /// not a reading from the device.
     NotVoidable,
-    /// Without the entry to void, the next entry would have been rejected for this cause.
+    /// Without the entry to void, the office would have rejected the next entry for this cause.
     NotPlausible(Cause),
 }
 
@@ -91,7 +93,7 @@ impl Refusal {
     ghost use Rattle.std.specs.Prelude.{◌≡◌};
     ghost use Rattle.office_events.specs.Numbers.{refusal_number};
 
-    /// Returns the number that the program prints for the refusal.
+    /// Returns the numeric code that the program prints for the refusal.
     pub fn number(self) -> u8
         ensures { result ≡ refusal_number self }
     {

@@ -1,4 +1,4 @@
--- A request has one response.
+-- Lemmas: a request has only one response.
 use Rattle.std.proofs.Common.{◌≡◌, ◌∙◌, ℕ, false, List, Option, Some, None, Result, inl, inr, refl, sym, ap, subst}
 use Rattle.http_answer.specs.declared.commands.fault.CommandFault.{CommandFault}
 use Rattle.http_request.specs.HeadTests.{Start, head_fault}
@@ -63,7 +63,8 @@ to_requests bodies office bytes one other a b =
     ∙ ap (λ (s : Start). reply_bytes (reply_of office routes s a.body b.given)) same.one_start
     ∙ ap (λ t. reply_bytes (reply_of office routes b.start t b.given)) same.one_body ∙ sym b.is
 
--- Bytes with a bad head hold no request, so they cannot have both kinds of response.
+-- If bytes begin with an invalid head, then they hold no request. Their only response is the
+-- response to the invalid head.
 not_both : {A : Type 0} → (office : Office) (bytes one other : List ℕ) → RepliesToBadHead bytes one → RepliesToRequest office routes bytes other → A
 not_both office bytes one other bad asked = absurd (bad.bad.none asked.holds.len asked.holds.head asked.holds.begins)
 

@@ -1,4 +1,4 @@
--- Lemmas on reports that are streamed as the response to a request.
+-- Lemmas on reports that are streamed row by row as HTTP responses.
 use Rattle.std.proofs.Common.{◌≡◌, ◌∙◌, ◌⊎◌, true, ℕ, zero, suc, ◌+◌, ◌<◌, ◌≤◌, List, [], ◌∷◌, ◌++◌, length, take, drop, Option, Some, None, Result, Ok, Err, inl, inr, refl, sym, ap, subst, arith, append_assoc}
 use Rattle.std.specs.Prelude.{flat_map}
 use Rattle.std.specs.Option.{option_and_then}
@@ -38,11 +38,11 @@ use Rattle.office_http.proofs.Served.{StandsStill}
 abbrev most : ℕ
 most = 18446744073709551615
 
--- The lines of the rows, followed by the line with their number.
+-- The text lines of a report's rows, followed by the line with the number of rows.
 abbrev pub report_text : {T : Type 0} → (line : T → List ℕ) → List T → List ℕ
 report_text line rows = flat_map line rows ++ end_line (length rows)
 
--- The step of a sink that writes a row as a line.
+-- The row visitor writes each row as one line of the report.
 abbrev pub takes_lines : {T : Type 0} → (line : T → List ℕ) → Report → T → Report → Type 0
 takes_lines line old row new = PutsLine (line row) old new
 
@@ -63,7 +63,7 @@ whole_at line (row ∷ rows) =
     let end = end_line (length (row ∷ rows)) in
     ap (λ head. (text_head ++ lines) ++ (head ++ end)) (head_later (length (row ∷ rows)) (omega arith)) ∙ append_assoc text_head lines end
 
--- A report that ended after all its rows.
+-- If a report ended after all its rows, then its text is the text of the complete report.
 ended_whole : {T : Type 0} (line : T → List ℕ) (rows : List T) (start lines : Report) (out : Outgoing) (cut : Option Refusal)
     → TakesAll (takes_lines line) start rows lines → start.count ≡ 0 → length rows ≤ most → EndsReport lines (Ok tt) out cut
     → sending.Puts start.out out (text_head ++ report_text line rows) × (cut ≡ None)
@@ -73,14 +73,15 @@ ended_whole line rows start lines out cut took none few ends =
     let end = subst (λ n. sending.Puts lines.out out (head_before n ++ end_line n)) count ends.0 in
     (subst (sending.Puts start.out out) (whole_at line rows) (Puts-then first.puts end), ends.1)
 
--- A report that was refused before its first row.
+-- If a query is refused before the first row of its report, then the response reports the refusal.
 ended_refused : (start lines : Report) (why : Refusal) (out : Outgoing) (cut : Option Refusal) → lines ≡ start → start.count ≡ 0
     → EndsReport lines (Err why) out cut → sending.Puts start.out out (reply_bytes (refused why)) × (cut ≡ None)
 ended_refused start lines why out cut same none ends =
     let end = ends.0 (ap (λ (r : Report). r.count) same ∙ none) in
     (subst (λ (r : Report). sending.Puts r.out out (reply_bytes (refused why))) same end.0, end.1)
 
--- The part of a response that is missing if the report ended early.
+-- If a report was cut off, then it lacks the lines of the remaining rows and the line with the
+-- number of rows.
 missing_is : {T : Type 0} (line : T → List ℕ) (rows first : List T) (n : ℕ) (row : T) (rest : List T) → first ≡ take n rows → first ≡ row ∷ rest
     → text_head ++ report_text line rows ≡ (text_head ++ flat_map line first) ++ (flat_map line (drop n rows) ++ end_line (length rows))
 missing_is line rows first n row rest is some =
@@ -98,7 +99,7 @@ some_rows n count is = grind (arith, nat_tests)
 below : {n : ℕ} → n < 18446744073709551616 → n ≤ most
 below h = omega (arith, h)
 
--- A name that is found is not unknown, and the reverse.
+-- The result of a query that succeeded.
 abbrev whole_answer : Unit {0} → Result (Unit {0}) Refusal
 whole_answer x = Ok x
 
@@ -125,14 +126,14 @@ nil_take zero = refl
 nil_take (suc n) = refl
 
 module _ {B : Type 0} (ledger : B → Ledger) (past : History) (at : ℕ) (read : List ℕ) (old new : Run B) where
-  -- The refusal Stopped occurs only if the office had stopped.
+  -- If the refusal is Stopped, then the program already refused all events before the call.
   abbrev Told : Refusal → Type 0
   Told why = why ≡ refusal.Stopped → is_stopped old ≡ true
 
   abbrev Answers : Result (Unit {0}) Refusal → Type 0
   Answers answer = answer ≡ Err refusal.Stopped → is_stopped old ≡ true
 
-  -- The response is the complete report.
+  -- If a report ended with success, then it is the complete response.
   whole_served : (text : List ℕ) (from out : Outgoing) (cut : Option Refusal) → failures_of ledger new ≡ failures_of ledger old → AsksNothing routes read
       → ((office : Office) → AnswersAt (ledger (books_in old)).zone past at office → IsReply office routes read (text_head ++ text))
       → StandsStill ledger past old new → sending.Puts from out (text_head ++ text) × (cut ≡ None) → Puts ledger past at read old new from out cut
@@ -150,7 +151,7 @@ module _ {B : Type 0} (ledger : B → Ledger) (past : History) (at : ℕ) (read 
         puts = put.0;
       })
 
-  -- The response says that the name is unknown.
+  -- If no object has the name in a query, then the response reports that the name is unknown.
   unknown_served : (why : Refusal) (from out : Outgoing) (cut : Option Refusal) → failures_of ledger new ≡ failures_of ledger old → AsksNothing routes read
       → ((office : Office) → AnswersAt (ledger (books_in old)).zone past at office → IsReply office routes read (reply_bytes (refused why)))
       → StandsStill ledger past old new → sending.Puts from out (reply_bytes (refused why)) × (cut ≡ None) → Puts ledger past at read old new from out cut
@@ -168,7 +169,7 @@ module _ {B : Type 0} (ledger : B → Ledger) (past : History) (at : ℕ) (read 
         puts = put.0;
       })
 
-  -- The response says that the store failed before the first row.
+  -- If the store fails before the first row of a report, then the response reports that failure.
   failed_served : (takes_memory : Type 0) (why : Refusal) (from out : Outgoing) (cut : Option Refusal) → IsOutside takes_memory (failures_of ledger old) (failures_of ledger new) why → Told why
       → StandsStill ledger past old new → sending.Puts from out (reply_bytes (refused why)) × (cut ≡ None) → Puts ledger past at read old new from out cut
   failed_served takes_memory why from out cut outside told stands put =
@@ -185,7 +186,7 @@ module _ {B : Type 0} (ledger : B → Ledger) (past : History) (at : ℕ) (read 
         puts = put.0;
       })
 
-  -- The response is cut off, because the store failed after a row.
+  -- If the store fails after a row of a report, then the response is cut off.
   cut_served : (why : Refusal) (text put rows : List ℕ) (count : ℕ) (from to out : Outgoing) (cut : Option Refusal) → IsOutside ⊥ (failures_of ledger old) (failures_of ledger new) why
       → AsksNothing routes read
       → ((office : Office) → AnswersAt (ledger (books_in old)).zone past at office → IsReply office routes read text)
@@ -204,7 +205,7 @@ module _ {B : Type 0} (ledger : B → Ledger) (past : History) (at : ℕ) (read 
         puts = subst (λ o. sending.Puts from o put) (sym ends.0) puts;
       })
 
-  -- The report if the store failed after these rows.
+  -- If the store fails after some rows, the written bytes are the lines of these rows.
   after_rows : {T : Type 0} (line : T → List ℕ) (rows first : List T) (n : ℕ) (start lines : Report) (why : Refusal) (out : Outgoing) (cut : Option Refusal)
       → first ≡ take n rows → TakesAll (takes_lines line) start first lines → start.count ≡ 0 → EndsReport lines (Err why) out cut
       → IsOutside ⊥ (failures_of ledger old) (failures_of ledger new) why → Told why → AsksNothing routes read
@@ -219,7 +220,8 @@ module _ {B : Type 0} (ledger : B → Ledger) (past : History) (at : ℕ) (read 
       cut_served why (text_head ++ report_text line rows) (text_head ++ flat_map line first) (flat_map line (drop n rows)) (length rows)
       start.out lines.out out cut outside nothing replies stands (missing_is line rows first n row rest is refl) begun.puts (ends.1 some)
 
-  -- The report on the rows of a meter.
+  -- The response to a query for the rows of a meter is the report, a refusal, or a report that was
+  -- cut off.
   pub rows_told : {T : Type 0} (line : T → List ℕ) (rows : Option (List T)) (start lines : Report) (answer : Result (Unit {0}) Refusal) (out : Outgoing) (cut : Option Refusal)
       → HandsRows (takes_lines line) rows (failures_of ledger old) (failures_of ledger new) start lines answer → start.count ≡ 0 → EndsReport lines answer out cut
       → length (rows_in rows) ≤ most → AsksNothing routes read
@@ -245,7 +247,8 @@ module _ {B : Type 0} (ledger : B → Ledger) (past : History) (at : ℕ) (read 
     | inr fails ↦ after_rows line rows (take hands.begun.0 rows) hands.begun.0 start lines why out cut refl hands.begun.1 none ends fails (λ is. told (ap Err is)) nothing replies stands
   ]
 
-  -- The report on the days of a register that exists.
+  -- If an accounting register exists, then the response to a query for its days is the complete
+  -- report.
   days_whole : (name : Option (List ℕ)) (start lines : Report) (x : Unit {0}) (out : Outgoing) (cut : Option Refusal)
       → HandsDays (takes_lines day_line) (ledger (books_in old)).zone (facts_of past) name (failures_of ledger old) (failures_of ledger new) start lines (Ok x)
       → start.count ≡ 0 → EndsReport lines (Ok x) out cut → AsksNothing routes read
@@ -289,7 +292,7 @@ zero_or_more : (n : ℕ) → (n ≡ 0) ⊎ (0 < n)
 zero_or_more zero = inl refl
 zero_or_more (suc n) = inr (omega arith)
 
--- For any content of the store, only a response was written.
+-- For any content of the store, the call writes only to its response.
 ended_gives : (lines : Report) (answer : Result (Unit {0}) Refusal) (out : Outgoing) (cut : Option Refusal) → EndsReport lines answer out cut
     → (text : List ℕ) × sending.Puts lines.out out text
 ended_gives lines (Ok x) out cut ends = (_, ends.0)

@@ -1,4 +1,4 @@
--- Lemmas on the response to the bytes that were read.
+-- Lemmas on the response to a request.
 use Rattle.std.proofs.Common.{◌≡◌, ◌∙◌, ℕ, Bool, true, false, List, Option, Some, None, Result, Ok, Err, inl, inr, refl, sym, ap, subst}
 use Rattle.std.specs.Prelude.{◌||◌}
 use Rattle.office_events.specs.declared.answers.Answer.{Answer}
@@ -24,13 +24,13 @@ use Rattle.office_http.specs.Wants.Wanting.{AsksNothing, IsAskedFor, IsNoCommand
 use Rattle.office_http.specs.Answering.{AnswersAt, told}
 use Rattle.office_http.specs.Serving.{Lasts, Serves}
 
--- If the office was not asked, its store keeps its records.
+-- If the call executed nothing, then the store has the same records as before the call.
 keeps_same : {B : Type 0} (ledger : B → Ledger) (old new : Run B) → new ≡ old → KeepsFacts (ledger (books_in old)) (ledger (books_in new))
 keeps_same {B} ledger old new same =
     subst (λ (o : Run B). KeepsFacts (ledger (books_in old)) (ledger (books_in o))) (sym same) (record { facts = λ known h. h; left = λ left may. may })
 
--- A query leaves the office matching what it accepted, and a crash leaves the same records as
--- before.
+-- After a query the program's state matches its accepted events, and a crash leaves the records
+-- from before the query.
 pub record StandsStill {B : Type 0} (ledger : B → Ledger) (past : History) (old new : Run B) : Type 0 where
   pub stands : Stands ledger past new
   pub keeps : KeepsFacts (ledger (books_in old)) (ledger (books_in new))
@@ -39,7 +39,8 @@ pub still : {B T : Type 0} (ledger : B → Ledger) (past : History) (old new : R
     → Stands ledger past old → StandsStill ledger past old new
 still ledger past old new answer asks stands = record { stands = asks.stands past stands; keeps = asks.keeps }
 
--- The response does not depend on the office.
+-- If the response to a request does not depend on the program's state, then the program executes
+-- nothing for that request.
 pub told_off : {B : Type 0} (ledger : B → Ledger) (past : History) (at : ℕ) (read : List ℕ) (old new : Run B) (text : List ℕ)
     → new ≡ old → AsksNothing routes read → ((office : Office) → IsReply office routes read text) → Stands ledger past old
     → Serves ledger past at read old new None text
@@ -55,7 +56,7 @@ told_off ledger past at read old new text same nothing reply stands = record {
 not_stopped : refusal.Memory ≡ refusal.Stopped → ⊥
 not_stopped is = cc is
 
--- The response says that memory ran out before the office was asked.
+-- If memory ran out before anything was executed, the response reports that.
 pub no_memory : {B : Type 0} (ledger : B → Ledger) (past : History) (at : ℕ) (read : List ℕ) (old new : Run B)
     → new ≡ old → Stands ledger past old → Serves ledger past at read old new None (reply_bytes (refused refusal.Memory))
 no_memory ledger past at read old new same stands = record {
@@ -67,7 +68,7 @@ no_memory ledger past at read old new same stands = record {
   leaves = inr (refl, keeps_same ledger old new same);
 }
 
--- The response to a query for one row.
+-- The response to a query for one object is that object or a refusal.
 pub row_told : {B T : Type 0} (ledger : B → Ledger) (past : History) (at : ℕ) (read : List ℕ) (old new : Run B) (text : T → List ℕ)
     (found : Option T) (answer : Result T Refusal) → IsRowFound found (failures_of ledger old) (failures_of ledger new) answer
     → AsksNothing routes read → ((office : Office) → AnswersAt (ledger (books_in old)).zone past at office → IsReply office routes read (reply_bytes (row_reply text (or_not_found found))))
@@ -99,7 +100,7 @@ row_told ledger past at read old new text found (Err why) (inr fails) nothing re
   leaves = inr (refl, stands.keeps);
 }
 
--- The response to a command.
+-- The response to a command is the program's answer to that command.
 pub command_told : {B : Type 0} (ledger : B → Ledger) (past : History) (at : ℕ) (read : List ℕ) (old new : Run B) (asked : Asked)
     (answer : Result Answer Refusal) → IsAskedFor routes read asked
     → IsAnswer past at (event.Asked asked) (failures_of ledger old) (failures_of ledger new) answer
@@ -137,19 +138,19 @@ or_none : (b : Bool) → (b || false) ≡ b
 or_none true = refl
 or_none false = refl
 
--- Executing a command does not stop the office.
+-- Executing a command does not make the program refuse further events.
 pub lasts_fed : {B : Type 0} (ledger : B → Ledger) (old new : Run B) (asked : Asked) (answer : Result Answer Refusal)
     → Ends ledger old new (event.Asked asked) answer → Lasts ledger old new
 lasts_fed ledger old new asked answer ends = record { stopped = ends.stops ∙ or_none (is_stopped old); clean = ends.clean; zone = ends.zone }
 
--- Answering a query does not stop the office.
+-- Answering a query does not make the program refuse further events.
 pub lasts_asked : {B T : Type 0} (ledger : B → Ledger) (old new : Run B) (answer : Result T Refusal) → OnlyAsks ledger old new answer → Lasts ledger old new
 lasts_asked ledger old new answer asks = record { stopped = asks.stays; clean = asks.clean; zone = asks.zone }
 
 pub lasts_same : {B : Type 0} (ledger : B → Ledger) (office : Run B) → Lasts ledger office office
 lasts_same ledger office = record { stopped = refl; clean = λ x. x; zone = refl }
 
--- The response to a body that gives no command.
+-- The response to a request without a valid command reports the fault of its body.
 pub no_command_told : {B : Type 0} (ledger : B → Ledger) (past : History) (at : ℕ) (read : List ℕ) (office : Run B) (why : CommandFault)
     → IsNoCommand routes read why → Stands ledger past office → Serves ledger past at read office office None (reply_bytes (fault_said why))
 no_command_told ledger past at read office why (inl memory) stands =

@@ -1,4 +1,4 @@
--- What an office answers if it matches its accepted events, and its store and memory do not fail.
+-- The program's answers to queries and commands, if its store and memory do not fail.
 use Rattle.std.specs.Prelude.{◌≡◌, ℕ, List, map, Option, Some, None, Result, Ok, Err}
 use Rattle.std.specs.Option.{option_and_then}
 use Rattle.interval_core.specs.Days.{account_of}
@@ -21,23 +21,23 @@ use Rattle.office_core.specs.Asking.{AreDaysNamed, intervals_of, or_not_found}
 use Rattle.http_answer.specs.Kinds.{kind_answered}
 use Rattle.http_answer.specs.Offices.{Office}
 
--- The result of a command by its kind. Without a kind the store is damaged, because the office
--- answers a command with Noted only after a wrong answer of the store.
+-- The result of a command by its kind. Without a kind the store is damaged: the program answers
+-- Noted to a command only after wrong data of the store.
 abbrev pub or_damaged : Option CommandKind → Result CommandKind Refusal
 or_damaged None = Err (refusal.Store store.Damaged)
 or_damaged (Some kind) = Ok kind
 
--- The result of a command, from the office's answer.
+-- The result of a command, converted from the program's answer.
 abbrev pub told : Result Answer Refusal → Result CommandKind Refusal
 told (Ok answer) = or_damaged (kind_answered answer)
 told (Err why) = Err why
 
--- An accounting register has this name. No register has a missing name.
+-- The store has an accounting register with this name. A missing name matches no register.
 abbrev pub IsRegister : List Fact → (name : Option (List ℕ)) → Type 0
 IsRegister facts name = option_and_then (register_of facts) name ≡ None → ⊥
 
--- The answer has the days of the register, in the office's time zone. A name without a register has
--- no answer.
+-- The answer to a query for days: the daily energy of the accounting register, in the configured
+-- time zone. Without such a register there is no answer.
 pub record AnswersDays (zone : Zone) (facts : List Fact)
     (answer : Option (List ℕ) → Result (List DayTotal) Refusal) : Type 0 where
   pub known : (name : Option (List ℕ)) (days : List DayTotal) → IsRegister facts name
@@ -45,8 +45,8 @@ pub record AnswersDays (zone : Zone) (facts : List Fact)
   pub unknown : (name : Option (List ℕ)) → option_and_then (register_of facts) name ≡ None
       → answer name ≡ Err refusal.NotFound
 
--- The office's answers: those to queries follow from the records of its accepted events, those to
--- commands from the rules for commands.
+-- The program's answers. Answers to queries follow from the records of its accepted events, and
+-- answers to commands from the rules for commands.
 pub record AnswersAt (zone : Zone) (past : History) (at : ℕ) (office : Office) : Type 0 where
   pub meter : (name : Option (List ℕ))
       → office.meter name ≡ or_not_found (option_and_then (meter_of (facts_of past)) name)

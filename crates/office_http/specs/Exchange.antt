@@ -1,4 +1,4 @@
--- The effect of one call of `handle`.
+-- The effect of one call of `handle`, which reads one request and writes one response.
 use Rattle.std.specs.Prelude.{◌≡◌, ◌≤◌, ◌⊎◌, ◌+◌, ◌-◌, ◌^◌, ℕ, min, Bool, true, false, List, [], Option, Some, None, Result, Ok, Err}
 use Rattle.std.specs.Io.KnownBytes.{Consumes, IsAtEnd, Keeps}
 use Rattle.mb_wire.specs.Links.{risen}
@@ -24,7 +24,7 @@ use Rattle.office_http.specs.Serving.{Serves}
 use Rattle.office_http.specs.declared.fault.HandleFault.{HandleFault}
 use Rattle.office_http.specs.declared.fault.HandleFault.TheVariants.{Read, Write, Short, TurnsUsed, Cut}
 
--- The number of a fault.
+-- The number of the reason why a request was not served.
 abbrev pub fault_number : HandleFault → ℕ
 fault_number Read = 1
 fault_number Write = 2
@@ -32,13 +32,13 @@ fault_number Short = 3
 fault_number TurnsUsed = 4
 fault_number Cut = 5
 
--- The fault of a call whose reading stopped for this cause.
+-- The fault of a call that could not read its request, by the cause that ended the reading.
 abbrev pub as_fault : TakeFault → HandleFault
 as_fault take.Read = Read
 as_fault take.Short = Short
 as_fault take.TurnsUsed = TurnsUsed
 
--- A read or a write of the link failed.
+-- True if a read or a write of the link failed.
 abbrev pub is_link_fault : Result (Unit {0}) HandleFault → Bool
 is_link_fault (Ok x) = false
 is_link_fault (Err Read) = true
@@ -47,14 +47,16 @@ is_link_fault (Err Short) = false
 is_link_fault (Err TurnsUsed) = false
 is_link_fault (Err Cut) = false
 
--- The result of a call that wrote a response: the response is cut off, a write failed, or neither.
+-- The result of a call that wrote a response: a failed write, a response that was cut off, or
+-- success.
 abbrev pub ended : (sent : Result (Unit {0}) LinkFailed) → (cut : Option Refusal)
     → Result (Unit {0}) HandleFault
 ended (Err failed) cut = Err Write
 ended (Ok x) None = Ok x
 ended (Ok x) (Some why) = Err Cut
 
--- The result can be that of a call with a response: success, a failed write, or a cut response.
+-- A possible result of a call that wrote a response: success, a failed write, or a response that
+-- was cut off.
 abbrev pub IsEnd : Result (Unit {0}) HandleFault → Type 0
 IsEnd (Ok x) = Unit {0}
 IsEnd (Err Write) = Unit {0}
@@ -63,7 +65,7 @@ IsEnd (Err Read) = ⊥
 IsEnd (Err Short) = ⊥
 IsEnd (Err TurnsUsed) = ⊥
 
--- What a link has still to deliver and has received, before and after a call.
+-- The bytes that a link still delivers and those that it has received, before and after a call.
 pub record Passage : Type 0 where
   pub remaining : Option (List ℕ)
   pub later_remaining : Option (List ℕ)
@@ -71,7 +73,7 @@ pub record Passage : Type 0 where
   pub later_given : Option (List ℕ)
   pub last : Option LastTake
 
--- The model of a link before and after a call, from its parts.
+-- The model of a link before and after a call, from its five parts.
 abbrev pub passage : (remaining later_remaining given later_given : Option (List ℕ))
     → Option LastTake
     → Passage
@@ -83,19 +85,19 @@ passage remaining later_remaining given later_given last = record {
   last = last;
 }
 
--- Nothing was read, or reading stopped in time: before the last read, the bytes held no complete
--- request and no bad head.
+-- Before the last read from the link, the bytes held neither a complete request nor an invalid
+-- head. Also true if the call read nothing.
 abbrev pub StopsReading : (read : List ℕ) → Option LastTake → Type 0
 StopsReading read last = (read ≡ []) ⊎ TakesWhatLacks (IsUnfinished routes) [] read last
 
--- The bytes hold a head or a bad one.
+-- The bytes hold a complete request head or an invalid head.
 pub record HasHead (read : List ℕ) : Type 0 where
   pub head_state : HeadState
   pub finds : Looks read head_state
   pub come : is_open head_state ≡ false
 
--- The call wrote the response to the bytes that were read. If a write failed, the link got only a
--- beginning of the response.
+-- The call wrote the response to the bytes in `read`. If a write failed, the link received only a
+-- prefix of the response.
 pub record GivesReply {B : Type 0} (ledger : B → Ledger) (past : History) (at : ℕ)
     (old new : Office B)
     (given later_given : Option (List ℕ)) (read : List ℕ) (result : Result (Unit {0}) HandleFault)
@@ -107,16 +109,16 @@ pub record GivesReply {B : Type 0} (ledger : B → Ledger) (past : History) (at 
   pub serves : Serves ledger past at read old new cut put
   pub gives : Gives sent given later_given put
 
--- For every history that the office matched, the call wrote the response to the bytes that were
--- read.
+-- For every history of accepted events that matches the program's state, the call wrote the
+-- response to the bytes in `read`.
 abbrev pub GivesReplyTo : {B : Type 0} → (read : List ℕ) → (B → Ledger) → (at : ℕ)
     → (old new : Office B) → (given later_given : Option (List ℕ)) → Result (Unit {0}) HandleFault
     → History → Type 0
 GivesReplyTo read ledger at old new given later_given result past =
     GivesReply ledger past at old new given later_given read result
 
--- The bytes hold a complete or a bad head. Reading stopped once they held a complete request or a
--- bad head, and the call wrote a response.
+-- The bytes hold a complete or an invalid head, and the call wrote a response. It read nothing
+-- after a complete request or an invalid head.
 pub record Replies {B : Type 0} (ledger : B → Ledger) (at : ℕ) (old new : Office B) (link : Passage)
     (read : List ℕ) (result : Result (Unit {0}) HandleFault) : Type 0 where
   pub head : HasHead read
@@ -124,14 +126,14 @@ pub record Replies {B : Type 0} (ledger : B → Ledger) (at : ℕ) (old new : Of
   pub replies : After ledger old new
       (GivesReplyTo read ledger at old new link.given link.later_given result)
 
--- The bytes hold no complete request and no bad head. Nothing was written, and the office is
--- unchanged.
+-- The bytes hold neither a complete request nor an invalid head. The call wrote nothing and left
+-- the program's state unchanged.
 pub record ReadsOn {B : Type 0} (old new : Office B) (link : Passage) (read : List ℕ) : Type 0 where
   pub goes_on : IsUnfinished routes read
   pub nothing : Keeps link.given link.later_given
   pub unchanged : new ≡ old
 
--- The effect of a call on the bytes that it read, by its result.
+-- The effect of a call of `handle` that read the bytes in `read`, for each result of the call.
 abbrev pub Does : {B : Type 0} → (B → Ledger) → (at : ℕ) → (old new : Office B) → Passage
     → (read : List ℕ) → Result (Unit {0}) HandleFault → Type 0
 Does ledger at old new link read (Ok x) = Replies ledger at old new link read (Ok x)
@@ -142,15 +144,17 @@ Does ledger at old new link read (Err Short) =
     ReadsOn old new link read × IsAtEnd link.later_remaining
 Does ledger at old new link read (Err TurnsUsed) = ReadsOn old new link read
 
--- The call read these bytes from the link, and acted on them.
+-- The call of `handle` read the bytes in `read` from the link. `Does` states the effect of the call
+-- for these bytes and its result.
 pub record Handles {B : Type 0} (ledger : B → Ledger) (at : ℕ) (old new : Office B) (link : Passage)
     (result : Result (Unit {0}) HandleFault) : Type 0 where
   pub read : List ℕ
   pub takes : Consumes link.remaining link.later_remaining read
   pub does : Does ledger at old new link read result
 
--- The link's count of failures rises by one exactly if the link failed. There were at most 100,000
--- reads, and exactly that many if they were used up. The counts stop at 2^64 - 1.
+-- The link's count of failures rises by one exactly if a read or a write of the link failed. The
+-- call made at most 100,000 reads, and exactly that many after the fault TurnsUsed. The counts stop
+-- at 2^64 - 1.
 pub record CountsLink (result : Result (Unit {0}) HandleFault)
     (failed later_failed taken later_taken : ℕ)
     : Type 0 where
@@ -160,8 +164,8 @@ pub record CountsLink (result : Result (Unit {0}) HandleFault)
   pub few : (count : ℕ) → taken ≡ min count (2 ^ 64 - 1)
       → later_taken ≤ min (count + MOST_TAKES) (2 ^ 64 - 1)
 
--- The call had no memory for a request. After a complete or bad head, its response reports that;
--- the office is not asked.
+-- The call had no memory for a request. After a complete or invalid head, it wrote the response
+-- that memory ran out, and executed nothing.
 pub record RepliesBare (link : Passage) (read : List ℕ) (result : Result (Unit {0}) HandleFault)
     : Type 0 where
   pub sent : Result (Unit {0}) LinkFailed
@@ -170,13 +174,13 @@ pub record RepliesBare (link : Passage) (read : List ℕ) (result : Result (Unit
   pub stops : StopsReading read link.last
   pub gives : Gives sent link.given link.later_given (reply_bytes (refused refusal.Memory))
 
--- The call had no memory for a request, and read no complete request and no bad head. It wrote
--- nothing.
+-- The call had no memory for a request, and read neither a complete request nor an invalid head. It
+-- wrote nothing.
 pub record ReadsOnBare (link : Passage) (read : List ℕ) : Type 0 where
   pub goes_on : IsUnfinished routes read
   pub nothing : Keeps link.given link.later_given
 
--- The effect of a call without memory for a request, by its result.
+-- The effect of a call that had no memory for a request, for each result of the call.
 abbrev pub DoesBare : Passage → (read : List ℕ) → Result (Unit {0}) HandleFault → Type 0
 DoesBare link read (Ok x) = RepliesBare link read (Ok x)
 DoesBare link read (Err Write) = RepliesBare link read (Err Write)
@@ -185,7 +189,8 @@ DoesBare link read (Err Read) = ReadsOnBare link read
 DoesBare link read (Err Short) = ReadsOnBare link read × IsAtEnd link.later_remaining
 DoesBare link read (Err TurnsUsed) = ReadsOnBare link read
 
--- The call had no memory for a request. It read these bytes from the link, and acted on them.
+-- The call of `handle` had no memory for a request. `DoesBare` states the effect of the call for
+-- the bytes that it read.
 pub record HandlesBare (link : Passage) (result : Result (Unit {0}) HandleFault) : Type 0 where
   pub read : List ℕ
   pub takes : Consumes link.remaining link.later_remaining read

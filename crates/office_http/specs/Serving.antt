@@ -1,4 +1,4 @@
--- The response to the bytes that were read, and the events that the office has then accepted.
+-- The response to a request, and the events that the program has accepted after the request.
 use Rattle.std.specs.Prelude.{◌≡◌, ◌⊎◌, ◌++◌, ℕ, Bool, true, List, Option, Some, None, Result}
 use Rattle.interval_core.specs.declared.zone.Zone.{Zone}
 use Rattle.office_events.specs.declared.answers.Answer.{Answer}
@@ -25,20 +25,20 @@ use Rattle.http_answer.specs.Whole.{IsReply}
 use Rattle.office_http.specs.Wants.Wanting.{AsksNothing, AsksOffice}
 use Rattle.office_http.specs.Answering.{AnswersAt}
 
--- With a command: the bytes hold a request for it. Without one: the bytes hold no request for any
+-- The bytes hold a request for the given command. For None, the bytes hold no request for any
 -- command.
 abbrev pub Asks : (read : List ℕ) → Option Asked → Type 0
 Asks read None = AsksNothing routes read
 Asks read (Some asked) = AsksOffice routes read asked
 
--- The history of the office after this command. Without a command it is unchanged.
+-- The history of accepted events after this command. Without a command the history is unchanged.
 abbrev pub with_asked : History → (at : ℕ) → Option Asked → History
 with_asked past at None = past
 with_asked past at (Some asked) =
     with_answer past at (event.Asked asked) (decision_of past at (event.Asked asked))
 
--- The response is the office's answer by the records of its accepted events. If the bytes hold a
--- command, the history continues with it.
+-- The response is the program's answer by the records of its accepted events. If the bytes hold a
+-- command, the history is extended by that command.
 pub record IsAnswered (zone : Zone) (past : History) (at : ℕ) (read reply : List ℕ)
     (later : History)
     : Type 0 where
@@ -47,8 +47,9 @@ pub record IsAnswered (zone : Zone) (past : History) (at : ℕ) (read reply : Li
   pub asks : Asks read asked
   pub accepts : later ≡ with_asked past at asked
 
--- The store or memory failed, or the office had stopped. The response reports that, and nothing is
--- accepted. It reports a stopped office only if the office had stopped.
+-- The response reports that the store or memory failed, or that the program refuses all events
+-- since an earlier failure. No event is accepted. The response reports an earlier failure only if
+-- there was one.
 pub record IsUnavailable (past : History) (had_stopped : Bool) (before after : Failures)
     (reply : List ℕ) (later : History) : Type 0 where
   pub why : Refusal
@@ -57,8 +58,8 @@ pub record IsUnavailable (past : History) (had_stopped : Bool) (before after : F
   pub tells : reply ≡ reply_bytes (refused why)
   pub unchanged : later ≡ past
 
--- The response, by the count of the store's failures before and after. If the store fails while
--- rows are written, the response is cut off.
+-- The response to the bytes in `read`, given the counts of failures before and after the call. If
+-- the store fails while rows are written, then the response is cut off.
 abbrev pub IsServed : Zone → (past : History) → (at : ℕ) → (read : List ℕ) → (had_stopped : Bool)
     → (before after : Failures) → (cut : Option Refusal) → (reply : List ℕ) → (later : History)
     → Type 0
@@ -68,19 +69,22 @@ IsServed zone past at read had_stopped before after None reply later =
 IsServed zone past at read had_stopped before after (Some why) reply later =
     IsAnswered zone past at read reply later × IsOutside ⊥ before after why
 
--- A response that is cut off lacks its last line, which counts the rows. It may also lack rows.
+-- The written bytes `put` lack the last line of the response `reply`, which contains the number of
+-- rows. They may also lack rows.
 pub record IsCutOff (put reply : List ℕ) : Type 0 where
   pub rows : List ℕ
   pub count : ℕ
   pub lacks : reply ≡ put ++ (rows ++ end_line count)
 
--- The written bytes are the complete response, or if it was cut off a beginning of it.
+-- The written bytes `put` are the complete response `reply`, or a prefix of it if the response was
+-- cut off.
 abbrev pub IsPut : (cut : Option Refusal) → (put reply : List ℕ) → Type 0
 IsPut None put reply = reply ≡ put
 IsPut (Some why) put reply = IsCutOff put reply
 
--- The office executed the command of the bytes, with this answer. A crash leaves the earlier
--- records, with those of this command completely or not at all.
+-- The program executed the command in the bytes, and the answer is the program's answer to that
+-- command. A crash leaves the earlier records, and the records of this command completely or not at
+-- all.
 pub record IsFed (old new : Ledger) (past : History) (at : ℕ) (read : List ℕ) (later : History) :
     Type 0 where
   pub asked : Asked
@@ -89,15 +93,16 @@ pub record IsFed (old new : Ledger) (past : History) (at : ℕ) (read : List ℕ
   pub accepts : later ≡ with_answer past at (event.Asked asked) answer
   pub leaves : Leaves old new (LeftByEvent past at (event.Asked asked) answer)
 
--- The office executed the command of the bytes, or had none. Without a command, a crash leaves the
--- earlier records.
+-- Either the program executed the command in the bytes, or it executed nothing. In the second case,
+-- a crash leaves the earlier records.
 abbrev pub LeavesServed : (old new : Ledger) → (past : History) → (at : ℕ) → (read : List ℕ)
     → (later : History) → Type 0
 LeavesServed old new past at read later =
     IsFed old new past at read later ⊎ ((later ≡ past) × KeepsFacts old new)
 
--- The call writes the response to the bytes, or a part of it, and the office matches what it has
--- accepted. Only the command that was asked changes what a crash leaves.
+-- The call wrote the response to the bytes or a part of the response, and the program's state
+-- matches its accepted events. A crash leaves the earlier records, perhaps with the records of the
+-- command in the bytes.
 pub record Serves {B : Type 0} (ledger : B → Ledger) (past : History) (at : ℕ) (read : List ℕ)
     (old new : Run B) (cut : Option Refusal) (put : List ℕ) : Type 0 where
   pub reply : List ℕ
@@ -108,42 +113,43 @@ pub record Serves {B : Type 0} (ledger : B → Ledger) (past : History) (at : �
   pub stands : Stands ledger later new
   pub leaves : LeavesServed (ledger (books_in old)) (ledger (books_in new)) past at read later
 
--- The call wrote its response through a writer, which the two states `from` and `to` describe.
+-- The call wrote its response through a writer, which had the state `from` before and `to` after.
 pub record Puts {B : Type 0} (ledger : B → Ledger) (past : History) (at : ℕ) (read : List ℕ)
     (old new : Run B) (from to : Outgoing) (cut : Option Refusal) : Type 0 where
   pub put : List ℕ
   pub serves : Serves ledger past at read old new cut put
   pub puts : sending.Puts from to put
 
--- For any content of the store, no request stops the office or changes its zone. If the office ever
--- took a wrong answer of the store as true, that stays recorded.
+-- For any content of the store, no request makes the program refuse further events or changes its
+-- time zone. The mark that the store once returned wrong data is not cleared.
 pub record Lasts {B : Type 0} (ledger : B → Ledger) (old new : Run B) : Type 0 where
   pub stopped : is_stopped new ≡ is_stopped old
   pub clean : (ledger (books_in new)).is_clean → (ledger (books_in old)).is_clean
   pub zone : (ledger (books_in new)).zone ≡ (ledger (books_in old)).zone
 
--- A call serves the bytes: it writes a response, and nothing else, to its link.
+-- The call served the request in the bytes, and wrote only the response to its link.
 pub record PutsReply {B : Type 0} (ledger : B → Ledger) (at : ℕ) (read : List ℕ) (old new : Run B)
     (from to : Outgoing) (cut : Option Refusal) : Type 0 where
   pub serves : After ledger old new (λ past. Puts ledger past at read old new from to cut)
   pub gives : OnlyGives from to
   pub lasts : Lasts ledger old new
 
--- The bytes query the poll of this number, or of no number, and the office's answer is the
--- response.
+-- The bytes are a query for the poll with this number, or with an invalid number. The program's
+-- answer is the response.
 pub record IsPollAsked (read : List ℕ) (number : Option ℕ) : Type 0 where
   pub nothing : AsksNothing routes read
   pub replies : (office : Office)
       → IsReply office routes read (reply_bytes (poll_reply office number))
 
--- The bytes query the interval rows of a meter, and the office's answer is the response.
+-- The bytes are a query for the interval rows of a meter, and the program's answer is the response.
 pub record AreIntervalsAsked (read : List ℕ) (meter : Option (List ℕ)) : Type 0 where
   pub nothing : AsksNothing routes read
   pub replies : (office : Office)
       → IsReply office routes read
       (reply_bytes (lines_reply intervals_text (office.intervals meter)))
 
--- The bytes query the days of a register, and the office's answer is the response.
+-- The bytes are a query for the daily energy of an accounting register, and the program's answer is
+-- the response.
 pub record AreDaysAsked (read : List ℕ) (register : Option (List ℕ)) : Type 0 where
   pub nothing : AsksNothing routes read
   pub replies : (office : Office)

@@ -1,4 +1,4 @@
-//! Asks the office, and writes its answer as the response.
+//! Executes the query or command of a request, and writes the response.
 ghost use Rattle.std.specs.Prelude.{◌≡◌};
 ghost use Rattle.http_request.specs.Routing.Routes.{routes};
 ghost use Rattle.office_http.specs.Wants.Wanting.{IsAskedFor, IsQuestion, Wants, HasFewFaults};
@@ -19,8 +19,8 @@ use office_core::Office;
 use office_events::{Answer, Asked, CommandKind, Event, Name, Refusal, StoreCause};
 use office_rules::facts_are_lawful;
 
-// Converts the office's answer to a command into its kind. `Noted` is no answer to a command, so it
-// means a damaged store.
+// Converts the program's answer to a command into the command's kind. The answer `Noted` belongs to
+// no command, so it is reported as a damaged store.
 fn told(answer: Result<Answer, Refusal>) -> Result<CommandKind, Refusal>
     ensures { result ≡ answering.told answer }
 {
@@ -30,7 +30,7 @@ fn told(answer: Result<Answer, Refusal>) -> Result<CommandKind, Refusal>
     }
 }
 
-// Executes a command on the office, and writes the response.
+// Executes a command, and writes the response to a link.
 fn put_asked<'l, L: Link, B: Books>(
     bytes: &[u8],
     asked: Asked,
@@ -47,7 +47,7 @@ fn put_asked<'l, L: Link, B: Books>(
     Replied { writer, cut: None }
 }
 
-// Queries the poll with the number in the target, and writes the response.
+// Queries the poll with this number from the store, and writes the response to a link.
 fn put_poll_asked<'l, L: Link, B: Books>(
     bytes: &[u8],
     number: Option<u64>,
@@ -72,7 +72,7 @@ fn put_poll_asked<'l, L: Link, B: Books>(
     }
 }
 
-// Queries the interval rows of a meter, and streams them as the response.
+// Queries the interval rows of a meter, and writes them to the response one after another.
 fn put_intervals<'l, L: Link, B: Books>(
     bytes: &[u8],
     meter: &Option<Name>,
@@ -93,7 +93,7 @@ fn put_intervals<'l, L: Link, B: Books>(
     lines.end(answer)
 }
 
-// Queries the days of a register, and streams them as the response.
+// Queries the daily energy of an accounting register, and writes one line a day to the response.
 fn put_days<'l, L: Link, B: Books>(
     bytes: &[u8],
     register: &Option<Name>,
@@ -143,7 +143,7 @@ fn put_question<'l, L: Link, B: Books>(
     }
 }
 
-/// Asks the office for what the request wants, and writes the response.
+/// Executes the query or command of a request, and writes the response.
 pub fn put_reply<'l, L: Link, B: Books>(
     bytes: &[u8],
     want: Want<'_>,

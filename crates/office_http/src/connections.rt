@@ -1,4 +1,4 @@
-//! HTTP on a listener: connections from accepted hosts, one after the other.
+//! Serves HTTP connections from accepted hosts, one connection after the other.
 
 mod connections;
 mod named;

@@ -1,4 +1,4 @@
-//! Reads one request, and writes one response.
+//! Reads one HTTP request from a link, and writes one response.
 ghost use Rattle.std.specs.Prelude.{◌≡◌, ◌≤◌, length};
 ghost use Rattle.std.specs.Io.KnownBytes.{Keeps};
 ghost use Rattle.mb_wire.specs.Links.{risen};
@@ -22,7 +22,8 @@ use office_core::Office;
 use office_events::Refusal;
 use std::alloc::Global;
 
-/// Returns the result of a call that wrote a response, complete or cut off.
+/// Returns the result of a call that wrote a response: a failed write, a response that was cut off,
+/// or success.
 pub(crate) fn ended(sent: Result<(), LinkFailed>, cut: Option<Refusal>) -> Result<(), HandleFault>
     ensures { result ≡ ended sent cut }
 {
@@ -33,7 +34,7 @@ pub(crate) fn ended(sent: Result<(), LinkFailed>, cut: Option<Refusal>) -> Resul
     }
 }
 
-/// Reads a head into a buffer on the stack, and writes the response that memory ran out.
+/// Reads a request head into a buffer on the stack, and writes the response that memory ran out.
 pub(crate) fn refuse<L: Link>(link: &mut L) -> Result<(), HandleFault>
     ensures handles { HandlesBare (passage (L.remaining link.old) (L.remaining link.new)
         (L.given link.old) (L.given link.new) (L.last link.new)) result }
@@ -50,7 +51,7 @@ pub(crate) fn refuse<L: Link>(link: &mut L) -> Result<(), HandleFault>
     ended(sent, None)
 }
 
-/// Writes the response to a request that was read.
+/// Executes a request that was read, and writes the response to the link.
 pub(crate) fn reply<L: Link, B: Books>(
     bytes: &[u8],
     want: Want<'_>,
@@ -98,10 +99,11 @@ fn serve<L: Link, B: Books>(
     reply(inbox.bytes(), want, link, office, moment)
 }
 
-/// Serves one HTTP/1.1 request: reads it from the link, asks the office, and writes the response.
+/// Serves one HTTP/1.1 request: reads it from the link, executes it, and writes the response.
 ///
-/// `moment` is in seconds since 1970-01-01 UTC. An accepted command keeps its effect if its
-/// response could not be written; a retry gets the stored answer.
+/// `moment` is in seconds since 1970-01-01 UTC. If the response to an accepted command cannot be
+/// written, the command stays executed. A retry with the same idempotency key gets the stored
+/// answer.
 pub fn handle<L: Link, B: Books>(
     alloc: Global,
     link: &mut L,

@@ -1,4 +1,4 @@
-//! Why a request was not served.
+//! The reasons why a request was not served.
 ghost use Rattle.std.specs.Prelude.{◌≡◌};
 
 use http_request::TakeFault;
@@ -6,25 +6,25 @@ use std::error::Error;
 use std::fmt;
 use std::fmt::{Display, Formatter};
 
-/// Why a request was not served.
+/// The reason why a request was not served.
 #[derive(Clone, Copy, Debug, PartialEq, Eq)]
 pub enum HandleFault {
-    /// A read of the link failed.
+    /// A read from the link failed.
     Read,
-    /// A write of the link failed.
+    /// A write to the link failed.
     Write,
     /// The input ended inside the request.
     Short,
-    /// The limit of 100,000 reads was reached.
+    /// The request was still incomplete after 100,000 reads from the link.
     TurnsUsed,
-    /// The store failed while rows were written, so the response is cut off.
+    /// The store failed after the first row of the response, so the response is cut off.
     Cut,
 }
 
 impl HandleFault {
     ghost use Rattle.office_http.specs.Exchange.{fault_number};
 
-    /// Returns the number of the fault. No text of the program shows it.
+    /// Returns the number of the fault, which no output of the program contains.
     pub fn number(self) -> u8
         ensures { result ≡ fault_number self }
     {

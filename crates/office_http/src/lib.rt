@@ -1,4 +1,4 @@
-//! Serves an office by HTTP: reads one request, and writes one response.
+//! Executes queries and commands on one store by HTTP, one request after the other.
 #![tactic(auto)]
 
 mod answers;

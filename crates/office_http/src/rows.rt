@@ -1,4 +1,4 @@
-//! Reports that are streamed row by row. No function here allocates.
+//! Streams reports row by row as HTTP responses. No function in this module allocates.
 
 mod lines;
 

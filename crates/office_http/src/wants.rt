@@ -1,4 +1,4 @@
-//! What a request wants of an office, or the response that needs no office.
+//! Parses a request into a query or command, or into an error response.
 
 mod kinds;
 mod laws;

@@ -1,4 +1,4 @@
--- What was done with an opened office.
+-- Properties of a command's action on an office that was opened over a store.
 use Rattle.std.proofs.Common.{◌≡◌, inr, ℕ, List, Option, ◌∷◌, subst}
 use Rattle.command_io.specs.declared.status.ExitStatus.{ExitStatus}
 use Rattle.office_events.specs.Names.{named}
@@ -27,7 +27,8 @@ use Rattle.office_program.specs.PortRound.{PollsPort, TellsPolling}
 use Rattle.office_program.specs.declared.port_round.PollEnd.{PollEnd}
 use Rattle.office_program.specs.declared.port_round.PollEnd.TheVariants as polling
 
--- The returned store is as clean as that of the final office.
+-- If the returned store is clean (no wrong result of it was used), then the store of the final
+-- office is clean.
 kept : {B : Type 0} (ledger : B → Ledger) (left : Office B) (back : B) → back ≡ books_in left → (ledger back).is_clean
     → (ledger (books_in left)).is_clean
 kept {B = B} ledger left back is clean = let P : B → Type 0 = λ b. (ledger b).is_clean in subst P is clean

@@ -1,5 +1,5 @@
--- Worked examples, computed from the definitions: an entry by hand is requested up to what the
--- ceiling allows, and doubted above.
+-- Worked examples of doubted entries. An entry by hand is requested if its energy is within the
+-- meter's ceiling, and doubted if its energy is above the ceiling.
 use Rattle.std.proofs.Common.{◌≡◌, ℕ, ℤ, pos, negsuc, true, false, List, [], ◌∷◌, Option, Some, None, refl}
 use Rattle.std.specs.Prelude.{codes}
 use Rattle.energy_core.specs.Value.{unit_of}
@@ -25,7 +25,7 @@ m1 = codes "m1"
 abbrev desk : List ℕ
 desk = codes "desk"
 
--- ---- A meter that counts Wh, with at most 100 kW at its register: 100,000 counts an hour
+-- ---- Example: a meter that counts Wh, with at most 100 kW at its register: 100,000 counts an hour
 
 abbrev opening : (sf : ℤ) → (raw range : ℕ) → Opening
 opening sf raw range = record { meter = m1; register = main; ceiling = 100000; range = range; at = 1000; raw = raw; sf = sf }
@@ -56,7 +56,8 @@ exchange last rolls = command.Exchange (record {
   range = 4294967296;
 })
 
--- The first count may have been almost due, so it may need no energy.
+-- After an hour, an entry of 100,001 counts is not doubted. The counter may have been about to
+-- advance by the first count, so this count may need no energy.
 the_most_in_an_hour : doubted_at 4600 (manual 105001 0 None) wh ≡ None
 unfolding unit_of
 the_most_in_an_hour = refl
@@ -69,7 +70,8 @@ a_second_later : doubted_at 4601 (manual 105002 0 None) wh ≡ None
 unfolding unit_of
 a_second_later = refl
 
--- A reading from half an hour ago.
+-- If the meter's last reading is from half an hour ago, then an entry above 50,001 counts is
+-- doubted.
 the_most_half_an_hour_ago : doubted_at 4600 (manual 55001 0 (Some 2800)) wh ≡ None
 unfolding unit_of
 the_most_half_an_hour_ago = refl
@@ -78,7 +80,8 @@ one_more_half_an_hour_ago : doubted_at 4600 (manual 55002 0 (Some 2800)) wh ≡ 
 unfolding unit_of
 one_more_half_an_hour_ago = refl
 
--- The other entries by hand: the last number of a meter, and the number before a change.
+-- The last reading of a replaced or closed meter is doubted under the same rule as a manual
+-- reading. The same holds for the reading before a change of a meter.
 the_most_before_an_exchange : doubted_at 4600 (exchange 105001 0) wh ≡ None
 unfolding unit_of
 the_most_before_an_exchange = refl
@@ -113,8 +116,10 @@ one_more_before_another_scale :
 unfolding unit_of
 one_more_before_another_scale = refl
 
--- A full turn of the counter counts. The meter turns over at 65,536 and counts thousandths of a Wh.
--- A second ago it showed 65,000.
+-- If the counter has rolled over before an entry, then the entry counts the rollover.
+--
+-- The meter's counter rolls over at 65,536 and counts thousandths of a Wh. A second ago it showed
+-- 65,000.
 the_most_over_a_turn : doubted_at 1001 (manual 27242 1 None) (meter (negsuc 2) 65000 65536) ≡ None
 unfolding unit_of
 the_most_over_a_turn = refl
@@ -127,8 +132,8 @@ another_turn : doubted_at 1001 (manual 27242 2 None) (meter (negsuc 2) 65000 655
 unfolding unit_of
 another_turn = refl
 
--- Entries that the office refuses are requested: they are not later, or decrease the counter. No
--- other command is doubted.
+-- If the office refuses an entry because it is not later or decreases the counter, then the entry
+-- is not doubted. Other commands are not doubted either.
 no_later : doubted_at 1000 (manual 4000000000 0 None) wh ≡ None
 unfolding unit_of
 no_later = refl
@@ -141,7 +146,7 @@ an_installation : doubted_at 1001
     (command.Install (record { register = Some main; meter = Some (codes "m2"); raw = 4000000000; sf = pos 0; ceiling = 1; range = 4294967296 })) wh ≡ None
 an_installation = refl
 
--- ---- Requests
+-- ---- Examples: requests with doubted entries
 
 abbrev asked : (request : List ℕ) → Asked
 asked request = record { caller = Some desk; number = 5; request = request; command = manual 105002 0 None }
@@ -180,7 +185,7 @@ one_where_no_meter_is : doubt_of [] 4600 (asked line) ≡ None
 unfolding unit_of
 one_where_no_meter_is = refl
 
--- ---- The mark
+-- ---- Examples: the mark ` !` at the end of an input line
 
 a_mark : is_marked (codes "5 close main 6000 0 !") ≡ true
 a_mark = refl

@@ -1,4 +1,5 @@
--- The energy of a register's meters in a range, and the energy of its days.
+-- Properties of the energy of a register's meters in a range of days, and of the energy of the days
+-- in the register's report.
 use Rattle.std.proofs.Common.{◌≡◌, ℕ, ℤ, zero, suc, ◌+◌, ◌-◌, ◌<◌, ◌≤◌, ◌^◌, inl, inr, Bool, true, false, cond, Some, None, List, [], ◌∷◌, ◌++◌, map, length, get_or, refl, sym, ◌∙◌, ap, subst, arith}
 use Rattle.std.specs.Prelude.{◌<ℤ◌, ◌&&◌, All, Contains, filter, nat_le, sum_by}
 use Rattle.jiff_core.proofs.SignedLemmas.{signed_arith}
@@ -28,15 +29,15 @@ module _ (zone : Zone) (range : DayRange) where
   abbrev day_of : Share → ℤ
   day_of row = day_at zone row.start
 
-  -- The energy of the rows of a day, if the range contains the day.
+  -- The energy of the intervals of a day, in mWh, if the day is in the range. Otherwise 0.
   abbrev on_day : List Share → DayAccount → ℕ
   on_day rows account = cond (asked account.day) (energy_of (rows_on zone rows account.day)) 0
 
-  -- What a row adds to that energy.
+  -- The energy in mWh that an interval adds to a day, if the day is in the range.
   abbrev adds : Share → DayAccount → ℕ
   adds row account = cond (asked account.day) (cond (int_eq (day_of row) account.day) row.mwh 0) 0
 
-  -- ---- one more row
+  -- ---- The energy of a day after one more interval
 
   one_day : (p b : Bool) (row : Share) (rows : List Share)
       → cond p (energy_of (cond b (row ∷ rows) rows)) 0 ≡ cond p (cond b row.mwh 0) 0 + cond p (energy_of rows) 0
@@ -52,7 +53,7 @@ module _ (zone : Zone) (range : DayRange) where
       let rest = one_row row rows accounts in
       omega (arith, here, rest, sum_by-cons (on_day (row ∷ rows)) account accounts, sum_by-cons (adds row) account accounts, sum_by-cons (on_day rows) account accounts)
 
-  -- ---- a row counts only on its day
+  -- ---- An interval adds energy only to its day
 
   nothing : (p : Bool) → ◌≡◌ {A = ℕ} (cond p 0 0) 0
   nothing true = refl
@@ -105,7 +106,7 @@ module _ (zone : Zone) (range : DayRange) where
             omega (arith, here, rest, sum_by-cons (adds row) account accounts)
       ]
 
-  -- ---- all rows
+  -- ---- The energy of all intervals in the range
 
   abbrev in_range : Share → Bool
   in_range row = asked (day_of row)
@@ -127,7 +128,7 @@ module _ (zone : Zone) (range : DayRange) where
       let rest = by_days accounts order rows (All-tail P row rows has) in
       omega (arith, here, rest, one_row row rows accounts, kept (in_range row) row (filter in_range rows))
 
-  -- Each row is a row of its day.
+  -- If a list of intervals is not empty, then adding one interval or none leaves it not empty.
   longer : (b : Bool) (row : Share) (rows : List Share) → 0 < length rows → 0 < length (cond b (row ∷ rows) rows)
   longer true row rows some = omega arith
   longer false row rows some = some
@@ -141,7 +142,7 @@ module _ (zone : Zone) (range : DayRange) where
       let day = day_of (get_or rows k d) in
       longer (int_eq (day_of row) day) row (rows_on zone rows day) (some_on rows k d (omega (arith, less)))
 
-  -- ---- the days of a report
+  -- ---- The days of a register's report in the range
 
   is_in_number : (total : DayTotal) → is_in range total.day ≡ has_day range (account_of total).day
   is_in_number total =
@@ -174,7 +175,7 @@ module _ (zone : Zone) (range : DayRange) where
       let rest = of_days rows days (All-tail P account (map account_of days) each) in
       omega (arith, here, rest, one_total (is_in range total.day) total (days_in range days), sum_by-cons (on_day rows) account (map account_of days))
 
-  -- ---- the meters
+  -- ---- The energy of all meters of a register
 
   abbrev IsOfSomeDay : Share → Type 0
   IsOfSomeDay row = row.start ≤ LAST_MOMENT

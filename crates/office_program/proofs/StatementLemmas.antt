@@ -1,4 +1,4 @@
--- The answers on meters, query by query.
+-- Properties of the office's answers to the queries for a meter's statement.
 use Rattle.std.proofs.Common.{◌≡◌, inl, inr, ℕ, zero, suc, ◌+◌, ◌-◌, ◌^◌, ◌<◌, Bool, true, false, cond, Option, Some, None, List, [], ◌∷◌, ◌++◌, map, reverse, take, drop, length, get_or, refl, sym, ap, subst, ◌∙◌, append-nil, append_assoc, arith}
 use Rattle.std.specs.Prelude.{Result, Ok, Err, ◌&&◌, All, filter, is_ok, is_some, min, nat_le, sum_by}
 use Rattle.command_io.specs.declared.status.ExitStatus.{ExitStatus}
@@ -65,7 +65,7 @@ use Rattle.office_core.proofs.SeveralAsked.{found_ok, found_so, now_as, refused_
 some_same : {X : Type 0} (x y : X) → Some x ≡ Some y → x ≡ y
 some_same x y is = cc is
 
--- The source of a mapped list or row.
+-- If a mapped optional value is present, then the original value is present and is mapped to it.
 mapped : {X Y : Type 0} (f : X → Y) (o : Option X) (y : Y) → option_map f o ≡ Some y → (x : X) × (o ≡ Some x) × (f x ≡ y)
 mapped f None y is = absurd (cc is)
 mapped f (Some x) y is = (x, refl, some_same (f x) y is)
@@ -80,13 +80,14 @@ listed_err None before after why (inl is) = inl (ap (λ w. Err w) is.0, is.1)
 listed_err None before after why (inr out) = inr out
 listed_err (Some rows) before after why out = inr out
 
--- ---- lists that are filtered
+-- ---- Filtering a list by two tests
 
 fails_too : (p q : Bool) → (p ≡ true → q ≡ true) → q ≡ false → p ≡ false
 fails_too true q implies isnt = absurd (let e : false ≡ true = sym isnt ∙ implies refl in cc e)
 fails_too false q implies isnt = refl
 
--- Items that pass a test also pass any test that it implies.
+-- If a test implies a second test, then filtering a list by both tests equals filtering by the
+-- first test.
 filter_among : {X : Type 0} (p q : X → Bool) → ((x : X) → p x ≡ true → q x ≡ true) → (xs : List X) → filter p (filter q xs) ≡ filter p xs
 filter_among p q implies [] = refl
 filter_among p q implies (x ∷ xs) =
@@ -109,7 +110,7 @@ and_second true b is = is
 and_second false b is = absurd (cc is)
 
 module _ {B : Type 0} (ledger : B → Ledger) (zone : Zone) (range : DayRange) where
-  -- ---- entries
+  -- ---- The tally of a meter's entries
 
   abbrev pub IsTallied : (a b : Office B) → (meter : Option (List ℕ)) → (n : ℕ) → EntryTally → Type 0
   IsTallied a b meter n tally = After ledger a b (λ past. (opening : Opening)
@@ -164,9 +165,9 @@ module _ {B : Type 0} (ledger : B → Ledger) (zone : Zone) (range : DayRange) w
       (nothing (from_place facts n) (λ (x : Opening). tally_of zone range (entries_at facts (Some x))) o) kept.failures
       (listed_err (option_map (from_place facts n) o) (failures_of ledger b) (failures_of ledger d) why (lists past (kept.stands past stands) clean))
 
-  -- ---- energy
+  -- ---- The energy of a meter in a range of days
 
-  -- The rows of the range are among those of a span around it.
+  -- True if the span of quarter hours contains every quarter hour of the range of days.
   abbrev pub IsAround : Span → Type 0
   IsAround span = (zone : Zone) (start : ℕ) → has_day range (day_at zone start) ≡ true → is_within span start ≡ true
 
@@ -207,7 +208,7 @@ module _ {B : Type 0} (ledger : B → Ledger) (zone : Zone) (range : DayRange) w
       refused_on ⊥ (Unit {0}) (is_there (intervals_within facts meter span)) (energy_in zone range facts meter)
       (failures_of ledger a) (failures_of ledger a) (failures_of ledger d) why (λ none. tt) (no_rows span (intervals_of facts meter)) refl hands.answer
 
-  -- ---- rejected readings
+  -- ---- The counts of a meter's rejected readings
 
   abbrev holds_if : List Fact → (name : List ℕ) → Opening → List HeldReading
   holds_if facts name opening = holds_within span.All (holds_of facts name)
@@ -251,7 +252,7 @@ module _ {B : Type 0} (ledger : B → Ledger) (zone : Zone) (range : DayRange) w
       refused_on ⊥ (Unit {0}) (is_there (holds_named facts meter span.All)) (held_in zone range facts meter)
       (failures_of ledger a) (failures_of ledger a) (failures_of ledger d) why (λ none. tt) (no_holds facts meter) refl hands.answer
 
-  -- ---- a meter
+  -- ---- The statement of one meter
 
   abbrev by_opening : List Fact → (meter : List ℕ) → Opening → MeterStatement
   by_opening facts meter opening = told_of zone range facts meter (Some opening)
@@ -327,7 +328,7 @@ module _ {B : Type 0} (ledger : B → Ledger) (zone : Zone) (range : DayRange) w
       (gone (held_if facts meter) (by_opening facts meter) (opening_of facts meter)) kept.failures
       (told past (kept.stands past stands) clean)
 
-  -- ---- the meters at a register
+  -- ---- The statements of the meters at a register, one by one
 
   pub not_there : (a : Office B) (row : Installation) (before : List MeterStatement) → was_there zone range row ≡ false
       → States ledger zone range (row ∷ []) a a before before (Ok tt)
@@ -383,7 +384,7 @@ module _ {B : Type 0} (ledger : B → Ledger) (zone : Zone) (range : DayRange) w
       ap (map (λ (r : Installation). statement_of zone range facts r.opening.meter)) (filter-append (was_there zone range) xs ys)
       ∙ map-append (λ (r : Installation). statement_of zone range facts r.opening.meter) (filter (was_there zone range) xs) (filter (was_there zone range) ys)
 
-  -- The first statements, and one more.
+  -- True if the statements of the first `i` meters were appended to the list of statements.
   abbrev pub AreStated : (a b : Office B) → List Installation → (before after : List MeterStatement) → (i : ℕ) → Type 0
   AreStated a b rows before after i = After ledger a b (λ past. AreRecorded (facts_of past) rows
       → after ≡ before ++ statements_of zone range (facts_of past) (take i rows))
@@ -417,7 +418,7 @@ module _ {B : Type 0} (ledger : B → Ledger) (zone : Zone) (range : DayRange) w
   all_stated a b rows i before after is kept told = λ past stands clean recorded.
       (told past stands clean recorded ∙ ap (λ (those : List Installation). before ++ statements_of zone range (facts_of past) those) is, kept.failures)
 
-  -- ---- meters that are installed are recorded
+  -- ---- Installed meters are in the store's records
 
   some_or : {X : Type 0} (b : Bool) (x : X) (o : Option X) → is_some o ≡ true → is_some (cond b (Some x) o) ≡ true
   some_or true x o some = refl
@@ -455,7 +456,7 @@ module _ {B : Type 0} (ledger : B → Ledger) (zone : Zone) (range : DayRange) w
       let found = mapped (λ r. installations_of facts register) (register_of facts register) rows is in
       subst (AreRecorded facts) found.2 (are_recorded facts register)
 
-  -- ---- all of the meters
+  -- ---- The statements of all meters at a register
 
   pub statements_told : (a b d : Office B) (register : Option (List ℕ)) (v : Vec Installation Global) (listed : List Installation) (rows : List MeterStatement)
       → listed ≡ v.items → OnlyAsks ledger a b (Ok v) → Keeps ledger b d
@@ -496,13 +497,14 @@ module _ {B : Type 0} (ledger : B → Ledger) (zone : Zone) (range : DayRange) w
       (failures_of ledger a) (failures_of ledger a) (failures_of ledger b) why (λ none. tt) (gone_meters facts (meters_named facts register)) refl
       (listed_err (meters_named facts register) (failures_of ledger a) (failures_of ledger b) why (lists past stands clean))
 
--- A statement that was written, completely or in part.
+-- If the write of a statement succeeded, then the statement was printed completely. If the write
+-- failed, then the statement was printed in part.
 pub written_so : {E : Type 0} (written : Result (Unit {0}) E) (text : List ℕ) (meant status : ExitStatus) (old new : Option (List ℕ))
     → status ≡ cond (is_ok written) meant Failed → GotText written text old new → IsTold text meant status old new
 written_so (Ok done) text meant status old new ends got = inl (ends, got)
 written_so (Err error) text meant status old new ends got = inr (ends, got)
 
--- The query of a report.
+-- If a command prints a report, then it only queries the office.
 pub only_asked : {B T : Type 0} (ledger : B → Ledger) (a b : Office B) (result : Result T Refusal) → OnlyAsks ledger a b result → Asks ledger a b
 only_asked ledger a b (Ok x) asks = record { reply = Ok tt; only = now_as ledger a b x tt asks }
 only_asked ledger a b (Err why) asks = record { reply = Err why; only = refused_as ledger a b why asks }

@@ -1,4 +1,4 @@
--- Serving HTTP on a port, for an office that is opened over a store.
+-- The result of a command that serves HTTP on a port, for an office that is opened over a store.
 use Rattle.std.specs.Prelude.{◌≡◌, ℕ, List, Option}
 use Rattle.office_rules.specs.History.{History}
 use Rattle.office_books.specs.Ledgers.{Ledger}
@@ -10,18 +10,18 @@ use Rattle.office_program.specs.Opened.{WithOffice}
 use Rattle.office_program.specs.declared.http_port.ServeEnd.{ServeEnd}
 use Rattle.office_program.specs.declared.http_port.ServeEnd.TheVariants.{Served, Unopened, NoPort, Broken}
 
--- The settings of a port: the host names that requests may give besides those of this machine, and
--- the number of connections to serve.
+-- The settings of a port. They are the host names that requests may use besides the names of this
+-- machine, and the number of connections to serve.
 pub record Port : Type 0 where
   pub names : List (List ℕ)
   pub connections : ℕ
 
--- The port with these parts.
+-- The `Port` with these fields.
 abbrev pub port : (names : List (List ℕ)) → (connections : ℕ) → Port
 port names connections = record { names = names; connections = connections }
 
--- What serving on a port leaves of an office: it answered at most this many connections, each at
--- the clock's time. `NoPort`: nothing changed.
+-- The state of an office after it served a port. It answered at most this many connections, each at
+-- the clock's time. If the end is `NoPort`, nothing changed.
 abbrev pub ServesPort : {B : Type 0} → Port → (then later : Option (List ℕ)) → (B → Ledger)
     → (past : History) → (opened left : Office B) → ServeEnd → Type 0
 ServesPort at then later ledger past opened left NoPort = left ≡ opened
@@ -31,15 +31,15 @@ ServesPort at then later ledger past opened left Broken =
     ServesUpTo at.names at.connections then later ledger past left
 ServesPort at then later ledger past opened left (Unopened status) = ⊥
 
--- The opened office served on the port, and nothing was printed.
+-- True if the opened office served HTTP on the port, and nothing was printed.
 pub record Serves {B : Type 0} (ledger : B → Ledger) (at : Port)
     (later had holds : Option (List ℕ)) (end : ServeEnd)
     (following : History) (then : Option (List ℕ)) (opened left : Office B) : Type 0 where
   pub serves : ServesPort at then later ledger following opened left end
   pub silent : holds ≡ had
 
--- The opening was refused and only the refusal was printed, or the office was opened and served on
--- the port.
+-- True if the office was opened and served HTTP on the port. If the opening was refused, only the
+-- refusal was printed.
 abbrev pub TellsServing : {B : Type 0} → (B → Ledger) → (past : History) → Port
     → (moments later : Option (List ℕ)) → (books back : B) → (had holds : Option (List ℕ))
     → ServeEnd → Type 0
@@ -48,19 +48,19 @@ TellsServing ledger past at moments later books back had holds (Unopened status)
 TellsServing ledger past at moments later books back had holds end =
     WithOffice ledger past moments back (Serves ledger at later had holds end)
 
--- The state that a command finds and leaves: the store, what is known of the clock, and the printed
+-- The state before or after a command: the store, the clock as far as it is known, and the printed
 -- text.
 pub record Scene (B : Type 0) : Type 0 where
   pub books : B
   pub moments : Option (List ℕ)
   pub written : Option (List ℕ)
 
--- The `Scene` with these parts.
+-- The `Scene` with these fields.
 abbrev pub scene : {B : Type 0} → B → (moments written : Option (List ℕ)) → Scene B
 scene books moments written = record { books = books; moments = moments; written = written }
 
--- `TellsServing` holds for every past in whose state the store was. No wrong result of the store
--- was taken as true by the end.
+-- True if `TellsServing` holds for every history that the store records at the start. No wrong
+-- result of the store may be used until the end.
 abbrev pub ServesBooks : {B : Type 0} → (B → Ledger) → Port → ServeEnd → (old new : Scene B)
     → Type 0
 ServesBooks ledger at end old new =

@@ -1,4 +1,5 @@
--- The energies of meters' statements, compared with the report on the same days.
+-- The energies in the statements of a register's meters, compared with the energy in the register's
+-- report on the same days.
 use Rattle.std.specs.Prelude.{◌≡◌, ◌<◌, ◌≤◌, ◌^◌, List, map, All, sum_by}
 use Rattle.std.specs.List.{flat_map}
 use Rattle.interval_core.specs.Days.{account_of, AreAccounts}
@@ -11,14 +12,15 @@ use Rattle.interval_core.specs.declared.zone.Zone.{Zone}
 use Rattle.energy_report.specs.Laws.{energy_of_days}
 use Rattle.energy_report.specs.Statements.{energy_within}
 
--- The interval row starts by the last timestamp, so it has a civil day.
+-- True if the quarter hour does not start after the last timestamp, and therefore has a civil day.
 abbrev pub HasDay : Share → Type 0
 HasDay row = row.start ≤ LAST_MOMENT
 
--- The energies of the statements of a register's meters add up to the energy of the register's
--- report, on any range of days.
+-- The theorem that on any range of days, the energies in the statements of a register's meters add
+-- up to the energy in its report.
 --
--- The register's rows are those of its meters, and the report's energy is below 2^128 mWh.
+-- The theorem assumes that the register's intervals are the intervals of its meters, and that the
+-- report's energy is below 2^128 mWh.
 abbrev pub StatementsAddUp : Type 0
 StatementsAddUp = (zone : Zone) (range : DayRange) (meters : List (List Share))
     (days : List DayTotal) → let rows = flat_map (λ rows. rows) meters in

@@ -1,4 +1,5 @@
--- A command that opens an office over a store, acts on it, and returns the store.
+-- The result of a command that opens an office over a store, uses the office, and returns the
+-- store.
 use Rattle.std.specs.Prelude.{◌≡◌, ℕ, List, ◌∷◌, Option}
 use Rattle.office_rules.specs.History.{History, Opened}
 use Rattle.office_books.specs.Ledgers.{Ledger}
@@ -9,8 +10,8 @@ use Rattle.office_core.specs.declared.office.Office.{Office}
 use Rattle.office_program.specs.Texts.AskedOffice.{OpensToAsk}
 use Rattle.office_program.specs.Texts.OpenedOffice.{Opens}
 
--- The office was opened, and nothing was printed of it. Then the command acted on the opened
--- office, as `Does` describes, and the store is returned.
+-- True if the office was opened, and the opening printed nothing. Then the command acted on the
+-- opened office, as `Does` describes, and returned the store.
 pub record WithOffice {B : Type 0} (ledger : B → Ledger) (past : History)
     (moments : Option (List ℕ)) (back : B)
     (Does : (following : History) → (then : Option (List ℕ)) → (opened left : Office B) → Type 0)
@@ -22,8 +23,8 @@ pub record WithOffice {B : Type 0} (ledger : B → Ledger) (past : History)
   pub does : Does (Opened opens.at ∷ past) then opened left
   pub handed : back ≡ books_in left
 
--- The office was opened for queries, and nothing was printed of it. Then the command queried it, as
--- `Does` describes, and the store is returned. The clock was read once.
+-- True if the office was opened for queries, and the opening printed nothing. Then the command
+-- queried the office, as `Does` describes, and returned the store. The clock was read once.
 pub record WithAsked {B : Type 0} (ledger : B → Ledger) (past : History)
     (moments later : Option (List ℕ)) (back : B)
     (Does : (following : History) → (opened left : Office B) → Type 0) : Type 0 where
@@ -33,8 +34,8 @@ pub record WithAsked {B : Type 0} (ledger : B → Ledger) (past : History)
   pub does : Does (Opened (asking_moment past opens.told) ∷ past) opened left
   pub handed : back ≡ books_in left
 
--- `Holds` is true of every past in whose state the store was. No wrong result of the store was
--- taken as true by the end.
+-- True if `Holds` is true of every history that the store records at the start. No wrong result of
+-- the store may be used until the end.
 abbrev pub OverStanding : {B : Type 0} → (B → Ledger) → (books back : B)
     → (Holds : (past : History) → Type 0) → Type 0
 OverStanding ledger books back Holds =

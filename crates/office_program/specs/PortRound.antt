@@ -1,4 +1,5 @@
--- One round of a device over TCP, for an office that is opened over a store.
+-- The result of a command that polls a device once over TCP, for an office that is opened over a
+-- store.
 use Rattle.std.specs.Prelude.{◌≡◌, ℕ, List, Option, Result}
 use Rattle.std.specs.declared.io.Write as writers
 use Rattle.socket_link.specs.declared.clock.Clock as clocks
@@ -17,7 +18,7 @@ use Rattle.office_program.specs.Opened.{OverStanding, WithOffice}
 use Rattle.office_program.specs.declared.port_round.PollEnd.{PollEnd}
 use Rattle.office_program.specs.declared.port_round.PollEnd.TheVariants.{Polled, Unopened, Unconnected}
 
--- The device was polled in one round over some link, as `PollsRound` describes.
+-- True if the device was polled in one polling round over some link, as `PollsRound` describes.
 pub record IsPolled {B : Type 0} (ledger : B → Ledger) (device : List ℕ)
     (later had holds : Option (List ℕ)) (done : Result (Unit {0}) RoundFault)
     (following : History) (then : Option (List ℕ)) (opened left : Office B) : Type 0 where
@@ -27,14 +28,14 @@ pub record IsPolled {B : Type 0} (ledger : B → Ledger) (device : List ℕ)
       (passage (round_state had then (failures_of ledger opened))
       (round_state holds later (failures_of ledger left)) from to) left done
 
--- The device was not polled: the office is unchanged, and nothing was printed.
+-- True if the device was not polled. Then the office is unchanged, and nothing was printed.
 pub record IsLeft {B : Type 0} (had holds : Option (List ℕ)) (opened left : Office B)
     : Type 0 where
   pub same : left ≡ opened
   pub silent : holds ≡ had
 
--- What the command leaves of an office: a round if the device was connected, no change if it could
--- not be connected.
+-- The state of the office after the command. If the device was connected, it is the state after a
+-- polling round. If no connection was established, the office is unchanged.
 abbrev pub PollsPort : {B : Type 0} → (B → Ledger) → (device : List ℕ)
     → (later had holds : Option (List ℕ)) → PollEnd
     → (following : History) → (then : Option (List ℕ)) → (opened left : Office B) → Type 0
@@ -44,8 +45,8 @@ PollsPort ledger device later had holds Unconnected following then opened left =
     IsLeft had holds opened left
 PollsPort ledger device later had holds (Unopened status) following then opened left = ⊥
 
--- `PollsPort` holds for every past of the office, with the clock and the writer before and after
--- the round.
+-- True if `PollsPort` holds for every history of the office, with the clock and the writer before
+-- and after the polling round.
 abbrev pub PollsPortOf : {B C W : Type 0} → stores.Ghosts B → clocks.Ghosts C → writers.Ghosts W
     → (device : List ℕ) → (old new : Office B) → (before after : C) → (had holds : W) → PollEnd
     → Type 0
@@ -53,8 +54,8 @@ PollsPortOf b c w device old new before after had holds end =
     After b.ledger old new (λ past. PollsPort b.ledger device (c.moments after) (w.contents had)
     (w.contents holds) end past (c.moments before) old new)
 
--- The opening was refused and only the refusal was printed, or the office was opened and the device
--- polled.
+-- True if the office was opened and the device was polled. If the opening was refused, only the
+-- refusal was printed.
 abbrev pub TellsPolling : {B : Type 0} → (B → Ledger) → (past : History) → (device : List ℕ)
     → (moments later : Option (List ℕ)) → (books back : B) → (had holds : Option (List ℕ))
     → PollEnd → Type 0
@@ -63,8 +64,8 @@ TellsPolling ledger past device moments later books back had holds (Unopened sta
 TellsPolling ledger past device moments later books back had holds end =
     WithOffice ledger past moments back (PollsPort ledger device later had holds end)
 
--- `TellsPolling` holds for every past in whose state the store was, with the clock and the writer
--- before and after.
+-- True if `TellsPolling` holds for every history that the store records, with the clock and the
+-- writer before and after the command.
 abbrev pub PollsOver : {B C W : Type 0} → stores.Ghosts B → clocks.Ghosts C → writers.Ghosts W
     → (device : List ℕ) → (books back : B) → (before after : C) → (had holds : W) → PollEnd → Type 0
 PollsOver b c w device books back before after had holds end =

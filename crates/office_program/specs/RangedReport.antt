@@ -1,5 +1,5 @@
--- The report of an accounting register on a range of days, from an office that is opened over a
--- store.
+-- The result of a command that reports an accounting register on a range of days, from an office
+-- that is opened over a store.
 use Rattle.std.specs.Prelude.{◌⊎◌, ℕ, List, Option}
 use Rattle.std.specs.declared.io.Write as writers
 use Rattle.socket_link.specs.declared.clock.Clock as clocks
@@ -17,8 +17,8 @@ use Rattle.office_program.specs.Texts.RangedReports.{RangePrints}
 use Rattle.office_program.specs.Texts.EndTexts.{TellsEnd}
 use Rattle.office_program.specs.Opened.{OverStanding, WithAsked}
 
--- The register's days in the range were printed in the requested form, or the reason for a refusal.
--- The office was only queried.
+-- True if the register's days in the range were printed in the requested form, or the reason for a
+-- refusal was printed. The office was only queried.
 pub record ReportsRange {B : Type 0} (ledger : B → Ledger) (register : Option (List ℕ))
     (form : ReportForm) (had holds : Option (List ℕ)) (status : ExitStatus) (following : History)
     (opened left : Office B) : Type 0 where
@@ -26,8 +26,8 @@ pub record ReportsRange {B : Type 0} (ledger : B → Ledger) (register : Option 
       (failures_of ledger opened) (failures_of ledger left)) status had holds
   pub stands : Stands ledger following left
 
--- The opening was refused and only the refusal was printed, or the office was opened for queries
--- and the report printed.
+-- True if the office was opened for queries and the report was printed. If the opening was refused,
+-- only the refusal was printed.
 abbrev pub TellsRange : {B : Type 0} → (B → Ledger) → (past : History) → (register : List ℕ)
     → ReportForm → (moments later : Option (List ℕ)) → (books back : B)
     → (had holds : Option (List ℕ)) → ExitStatus → Type 0
@@ -36,8 +36,8 @@ TellsRange ledger past register form moments later books back had holds status =
     ⊎ WithAsked ledger past moments later back
     (ReportsRange ledger (named register) form had holds status)
 
--- `TellsRange` holds for every past in whose state the store was, with the clock and the writer
--- before and after.
+-- True if `TellsRange` holds for every history that the store records, with the clock and the
+-- writer before and after the command.
 abbrev pub RangeOver : {B C W : Type 0} → stores.Ghosts B → clocks.Ghosts C → writers.Ghosts W
     → (register : List ℕ) → ReportForm → (books back : B) → (before after : C) → (had holds : W)
     → ExitStatus → Type 0

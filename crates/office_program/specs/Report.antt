@@ -1,4 +1,5 @@
--- The report of an accounting register, from an office that is opened over a store.
+-- The result of a command that reports an accounting register by civil day, from an office that is
+-- opened over a store.
 use Rattle.std.specs.Prelude.{◌⊎◌, ℕ, List, Option}
 use Rattle.std.specs.declared.io.Write as writers
 use Rattle.socket_link.specs.declared.clock.Clock as clocks
@@ -15,15 +16,16 @@ use Rattle.office_program.specs.Texts.Reports.{ReportPrints}
 use Rattle.office_program.specs.Texts.EndTexts.{TellsEnd}
 use Rattle.office_program.specs.Opened.{OverStanding, WithAsked}
 
--- All days of the register were printed, or the reason for a refusal. The office was only queried.
+-- True if all days of the register were printed, or the reason for a refusal was printed. The
+-- office was only queried.
 pub record Reports {B : Type 0} (ledger : B → Ledger) (register had holds : Option (List ℕ))
     (status : ExitStatus) (following : History) (opened left : Office B) : Type 0 where
   pub prints : TellsEnd (ReportPrints (ledger (books_in opened)).zone following register
       (failures_of ledger opened) (failures_of ledger left)) status had holds
   pub stands : Stands ledger following left
 
--- The opening was refused and only the refusal was printed, or the office was opened for queries
--- and the report printed.
+-- True if the office was opened for queries and the report was printed. If the opening was refused,
+-- only the refusal was printed.
 abbrev pub TellsReport : {B : Type 0} → (B → Ledger) → (past : History) → (register : List ℕ)
     → (moments later : Option (List ℕ)) → (books back : B) → (had holds : Option (List ℕ))
     → ExitStatus → Type 0
@@ -31,8 +33,8 @@ TellsReport ledger past register moments later books back had holds status =
     TellsUnasked past moments later (ledger books) (ledger back) status had holds
     ⊎ WithAsked ledger past moments later back (Reports ledger (named register) had holds status)
 
--- `TellsReport` holds for every past in whose state the store was, with the clock and the writer
--- before and after.
+-- True if `TellsReport` holds for every history that the store records, with the clock and the
+-- writer before and after the command.
 abbrev pub ReportsOver : {B C W : Type 0} → stores.Ghosts B → clocks.Ghosts C → writers.Ghosts W
     → (register : List ℕ) → (books back : B) → (before after : C) → (had holds : W) → ExitStatus
     → Type 0

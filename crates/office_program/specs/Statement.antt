@@ -1,5 +1,5 @@
--- The statements of the meters at an accounting register, from an office that is opened over a
--- store.
+-- The result of a command that prints the statements of a register's meters, from an office that is
+-- opened over a store.
 use Rattle.std.specs.Prelude.{◌⊎◌, ℕ, List, Option}
 use Rattle.std.specs.declared.io.Write as writers
 use Rattle.socket_link.specs.declared.clock.Clock as clocks
@@ -18,8 +18,8 @@ use Rattle.office_program.specs.Texts.EndTexts.{TellsEnd}
 use Rattle.office_program.specs.Texts.Statements.{StatementPrints}
 use Rattle.office_program.specs.Opened.{OverStanding, WithAsked}
 
--- The statements of the register's meters were printed, or the reason for a refusal. The office was
--- only queried.
+-- True if the statements of the register's meters were printed, or the reason for a refusal was
+-- printed. The office was only queried.
 pub record StatesMeters {B : Type 0} (ledger : B → Ledger) (zone : Zone)
     (register : Option (List ℕ)) (form : StatementForm) (had holds : Option (List ℕ))
     (status : ExitStatus) (following : History) (opened left : Office B) : Type 0 where
@@ -27,8 +27,8 @@ pub record StatesMeters {B : Type 0} (ledger : B → Ledger) (zone : Zone)
       (failures_of ledger opened) (failures_of ledger left)) status had holds
   pub stands : Stands ledger following left
 
--- The opening was refused and only the refusal was printed. Or the office was opened for queries
--- and the statements printed, in the zone of the store.
+-- True if the office was opened for queries and the statements were printed, in the time zone of
+-- the store. If the opening was refused, only the refusal was printed.
 abbrev pub TellsStatement : {B : Type 0} → (B → Ledger) → (past : History) → (register : List ℕ)
     → StatementForm → (moments later : Option (List ℕ)) → (books back : B)
     → (had holds : Option (List ℕ)) → ExitStatus → Type 0
@@ -37,8 +37,8 @@ TellsStatement ledger past register form moments later books back had holds stat
     ⊎ WithAsked ledger past moments later back
     (StatesMeters ledger (ledger books).zone (named register) form had holds status)
 
--- `TellsStatement` holds for every past in whose state the store was, with the clock and the writer
--- before and after.
+-- True if `TellsStatement` holds for every history that the store records, with the clock and the
+-- writer before and after the command.
 abbrev pub StatementOver : {B C W : Type 0} → stores.Ghosts B → clocks.Ghosts C → writers.Ghosts W
     → (register : List ℕ) → StatementForm → (books back : B) → (before after : C) → (had holds : W)
     → ExitStatus → Type 0

@@ -1,6 +1,6 @@
 //! The result of a command that opens an office over a store.
 
-/// The store that a command returns, and how the command ended.
+/// The store that a command returns, and the result of the command.
 #[derive(Drop)]
 pub struct CommandEnd<B, E> {
     pub books: B,

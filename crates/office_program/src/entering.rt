@@ -1,4 +1,5 @@
-//! Enters the lines of an input into an office: each line is a request with a caller and a number.
+//! Enters the lines of an input into an office. Each input line is a request, and its idempotency
+//! key is the caller's name and a number.
 
 mod asking;
 mod checking;

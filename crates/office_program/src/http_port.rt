@@ -16,16 +16,16 @@ use std::alloc::Global;
 use std::io::Write;
 use std::net::{Net, TcpListener};
 
-/// How the serving of a port ended.
+/// The ways in which a command that serves HTTP on a port ends.
 #[derive(Clone, Copy, Debug, PartialEq, Eq)]
 pub enum ServeEnd {
-    /// The given number of connections was served.
+    /// The requested number of connections was served.
     Served,
     /// The office was not opened. The command ends with this exit status.
     Unopened(ExitStatus),
-    /// The program can't listen on the port.
+    /// The command can't listen on the port.
     NoPort,
-    /// The listener failed.
+    /// The listening socket of the port failed.
     Broken,
 }
 
@@ -62,9 +62,9 @@ fn serve_port<R: Net + std::rt::Clock, B: Books, C: Clock>(
 
 /// Opens an office over a store at the clock's time, and serves requests by HTTP/1.1 on a port.
 ///
-/// It serves `connections` connections on the port of a host, by these host names, as
-/// `serve_named_on` does. If the opening is refused, the command prints `refused N` and does not
-/// open the port. It prints nothing else. Returns the store.
+/// The command serves `connections` connections on the port of a host, under the given host names,
+/// as `serve_named_on` does. If the opening is refused, the command prints only `refused N` and
+/// does not open the port. Returns the store.
 pub fn serve_books<R: Net + std::rt::Clock, B: Books, C: Clock, W: Write>(
     rt: &R,
     alloc: Global,

@@ -1,8 +1,9 @@
-//! A theorem on statements and reports. The contract of the function states it; the body is empty.
+//! The theorem that the statements of an accounting register's meters add up to the register's
+//! report.
 ghost use Rattle.office_program.specs.Laws.{StatementsAddUp};
 
-/// Proves that the energies of the statements of a register's meters add up to the report on the
-/// same days.
+/// Proves that the energies in the statements of a register's meters add up to the energy in the
+/// register's report on the same days.
 pub fn statements_add_up()
     ensures { StatementsAddUp }
 {}

@@ -1,4 +1,5 @@
-//! The program's commands over an office, for any store, clock, sockets and writer.
+//! The program's commands that open an office over a store, for any store, clock, sockets and
+//! writer.
 #![tactic(auto)]
 
 mod command_end;

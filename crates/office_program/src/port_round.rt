@@ -16,13 +16,13 @@ use std::io::{self, Write};
 use std::net::{Net, TcpStream, ToSocketAddrs};
 use std::time::Duration;
 
-/// The number of seconds to wait for a connection, at each address of a device's host.
+/// The number of seconds to wait for a connection at each address of the device's host.
 pub const PATIENCE: u64 = 5;
 
-/// How a round ended.
+/// The ways in which a command that polls a device once ends.
 #[derive(Clone, Copy, Debug, PartialEq, Eq)]
 pub enum PollEnd {
-    /// The round ended, or was broken off by a fault.
+    /// The polling round ended, or was broken off by a fault.
     Polled(Result<(), RoundFault>),
     /// The office was not opened. The command ends with this exit status.
     Unopened(ExitStatus),
@@ -66,9 +66,9 @@ fn poll_port<R: Net, B: Books, C: Clock, W: Write>(
 
 /// Opens an office over a store at the clock's time, and polls the complete plan of a device once.
 ///
-/// The device is at a port of a host, and is polled as by `poll_round`. If the opening is refused,
-/// the command prints only `refused N` and does not connect to the device. A text that is no valid
-/// name counts as an unknown device. Returns the store.
+/// The device is polled at a port of a host, as `poll_round` does. If the opening is refused, the
+/// command prints only `refused N` and does not connect to the device. If `device` is no valid
+/// name, the office treats it as an unknown device. Returns the store.
 pub fn poll_books<R: Net, B: Books, C: Clock, W: Write>(
     net: &R,
     alloc: Global,

@@ -1,4 +1,4 @@
-//! Reports an accounting register on a range of days.
+//! Reports the energy of an accounting register on a range of civil days.
 ghost use Rattle.office_program.specs.Texts.Passing.{Lasts};
 ghost use Rattle.office_program.specs.RangedReport.{RangeOver};
 
@@ -15,12 +15,12 @@ use std::io::Write;
 /// Opens an office for queries, as `report_books` does, and prints the energy of an accounting
 /// register on a range of days.
 ///
-/// The form gives the days of the range, the period, the unit and the format. If the range has both
-/// ends, the command reads only the quarter hours of the range's days, and of two more days at each
-/// end.
+/// The form gives the days of the range, the period, the unit and the format. If the range has a
+/// first and a last day, the command reads only the quarter hours of the range's days, and of two
+/// more days before and after them.
 ///
-/// If the opening or the report is refused, it prints only `refused N`. A text that is no valid
-/// name counts as an unknown register. Returns the store.
+/// If the opening or the report is refused, the command prints only `refused N`. If `register` is
+/// no valid name, the office treats it as an unknown register. Returns the store.
 pub fn report_range_books<B: Books, C: Clock, W: Write>(
     alloc: Global,
     books: B,

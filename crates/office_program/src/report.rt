@@ -1,4 +1,4 @@
-//! Reports an accounting register by civil day.
+//! Reports the energy of an accounting register by civil day.
 ghost use Rattle.office_program.specs.Texts.Passing.{Lasts};
 ghost use Rattle.office_program.specs.Report.{ReportsOver};
 
@@ -13,12 +13,12 @@ use std::io::Write;
 
 /// Opens an office for queries, and prints the energy of an accounting register by civil day.
 ///
-/// Each day is a line, and the last line has the number of days. The office is opened at the
-/// clock's time, or at the latest timestamp in the store if that is later. So a clock that was set
-/// back hides no energy.
+/// Each printed line is a day, and the last line has the number of days. The office is opened at
+/// the clock's time, or at the latest timestamp in the store if that timestamp is later. So a clock
+/// that was set back hides no energy.
 ///
-/// If the opening or the report is refused, the command prints only `refused N`. A text that is no
-/// valid name counts as an unknown register. Returns the store.
+/// If the opening or the report is refused, the command prints only `refused N`. If `register` is
+/// no valid name, the office treats it as an unknown register. Returns the store.
 pub fn report_books<B: Books, C: Clock, W: Write>(
     alloc: Global,
     books: B,

@@ -1,4 +1,4 @@
-//! The texts of the commands over an office, and their exit statuses.
+//! The texts that the program's commands over an office print, and their exit statuses.
 
 mod asked_office;
 mod end_texts;

@@ -1,4 +1,5 @@
--- A poll that was not started has no recorded outcome, and no poll has more than one.
+-- Proof that a poll that was not started has no recorded outcome, and that no poll has two recorded
+-- outcomes.
 use Rattle.std.proofs.Common.{◌≡◌, inl, inr, ℕ, ◌<◌, ◌≤◌, ◌==◌, true, List, [], ◌∷◌, length, Option, Some, None, refl, sym, ap, ◌∙◌, arith}
 use Rattle.std.specs.List.{find}
 use Rattle.std.specs.Option.{is_some, option_to_list}

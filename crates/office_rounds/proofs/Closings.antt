@@ -1,4 +1,5 @@
--- The end of a round that was broken off, and of a round that is over.
+-- Properties of the end of a polling round that was broken off, and of a polling round that is
+-- over.
 use Rattle.std.proofs.Common.{◌≡◌, ◌⊎◌, inl, inr, ℕ, nat_lt, ◌||◌, Bool, true, false, List, ◌∷◌, ◌++◌, Option, Result, Ok, Err, refl, sym, ap, ◌∙◌, subst}
 use Rattle.std.specs.Io.KnownBytes.{Appends}
 use Rattle.std.proofs.KnownBytes.{Appends-trans}
@@ -73,7 +74,7 @@ settled_or d c history office was takes_memory before after at reply stops (inr 
 abbrev pub gone_one : (device : Option (List ℕ)) → (at : ℕ) → Result Answer Refusal → Answered
 gone_one device at reply = record { at = at; event = event.Gone device closing.Failed; result = reply }
 
--- The end of a round, with this printed text.
+-- After a polling round was broken off and its last event was printed, the round is closed.
 pub closes : {B : Type 0} (ledger : B → Ledger) (device : Option (List ℕ)) (past : History) (begun was now : RoundState) (before office : Office B)
     (earlier : List Answered) (round : Progress) (cause fault : RoundFault) (moment at : ℕ) (reply : Result Answer Refusal)
     → Broken ledger device past begun was before earlier round cause → TellsMoment was.moments now.moments moment
@@ -98,7 +99,8 @@ closes ledger device past begun was now before office earlier round cause fault 
           (ap (λ n. nat_lt moment_limit n) when ∙ times.1) taken.answer);
     }
 
--- What is printed then.
+-- If the last event of a broken-off polling round was printed, then the printed text is complete.
+-- The text of this event comes last.
 pub whole_printed : (cause : RoundFault) (text more : List ℕ) (a b c : Option (List ℕ)) → (cause ≡ Output → ⊥)
     → IsPrinted {X = Unit {0}} (Err cause) text a b → Appends b c more → IsPrinted {X = Unit {0}} (Err cause) (text ++ more) a c
 whole_printed (Refused why) text more a b c other printed told = Appends-trans a b c text more printed told
@@ -137,7 +139,7 @@ told_after ledger device past begun was now before office earlier round cause fa
     (closes ledger device past begun was now before office earlier round cause Output moment at reply broken tells is taken stops (inr refl)
     (part_printed cause (text_after past earlier) _ begun.printed was.printed now.printed other broken.printed told.1))
 
--- The end was fed and printed.
+-- If the last event of a broken-off polling round was fed and printed, then the round is closed.
 pub closes_printed : {B : Type 0} (ledger : B → Ledger) (device same : Option (List ℕ)) (past : History) (begun was now : RoundState)
     (before office : Office B) (earlier : List Answered) (round : Progress) (cause fault : RoundFault) (moment at : ℕ) → same ≡ device
     → Broken ledger device past begun was before earlier round cause → (cause ≡ Output → ⊥) → TellsMoment was.moments now.moments moment
@@ -150,7 +152,8 @@ closes_printed ledger device same past begun was now before office earlier round
     let mine = subst P equal ends in
     told_after ledger device past begun was now before office earlier round cause fault moment at mine.reply broken other tells is mine.taken mine.stops mine.printed
 
--- The end was fed and not printed.
+-- If the last event of a broken-off polling round was fed but not printed, then the round is
+-- closed.
 pub closes_unprinted : {B : Type 0} (ledger : B → Ledger) (device same : Option (List ℕ)) (past : History) (begun was now : RoundState)
     (before office : Office B) (earlier : List Answered) (round : Progress) (moment at : ℕ) → same ≡ device
     → Broken ledger device past begun was before earlier round Output → TellsMoment was.moments now.moments moment

@@ -1,4 +1,4 @@
--- A round of three reads, on a device with room for two: its pending polls, and what it does next.
+-- An example of a polling round: three Modbus reads, on a device with room for two pending polls.
 use Rattle.std.proofs.Common.{◌≡◌, [], ◌∷◌, None, Some, Ok, refl}
 use Rattle.poll_core.specs.declared.outcome.Closing.TheVariants as closing
 use Rattle.poll_core.specs.declared.outcome.Outcome.TheVariants as outcome
@@ -16,14 +16,15 @@ begun = joined (unconnected None)
 abbrev connected : Round
 connected = answered (Ok answer.Noted) begun
 
--- Reads 0 and 1 of the three are polls 7 and 8.
+-- The example's polling round after Modbus reads 0 and 1 were started as polls 7 and 8.
 abbrev two_started : Round
 two_started = answered (Ok (answer.Started 7 2 3)) connected
 
 abbrev one_ended : Round
 one_ended = heard (note.Outcome 7 outcome.Answered ∷ []) two_started
 
--- Polls 9 to 11 belong to other devices.
+-- The example's polling round after its last Modbus read was started as poll 12. Polls 9 to 11
+-- belong to other devices.
 abbrev all_started : Round
 all_started = answered (Ok (answer.Started 12 1 3)) one_ended
 

@@ -1,4 +1,4 @@
--- One more event of a round.
+-- Properties of a polling round after one more event.
 use Rattle.std.proofs.Common.{◌≡◌, inl, ℕ, Bool, List, [], ◌∷◌, ◌++◌, Option, Result, Ok, Err, refl, sym, ap, ◌∙◌, subst}
 use Rattle.std.proofs.KnownBytes.{Appends-trans}
 use Rattle.std.specs.Io.KnownBytes.{Appends}
@@ -28,7 +28,7 @@ use Rattle.office_rounds.proofs.Timely.{of_round, one_accepted}
 abbrev pub fed_one : (at : ℕ) → Event → Result Answer Refusal → Answered
 fed_one at e result = record { at = at; event = e; result = result }
 
--- The round continues after an accepted event.
+-- If the office accepts an event of a polling round, then the round continues.
 pub goes_on : {B : Type 0} (rounds : RoundsHold) (ledger : B → Ledger) (device : Option (List ℕ)) (past : History) (begun was now : RoundState)
     (before office : Office B) (fed : List Answered) (old new : Progress) (at : ℕ) (e : Event) (given : Answer)
     → Going ledger device past begun was before fed old → Does device (next_in past fed) e → TellsMoment was.moments now.moments at
@@ -53,7 +53,7 @@ goes_on rounds ledger device past begun was now before office fed old new at e g
       told = taken.told.outgoing;
     }
 
--- A refused event breaks the round off.
+-- If the office refuses an event of a polling round, then the round is broken off.
 pub breaks_off : {B : Type 0} (ledger : B → Ledger) (device : Option (List ℕ)) (past : History) (begun was now : RoundState) (before office : Office B)
     (fed : List Answered) (old new : Progress) (at : ℕ) (e : Event) (why : Refusal)
     → Going ledger device past begun was before fed old → Does device (next_in past fed) e → TellsMoment was.moments now.moments at
@@ -73,7 +73,7 @@ pub part_more : (a b c : Option (List ℕ)) (x y : List ℕ) → Appends a b x �
 part_more a b c x y first second =
     let failed : Result (Unit {0}) (Unit {0}) = Err tt in got_both failed a b c x y (x ++ y) first second refl
 
--- An event that is not printed breaks the round off.
+-- If the report of an event could not be printed, then the polling round is broken off.
 pub unprinted : {B : Type 0} (ledger : B → Ledger) (device : Option (List ℕ)) (past : History) (begun was now : RoundState) (before office : Office B)
     (fed : List Answered) (old new : Progress) (at : ℕ) (e : Event)
     → Going ledger device past begun was before fed old → Does device (next_in past fed) e → TellsMoment was.moments now.moments at
@@ -105,7 +105,7 @@ fed_printed ledger past at e given was now office text (Err Output) taken h is =
     record { given = given; taken = taken; printed = subst Q is h }
 fed_printed ledger past at e given was now office text (Err TurnsUsed) taken h is = absurd h
 
--- An event that broke the round off.
+-- The state of a polling round after the event that broke it off.
 pub told_broken : {B : Type 0} (ledger : B → Ledger) (device : Option (List ℕ)) (past : History) (begun was now : RoundState) (before office : Office B)
     (fed : List Answered) (old new : Progress) (at : ℕ) (e : Event) (cause : RoundFault)
     → Going ledger device past begun was before fed old → Does device (next_in past fed) e → TellsMoment was.moments now.moments at
@@ -125,7 +125,7 @@ told_broken ledger device past begun was now before office fed old new at e Outp
 )
 told_broken ledger device past begun was now before office fed old new at e TurnsUsed going does tells feeds same latest = absurd feeds
 
--- A printed event was accepted.
+-- If the report of an event was printed, then the office did not refuse the event.
 pub printed_stops : (was : Bool) (e : Event) (given : Answer) (text : List ℕ) (a b : Option (List ℕ)) (result : Result Answer RoundFault)
     (now : Bool) → Prints given text a b result → FeedStops was e result now
 printed_stops was e given text a b (Ok told) now h = tt

@@ -1,4 +1,5 @@
--- After each event a round is in its defined state, and continues with what is next.
+-- Proof that after each event a polling round is in its defined state, and its next action is the
+-- defined next action.
 use Rattle.std.proofs.Common.{◌≡◌, ◌⊎◌, inl, inr, ℕ, zero, suc, ◌+◌, ◌-◌, ◌^◌, min, ◌<◌, ◌≤◌, ◌==◌, nat_le, nat_lt, not, Bool, true, false, cond, List, [], ◌∷◌, ◌++◌, length, map, Option, Some, None, Ok, refl, sym, ap, ◌∙◌, subst, arith}
 use Rattle.std.specs.List.{count_by, filter}
 use Rattle.std.specs.Option.{is_none, option_and_then}
@@ -55,7 +56,7 @@ use Rattle.office_rounds.proofs.Starts.{can_be_started, ends_kept, few_sent, nar
 use Rattle.office_rounds.proofs.Timely.{connected_noted}
 use Rattle.office_rounds.proofs.Told.{ends_settled, told, waits_told}
 
--- The theorems on accepted events and on sessions.
+-- The theorems on accepted events and on sessions that the proof on polling rounds uses.
 pub record Laws : Type 0 where
   pub session : SessionLaws
   pub once : (history : History) → AreAccepted history → PollsEndOnce history
@@ -72,7 +73,8 @@ round_at device stage polls started planned sum = record {
   sum = sum;
 }
 
--- What is next while responses are pending.
+-- The stage of a waiting polling round after notifications. The round is still waiting, is starting
+-- the remaining Modbus reads, or is leaving.
 abbrev stage_by : (none start leave : Bool) → Stage
 stage_by none start leave = cond none Waiting (cond start Starting (cond leave (Leaving closing.Gone) Waiting))
 
@@ -109,7 +111,7 @@ stands_by false true leave device past fed round way = way
 stands_by false false true device past fed round way = refl
 stands_by false false false device past fed round way = way
 
--- If some polls have ended, fewer are pending.
+-- The number of pending polls decreases if and only if a poll has ended.
 fewer : (after before endings : ℕ) → before ≡ after + endings → nat_lt after before ≡ not (endings == 0)
 fewer after before endings is =
     elim (cases_eq endings 0) [
@@ -121,7 +123,7 @@ fewer after before endings is =
           lt-ltb after before more ∙ sym (ap not (ne_eqb endings 0 some))
     ]
 
--- If no read remains and no poll is pending, all polls have ended.
+-- If no Modbus read remains, then no poll is pending if and only if all polls have ended.
 all_ended : (started planned ended left : ℕ) → ended + left ≡ started → started ≤ planned → nat_lt started planned ≡ false
     → (left == 0) ≡ nat_le planned ended
 all_ended started planned ended left sum within none =
@@ -150,7 +152,8 @@ quiet_note first (note.Outcome poll outcome) h = absurd (let no = h poll in let 
 quiet_note first (note.Reading meter raw rolls step) h = refl
 quiet_note first (note.Held meter raw cause) h = refl
 
--- All outcomes that are reported for the numbers of a round are those of its polls.
+-- If no outcome is reported past the round's last poll, then the reported outcomes from its first
+-- poll on belong to its started polls.
 ends_told : (first : Option ℕ) (number started : ℕ) (notes : List Note) → IsFirst first number started
     → ((n : ℕ) → number + started ≤ n → told n notes ≡ 0) → count_by (is_ending first) notes ≡ told_from number started notes
 ends_told None number started notes is beyond =
@@ -160,7 +163,8 @@ ends_told (Some first) number started notes is beyond =
     ∙ ap (λ n. length (filter (is_ending (Some n)) notes)) is
     ∙ counts_from number started (is_ending (Some number)) notes (λ p o. refl) (λ one h. quiet_note number one h) beyond
 
--- An event that settles polls.
+-- The properties of an event that ends polls. The store records the outcomes of the ended polls,
+-- and the office reports them in notifications.
 pub record Settles (history : History) (at : ℕ) (e : Event) : Type 0 where
   pub facts : facts_of (Fed at e ∷ history)
       ≡ with_settled (next_poll (facts_of history)) at e (slots_of history) (facts_of history)
@@ -267,7 +271,7 @@ given_by : (refused : Option Refusal) (told given : Answer) → Ok given ≡ unl
 given_by None told given h = cc
 given_by (Some why) told given h = absurd (cc)
 
--- The connection.
+-- If a device is connected, then the device has a slot in the office.
 slot_there : (o : Option Slot) → is_none o ≡ false → (slot : Slot) × (o ≡ Some slot)
 slot_there None h = absurd (cc)
 slot_there (Some slot) h = (slot, refl)
@@ -299,7 +303,7 @@ connected_round device past at polls started planned sum none first left accepte
       };
     }
 
--- A start.
+-- If the poll numbers of a start of Modbus reads fit 64 bits, then they do not saturate.
 plain_numbers : (first count : ℕ) → first + count ≤ 2 ^ 64 → numbers first count ≡ from_on first count
 plain_numbers first zero h = refl
 plain_numbers first (suc n) h =
@@ -449,7 +453,7 @@ started_round laws device past fed at before after given polls started planned s
     (started_as laws device past fed at polls started planned sum way is_past.accepted
     (record { accepted = is_past.accepted.1; planned = is_past.planned.1 }))
 
--- An event from the link.
+-- If an event from the link is accepted, then its answer is `Noted`.
 pub noted_by : (history : History) (at : ℕ) (device : Option (List ℕ)) (e : Event) (before after : Failures) (given : Answer) → IsTaken device e
     → IsAnswer history at e before after (Ok given) → given ≡ answer.Noted
 noted_by history at device (event.Connected d) before after given taken told = absurd taken
@@ -462,7 +466,7 @@ noted_by history at device (event.Gone d cause) before after given taken (inr fa
 noted_by history at device (event.Command c) before after given taken told = absurd taken
 noted_by history at device (event.Asked asked) before after given taken told = absurd taken
 
--- The round after an event, if the event was noted.
+-- The state of a polling round after an event that the office accepted with the answer `given`.
 abbrev HoldsAfter : (device : Option (List ℕ)) → History → List Answered → (at : ℕ) → Event → Round → Answer → Type 0
 HoldsAfter device past fed at e round given =
     Holds device past (fed_one at e (Ok given) ∷ fed) (round_after e given (notes_after (history_with past fed) at e (Ok given)) round)
@@ -518,7 +522,7 @@ by_stage laws device past fed at e before after given (Leaving cause) polls star
     subst (λ x. HoldsAfter device past fed at x (round_at device (Leaving cause) polls started planned sum) given) (sym does)
     (record { device_is = refl; next = refl; stands = tt })
 
--- One more event keeps the state of the round.
+-- If a polling round is in its defined state, then it is in its defined state after one more event.
 pub holds_on : (laws : Laws) (device : Option (List ℕ)) (past : History) (fed : List Answered) (round : Round) (at : ℕ) (e : Event) (before after : Failures)
     (given : Answer) → Holds device past fed round → Does device (next_in past fed) e
     → IsAnswer (history_with past fed) at e before after (Ok given) → IsPast (Fed at e ∷ history_with past fed)

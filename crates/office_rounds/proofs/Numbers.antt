@@ -1,5 +1,5 @@
--- Consecutive numbers: which of their polls are pending, and how many outcomes are reported for
--- them.
+-- Theorems on consecutive poll numbers: which of the polls are pending, and how many outcomes are
+-- reported for the polls.
 use Rattle.std.proofs.Common.{◌≡◌, inl, inr, ℕ, zero, suc, ◌+◌, ◌-◌, ◌<◌, ◌≤◌, ◌==◌, nat_le, ◌&&◌, Bool, true, false, cond, List, [], ◌∷◌, ◌++◌, length, refl, sym, ap, ◌∙◌, arith, append_assoc, append-nil}
 use Rattle.std.specs.List.{filter}
 use Rattle.std.proofs.lemmas.Bool.{cases_eq, cases_lt, cond-false, cond-true, eq-eqb, le-leb, lt-leb, ne_eqb}
@@ -26,7 +26,8 @@ from_both first m (suc n) =
     ∙ append_assoc (from_on first m) (from_on (first + m) n) ((first + (m + n)) ∷ [])
     ∙ ap (λ k. from_on first m ++ (from_on (first + m) n ++ k ∷ [])) last
 
--- The outcomes that are reported for these numbers.
+-- The number of outcomes that the notifications report for `count` consecutive polls, beginning
+-- with number `first`.
 abbrev pub told_from : (first count : ℕ) → List Note → ℕ
 told_from first zero notes = 0
 told_from first (suc n) notes = told_from first n notes + told (first + n) notes
@@ -79,8 +80,8 @@ told_within first (suc n) p o notes low high =
           omega arith
     ]
 
--- The outcomes for numbers from `first` on are all that are reported from there, if none is
--- reported past the last number.
+-- If no outcome is reported past the last of `count` polls, then all outcomes from number `first`
+-- on belong to these polls.
 counts_more : (first count p : ℕ) (o : Outcome) (notes : List Note) (xs : List Note) → length xs ≡ told_from first count notes → p < first + count
     → length (cond (nat_le first p) (note.Outcome p o ∷ xs) xs) ≡ told_from first count (note.Outcome p o ∷ notes)
 counts_more first count p o notes xs so high =
@@ -127,7 +128,7 @@ counts_from first count test (note.Held meter raw cause ∷ notes) ended other b
     ∙ counts_from first count test notes ended other beyond
     ∙ told_same first count notes (one ∷ notes) (λ n. refl)
 
--- Those of the numbers whose count is zero.
+-- If a poll has no recorded outcome, then it counts as one open poll, otherwise as none.
 one_open : (x n : ℕ) → length (cond (n == 0) (x ∷ []) []) ≡ 1 - n
 one_open x zero = refl
 one_open x (suc n) = ap length (cond-false (suc n == 0) (x ∷ []) [] (ne_eqb (suc n) 0 (λ e. absurd (omega (arith, e))))) ∙ omega arith
@@ -147,7 +148,8 @@ fewer_open before after notes more once first (suc n) =
     let at_most = once x in
     omega (arith, so, was, is, had, has, told_more, at_most)
 
--- One filter after another.
+-- If a list is filtered by one test and then by another test, then the result has the items that
+-- pass both tests.
 filter_step : (q : ℕ → Bool) (b : Bool) (x : ℕ) (ys zs : List ℕ) → filter q ys ≡ zs → filter q (cond b (x ∷ ys) ys) ≡ cond (b && q x) (x ∷ zs) zs
 filter_step q true x ys zs h = ap (λ ws. cond (q x) (x ∷ ws) ws) h
 filter_step q false x ys zs h = h
@@ -172,7 +174,7 @@ left_open before after test notes more is xs =
     ∙ filter_agree (λ n. (before n == 0) && test n) (λ n. after n == 0)
     (λ n. ap (λ b. (before n == 0) && b) (is n) ∙ sym (sum_none (told n notes) (before n)) ∙ ap (λ k. k == 0) (sym (more n))) xs
 
--- All numbers pass a test that each passes.
+-- If all numbers pass a test, then filtering the numbers by this test leaves them unchanged.
 pub all_pass : (test : ℕ → Bool) (first count : ℕ) → ((n : ℕ) → first ≤ n → test n ≡ true) → filter test (from_on first count) ≡ from_on first count
 all_pass test first zero h = refl
 all_pass test first (suc n) h =

@@ -1,4 +1,5 @@
--- The polls that were started on the present session of a device. The pending ones fit its window.
+-- Properties of the polls that were started on the present session of a device. The pending polls
+-- fit the session's window.
 use Rattle.std.proofs.Common.{◌≡◌, ℕ, suc, ◌+◌, ◌≤◌, ◌==◌, Bool, true, false, cond, List, [], ◌∷◌, ◌++◌, length, map, Option, Some, None, refl, sym, ap, ◌∙◌, subst, arith, append_assoc, append-nil}
 use Rattle.std.specs.List.{cons_option, filter}
 use Rattle.std.proofs.lemmas.Bool.{cond-false, eq-eqb, ne_eqb}
@@ -27,7 +28,7 @@ use Rattle.office_rules.proofs.Lookups.{find_passes}
 use Rattle.office_rules.proofs.SessionLaws.{SessionLaws, number_by, numbers-push}
 use Rattle.office_rounds.specs.Polling.{IsOnSession, is_open}
 
--- A slot is still found after a change that keeps the devices.
+-- If a change of the slots keeps their devices, then the slot of a device is still found.
 found_step : (b : Bool) (f : Slot → Slot) (one slot : Slot) (later after : Option Slot) → (later ≡ Some slot → after ≡ Some (f slot))
     → cond b (Some one) later ≡ Some slot → cond b (Some (f one)) after ≡ Some (f slot)
 found_step true f one slot later after rest h = let same : one ≡ slot = cc in ap (λ s. Some (f s)) same
@@ -40,7 +41,8 @@ found_after f keeps (one ∷ slots) given slot h =
     ap (λ (d : Device). cond (is_named given d.name) (Some (f one)) (slot_of (map f slots ++ []) given)) (keeps one)
     ∙ found_step (is_named given one.device.name) f one slot (slot_of slots given) (slot_of (map f slots ++ []) given) (found_after f keeps slots given slot) h
 
--- One more event on a session adds the poll that it starts.
+-- After one more event on a session, the session's polls are the earlier polls and the poll that
+-- the event starts.
 numbers_more : (laws : SessionLaws) (device : Device) (before : List session.Event) (h : session.Event)
     → numbers_in (polls_on device false (before ++ h ∷ [])) ≡ numbers_in (polls_on device false before) ++ number_by h
 numbers_more laws device before h =
@@ -66,7 +68,7 @@ pieced : (laws : SessionLaws) (number at : ℕ) (given : Option (List ℕ)) (pie
 pieced laws number at given piece slot None is = ap (λ p. numbers_in (polls_on_present slot.device p)) is
 pieced laws number at given piece slot (Some before) is = pieced_step laws (is_named given slot.device.name) at piece slot before
 
--- A timer event and a chunk start no poll.
+-- If an event of a session is a timer event or a chunk of bytes, then it starts no polls.
 pub on_tick : (laws : SessionLaws) (number at : ℕ) (slots : List Slot) (device : Option (List ℕ)) (numbers : List ℕ)
     → IsOnSession slots device numbers → IsOnSession (map (slot_after number at [] event.Tick) slots ++ []) device numbers
 on_tick laws number at slots device numbers on = record {
@@ -84,7 +86,7 @@ on_piece laws number at given piece slots device numbers on = record {
   are = pieced laws number at given piece on.slot on.slot.present refl ∙ on.are;
 }
 
--- After the connection no poll was started.
+-- After a connection, the new session has no started polls.
 connected_step : (number at : ℕ) (slot : Slot) (named : Bool) (other : Slot) → named ≡ true
     → numbers_of_slot (cond named (record { device = slot.device; ended = slot.ended; present = Some [] }) other) ≡ []
 connected_step number at slot true other is = refl
@@ -99,7 +101,7 @@ on_connection number at slots device slot found = record {
       (find_passes (λ (one : Slot). is_named device one.device.name) slots slot found);
 }
 
--- A start adds the polls of the reads that it sends.
+-- After Modbus reads are started on a session, their polls are added to the session's polls.
 happened : (at : ℕ) (slot : Slot) (before : List session.Event) (sends : List Send)
     → with_happenings slot before (map (start_by at slot.device) sends)
     ≡ record { device = slot.device; ended = slot.ended; present = Some (before ++ map (start_by at slot.device) sends) }
@@ -118,7 +120,7 @@ sent_on laws at device before (send ∷ sends) =
     ∙ ap (λ ns. ns ++ sent_numbers sends) (numbers_more laws device before (start_by at device send))
     ∙ append_assoc (numbers_in (polls_on device false before)) (send.number ∷ []) (sent_numbers sends)
 
--- The slot after a start.
+-- The slot of a device after Modbus reads were started on its session.
 pub record IsAfterStart (at : ℕ) (slot : Slot) (before : List session.Event) (sends : List Send) (after : Slot) : Type 0 where
   pub device : after.device ≡ slot.device
   pub present : after.present ≡ Some (before ++ map (start_by at slot.device) sends)
@@ -157,7 +159,8 @@ started_on laws at slot after before sends numbers present is on =
     ∙ sent_on laws at slot.device before sends
     ∙ ap (λ ns. ns ++ sent_numbers sends) (ap (λ p. numbers_in (polls_on_present slot.device p)) (sym present) ∙ on)
 
--- Of the polls that were started on the session, at most the pending ones have no outcome.
+-- The number of outcomes of poll `n` in two joined lists equals the sum of the numbers in each
+-- list.
 picked_both : (n : ℕ) (xs ys : List (ℕ × Outcome)) → length (pick n (xs ++ ys)) ≡ length (pick n xs) + length (pick n ys)
 picked_both n xs ys = ap length (filter_map-append (is_of n) xs ys) ∙ length-append (pick n xs) (pick n ys)
 

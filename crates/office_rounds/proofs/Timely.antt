@@ -1,4 +1,5 @@
--- The timestamps of a round, and the answers to its events.
+-- Properties of the timestamps of a polling round's events, and of the office's answers to the
+-- events.
 use Rattle.std.proofs.Common.{◌≡◌, inl, inr, ℕ, nat_lt, Bool, true, false, ◌||◌, cond, List, [], ◌∷◌, Option, None, Some, Ok, refl, sym, subst, arith}
 use Rattle.std.proofs.lemmas.Bool.{or_parts}
 use Rattle.office_events.specs.declared.answers.Answer.{Answer}
@@ -23,7 +24,7 @@ opened_within true beyond why late h = absurd (cc)
 opened_within false true why late h = absurd (cc)
 opened_within false false why late h = refl
 
--- No accepted event is past the last timestamp.
+-- If an event is accepted, then its timestamp is not past the last allowed timestamp.
 pub latest_within : (history : History) → AreAccepted history → nat_lt moment_limit (latest_of history) ≡ false
 latest_within [] h = refl
 latest_within (Opened at ∷ past) h =
@@ -36,7 +37,8 @@ latest_within (Fed at e ∷ past) h =
 not_below_itself : (n : ℕ) → nat_lt n n ≡ false
 not_below_itself n = grind arith
 
--- The device is gone in time.
+-- The timestamp of the event that the device is gone is neither earlier than the latest event nor
+-- past the limit.
 gone_by : (back beyond : Bool) (latest moment : ℕ) → nat_lt moment latest ≡ back → nat_lt moment_limit moment ≡ beyond
     → nat_lt moment_limit latest ≡ false
     → (nat_lt (cond (back || beyond) latest moment) latest ≡ false) × (nat_lt moment_limit (cond (back || beyond) latest moment) ≡ false)
@@ -48,7 +50,7 @@ pub gone_in_time : (latest moment : ℕ) → nat_lt moment_limit latest ≡ fals
     → (nat_lt (gone_at latest moment) latest ≡ false) × (nat_lt moment_limit (gone_at latest moment) ≡ false)
 gone_in_time latest moment limit = gone_by (nat_lt moment latest) (nat_lt moment_limit moment) latest moment refl refl limit
 
--- An event of a round.
+-- True if the command starts Modbus reads. A polling round feeds no other command.
 abbrev IsStart : Command → Type 0
 IsStart (command.AddDevice c) = ⊥
 IsStart (command.PutList c) = ⊥
@@ -115,7 +117,7 @@ started_one history at (command.StartRound c) before after given start (inl told
     started history at _ given _ _ _ (given_is (refusal_of history at (event.Command (command.StartRound c))) _ given told.0)
 started_one history at (command.StartRound c) before after given start (inr fails) = absurd fails
 
--- An accepted event of a round extends the history by one.
+-- If an event of a polling round is accepted, then the history is longer by this event.
 pub one_accepted : (history : History) (at : ℕ) (e : Event) (before after : Failures) (given : Answer) → IsOfRound e
     → IsAnswer history at e before after (Ok given) → with_answer history at e (Ok given) ≡ Fed at e ∷ history
 one_accepted history at (event.Connected d) before after given kind (inl told) = noted history at _ given (given_is (refusal_of history at (event.Connected d)) _ given told.0)
@@ -129,7 +131,7 @@ one_accepted history at (event.Gone d c) before after given kind (inr fails) = a
 one_accepted history at (event.Command c) before after given kind told = started_one history at c before after given kind told
 one_accepted history at (event.Asked asked) before after given kind told = absurd kind
 
--- An accepted connection is noted.
+-- If a connection is accepted, then its answer is `Noted`.
 pub connected_noted : (history : History) (at : ℕ) (d : Option (List ℕ)) (before after : Failures) (given : Answer)
     → IsAnswer history at (event.Connected d) before after (Ok given) → given ≡ answer.Noted
 connected_noted history at d before after given (inl told) = given_is (refusal_of history at (event.Connected d)) _ given told.0

@@ -1,5 +1,5 @@
--- How often an event reports the outcome of a poll, and how many of the poll's outcomes are
--- recorded then.
+-- Properties of how often an event reports the outcome of a poll, and of the poll's recorded
+-- outcomes after the event.
 use Rattle.std.proofs.Common.{◌≡◌, ℕ, suc, ◌+◌, ◌==◌, not, ◌||◌, Bool, true, false, cond, List, [], ◌∷◌, ◌++◌, length, Option, Some, None, refl, sym, ap, ◌∙◌, arith, if◌then◌else◌}
 use Rattle.std.specs.List.{filter, list_any}
 use Rattle.std.specs.Option.{option_map, option_to_list}
@@ -28,7 +28,7 @@ use Rattle.office_rules.specs.Sessions.{Slot}
 use Rattle.office_rules.proofs.EndedFacts.{end_fact, ended-with_outcome}
 use Rattle.office_rounds.specs.DeviceRounds.Polls.{ends, waits}
 
--- How often the notifications report the outcome of a poll.
+-- The number of notifications that report the outcome of the poll with number `n`.
 abbrev pub told : ℕ → List Note → ℕ
 told n notes = length (filter (ends n) notes)
 
@@ -38,7 +38,7 @@ told_both n xs ys = ap length (filter-append (ends n) xs ys) ∙ length-append (
 both_none : (a b c : ℕ) → a ≡ b + c → b ≡ 0 → c ≡ 0 → a ≡ 0
 both_none a b c is first second = omega arith
 
--- Notifications of readings report no outcome.
+-- If a notification reports a meter reading, then it reports no outcome of a poll.
 quiet : (n : ℕ) (meter : List ℕ) (reading : Reading) (verdict : Verdict) → ends n (as_note meter reading verdict) ≡ false
 quiet n meter reading (Accepted rolls step) = refl
 quiet n meter reading (Held cause) = refl
@@ -73,7 +73,8 @@ words_quiet n at number session.Silent facts = refl
 words_quiet n at number (session.Malformed malformation) facts = refl
 words_quiet n at number (session.Lost cause) facts = refl
 
--- Each reported outcome is recorded, and no other.
+-- If an outcome is reported, then one more outcome is recorded. If no outcome is reported, then no
+-- outcome is recorded.
 one_more : {X Y : Type 0} (b : Bool) (x : X) (xs : List X) (y : Y) (ys : List Y) → length ys ≡ 0
     → length (cond b (x ∷ xs) xs) ≡ length (cond b (y ∷ ys) ys) + length xs
 one_more true x xs y ys h = omega (arith, h)
@@ -109,7 +110,7 @@ ends_settled n number at e (slot ∷ slots) facts =
     (told n (settled_notes number at e slots mid)) (told n (outcomes_notes at here facts ++ settled_notes number at e slots mid))
     (ends_settled n number at e slots mid) (ends_all n at here facts) (told_both n (outcomes_notes at here facts) (settled_notes number at e slots mid))
 
--- A poll stays pending if no notification reports its outcome.
+-- If no notification reports the outcome of a poll, then the poll is still pending.
 waits_step : (b : Bool) (any : Bool) (one : Note) (notes : List Note) → not any ≡ (length notes == 0)
     → not (b || any) ≡ (length (cond b (one ∷ notes) notes) == 0)
 waits_step true any one notes h = sym (ne_eqb (suc (length notes)) 0 (λ e. absurd (omega (arith, e))))

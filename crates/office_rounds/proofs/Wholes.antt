@@ -1,4 +1,4 @@
--- A round from its connection on.
+-- Proof of the theorem on a complete polling round, from its connection to its end.
 use Rattle.std.proofs.Common.{◌≡◌, inl, inr, ℕ, List, [], ◌∷◌, Option, Result, Ok, Err, refl, sym, subst}
 use Rattle.std.proofs.KnownBytes.{Appends-nil, Consumes-nil}
 use Rattle.office_events.specs.declared.answers.Answer.{Answer}
@@ -21,7 +21,7 @@ use Rattle.office_rounds.specs.declared.progress.Progress.{Progress}
 use Rattle.office_rounds.proofs.Overs.{is_broken_off}
 use Rattle.office_rounds.proofs.Wires.{appends_nothing, part_of_all}
 
--- A connection sends nothing.
+-- If an event is a connection, then the office sends no frames for the event.
 no_frames : (h : History) (at : ℕ) (d : Option (List ℕ)) (given : Answer) → outgoing_after h at (event.Connected d) (Ok given) ≡ []
 no_frames h at d answer.Noted = refl
 no_frames h at d (answer.Done kind) = refl
@@ -41,14 +41,14 @@ wired_unprinted past at device given w =
     let wired = wired_connected past at device given w in
     record { taken = wired.taken; given = part_of_all w.given w.given _ wired.given }
 
--- The connection was refused.
+-- If the office refused the connection of a polling round, then `IsNotConnected` holds.
 pub unconnected : {B : Type 0} (ledger : B → Ledger) (device : Option (List ℕ)) (past : History) (begun now : RoundState) (w : Wire)
     (office : Office B) (round : Progress) (why : Refusal) → Connects ledger device past begun now office round (Err (Refused why))
     → Rounds ledger device past (passage begun now w w) office (Err (Refused why))
 unconnected ledger device past begun now w office round why h =
     inl (record { at = h.0; leaves = h.1; timed = h.2; same = refl; printed = h.3 })
 
--- The connection was fed, and not printed.
+-- If the connection of a polling round was fed but not printed, then the round is broken off.
 pub unprinted : {B : Type 0} (ledger : B → Ledger) (device : Option (List ℕ)) (past : History) (begun was now : RoundState) (w : Wire)
     (before office : Office B) (round : Progress) (fault : RoundFault) → (h : Connects ledger device past begun was before round (Err Output))
     → Closes ledger device past begun now office (connection device h.0 (Ok h.1.0) ∷ []) Output fault
@@ -77,11 +77,11 @@ pub connects_same : {B : Type 0} (ledger : B → Ledger) (device same : Option (
 connects_same ledger device same past begun now office round result equal h =
     let P : Option (List ℕ) → Type 0 = λ d. Connects ledger d past begun now office round result in subst P equal h
 
--- The reads are used up.
+-- True if the result is the fault `TurnsUsed`: the polling round used all of its reads of the link.
 abbrev pub IsUsed : Result (Unit {0}) RoundFault → Type 0
 IsUsed result = result ≡ Err TurnsUsed
 
--- This is reported only if it broke the round off.
+-- If the fault `TurnsUsed` is reported, then this fault broke the polling round off.
 pub told_used : (fault told : RoundFault) → IsToldOf fault told → IsUsed (Err told) → IsUsed (Err fault)
 told_used fault told (inl is) h = cc
 told_used fault told (inr is) h = absurd (cc)
@@ -97,7 +97,7 @@ failures_by : (fault told : RoundFault) (before after : ℕ) → told ≡ fault 
 failures_by fault told before after is h =
     let P : RoundFault → Type 0 = λ f. CountsFailures {X = Unit {0}} (Err f) before after in subst P (sym is) h
 
--- The link's failures, if a round was broken off and closed.
+-- The count of the link's failures after a polling round was broken off and closed.
 pub counts_failures : (fault told : RoundFault) (before after : ℕ) → after ≡ risen (is_link_fault {X = Unit {0}} (Err fault)) before
     → IsToldOf fault told → CountsFailures {X = Unit {0}} (Err told) before after
 counts_failures (Refused why) told before after h (inl is) = failures_by (Refused why) told before after is h

@@ -1,4 +1,4 @@
--- What passes over a link, call by call.
+-- Properties of the bytes read from a link and of the bytes written to the link, call by call.
 use Rattle.std.proofs.Common.{◌≡◌, ℕ, List, [], ◌++◌, Option, sym, ap, ◌∙◌, append-nil, subst}
 use Rattle.std.proofs.KnownBytes.{Consumes-kept, Consumes-nil}
 use Rattle.std.specs.Io.KnownBytes.{Appends, Consumes, Keeps}
@@ -11,14 +11,14 @@ appends_nothing a b x y got none = subst (Appends a b) (sym (ap (λ z. x ++ z) n
 pub consumes_nothing : (a b : Option (List ℕ)) (x y : List ℕ) → Consumes a b x → y ≡ [] → Consumes a b (x ++ y)
 consumes_nothing a b x y got none = subst (Consumes a b) (sym (ap (λ z. x ++ z) none ∙ append-nil x)) got
 
--- If bytes were not written completely, a part was.
+-- If a write to a link did not complete, then it wrote a part of the bytes.
 pub part_given : (a b : Option (List ℕ)) (bytes : List ℕ) → GivesPart a b bytes → GotPart bytes a b
 part_given a b bytes gives = (gives.part, gives.unsent, gives.whole, gives.given)
 
--- The complete text is a part of itself.
+-- If all bytes of a text were written, then the text also counts as written in part.
 pub part_of_all : (a b : Option (List ℕ)) (x : List ℕ) → Appends a b x → GotPart x a b
 part_of_all a b x got = (x, [], sym (append-nil x), got)
 
--- Nothing was read.
+-- If a read of a link leaves the remaining bytes unchanged, then it has returned no bytes.
 pub kept_none : (a b : Option (List ℕ)) → Keeps a b → Consumes a b []
 kept_none a b h = Consumes-kept a a b [] (Consumes-nil a) h

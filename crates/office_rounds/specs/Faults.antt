@@ -1,18 +1,18 @@
--- Why a round was broken off, and how much of its text was printed and of its frames was sent.
+-- The faults of a polling round, with the printed text and the sent frames before a fault.
 use Rattle.std.specs.Prelude.{ℕ, Bool, true, false, List, Option, Result, Ok, Err}
 use Rattle.std.specs.Io.KnownBytes.{Appends}
 use Rattle.sun_points.specs.Writing.{GotPart}
 use Rattle.office_rounds.specs.declared.fault.RoundFault.{RoundFault}
 use Rattle.office_rounds.specs.declared.fault.RoundFault.TheVariants.{Refused, Link, Output, TurnsUsed}
 
--- The number of a fault, from 1.
+-- The number of a fault of a polling round, counted from 1.
 abbrev pub fault_number : RoundFault → ℕ
 fault_number (Refused why) = 1
 fault_number Link = 2
 fault_number Output = 3
 fault_number TurnsUsed = 4
 
--- Whether the result is that the link failed.
+-- True if the result is a failure of the link.
 abbrev pub is_link_fault : {X : Type 0} → Result X RoundFault → Bool
 is_link_fault (Ok x) = false
 is_link_fault (Err (Refused why)) = false
@@ -20,8 +20,8 @@ is_link_fault (Err Link) = true
 is_link_fault (Err Output) = false
 is_link_fault (Err TurnsUsed) = false
 
--- The text was printed completely, or a part of it if the result is that a write of the output
--- failed.
+-- True if the text was printed completely. If a write of the output failed, the text may be printed
+-- in part.
 abbrev pub IsPrinted : {X : Type 0} → Result X RoundFault → (text : List ℕ)
     → (old new : Option (List ℕ)) → Type 0
 IsPrinted (Ok x) text old new = Appends old new text
@@ -30,8 +30,10 @@ IsPrinted (Err Link) text old new = Appends old new text
 IsPrinted (Err Output) text old new = GotPart text old new
 IsPrinted (Err TurnsUsed) text old new = Appends old new text
 
--- The frames were written to the link completely. If the link or the output failed, a part may be
--- missing: after a failed output the latest start is not sent.
+-- True if the frames were written to the link. If the link or the output failed, the frames may be
+-- written in part.
+--
+-- After a failed write of the output, the frames of the latest started Modbus reads are missing.
 abbrev pub AreGiven : {X : Type 0} → Result X RoundFault → (frames : List ℕ)
     → (old new : Option (List ℕ)) → Type 0
 AreGiven (Ok x) frames old new = Appends old new frames
@@ -40,7 +42,7 @@ AreGiven (Err Link) frames old new = GotPart frames old new
 AreGiven (Err Output) frames old new = GotPart frames old new
 AreGiven (Err TurnsUsed) frames old new = Appends old new frames
 
--- The result is no fault, or that the link failed.
+-- True if the result is a success or a failure of the link, and no other fault.
 abbrev pub OnlyLink : {X : Type 0} → Result X RoundFault → Type 0
 OnlyLink (Ok x) = Unit {0}
 OnlyLink (Err (Refused why)) = ⊥
@@ -48,7 +50,7 @@ OnlyLink (Err Link) = Unit {0}
 OnlyLink (Err Output) = ⊥
 OnlyLink (Err TurnsUsed) = ⊥
 
--- The result is no fault, a refusal of the office, or a failed output.
+-- True if the result is a success, a refusal of the office, or a failed write of the output.
 abbrev pub OfOffice : {X : Type 0} → Result X RoundFault → Type 0
 OfOffice (Ok x) = Unit {0}
 OfOffice (Err (Refused why)) = Unit {0}
@@ -56,7 +58,8 @@ OfOffice (Err Link) = ⊥
 OfOffice (Err Output) = Unit {0}
 OfOffice (Err TurnsUsed) = ⊥
 
--- The result is not that the round used up its reads of the link.
+-- True if the result is not the fault `TurnsUsed`: the polling round used all of its reads of the
+-- link.
 abbrev pub TakesOn : {X : Type 0} → Result X RoundFault → Type 0
 TakesOn (Ok x) = Unit {0}
 TakesOn (Err (Refused why)) = Unit {0}

@@ -1,5 +1,5 @@
--- The events that a round fed to an office, with their answers, texts and frames. Lists have the
--- latest event first.
+-- The events that a polling round fed to an office, with their answers, texts and frames. Lists
+-- have the latest event first.
 use Rattle.std.specs.Prelude.{◌≡◌, ℕ, List, [], ◌∷◌, ◌++◌, Option, Result, Ok, Err}
 use Rattle.socket_link.specs.Clocks.{TellsMoment}
 use Rattle.script_text.specs.AnswerText.{accepted_text}
@@ -14,41 +14,43 @@ use Rattle.office_books.specs.declared.failures.Failures.{Failures}
 use Rattle.office_core.specs.EventRun.{Answered}
 use Rattle.office_core.specs.Taking.{IsAnswer}
 
--- What the office has accepted after these events, if it had accepted `past` before them.
+-- The history of the office after a list of events. `past` is the office's history before these
+-- events.
 abbrev pub history_with : (past : History) → List Answered → History
 history_with past [] = past
 history_with past (one ∷ earlier) =
     with_answer (history_with past earlier) one.at one.event one.result
 
--- Each event has the answer that is defined after the earlier events, or it was refused for a
--- failure. The failure counts change accordingly.
+-- True if each event has the answer that is defined after the earlier events, or was refused for a
+-- failure. The store's failure counts change accordingly.
 abbrev pub AreAnswered : (past : History) → (before after : Failures) → List Answered → Type 0
 AreAnswered past before after [] = after ≡ before
 AreAnswered past before after (one ∷ earlier) =
     (between : Failures) × AreAnswered past before between earlier
     × IsAnswer (history_with past earlier) one.at one.event between after one.result
 
--- The text that is printed for an event: notifications and answer as in a script if it is accepted,
--- nothing if it is refused.
+-- The text printed for an event. If the office accepts the event, the notifications and the answer
+-- as in a script. If the office refuses the event, nothing.
 abbrev pub told_text : History → (at : ℕ) → Event → Result Answer Refusal → List ℕ
 told_text past at e (Ok given) =
     accepted_text given (notes_after past at e (Ok given)) (outgoing_after past at e (Ok given))
 told_text past at e (Err why) = []
 
--- The text that is printed for all of these events, in order.
+-- The text that is printed for a list of events, in the order in which they were fed.
 abbrev pub text_after : (past : History) → List Answered → List ℕ
 text_after past [] = []
 text_after past (one ∷ earlier) =
     text_after past earlier ++ told_text (history_with past earlier) one.at one.event one.result
 
--- The bytes of the frames that the office sends for all of these events, in order.
+-- The bytes of the frames that the office sends for a list of events, in the order in which they
+-- were fed.
 abbrev pub frames_after : (past : History) → List Answered → List ℕ
 frames_after past [] = []
 frames_after past (one ∷ earlier) =
     frames_after past earlier
     ++ outgoing_after (history_with past earlier) one.at one.event one.result
 
--- The bytes of a device in an event; none for any event but `Bytes`.
+-- The bytes of a device in an event. Empty for every event other than `Bytes`.
 abbrev pub piece_in : Event → List ℕ
 piece_in (event.Connected given) = []
 piece_in (event.Bytes given piece) = piece
@@ -57,12 +59,13 @@ piece_in (event.Gone given closing) = []
 piece_in (event.Command c) = []
 piece_in (event.Asked asked) = []
 
--- The bytes of the device in all of these events, in order.
+-- The bytes of the device in a list of events, in the order in which they were fed.
 abbrev pub pieces_after : List Answered → List ℕ
 pieces_after [] = []
 pieces_after (one ∷ earlier) = pieces_after earlier ++ piece_in one.event
 
--- Each event has the time that the clock gave, and the clock advanced from `begun` to `now`.
+-- True if the timestamp of each event is a time that the clock returned, and the clock advanced
+-- from `begun` to `now`.
 abbrev pub AreTimed : (begun now : Option (List ℕ)) → List Answered → Type 0
 AreTimed begun now [] = now ≡ begun
 AreTimed begun now (one ∷ earlier) =

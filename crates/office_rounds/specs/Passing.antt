@@ -1,4 +1,4 @@
--- Properties of a round that need no premise on the store.
+-- Properties of a call of a polling round, whatever the store contains.
 use Rattle.std.specs.Prelude.{◌≡◌, ◌⊎◌, ◌≤◌, ℕ, ◌+◌, ◌-◌, ◌^◌, min, true, Result, Ok, Err}
 use Rattle.mb_wire.specs.Links.{risen}
 use Rattle.office_books.specs.Ledgers.{Ledger}
@@ -7,22 +7,25 @@ use Rattle.office_core.specs.declared.office.Office.{Office}
 use Rattle.office_rounds.specs.declared.fault.RoundFault.{RoundFault}
 use Rattle.office_rounds.specs.declared.fault.RoundFault.TheVariants.{Refused, Link, Output, TurnsUsed}
 
--- A store that is clean after the call was clean before it, and its zone stays.
+-- True if the time zone of the store is unchanged. If the store is clean after the call (no wrong
+-- result of it was used), then it was clean before the call.
 pub record Lasts {B : Type 0} (ledger : B → Ledger) (old new : Office B) : Type 0 where
   pub clean : (ledger (books_in new)).is_clean → (ledger (books_in old)).is_clean
   pub zone : (ledger (books_in new)).zone ≡ (ledger (books_in old)).zone
 
--- The count of reads of the link grew by `takes`; it stays at 2^64 - 1.
+-- True if the count of reads of the link grew by `takes`. The count saturates at 2^64 - 1.
 abbrev pub AreTakes : (takes before after : ℕ) → Type 0
 AreTakes takes before after = (count : ℕ) → before ≡ min count (2 ^ 64 - 1)
     → after ≡ min (count + takes) (2 ^ 64 - 1)
 
--- The count of reads of the link grew by at most `most`.
+-- True if the count of reads of the link grew by at most `most`.
 abbrev pub AreAtMost : (most before after : ℕ) → Type 0
 AreAtMost most before after = (takes : ℕ) × (takes ≤ most) × AreTakes takes before after
 
--- The count of the link's failures grew by one if the result is that the link failed. If the output
--- failed, it may have grown by one; otherwise it stays.
+-- True if the count of the link's failures grew by one exactly when the result is a failure of the
+-- link.
+--
+-- If the output failed, the count may have grown by one or be unchanged.
 abbrev pub CountsFailures : {X : Type 0} → Result X RoundFault → (before after : ℕ) → Type 0
 CountsFailures (Ok x) before after = after ≡ before
 CountsFailures (Err (Refused why)) before after = after ≡ before

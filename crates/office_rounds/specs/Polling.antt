@@ -1,4 +1,5 @@
--- The state of a round after the events that it fed: its pending polls, and its next action.
+-- The state of a polling round after the events that it fed to the office: its pending polls, and
+-- its next action.
 use Rattle.std.specs.Prelude.{◌≡◌, ℕ, zero, suc, ◌+◌, ◌≤◌, ◌==◌, Bool, true, false, List, [], ◌∷◌, ◌++◌, map, length, Option, Some, None, Ok}
 use Rattle.std.specs.List.{filter}
 use Rattle.poll_core.specs.declared.outcome.Closing.TheVariants as closing
@@ -23,7 +24,8 @@ use Rattle.office_rounds.specs.declared.device_rounds.round.Round.{Round}
 use Rattle.office_rounds.specs.declared.device_rounds.stage.Stage.{Stage}
 use Rattle.office_rounds.specs.declared.device_rounds.stage.Stage.TheVariants.{Off, Joining, Starting, Waiting, Leaving}
 
--- The next action of a round at this stage, of whose plan `started` reads were started.
+-- The next action of a polling round at this stage, if the round has started `started` reads of the
+-- plan.
 abbrev pub next_at : Stage → (started : ℕ) → Next
 next_at Off started = Over
 next_at Joining started = Connect
@@ -31,33 +33,37 @@ next_at Starting started = StartFrom started
 next_at Waiting started = Take
 next_at (Leaving closing) started = Leave
 
--- The next action of a round.
+-- The next action of a polling round.
 abbrev pub next_of : Round → Next
 next_of round = next_at round.stage round.started
 
--- The `count` consecutive numbers from `first` on.
+-- A list of `count` consecutive numbers, beginning with `first`.
 abbrev pub from_on : (first count : ℕ) → List ℕ
 from_on first zero = []
 from_on first (suc n) = from_on first n ++ (first + n) ∷ []
 
--- Whether the poll with this number has no recorded outcome.
+-- True if the store has no recorded outcome of the poll with this number.
 abbrev pub is_open : List Fact → ℕ → Bool
 is_open facts number = length (ends_of facts number) == 0
 
--- Exactly the polls with these numbers were started on the device's present session.
+-- True if the polls that were started on the device's present session are exactly those with the
+-- numbers `numbers`.
 pub record IsOnSession (slots : List Slot) (device : Option (List ℕ)) (numbers : List ℕ) : Type 0
   where
     pub slot : Slot
     pub found : slot_of slots device ≡ Some slot
     pub are : map (λ poll. poll.0) (polls_on_present slot.device slot.present) ≡ numbers
 
--- `number` is that of the round's first poll, or of the next poll if the round has started none.
+-- True if `number` is the number of the polling round's first poll. If the round has started no
+-- poll, `number` may be any number.
 abbrev pub IsFirst : (first : Option ℕ) → (number started : ℕ) → Type 0
 IsFirst None number started = started ≡ 0
 IsFirst (Some first) number started = first ≡ number
 
--- The state of a round that started polls: they have consecutive numbers, and are all that were
--- started on the device's session. The round's pending polls are those without a recorded outcome.
+-- The state of a polling round that has started polls.
+--
+-- The polls of the round have consecutive numbers, and no other polls were started on the device's
+-- session. The pending polls are the polls without a recorded outcome.
 pub record IsUnderWay (device : Option (List ℕ)) (past : History) (fed : List Answered)
     (round : Round) : Type 0 where
   pub number : ℕ
@@ -73,14 +79,14 @@ pub record IsUnderWay (device : Option (List ℕ)) (past : History) (fed : List 
   pub session : IsOnSession (slots_of (history_with past fed)) device
       (from_on number (reads_started fed))
 
--- The state of a round before its first event: nothing was fed, and no poll was started.
+-- The state of a polling round before its first event: no event was fed, and no poll was started.
 pub record IsUnfed (fed : List Answered) (round : Round) : Type 0 where
   pub none : fed ≡ []
   pub polls : round.polls.items ≡ []
   pub started : round.started ≡ 0
   pub planned : round.planned ≡ 0
 
--- What is known of a round at each stage after the events that it fed.
+-- The state of a polling round at each stage, after the events that it fed to the office.
 abbrev pub StandsAt : Stage → (device : Option (List ℕ)) → History → List Answered → Round → Type 0
 StandsAt Off device past fed round = Unit {0}
 StandsAt Joining device past fed round = IsUnfed fed round
@@ -88,15 +94,16 @@ StandsAt Starting device past fed round = IsUnderWay device past fed round
 StandsAt Waiting device past fed round = IsUnderWay device past fed round
 StandsAt (Leaving cause) device past fed round = cause ≡ closing.Gone
 
--- The round is in the state after the events that it fed, and its next action is the one that these
--- events require.
+-- True if the polling round is in the state that follows from its fed events. Its next action is
+-- the action that these events require.
 pub record Holds (device : Option (List ℕ)) (past : History) (fed : List Answered)
     (round : Round) : Type 0 where
   pub device_is : round.device ≡ device
   pub next : next_in past fed ≡ next_of round
   pub stands : StandsAt round.stage device past fed round
 
--- The round after an event that may end its connection; any other event changes nothing.
+-- The polling round after an event that may end its connection. Any other event leaves the polling
+-- round unchanged.
 abbrev pub ended_by : Event → Round → Round
 ended_by (event.Connected given) round = round
 ended_by (event.Bytes given piece) round = round
@@ -105,11 +112,13 @@ ended_by (event.Gone given cause) round = leaving cause round
 ended_by (event.Command c) round = round
 ended_by (event.Asked asked) round = round
 
--- The round after an accepted event with its answer and notifications.
+-- The polling round after an event that the office accepted with the given answer and
+-- notifications.
 abbrev pub round_after : Event → Answer → List Note → Round → Round
 round_after e given notes round = heard notes (answered (Ok given) (ended_by e round))
 
--- The next action after a round has done `now`, apart from what the notifications change.
+-- The next action after a polling round has performed an action, if the office's notifications end
+-- none of its polls.
 abbrev pub settled : Next → Next
 settled Connect = StartFrom 0
 settled (StartFrom read) = Take
@@ -117,7 +126,7 @@ settled Leave = Over
 settled Take = Take
 settled Over = Over
 
--- Whether a round at this stage is over.
+-- True if a polling round at this stage is over.
 abbrev pub is_over : Stage → Bool
 is_over Off = true
 is_over Joining = false
@@ -125,8 +134,10 @@ is_over Starting = false
 is_over Waiting = false
 is_over (Leaving cause) = false
 
--- If a round in the state after its events feeds the next event, and the office accepts it, the
--- round is in the state after that event too.
+-- The theorem that a polling round requests exactly the events that are defined as next.
+--
+-- If a round in the state after its events feeds the next event, and the office accepts this event,
+-- then the round is in the state after this event too.
 abbrev pub RoundsHold : Type 0
 RoundsHold = (device : Option (List ℕ)) (past : History) (fed : List Answered) (round : Round)
     (at : ℕ) (e : Event) (before after : Failures) (given : Answer)

@@ -1,4 +1,5 @@
--- What a round leaves: the state of the office, and the bytes that were read, written and printed.
+-- The result of a polling round: the state of the office, and the bytes that were read, written and
+-- printed during the round.
 use Rattle.std.specs.Prelude.{◌≡◌, ◌⊎◌, ℕ, nat_lt, true, ◌||◌, List, [], ◌∷◌, Option, Some, Result, Ok, Err, if◌then◌else◌}
 use Rattle.std.specs.Io.KnownBytes.{Appends, Consumes}
 use Rattle.socket_link.specs.Clocks.{TellsMoment}
@@ -21,58 +22,62 @@ use Rattle.office_rounds.specs.FedEvents.{AreAnswered, AreTimed, frames_after, h
 use Rattle.office_rounds.specs.declared.fault.RoundFault.{RoundFault}
 use Rattle.office_rounds.specs.declared.fault.RoundFault.TheVariants.{Refused, Link, Output, TurnsUsed}
 
--- What is known of the printed text and the clock, and the failure counts of the store.
+-- The printed text and the clock, as far as they are known, and the failure counts of the store.
 pub record RoundState : Type 0 where
   pub printed : Option (List ℕ)
   pub moments : Option (List ℕ)
   pub failures : Failures
 
--- The `RoundState` with these parts.
+-- The `RoundState` with these fields.
 abbrev pub round_state : (printed moments : Option (List ℕ)) → (failures : Failures) → RoundState
 round_state printed moments failures =
     record { printed = printed; moments = moments; failures = failures }
 
--- What is known of a link: the bytes that it has still to deliver, and the bytes written to it.
+-- The bytes that a link still has to deliver, and the bytes written to the link, as far as they are
+-- known.
 pub record Wire : Type 0 where
   pub remaining : Option (List ℕ)
   pub given : Option (List ℕ)
 
--- The `Wire` with these parts.
+-- The `Wire` with these fields.
 abbrev pub wire : (remaining given : Option (List ℕ)) → Wire
 wire remaining given = record { remaining = remaining; given = given }
 
--- What is known of writer, clock, store and link at the start and at the end of a round.
+-- The known state of the writer, the clock, the store and the link at the start of a polling round
+-- and at its end.
 pub record Passage : Type 0 where
   pub begun : RoundState
   pub ended : RoundState
   pub from : Wire
   pub to : Wire
 
--- The `Passage` with these parts.
+-- The `Passage` with these fields.
 abbrev pub passage : (begun ended : RoundState) → (from to : Wire) → Passage
 passage begun ended from to = record { begun = begun; ended = ended; from = from; to = to }
 
--- The office is in the state after the fed events. Each has the defined answer, or was refused for
--- a failure.
+-- True if the office is in the state after the fed events. Each event has the defined answer, or
+-- was refused for a failure.
 pub record IsFed {B : Type 0} (ledger : B → Ledger) (past : History) (begun now : RoundState)
     (office : Office B)
     (fed : List Answered) : Type 0 where
   pub stands : Stands ledger (history_with past fed) office
   pub answered : AreAnswered past begun.failures now.failures fed
 
--- None of the polls on the device's present session is pending.
+-- True if none of the polls on the device's present session is pending.
 abbrev pub NoneWaits : (device : Option (List ℕ)) → History → Type 0
 NoneWaits device history = (slot : Slot) → slot_of (slots_of history) device ≡ Some slot
     → pending_on slot ≡ []
 
--- None of the device's polls is pending, unless the office has stopped because the store or memory
--- failed.
+-- True if none of the device's polls is pending, or the office has stopped because the store or
+-- memory failed.
 abbrev pub IsSettled : {B : Type 0} → (device : Option (List ℕ)) → History → Office B → Type 0
 IsSettled device history office = (is_stopped office ≡ true) ⊎ NoneWaits device history
 
--- The round ended regularly: each next event was fed, the last one that the device is gone. The
--- bytes read are those that were fed, the bytes written are the office's frames, and its reports
--- were printed.
+-- True if the polling round ended regularly: it fed each next event, and last the event that
+-- the device is gone.
+--
+-- The bytes read from the link are those in the fed events, the bytes written are the office's
+-- frames, and the office's reports were printed.
 pub record IsRound {B : Type 0} (ledger : B → Ledger) (device : Option (List ℕ)) (past : History)
     (through : Passage)
     (office : Office B) : Type 0 where
@@ -86,8 +91,8 @@ pub record IsRound {B : Type 0} (ledger : B → Ledger) (device : Option (List �
   pub printed : Appends through.begun.printed through.ended.printed (text_after past fed)
   pub settled : IsSettled device (history_with past fed) office
 
--- The office refused the connection: nothing more was fed, and nothing was read, written or
--- printed.
+-- True if the office refused the connection of a polling round. Then no other event was fed, and
+-- nothing was read, written or printed.
 pub record IsNotConnected {B : Type 0} (ledger : B → Ledger) (device : Option (List ℕ))
     (past : History) (through : Passage)
     (office : Office B) (why : Refusal) : Type 0 where
@@ -98,7 +103,8 @@ pub record IsNotConnected {B : Type 0} (ledger : B → Ledger) (device : Option 
   pub same : through.to ≡ through.from
   pub printed : Appends through.begun.printed through.ended.printed []
 
--- The latest of these events was the next action after the others, and the office refused it.
+-- True if the latest event in a list was the next action after the earlier events, and the office
+-- refused this event.
 abbrev pub IsRefused : (device : Option (List ℕ)) → (past : History) → Refusal → List Answered
     → Type 0
 IsRefused device past why [] = ⊥
@@ -106,8 +112,10 @@ IsRefused device past why (one ∷ earlier) =
     AreNext device past earlier × Does device (next_in past earlier) one.event
     × (one.result ≡ Err why)
 
--- What was fed before a round was broken off: each next event and, if the office refused one, that
--- event. If memory for a chunk was missing, no event was refused.
+-- True if these events were fed before a polling round was broken off. They are each next event
+-- and, if the office refused an event, the refused event.
+--
+-- If memory for a chunk of bytes ran out, the office refused no event.
 abbrev pub BreaksOff : (device : Option (List ℕ)) → (past : History) → RoundFault → List Answered
     → Type 0
 BreaksOff device past (Refused why) fed =
@@ -116,13 +124,16 @@ BreaksOff device past Link fed = AreNext device past fed
 BreaksOff device past Output fed = AreNext device past fed
 BreaksOff device past TurnsUsed fed = AreNext device past fed
 
--- The timestamp at which the device is gone: the clock's time. If the clock was set back or is past
--- the last timestamp, it is that of the latest event.
+-- The timestamp of the event that the device is gone, which is the clock's time `moment`.
+--
+-- If the clock was set back or is past the last timestamp, the timestamp `latest` of the latest
+-- event.
 abbrev pub gone_at : (latest moment : ℕ) → ℕ
 gone_at latest moment =
     if nat_lt moment latest || nat_lt moment_limit moment then latest else moment
 
--- The event that the device is gone has this timestamp, after these earlier events.
+-- True if `at` is the timestamp of the event that the device is gone, which follows the events in
+-- `earlier`.
 pub record IsGoneAt (past : History) (begun now : Option (List ℕ)) (earlier : List Answered)
     (at : ℕ) : Type 0 where
   pub between : Option (List ℕ)
@@ -131,13 +142,15 @@ pub record IsGoneAt (past : History) (begun now : Option (List ℕ)) (earlier : 
   pub told : TellsMoment between now moment
   pub is : at ≡ gone_at (latest_of (history_with past earlier)) moment
 
--- The reported fault: the cause for which the round was broken off, or a later failed write of the
--- output.
+-- True if `fault` may be reported for a polling round that was broken off for `cause`. It is the
+-- cause itself, or a later failed write of the output.
 abbrev pub IsToldOf : (cause fault : RoundFault) → Type 0
 IsToldOf cause fault = (fault ≡ cause) ⊎ (fault ≡ Output)
 
--- The round was broken off after its next events were fed. Its last event says that the device is
--- gone, as after a failed read or write. The reported fault does not depend on the answer to it.
+-- True if the polling round was broken off after its next events were fed to the office.
+--
+-- Its last event reports that the device is gone, as after a failed read or write of the link. The
+-- reported fault does not depend on the answer to this event.
 pub record IsBrokenOff {B : Type 0} (ledger : B → Ledger) (device : Option (List ℕ))
     (past : History) (through : Passage)
     (office : Office B) (fault : RoundFault) : Type 0 where
@@ -156,7 +169,7 @@ pub record IsBrokenOff {B : Type 0} (ledger : B → Ledger) (device : Option (Li
       through.begun.printed through.ended.printed
   pub settled : IsSettled device (history_with past (gone ∷ earlier)) office
 
--- The fault is that the office refused the connection.
+-- True if the fault is that the office refused the connection of the polling round.
 abbrev pub IsNotConnectedBy : {B : Type 0} → (B → Ledger) → (device : Option (List ℕ)) → History
     → Passage → Office B
     → RoundFault → Type 0
@@ -166,8 +179,8 @@ IsNotConnectedBy ledger device past through office Link = ⊥
 IsNotConnectedBy ledger device past through office Output = ⊥
 IsNotConnectedBy ledger device past through office TurnsUsed = ⊥
 
--- The result of a round: it ended regularly on `Ok`; on a fault its connection was refused, or it
--- was broken off.
+-- True for the result of a polling round. On `Ok` the round ended regularly. On a fault its
+-- connection was refused, or the round was broken off.
 abbrev pub Rounds : {B : Type 0} → (B → Ledger) → (device : Option (List ℕ)) → (past : History)
     → Passage → Office B
     → Result (Unit {0}) RoundFault → Type 0

@@ -1,4 +1,4 @@
--- The state of a round between two of its steps.
+-- The state of a polling round between two of its actions.
 use Rattle.std.specs.Prelude.{◌≡◌, ◌⊎◌, ◌||◌, ℕ, Bool, true, false, List, [], ◌∷◌, Option, Result, Ok, Err}
 use Rattle.std.specs.Io.KnownBytes.{Appends, Consumes}
 use Rattle.office_events.specs.declared.events.Event.{Event}
@@ -28,11 +28,13 @@ use Rattle.office_rounds.specs.declared.fault.RoundFault.{RoundFault}
 use Rattle.office_rounds.specs.declared.fault.RoundFault.TheVariants.{Refused, Link, Output, TurnsUsed}
 use Rattle.office_rounds.specs.declared.progress.Progress.{Progress}
 
--- The first event of a round: the connection of its device at timestamp `at`, with its answer.
+-- The first event of a polling round, with the office's answer. The event is the connection of the
+-- round's device at timestamp `at`.
 abbrev pub connection : (device : Option (List ℕ)) → (at : ℕ) → Result Answer Refusal → Answered
 connection device at result = record { at = at; event = event.Connected device; result = result }
 
--- The office answered the event, is in the state after it, and reports it.
+-- True if the office answered the event `e` with `reply`, is in the state after this event, and
+-- reports this event.
 pub record IsTaken {B : Type 0} (ledger : B → Ledger) (past : History) (at : ℕ) (e : Event)
     (reply : Result Answer Refusal)
     (begun now : RoundState) (office : Office B) : Type 0 where
@@ -40,7 +42,8 @@ pub record IsTaken {B : Type 0} (ledger : B → Ledger) (past : History) (at : �
   pub answer : IsAnswer past at e begun.failures now.failures reply
   pub told : IsTold past at e reply office
 
--- The event was accepted, and a write of its report failed, so that at most a part was printed.
+-- True if the office accepted the event, but a write of its report failed. Then at most a part of
+-- the report was printed.
 pub record IsUnprinted {B : Type 0} (ledger : B → Ledger) (past : History) (at : ℕ) (e : Event)
     (begun now : RoundState)
     (office : Office B) : Type 0 where
@@ -49,8 +52,8 @@ pub record IsUnprinted {B : Type 0} (ledger : B → Ledger) (past : History) (at
   pub printed : IsPrinted {X = Unit {0}} (Err Output) (told_text past at e (Ok given)) begun.printed
       now.printed
 
--- The event was fed. If it was accepted, its report was printed, completely or in part if the write
--- failed.
+-- True if the event was fed to the office. If the event was accepted, its report was printed. If a
+-- write failed, the report was printed in part.
 abbrev pub Feeds : {B : Type 0} → (B → Ledger) → History → (at : ℕ) → Event
     → (begun now : RoundState) → Office B
     → Result Answer RoundFault → Type 0
@@ -63,14 +66,16 @@ Feeds ledger past at e begun now office (Err Output) = IsUnprinted ledger past a
 Feeds ledger past at e begun now office (Err Link) = ⊥
 Feeds ledger past at e begun now office (Err TurnsUsed) = ⊥
 
--- The office refuses the event as stopped only if it had stopped, and stops if an event that may
--- settle polls fails.
+-- The relation between a refused event and whether the office is stopped.
+--
+-- The office refuses an event as stopped only if it was stopped before. It stops if an event that
+-- may end polls fails.
 pub record Stops (was : Bool) (e : Event) (reply : Result Answer Refusal) (now : Bool) : Type 0
   where
     pub before : reply ≡ Err refusal.Stopped → was ≡ true
     pub after : now ≡ (was || stops e reply)
 
--- `Stops` holds if feeding the event was refused by the office.
+-- True if `Stops` holds, provided that the office refused the event that was fed.
 abbrev pub FeedStops : (was : Bool) → Event → Result Answer RoundFault → (now : Bool) → Type 0
 FeedStops was e (Ok given) now = Unit {0}
 FeedStops was e (Err (Refused why)) now = Stops was e (Err why) now
@@ -78,12 +83,12 @@ FeedStops was e (Err Link) now = Unit {0}
 FeedStops was e (Err Output) now = Unit {0}
 FeedStops was e (Err TurnsUsed) now = Unit {0}
 
--- `Stops` holds if the answer is a refusal.
+-- True if `Stops` holds, provided that the office's answer is a refusal.
 abbrev pub RefusedStops : (was : Bool) → Event → Result Answer Refusal → (now : Bool) → Type 0
 RefusedStops was e reply now = (why : Refusal) → reply ≡ Err why → Stops was e reply now
 
--- The last event of a round was fed. Its report was printed, or a part of it if the write failed,
--- which is then the fault.
+-- True if the last event of a polling round was fed and its report was printed. If the write
+-- failed, a part of the report was printed, and the fault is the failed write.
 pub record EndsPrinted {B : Type 0} (ledger : B → Ledger) (past : History) (at : ℕ) (e : Event)
     (cause : RoundFault)
     (begun now : RoundState) (old new : Office B) (fault : RoundFault) : Type 0 where
@@ -93,29 +98,31 @@ pub record EndsPrinted {B : Type 0} (ledger : B → Ledger) (past : History) (at
   pub printed : ((fault ≡ cause) × Appends begun.printed now.printed (told_text past at e reply))
       ⊎ ((fault ≡ Output) × GotPart (told_text past at e reply) begun.printed now.printed)
 
--- The last event of a round was fed, and not printed because an earlier write had failed.
+-- True if the last event of a polling round was fed, but not printed because an earlier write had
+-- failed.
 pub record EndsUnprinted {B : Type 0} (ledger : B → Ledger) (past : History) (at : ℕ) (e : Event)
     (begun now : RoundState) (old new : Office B) : Type 0 where
   pub reply : Result Answer Refusal
   pub taken : IsTaken ledger past at e reply begun now new
   pub stops : RefusedStops (is_stopped old) e reply (is_stopped new)
 
--- The fault to report after the last event: `Output` if its write failed, otherwise the cause.
+-- The fault to report after the last event of a polling round. If printing the event failed,
+-- `Output`. Otherwise the cause for which the round was broken off.
 abbrev pub fault_after : (cause fault : RoundFault) → RoundFault
 fault_after cause (Refused why) = cause
 fault_after cause Link = cause
 fault_after cause Output = Output
 fault_after cause TurnsUsed = cause
 
--- Whether the fault is that a write of the output failed.
+-- True if the fault is a failed write of the program's output.
 abbrev pub is_output : RoundFault → Bool
 is_output (Refused why) = false
 is_output Link = false
 is_output Output = true
 is_output TurnsUsed = false
 
--- The text of an answer was printed: completely on `Ok`, or in part if the write failed. No other
--- fault occurs.
+-- True if the text of an answer was printed, completely on `Ok`, or in part if the write failed. No
+-- other fault occurs.
 abbrev pub Prints : Answer → (text : List ℕ) → (old new : Option (List ℕ))
     → Result Answer RoundFault → Type 0
 Prints given text old new (Ok told) = (told ≡ given) × Appends old new text
@@ -124,23 +131,24 @@ Prints given text old new (Err Link) = ⊥
 Prints given text old new (Err Output) = GotPart text old new
 Prints given text old new (Err TurnsUsed) = ⊥
 
--- The timestamp of the latest accepted event: `at` if the event was accepted and only its output
--- failed, otherwise as before it.
+-- The timestamp of the latest accepted event. If an event at `at` was accepted but printing its
+-- report failed, this is `at`. Otherwise it is `latest`.
 abbrev pub latest_after : RoundFault → (at latest : ℕ) → ℕ
 latest_after (Refused why) at latest = latest
 latest_after Link at latest = latest
 latest_after Output at latest = at
 latest_after TurnsUsed at latest = latest
 
--- The progress of a round that has fed no event yet.
+-- The progress of a polling round that has fed no event yet.
 abbrev pub unfed : (device : Option (List ℕ)) → Progress
 unfed device = record { round = joined (unconnected device); latest = 0 }
 
--- The round has fed no event yet.
+-- True if the polling round has just been created, and has fed no event.
 abbrev pub IsNew : Progress → Type 0
 IsNew progress = progress.round ≡ joined (unconnected progress.round.device)
 
--- A running round: each event that it fed was next and accepted, and was printed.
+-- The state of a running polling round. Each event that it fed was the next event, was accepted by
+-- the office, and was printed.
 pub record Going {B : Type 0} (ledger : B → Ledger) (device : Option (List ℕ)) (past : History)
     (begun now : RoundState)
     (office : Office B) (fed : List Answered) (progress : Progress) : Type 0 where
@@ -151,7 +159,7 @@ pub record Going {B : Type 0} (ledger : B → Ledger) (device : Option (List ℕ
   pub holds : Holds device past fed progress.round
   pub latest : progress.latest ≡ latest_of (history_with past fed)
 
--- A round that was broken off for this cause, whose last event is still to be fed.
+-- The state of a polling round that was broken off for `cause`, and has yet to feed its last event.
 pub record Broken {B : Type 0} (ledger : B → Ledger) (device : Option (List ℕ)) (past : History)
     (begun now : RoundState)
     (office : Office B) (fed : List Answered) (progress : Progress) (cause : RoundFault) : Type 0
@@ -164,14 +172,15 @@ pub record Broken {B : Type 0} (ledger : B → Ledger) (device : Option (List �
     pub device_is : progress.round.device ≡ device
     pub latest : progress.latest ≡ latest_of (history_with past fed)
 
--- The bytes read from the link are those that were fed. The bytes written to it are the office's
--- frames, or a part of them after a fault.
+-- True if the bytes read from the link are those in the fed events. The bytes written to the link
+-- are the office's frames, or a part of the frames after a fault.
 pub record IsWired {X : Type 0} (past : History) (from to : Wire) (fed : List Answered)
     (result : Result X RoundFault) : Type 0 where
   pub taken : Consumes from.remaining to.remaining (pieces_after fed)
   pub given : AreGiven result (frames_after past fed) from.given to.given
 
--- The running round fed one more event, which was next, and the office has its frames to send.
+-- True if the running polling round fed its next event, and the office has frames to send for this
+-- event.
 pub record RoundGoesOn {B : Type 0} (ledger : B → Ledger) (device : Option (List ℕ))
     (past : History) (begun now : RoundState)
     (office : Office B) (fed : List Answered) (one : Answered) (progress : Progress) : Type 0 where
@@ -179,15 +188,16 @@ pub record RoundGoesOn {B : Type 0} (ledger : B → Ledger) (device : Option (Li
   pub told : outgoing_in office
       ≡ outgoing_after (history_with past fed) one.at one.event one.result
 
--- The event sends no frames: it was refused, or its output failed.
+-- True if no frames were sent for the event, because the office refused the event or printing its
+-- report failed.
 abbrev pub IsUnsent : RoundFault → Result Answer Refusal → Type 0
 IsUnsent (Refused why) result = result ≡ Err why
 IsUnsent Link result = ⊥
 IsUnsent Output result = Unit {0}
 IsUnsent TurnsUsed result = ⊥
 
--- After an event of a round: the round runs on `Ok`; on a fault it is broken off, and no frames of
--- the event were sent.
+-- The state after an event of a polling round. On `Ok` the round is running. On a fault the round
+-- is broken off, and no frames of the event were sent.
 abbrev pub Told : {B : Type 0} → (B → Ledger) → (device : Option (List ℕ)) → History
     → (begun now : RoundState) → Office B
     → List Answered → Answered → Progress → Result (Unit {0}) RoundFault → Type 0
@@ -197,8 +207,8 @@ Told ledger device past begun now office fed one progress (Err cause) =
     Broken ledger device past begun now office (one ∷ fed) progress cause
     × IsUnsent cause one.result
 
--- After a step of a running round: it runs on `Ok` with this next action; on a fault it is broken
--- off.
+-- The state after an action of a running polling round. On `Ok` the round is running, with the next
+-- action that `next` gives. On a fault the round is broken off.
 abbrev pub Steps : {B X : Type 0} → (B → Ledger) → (device : Option (List ℕ)) → History
     → (begun now : RoundState) → (from to : Wire)
     → Office B → List Answered → Progress → Result X RoundFault → (X → Next) → Type 0
@@ -209,20 +219,23 @@ Steps ledger device past begun now from to office fed progress (Err cause) next 
     Broken ledger device past begun now office fed progress cause
     × IsWired {X = Unit {0}} past from to fed (Err cause)
 
--- The state in which a step finds or leaves a round: office, writer and clock, link, and progress.
+-- The state of a polling round before or after an action: the office, the writer and clock, the
+-- link, and the progress.
 pub record Scene (B : Type 0) : Type 0 where
   pub office : Office B
   pub round_state : RoundState
   pub wire : Wire
   pub progress : Progress
 
--- The `Scene` with these parts.
+-- The `Scene` of a polling round with these fields.
 abbrev pub scene : {B : Type 0} → Office B → RoundState → Wire → Progress → Scene B
 scene office round_state wire progress =
     record { office = office; round_state = round_state; wire = wire; progress = progress }
 
--- `Steps` holds for every running round with this progress whose next action is `now`. No wrong
--- result of the store was taken as true so far.
+-- True if `Steps` holds for every running polling round that has this progress and the next action
+-- `now`.
+--
+-- No wrong result of the store was used so far.
 abbrev pub StepsFrom : {B X : Type 0} → (B → Ledger) → (old new : Scene B) → (now : Next)
     → Result X RoundFault → (X → Next) → Type 0
 StepsFrom ledger old new now result next =
@@ -235,7 +248,8 @@ StepsFrom ledger old new now result next =
     × Steps ledger device past begun new.round_state from new.wire new.office later new.progress
     result next
 
--- What feeding the connection of a device does: the round runs, is refused, or its output fails.
+-- The result of feeding the connection of a device to the office. Then the polling round is
+-- running, the office refused the connection, or printing failed.
 abbrev pub Connects : {B : Type 0} → (B → Ledger) → (device : Option (List ℕ)) → History
     → (begun now : RoundState) → Office B → Progress
     → Result (Unit {0}) RoundFault → Type 0
@@ -253,8 +267,8 @@ Connects ledger device past begun now office progress (Err Output) =
 Connects ledger device past begun now office progress (Err Link) = ⊥
 Connects ledger device past begun now office progress (Err TurnsUsed) = ⊥
 
--- A round that was broken off has fed its last event: the device is gone, as after a failed read or
--- write.
+-- True if a polling round that was broken off has fed its last event. The event reports that the
+-- device is gone, as after a failed read or write of the link.
 pub record Closes {B : Type 0} (ledger : B → Ledger) (device : Option (List ℕ)) (past : History)
     (begun now : RoundState)
     (office : Office B) (earlier : List Answered) (cause fault : RoundFault) : Type 0 where

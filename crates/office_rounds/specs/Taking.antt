@@ -1,4 +1,4 @@
--- The event that a turn reads from the link, and how reads are counted.
+-- The event for one read of the link in a polling round, and the count of such reads.
 use Rattle.std.specs.Prelude.{◌≡◌, ◌⊎◌, ℕ, Bool, true, false, List, [], length, Option, Some, Result, Ok, Err}
 use Rattle.mb_wire.specs.Links.{risen}
 use Rattle.mb_wire.specs.declared.link.LastTake.{LastTake}
@@ -14,13 +14,14 @@ use Rattle.office_rounds.specs.FedEvents.{piece_in}
 use Rattle.office_rounds.specs.declared.fault.RoundFault.{RoundFault}
 use Rattle.office_rounds.specs.declared.fault.RoundFault.TheVariants.{Refused, Link, Output, TurnsUsed}
 
--- The next action after a turn: none if the round is over, otherwise another read of the link.
+-- The next action after a read of the link and its events. If the polling round is over, no action.
+-- Otherwise another read of the link.
 abbrev pub over_or_take : Bool → Next
 over_or_take true = Over
 over_or_take false = Take
 
--- The event for the result of a read: bytes of the device, the end of the connection, or a timer
--- event if the read timed out.
+-- True if the event belongs to the result of a read of the link. It is bytes of the device, the end
+-- of the connection, or a timer event if the read timed out.
 abbrev pub IsEventOf : (device : Option (List ℕ)) → Result Took LinkFailed → Event → Type 0
 IsEventOf device (Ok (Bytes count)) e =
     (piece : List ℕ) × (length piece ≡ count) × (e ≡ event.Bytes device piece)
@@ -28,12 +29,12 @@ IsEventOf device (Ok End) e = e ≡ event.Gone device closing.Gone
 IsEventOf device (Ok Idle) e = e ≡ event.Tick
 IsEventOf device (Err failed) e = ⊥
 
--- The last read of the link had a buffer of 260 bytes, and this result.
+-- True if the last read of the link had a buffer of 260 bytes and the result `answer`.
 abbrev pub IsLast : Option LastTake → Result Took LinkFailed → Type 0
 IsLast last answer = last ≡ Some (record { room = 260; answer = answer })
 
--- The link was read once, and the event is that of the result. If memory for a chunk was missing,
--- the link was not read.
+-- True if the link was read once, and the event belongs to the result of the read. If memory for a
+-- chunk ran out, the link was not read.
 abbrev pub Brings : (device : Option (List ℕ)) → Result Event RoundFault → (before after : ℕ)
     → Option LastTake → Type 0
 Brings device (Ok e) before after last =
@@ -45,12 +46,13 @@ Brings device (Err Link) before after last =
 Brings device (Err Output) before after last = ⊥
 Brings device (Err TurnsUsed) before after last = ⊥
 
--- The bytes that a read event brought; none for a fault or another event.
+-- The bytes in an event that was read from the link. Empty for a fault or another event.
 abbrev pub brought : Result Event RoundFault → List ℕ
 brought (Ok e) = piece_in e
 brought (Err fault) = []
 
--- A turn counts one read of the link; none if memory for a chunk was missing.
+-- True if the count of reads of the link grew by one. If memory for a chunk of bytes ran out, the
+-- count may be unchanged.
 abbrev pub TurnTakes : {X : Type 0} → Result X RoundFault → (before after : ℕ) → Type 0
 TurnTakes (Ok x) before after = after ≡ risen true before
 TurnTakes (Err (Refused why)) before after = (after ≡ risen true before) ⊎ (after ≡ before)

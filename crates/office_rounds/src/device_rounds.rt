@@ -1,4 +1,4 @@
-//! The progress of the rounds of several devices, and the event that each round requests next.
+//! The polling rounds of several devices, and the event that each polling round requests next.
 
 mod polls;
 mod round;

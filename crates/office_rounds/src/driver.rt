@@ -1,5 +1,5 @@
-//! Drives an office that polls several devices at once: it feeds device events, and the events that
-//! the rounds request.
+//! Drives an office that polls several devices at once: feeds device events to the office, and then
+//! the events that the polling rounds request.
 
 mod device_events;
 mod feed;

@@ -1,4 +1,4 @@
-//! Reasons to break off a round.
+//! The reasons why the polling round of a device is broken off.
 ghost use Rattle.std.specs.Prelude.{◌≡◌};
 ghost use Rattle.office_rounds.specs.Faults.{fault_number};
 
@@ -8,21 +8,21 @@ use std::error::Error;
 use std::fmt;
 use std::fmt::{Display, Formatter};
 
-/// Why a round was broken off.
+/// The reason why the polling round of a device was broken off.
 #[derive(Clone, Copy, Debug, PartialEq, Eq)]
 pub enum RoundFault {
-    /// The office refused an event of the round.
+    /// The office refused an event that the polling round fed.
     Refused(Refusal),
-    /// A read or a write of the link failed, or a write accepted no bytes.
+    /// A read or a write of the link to the device failed, or a write accepted no bytes.
     Link,
-    /// The office's report could not be printed.
+    /// The office's report of an event could not be printed.
     Output,
-    /// The round used all of its 100,000 reads of the link.
+    /// The polling round used all of its 100,000 reads of the link.
     TurnsUsed,
 }
 
 impl RoundFault {
-    /// Returns the number of the fault. No text of the program shows the number.
+    /// Returns the number of the fault, from 1. No output of the program shows this number.
     pub fn number(self) -> u8
         ensures { result ≡ fault_number self }
     {

@@ -1,4 +1,4 @@
-//! Feeds events to the office, and prints their notifications and answers.
+//! Feeds events to the office, and prints the office's notifications and answers.
 ghost use Rattle.std.specs.Prelude.{◌≡◌};
 ghost use Rattle.office_core.specs.Standing.{is_stopped};
 ghost use Rattle.office_rounds.specs.Between.{FeedsAndPrints, PrintsTold, TellsFirst, TellsNext};
@@ -17,8 +17,8 @@ use script_text::write_accepted;
 use socket_link::Clock;
 use std::io::Write;
 
-// Prints the notifications, the frames and the answer of an accepted event, as a script prints
-// them.
+// Prints the notifications, the frames and the answer of an accepted event in the format of a
+// script.
 fn print<B: Books, W: Write>(
     office: &Office<B>,
     answer: Answer,
@@ -53,8 +53,8 @@ pub(crate) fn feed<B: Books, W: Write>(
     }
 }
 
-/// The timestamp of the latest accepted event: `at` if the event was accepted and only its output
-/// failed, otherwise `latest`.
+/// Returns the timestamp of the latest accepted event. If an event at `at` was accepted but
+/// printing its report failed, this is `at`. Otherwise it is `latest`.
 pub(crate) fn latest_after(fault: RoundFault, at: u64, latest: u64) -> u64
     ensures { result ≡ stepping.latest_after fault at latest }
 {
@@ -66,7 +66,7 @@ pub(crate) fn latest_after(fault: RoundFault, at: u64, latest: u64) -> u64
     }
 }
 
-/// Feeds the next event of a round to the office, with the clock's time as its timestamp.
+/// Feeds the next event of a polling round to the office, with the clock's time as its timestamp.
 pub(crate) fn tell<B: Books, C: Clock, W: Write>(
     progress: &mut Progress,
     event: &Event,

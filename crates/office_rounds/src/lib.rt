@@ -1,4 +1,5 @@
-//! Rounds: each polls the complete plan of a device once over its link.
+//! Polling rounds of devices. Each polling round polls the complete plan of a device once over the
+//! link to the device.
 #![tactic(auto)]
 
 mod device_rounds;

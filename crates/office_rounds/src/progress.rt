@@ -1,4 +1,4 @@
-//! The progress of a round over a link.
+//! The progress of a device's polling round over a link to the device.
 ghost use Rattle.std.specs.Prelude.{◌≡◌};
 ghost use Rattle.office_rounds.specs.Polling as polling;
 ghost use Rattle.office_rounds.specs.Polling.{ended_by, round_after};
@@ -7,15 +7,16 @@ ghost use Rattle.office_rounds.specs.Stepping.{unfed};
 use crate::device_rounds::{Round, Stage};
 use office_events::{Answer, Event, Name, Note};
 
-/// The round of a device over a link, with the timestamp of its latest accepted event.
+/// The polling round of a device over a link, with the timestamp of its latest accepted event.
 #[derive(Drop)]
 pub(crate) struct Progress {
     pub(crate) round: Round,
-    /// The timestamp of the latest accepted event.
+    /// The timestamp of the latest accepted event, in seconds since 1970-01-01 UTC, or 0 if no
+    /// event was accepted.
     pub(crate) latest: u64,
 }
 
-// Marks the round as leaving if the event ends the connection.
+// Marks the polling round as leaving if the event ends the connection to the round's device.
 fn end_by(round: &mut Round, event: &Event)
     ensures { round.new ≡ ended_by event.now round.old }
 {
@@ -30,7 +31,7 @@ fn end_by(round: &mut Round, event: &Event)
 }
 
 impl Progress {
-    /// Creates the progress of a round that has fed no event yet.
+    /// Creates the progress of a polling round that has fed no event yet.
     pub(crate) fn new(device: Option<Name>) -> Progress
         ensures { result ≡ unfed device }
     {
@@ -39,7 +40,8 @@ impl Progress {
         Progress { round, latest: 0 }
     }
 
-    /// Updates the round after an accepted event, with the event's answer and notifications.
+    /// Updates the polling round after the office accepted its event, by the office's answer and
+    /// notifications.
     pub(crate) fn note(&mut self, at: u64, event: &Event, answer: Answer, notes: &[Note])
         ensures round { self.new.round ≡ round_after event.now answer notes.now self.old.round }
         ensures latest { self.new.latest ≡ at }
@@ -50,7 +52,7 @@ impl Progress {
         self.latest = at;
     }
 
-    /// Whether the round is over.
+    /// Returns true if the polling round is over.
     pub(crate) fn is_over(&self) -> bool
         ensures { result ≡ polling.is_over self.now.round.stage }
     {

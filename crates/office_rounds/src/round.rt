@@ -1,4 +1,4 @@
-//! Polls the plan of one device over a link.
+//! Polls the plan of one device over the link to the device.
 ghost use Rattle.std.specs.Prelude.{◌≡◌, Err};
 ghost use Rattle.mb_wire.specs.Links.{risen};
 ghost use Rattle.office_rounds.specs.Between.{EndsUnconnected, PollsOut, PollsToEnd, RoundsOver, TakesTurns, TellsConnection};
@@ -20,10 +20,10 @@ use socket_link::Clock;
 use std::alloc::Global;
 use std::io::Write;
 
-/// The largest number of reads of the link in a round.
+/// The largest number of reads of the link in one polling round.
 pub const MOST_TAKES: u32 = 100_000;
 
-// Feeds the connection of the device to the office.
+// Feeds the connection of the polling round's device to the office.
 fn connect<B: Books, C: Clock, W: Write>(
     progress: &mut Progress,
     office: &mut Office<B>,
@@ -67,7 +67,7 @@ fn take_turns<L: Link, B: Books, C: Clock, W: Write>(
     Err(RoundFault::TurnsUsed)
 }
 
-// Polls a connected device until the round is over.
+// Polls a connected device until its polling round is over.
 fn poll_connected<L: Link, B: Books, C: Clock, W: Write>(
     alloc: Global,
     progress: &mut Progress,
@@ -90,8 +90,8 @@ fn poll_connected<L: Link, B: Books, C: Clock, W: Write>(
     }
 }
 
-// Polls a connected device until the round is over. If the round is broken off, feeds that the
-// device is gone.
+// Polls a connected device until its polling round is over. If the round is broken off, feeds the
+// event that the device is gone to the office.
 fn poll_to_end<L: Link, B: Books, C: Clock, W: Write>(
     alloc: Global,
     progress: &mut Progress,
@@ -114,8 +114,8 @@ fn poll_to_end<L: Link, B: Books, C: Clock, W: Write>(
     }
 }
 
-// After a fault of the connection: feeds that the device is gone, unless the office refused the
-// connection.
+// Ends a polling round whose first event had a fault. Feeds the event that the device is gone to
+// the office, unless the office refused the connection.
 fn end_unconnected<B: Books, C: Clock, W: Write>(
     progress: &Progress,
     fault: RoundFault,
@@ -138,21 +138,22 @@ fn end_unconnected<B: Books, C: Clock, W: Write>(
 
 /// Polls the complete plan of a device once, over a new link to the device.
 ///
-/// The round feeds the connection to the office, and starts the reads of the plan from the first
-/// on. It feeds the bytes of the link as they arrive, and a timer event if a read times out. After
-/// each event that ends a poll of the round, it starts the next reads.
+/// The polling round feeds the connection to the office, and starts the Modbus reads of the plan in
+/// order. It feeds the bytes of the link as they arrive, and a timer event if a read of the link
+/// times out. After each event that ends a poll of the round, it starts the next Modbus reads.
 ///
-/// Once all polls have ended, or the link has ended, the round feeds that the device is gone. Each
-/// event has the clock's time.
+/// Once all polls have ended, or the link has ended, the round feeds the event that the device is
+/// gone. The timestamp of each event is the clock's time.
 ///
-/// Accepted events are printed as a script prints them: their notifications, and `ok` or what was
-/// started. Refusals are not printed.
+/// Accepted events are printed as a script prints them: their notifications, and `ok` or the
+/// started polls. Refusals are not printed.
 ///
-/// `None` is a name that no device can have. After a fault the round feeds that the device is gone,
-/// as after a failed read or write. It prints that event too, unless printing failed. If the office
-/// refused the connection, nothing else is fed.
+/// If `device` is `None`, the office knows no device with this name. After a fault the round feeds
+/// the event that the device is gone, as after a failed read or write of the link. The round also
+/// prints this last event, unless printing failed. If the office refused the connection, nothing
+/// else is fed.
 ///
-/// If the clock was set back, or is past the last timestamp, the device is gone at the timestamp of
+/// If the clock was set back, or is past the last timestamp, the last event has the timestamp of
 /// the latest event. At the end none of the device's polls is pending, unless the office has
 /// stopped because the store or memory failed.
 pub fn round_over<L: Link, B: Books, C: Clock, W: Write>(

@@ -1,4 +1,5 @@
-//! Ends a round that was broken off, with the event that its device is gone.
+//! Ends a polling round that was broken off, by feeding the event that its device is gone to the
+//! office.
 ghost use Rattle.std.specs.Prelude.{◌≡◌};
 ghost use Rattle.office_rounds.specs.Between.{ClosesBroken, EndsAndPrints, EndsSilently};
 ghost use Rattle.office_rounds.specs.Passing.{Lasts};
@@ -16,8 +17,9 @@ use poll_core::{Closing, LAST_MOMENT};
 use socket_link::Clock;
 use std::io::Write;
 
-// The timestamp at which a device is gone: the clock's time `moment`. If the clock was set back or
-// is past the last timestamp, it is `latest`, that of the latest event.
+// Returns the timestamp of the event that a device is gone, which is the clock's time `moment`. If
+// the clock was set back or is past the last timestamp, returns the timestamp `latest` of the
+// latest event.
 fn gone_at(latest: u64, moment: u64) -> u64
     ensures { result ≡ rounds.gone_at latest moment }
 {
@@ -28,8 +30,8 @@ fn gone_at(latest: u64, moment: u64) -> u64
     }
 }
 
-// The fault to report: `Output` if the last event's write failed, otherwise the cause for which the
-// round was broken off.
+// Returns the fault to report for a polling round. If printing the last event failed, this is
+// `Output`. Otherwise it is the cause for which the round was broken off.
 fn fault_after(cause: RoundFault, fault: RoundFault) -> RoundFault
     ensures { result ≡ stepping.fault_after cause fault }
 {
@@ -41,7 +43,7 @@ fn fault_after(cause: RoundFault, fault: RoundFault) -> RoundFault
     }
 }
 
-// Whether the fault is that a write of the output failed.
+// Returns true if the fault is a failed write of the program's output.
 fn is_output(fault: RoundFault) -> bool
     ensures { result ≡ stepping.is_output fault }
 {
@@ -53,7 +55,8 @@ fn is_output(fault: RoundFault) -> bool
     }
 }
 
-// Feeds that the device is gone, and prints the office's report of the event.
+// Feeds the event that the device is gone to the office, and prints the office's report of the
+// event.
 fn end_printed<B: Books, W: Write>(
     at: u64,
     gone: &Event,
@@ -72,7 +75,7 @@ fn end_printed<B: Books, W: Write>(
     }
 }
 
-// Feeds that the device is gone, and prints nothing.
+// Feeds the event that the device is gone to the office, and prints nothing.
 fn end_unprinted<B: Books>(at: u64, gone: &Event, office: &mut Office<B>)
     ensures ends { EndsSilently B.Books at gone.now office.old office.new }
     ensures lasts { Lasts B.ledger office.old office.new }
@@ -80,10 +83,12 @@ fn end_unprinted<B: Books>(at: u64, gone: &Event, office: &mut Office<B>)
     let _answer = office.feed(at, gone);
 }
 
-/// Feeds that the device is gone, as after a failed read or write, and prints the office's report.
+/// Feeds the event that the device is gone to the office, as after a failed read or write of the
+/// link. Prints the office's report of the event.
 ///
-/// Nothing is printed if the round was broken off because a write of the output failed. Returns the
-/// fault, or `Output` if a write failed now.
+/// If the polling round was broken off because a write of the output failed, nothing is printed.
+/// Returns the fault to report: `Output` if printing the last event failed, otherwise the given
+/// fault.
 pub(crate) fn close<B: Books, C: Clock, W: Write>(
     progress: &Progress,
     cause: RoundFault,

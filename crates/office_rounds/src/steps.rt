@@ -1,4 +1,5 @@
-//! The steps of a round.
+//! The single actions of a polling round. Each action feeds an event to the office and writes the
+//! office's frames to the link.
 ghost use Rattle.std.specs.Prelude.{◌≡◌, IfOk};
 ghost use Rattle.std.specs.Io.KnownBytes.{Consumes, Keeps};
 ghost use Rattle.mb_wire.specs.Links.{risen};
@@ -20,7 +21,7 @@ use socket_link::Clock;
 use std::alloc::Global;
 use std::io::Write;
 
-// Writes the office's frames to the link.
+// Writes the frames that the office sends to the link of the device.
 fn send<L: Link>(link: &mut L, frames: &[u8]) -> Result<(), RoundFault>
     ensures given { AreGiven result frames.now (L.given link.old) (L.given link.new) }
     ensures kind { OnlyLink result }
@@ -34,7 +35,7 @@ fn send<L: Link>(link: &mut L, frames: &[u8]) -> Result<(), RoundFault>
     }
 }
 
-/// Reads the next event from the link.
+/// Reads from the link to the device once, and returns the event for the result of the read.
 pub(crate) fn take_event<L: Link>(
     alloc: Global,
     device: Option<Name>,
@@ -60,7 +61,8 @@ pub(crate) fn take_event<L: Link>(
     }
 }
 
-// Feeds the next event of a round, and writes the frames that the office sends to the link.
+// Feeds the next event of a polling round to the office, and writes the office's frames to the
+// link.
 fn put<L: Link, B: Books, C: Clock, W: Write>(
     event: &Event,
     progress: &mut Progress,
@@ -82,7 +84,8 @@ fn put<L: Link, B: Books, C: Clock, W: Write>(
     }
 }
 
-/// Feeds the event that the round requests, if it requests one.
+/// Feeds the event that the polling round requests to the office. If the round requests no event,
+/// does nothing.
 pub(crate) fn go_on<L: Link, B: Books, C: Clock, W: Write>(
     progress: &mut Progress,
     link: &mut L,
@@ -103,8 +106,8 @@ pub(crate) fn go_on<L: Link, B: Books, C: Clock, W: Write>(
     }
 }
 
-// After an event from the link: feeds the event that the round requests, if any. Returns whether
-// the round is over.
+// Feeds the event that the polling round requests after an event from the link, if any. Returns
+// true if the round is over.
 fn follow<L: Link, B: Books, C: Clock, W: Write>(
     progress: &mut Progress,
     link: &mut L,
@@ -125,8 +128,8 @@ fn follow<L: Link, B: Books, C: Clock, W: Write>(
     }
 }
 
-// Feeds an event from the link, and then the event that the round requests, if any. Returns whether
-// the round is over.
+// Feeds an event from the link to the office, and then the event that the polling round requests,
+// if any. Returns true if the round is over.
 fn feed_taken<L: Link, B: Books, C: Clock, W: Write>(
     event: &Event,
     progress: &mut Progress,
@@ -148,10 +151,10 @@ fn feed_taken<L: Link, B: Books, C: Clock, W: Write>(
     }
 }
 
-/// Makes a turn of a round: feeds an event from the link, and then the event that the round
-/// requests, if any.
+/// Reads an event from the link and feeds the event to the office. Then feeds the event that the
+/// polling round requests, if any.
 ///
-/// Returns whether the round is over.
+/// Returns true if the polling round is over.
 pub(crate) fn turn<L: Link, B: Books, C: Clock, W: Write>(
     alloc: Global,
     progress: &mut Progress,

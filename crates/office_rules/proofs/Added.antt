@@ -1,4 +1,4 @@
--- The records that a command adds, by kind.
+-- The records that an accepted command adds, and properties that hold for all of these records.
 use Rattle.std.proofs.Common.{◌≡◌, ℕ, ◌≤◌, max, Bool, true, false, List, [], ◌∷◌, ◌++◌, map, reverse, refl, sym, ap, subst, ◌∙◌, Option, Some, None, append_assoc, arith}
 use Rattle.std.specs.List.{filter_map, cons_option}
 use Rattle.std.specs.Option.{option_map, option_and_then, option_to_list}
@@ -26,7 +26,7 @@ use Rattle.office_rules.specs.Meters.{open_at}
 use Rattle.office_rules.specs.Sessions.{Slot, slot_of, sends_at, device_by}
 use Rattle.office_rules.specs.History.{Made, made_by, made_on, corrected_at, read_at, entries_by, openings_by, opening_by, installed_by, register_by, poll_by, polls_from, spans_by, added_by, reply_by, kind_of}
 
--- A property of each of these records.
+-- True if the property `P` holds for each record of a list.
 abbrev pub Each : (Fact → Type 0) → List Fact → Type 0
 Each P [] = Unit {0}
 Each P (f ∷ facts) = P f × Each P facts
@@ -48,7 +48,8 @@ each_listed : {X : Type 0} (P : Fact → Type 0) (f : X → Fact) → ((x : X) �
 each_listed P f h [] = tt
 each_listed P f h (x ∷ xs) = (h x, each_listed P f h xs)
 
--- A property of each record that a command may add, except its device, and of their timestamps.
+-- True if the property `P` holds for each record that a command may add, except a device record.
+-- For records with a timestamp, `P` may require that `T` holds for the timestamp.
 pub record Allows (P : Fact → Type 0) (T : ℕ → Type 0) : Type 0 where
   pub list : (l : DeviceList) → P (fact.List l)
   pub register : (r : Register) → P (fact.Register r)
@@ -61,7 +62,7 @@ abbrev pub adds_device : Command → Bool
 adds_device (command.AddDevice c) = true
 adds_device _ = false
 
--- A property of the time of a reading by hand.
+-- True if a command is no reading by hand, or if `T` holds for the time of the reading by hand.
 abbrev pub ReadsAt : (ℕ → Type 0) → (at : ℕ) → Command → Type 0
 ReadsAt T at (command.Manual c) = T (read_at at c.at)
 ReadsAt T at _ = Unit {0}
@@ -96,8 +97,8 @@ polls_each P T number at spans None h now = tt
 polls_each P T number at spans (Some slot) h now =
     each_listed P (poll_by at slot.device) (λ send. h.poll _ now) (sends_at number at slot.device slot.present spans)
 
--- A property of each kind of record at such timestamps is a property of each record that a command
--- adds.
+-- If `P` holds for each kind of record whose timestamp has the property `T`, then `P` holds for
+-- each record that a command adds. The command's timestamps must have the property `T`.
 pub command_each : (P : Fact → Type 0) (T : ℕ → Type 0) (number at : ℕ) (slots : List Slot) (facts : List Fact) (c : Command) → Allows P T
     → T at → ReadsAt T at c → ((d : Device) → adds_device c ≡ true → P (fact.Device d)) → Each P (added_by number at slots facts c)
 command_each P T number at slots facts (command.AddDevice c) h now reads device = each_map P fact.Device (λ d. device d refl) (device_by c)
@@ -126,7 +127,7 @@ unseen_reply P at asked h =
     each_map P (λ caller. fact.Reply (record { caller = caller; number = asked.number; request = asked.request; kind = kind_of asked.command; at = at }))
     (λ caller. h _ refl) asked.caller
 
--- The latest record comes first.
+-- Adding records one by one places the latest record first.
 later_first : (f : Fact) (added facts : List Fact) → reverse (f ∷ added) ++ facts ≡ reverse added ++ (f ∷ facts)
 later_first f added facts =
     ap (λ (fs : List Fact). fs ++ facts) (reverse-append (f ∷ []) added) ∙ append_assoc (reverse added) (f ∷ []) facts
@@ -142,7 +143,8 @@ pub replied_is : (added replies facts : List Fact) → reverse (added ++ replies
 replied_is added replies facts =
     ap (λ (fs : List Fact). fs ++ facts) (reverse-append added replies) ∙ append_assoc (reverse replies) (reverse added) facts
 
--- Timestamps.
+-- If each of two timestamps is at most a third timestamp, then their maximum is at most the third
+-- timestamp.
 pub max_least : (a b c : ℕ) → a ≤ c → b ≤ c → max a b ≤ c
 max_least a b c h k = grind (arith, nat_tests)
 

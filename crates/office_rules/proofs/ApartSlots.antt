@@ -1,5 +1,5 @@
--- No two devices have the same name. A start therefore reaches one session, and only a device
--- without a session connects.
+-- Lemmas that no two slots of the office have devices with the same name. Therefore the start of a
+-- poll concerns one session, and a new connection concerns a device without a session.
 use Rattle.std.proofs.Common.{◌≡◌, ℕ, Bool, true, false, cond, List, [], ◌∷◌, ◌++◌, map, refl, sym, ap, subst, ◌∙◌, Option, Some, None, is_some, inl, inr, if◌then◌else◌}
 use Rattle.std.specs.List.{flat_map, find}
 use Rattle.std.specs.Option.{option_and_then}
@@ -28,7 +28,7 @@ same_back a b h = false_from_ne_true _ (λ t.
     let here : same a b ≡ true = ap (same a) e ∙ same_refl a in
     both_ways _ h here)
 
--- No slot has a device with this name.
+-- True if no slot in the list has a device with the given name.
 abbrev pub NoneNamed : List ℕ → List Slot → Type 0
 NoneNamed name [] = Unit {0}
 NoneNamed name (slot ∷ slots) = (same name slot.device.name ≡ false) × NoneNamed name slots
@@ -56,19 +56,21 @@ device_if : (number at : ℕ) (spans : List ReadSpan) (e : Event) (slot : Slot) 
 device_if number at spans e slot true = refl
 device_if number at spans e slot false = device_reached number at spans e slot slot.present
 
--- An event changes no device.
+-- An event leaves the device of a slot unchanged.
 pub device-after : (number at : ℕ) (spans : List ReadSpan) (e : Event) (slot : Slot) → (slot_after number at spans e slot).device ≡ slot.device
 device-after number at spans e slot = device_if number at spans e slot (connects e slot.device)
 
 pub device-restarted : (slot : Slot) → (slot_restarted slot).device ≡ slot.device
 device-restarted slot = refl
 
--- A search finds nothing if the first element does not pass and no other does.
+-- If a search in a list finds nothing, then the first element fails the test. A search in the rest
+-- of the list finds nothing either.
 pub not_found_if : {X : Type 0} (b : Bool) (x : X) (r : Option X) → cond b (Some x) r ≡ None → (b ≡ false) × (r ≡ None)
 not_found_if true x r h = cc
 not_found_if false x r h = (refl, h)
 
--- A new device has a new name.
+-- If a search for a device name finds no slot, then no slot in the list has a device with this
+-- name.
 none_found : (name : List ℕ) (slots : List Slot) → slot_of slots (Some name) ≡ None → NoneNamed name slots
 none_found name [] h = tt
 none_found name (slot ∷ slots) h =
@@ -87,7 +89,7 @@ apart-push_by (slot ∷ slots) new h none =
 pub apart-push : (slots : List Slot) (new : Slot) → AreApart slots → slot_of slots (Some new.device.name) ≡ None → AreApart (slots ++ new ∷ [])
 apart-push slots new h none = apart-push_by slots new h (none_found new.device.name slots none)
 
--- Only a device without a session connects.
+-- If an event that connects a device is accepted, then the device has no session.
 pub free_other : (e : Event) → ((device : Device) → connects e device ≡ false) → (slots : List Slot) → AreFree e slots
 free_other e never [] = tt
 free_other e never (slot ∷ slots) = ((λ h. absurd (both_ways _ (never slot.device) h)), free_other e never slots)
@@ -121,7 +123,8 @@ pub free_connected : (given : Option (List ℕ)) (slots : List Slot) → AreApar
 free_connected None slots h absent_there = free_other (event.Connected None) (λ device. refl) slots
 free_connected (Some name) slots h absent_there = free_named name slots h (absent (present_of slots (Some name)) absent_there)
 
--- A function of the device with a name applies to one device.
+-- If a function returns the empty list for every element, then mapping a list with the function and
+-- concatenating the results yields the empty list.
 pub of_none : {X Y : Type 0} (f : X → List Y) → ((x : X) → f x ≡ []) → (xs : List X) → flat_map f xs ≡ []
 of_none f none [] = refl
 of_none f none (x ∷ xs) = ap (λ ys. ys ++ flat_map f xs) (none x) ∙ of_none f none xs

@@ -1,11 +1,11 @@
--- The records of every accepted history are true.
+-- The records after any accepted events satisfy `AreTrue`.
 use Rattle.office_rules.specs.History.{History, facts_of}
 use Rattle.office_rules.specs.Refusals.{AreAccepted}
 use Rattle.office_rules.specs.Endings.{EachEndsOnce}
 use Rattle.office_rules.specs.Laws.{MetersAreKept, TruthIsRecorded, VoidsLeaveNoTrace}
 use Rattle.office_rules.specs.Lawfulness.{FactsAreLawful, NamesAreDistinct, BooksAreTrue}
 
--- The theorems that together prove it.
+-- The theorems from which `AreTrue` follows.
 pub record Laws : Type 0 where
   pub polls : (history : History) → AreAccepted history → EachEndsOnce history
   pub lawful : FactsAreLawful

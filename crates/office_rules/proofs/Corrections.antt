@@ -1,4 +1,5 @@
--- The records stay lawful after a closing, a reset or a rescaling that is not refused.
+-- Lemmas that the records stay lawful after an accepted command closes a meter, resets its counter
+-- or changes its scale factor.
 use Rattle.std.proofs.Common.{◌≡◌, ℕ, ℤ, pos, negsuc, ◌≤◌, ◌≤ℤ◌, suc, int_lt, Bool, true, false, cond, ◌||◌, List, [], ◌∷◌, ◌++◌, reverse, refl, sym, subst, Option, Some, None, arith}
 use Rattle.std.specs.Prelude.{Contains}
 use Rattle.std.specs.List.{AllByRecursion, find}
@@ -26,7 +27,7 @@ use Rattle.office_rules.specs.Lawful.{AreLawful}
 use Rattle.office_rules.specs.Laws.{MetersAreKept}
 use Rattle.office_rules.proofs.LawfulReadings.{is_open, entered_fits}
 
--- The entry has no fault at the open meter.
+-- True if a command's entry has no fault when the entry is added to the open meter.
 pub record IsFaultless (at : ℕ) (c : Command) (row : Option Installation) : Type 0 where
   pub negative : makes_fault at fault.NegativeStep c row ≡ false
   pub later : makes_fault at fault.NotLater c row ≡ false
@@ -34,7 +35,7 @@ pub record IsFaultless (at : ℕ) (c : Command) (row : Option Installation) : Ty
   pub full : makes_fault at fault.TotalFull c row ≡ false
   pub below : makes_fault at fault.NotBelowRange c row ≡ false
 
--- The records after the entry that a command makes at the open meter.
+-- The records after a command's entry is added to the open meter.
 abbrev entered : (at : ℕ) → Command → List Fact → Option Installation → List Fact
 entered at c facts row = reverse (option_to_list (option_and_then (made_on at c) row)) ++ facts
 
@@ -77,7 +78,7 @@ pub rescale_fits : (facts : List Fact) (at : ℕ) (c : Rescale) (register : Opti
 rescale_fits facts at c None h timely scale none = h
 rescale_fits facts at c (Some register) h timely scale none = rescale_row facts at c register (open_at facts register) h refl timely scale none
 
--- A reset keeps the scale, which is a valid one.
+-- If two conditions are false, then their disjunction is false.
 neither : (a b : Bool) → a ≡ false → b ≡ false → (a || b) ≡ false
 neither true b h k = h
 neither false b h k = k
@@ -93,7 +94,7 @@ found_step : {X : Type 0} (b : Bool) (y x : X) (ys : List X) (o : Option X) → 
 found_step true y x ys o later h = (0, omega arith, cc)
 found_step false y x ys o later h = let rest = later h in let less = rest.1 in (suc rest.0, omega arith, rest.2)
 
--- A search finds an element of the list.
+-- If a search finds an element, then the element is in the list.
 found_there : {X : Type 0} (p : X → Bool) (xs : List X) (x : X) → find p xs ≡ Some x → Contains xs x
 found_there p [] x h = absurd (cc)
 found_there p (y ∷ ys) x h = found_step (p y) y x ys (find p ys) (found_there p ys x) h

@@ -1,4 +1,4 @@
--- The slots of the office are those of the devices in its records.
+-- Lemmas that the slots of the office have the same devices as the records.
 use Rattle.std.proofs.Common.{◌≡◌, ℕ, Bool, true, false, cond, List, [], ◌∷◌, ◌++◌, ◌||◌, map, reverse, refl, sym, ap, ◌∙◌, Option, Some, None}
 use Rattle.std.specs.Option.{is_some, option_map, option_to_list}
 use Rattle.std.specs.List.{find, list_any}
@@ -20,11 +20,11 @@ use Rattle.office_rules.proofs.EndedFacts.{unseen-with_settled}
 use Rattle.office_rules.proofs.ApartSlots.{device-after, same_refl}
 use Rattle.office_rules.proofs.QuietFacts.{HoldsOfBooks, added_each, reply_each, each_mapped, unseen, later_part_first}
 
--- The devices of slots.
+-- The devices of a list of slots. A slot is a device with its sessions.
 abbrev pub devices_on : List Slot → List Device
 devices_on slots = map (λ slot. slot.device) slots
 
--- The records and the slots have the same devices.
+-- True if the records and the slots have the same devices, in the same order.
 abbrev pub HaveSameDevices : List Slot → List Fact → Type 0
 HaveSameDevices slots facts = devices_on slots ≡ reverse (devices_in facts)
 
@@ -39,7 +39,7 @@ same_slots number at spans e slots none =
     ∙ ap devices_on (append-nil (map (slot_after number at spans e) slots))
     ∙ map_kept (λ slot. slot.device) (slot_after number at spans e) (device-after number at spans e) slots
 
--- Only the record of a device counts as a device.
+-- True if the record is not a device record.
 abbrev NoDevice : Fact → Type 0
 NoDevice f = as_device f ≡ None
 
@@ -92,7 +92,7 @@ same_devices (Opened at ∷ past) =
     (each_mapped NoDevice (lost at) (λ poll. refl) (pending_in (facts_of past)))))
 same_devices (Fed at e ∷ past) = by_event (next_poll (facts_of past)) at (slots_of past) (facts_of past) e (same_devices past)
 
--- The device of a slot that is found exists in the records.
+-- If the second condition of a disjunction is true, then the disjunction is true.
 or_true : (b : Bool) → (b || true) ≡ true
 or_true true = refl
 or_true false = refl
@@ -116,7 +116,7 @@ found_is_known slots facts given slot h found =
     ∙ list_any-map its (λ (l : Slot). l.device) slots
     ∙ any_found (λ (l : Slot). is_named given l.device.name) (λ (l : Slot). its l.device) slots slot (same_refl slot.device.name) found
 
--- A name belongs to a slot exactly if it belongs to a device.
+-- A slot with a given device name exists if and only if a device record has this name.
 pub same_names : (slots : List Slot) (facts : List Fact) → HaveSameDevices slots facts → (name : List ℕ)
     → is_some (slot_of slots (Some name)) ≡ is_some (device_of facts name)
 same_names slots facts h name =

@@ -1,4 +1,4 @@
--- The recorded ends of polls, and the records that concern no end.
+-- Lemmas about the recorded outcomes of polls, and about records that add no outcome.
 use Rattle.std.proofs.Common.{◌≡◌, ℕ, ◌==◌, Bool, true, false, cond, List, [], ◌∷◌, ◌++◌, map, refl, sym, ap, ◌∙◌, Option, Some, None, append_assoc, if◌then◌else◌}
 use Rattle.std.specs.List.{filter, filter_map, flat_map, cons_option}
 use Rattle.std.specs.List.Sorted.{IsPermutation}
@@ -26,7 +26,7 @@ use Rattle.office_rules.specs.History.{outcome_of, with_words, with_outcome, wit
 use Rattle.office_rules.proofs.Permutations.{same_is, exchanged}
 use Rattle.office_rules.proofs.EndedPolls.{pick}
 
--- A lookup that finds no entries and no rejected readings.
+-- True if a lookup finds neither entries nor rejected readings.
 pub record IsBlind {X : Type 0} (look : Fact → Option X) : Type 0 where
   pub entry : (booked : BookedEntry) → look (fact.Entry booked) ≡ None
   pub hold : (held : HeldReading) → look (fact.Hold held) ≡ None
@@ -68,7 +68,7 @@ polls_blind = record { entry = λ b. refl; hold = λ b. refl }
 ended_blind : IsBlind as_ended
 ended_blind = record { entry = λ b. refl; hold = λ b. refl }
 
--- The recorded ends, the latest first.
+-- The recorded outcomes with their poll numbers. The latest outcome comes first.
 abbrev pub recorded : List Fact → List (ℕ × Outcome)
 recorded facts = map (λ end. (end.poll, end.outcome)) (ended_in facts)
 
@@ -78,7 +78,8 @@ as_end settled = (settled.0, outcome_of settled.1)
 abbrev pub end_fact : ℕ → ℕ × session.Settlement → EndedPoll
 end_fact at settled = record { poll = settled.0; at = at; outcome = outcome_of settled.1 }
 
--- A lookup that also finds no outcomes finds nothing of a settlement.
+-- If a lookup finds neither readings nor outcomes, then it finds nothing in the records that ended
+-- polls add.
 unseen-with_outcomes : {X : Type 0} (look : Fact → Option X) → IsBlind look → ((ended : EndedPoll) → look (fact.Outcome ended) ≡ None) → (at : ℕ) (settled : List (ℕ × session.Settlement)) (facts : List Fact)
     → filter_map look (with_outcomes at settled facts) ≡ filter_map look facts
 unseen-with_outcomes look h none at [] facts = refl
@@ -111,7 +112,7 @@ recorded-with_outcomes at (s ∷ later) facts =
     (IsPermutation-trans _ _ _ (same_is _ _ (ap (λ ends. map as_end later ++ ends) (recorded-with_outcome at s facts)))
     (IsPermutation-middle (map as_end later) (as_end s) (recorded facts)))
 
--- The settlements of an event on all sessions, device by device.
+-- The polls that an event ends on all sessions, device by device.
 abbrev pub settled_on_all : (number at : ℕ) → Event → List Slot → List (ℕ × session.Settlement)
 settled_on_all number at e slots = flat_map (settled_by number at e) slots
 
@@ -128,7 +129,8 @@ recorded-with_settled number at e (slot ∷ slots) facts =
     (IsPermutation-trans _ _ _ (exchanged (map as_end later) (map as_end here) (recorded facts))
     (same_is _ _ (sym (append_assoc (map as_end here) (map as_end later) (recorded facts)) ∙ ap (λ ends. ends ++ recorded facts) (sym (map-append as_end here later))))))
 
--- The recorded ends of a poll number.
+-- After an outcome is recorded, it is the first outcome of its own poll. The outcomes of other
+-- polls are unchanged.
 ends_step : (b : Bool) (end : EndedPoll) (ends : List EndedPoll) (os : List Outcome) → map (λ e. e.outcome) ends ≡ os
     → map (λ e. e.outcome) (cond b (end ∷ ends) ends) ≡ cons_option (if b then Some end.outcome else None) os
 ends_step true end ends os h = ap (λ xs. end.outcome ∷ xs) h

@@ -1,5 +1,5 @@
--- Polls with their outcomes: those that ended, those that are pending, and how often a number
--- occurs.
+-- Lists of polls with their outcomes. The lists give the ended polls, the pending polls, and how
+-- often a poll number occurs.
 use Rattle.std.proofs.Common.{◌≡◌, ℕ, suc, ◌+◌, ◌<◌, ◌≤◌, ◌==◌, Bool, true, false, cond, List, [], ◌∷◌, length, map, refl, sym, ap, ◌∙◌, arith, Option, Some, None, if◌then◌else◌}
 use Rattle.std.specs.List.{filter, filter_map, cons_option, find}
 use Rattle.std.specs.Option.{option_to_list, option_map, option_and_then, is_none}
@@ -12,7 +12,7 @@ use Rattle.office_events.specs.declared.facts.Poll.{Poll}
 use Rattle.office_rules.specs.PollEndings.{AreNumbered}
 use Rattle.office_rules.proofs.Permutations.{IsPermutation-filter, IsPermutation-filter_map}
 
--- The number of a poll, with its outcome if it has one.
+-- The number of a poll, with the poll's outcome if it has one.
 abbrev pub Ended : Type 0
 Ended = ℕ × Option Outcome
 
@@ -32,12 +32,12 @@ abbrev pub one_if : Bool → ℕ
 one_if true = 1
 one_if false = 0
 
--- The number of times that a number occurs in a list.
+-- The number of occurrences of a number in a list.
 abbrev pub times : ℕ → List ℕ → ℕ
 times n [] = 0
 times n (x ∷ xs) = one_if (x == n) + times n xs
 
--- The outcomes of a number.
+-- The outcome if it belongs to the poll with the number `n`, otherwise `None`.
 abbrev pub is_of : ℕ → ℕ × Outcome → Option Outcome
 is_of n end = if end.0 == n then Some end.1 else None
 
@@ -50,7 +50,7 @@ are_equal a b h = grind (arith, nat_tests)
 not_equal : (a b : ℕ) → (a ≡ b → ⊥) → (a == b) ≡ false
 not_equal a b h = grind (arith, nat_tests)
 
--- The count of a list in another order.
+-- Counting the elements that pass a test one by one yields the length of the filtered list.
 counted_step : (b : Bool) (x : ℕ) (xs : List ℕ) (k : ℕ) → k ≡ length xs → one_if b + k ≡ length (cond b (x ∷ xs) xs)
 counted_step true x xs k h = omega arith
 counted_step false x xs k h = omega arith
@@ -75,7 +75,8 @@ times_split n [] = refl
 times_split n ((m, None) ∷ polls) = let h = times_split n polls in omega arith
 times_split n ((m, Some o) ∷ polls) = told_step (m == n) o (pick n (ends_in polls)) (times n (waiting_in polls)) (times n (numbers_in polls)) (times_split n polls)
 
--- Consecutive numbers from 1 occur once.
+-- If a number exceeds the number of polls, then no poll of a consecutively numbered list has this
+-- number.
 none_beyond : (n : ℕ) (polls : List Poll) → AreNumbered polls → length polls < n → times n (map (λ poll. poll.number) polls) ≡ 0
 none_beyond n [] h l = refl
 none_beyond n (p ∷ polls) h l =
@@ -94,7 +95,7 @@ numbered_once n (p ∷ polls) h =
     (λ here. none_beyond n polls h.1 (let e : p.number ≡ n = eqb-true p.number n here in let g = h.0 in omega arith))
     (numbered_once n polls h.1)
 
--- If each number occurs once, a number has at most one outcome.
+-- If a list of outcomes has length 0, then the list is empty.
 none_if_empty : (xs : List Outcome) → length xs ≡ 0 → xs ≡ []
 none_if_empty [] h = refl
 none_if_empty (x ∷ xs) h = absurd (let e : suc (length xs) ≡ 0 = h in omega arith)
@@ -124,7 +125,7 @@ picked_is n ((m, None) ∷ polls) l =
 picked_is n ((m, Some o) ∷ polls) l =
     found_step n (m == n) m (Some o) polls (pick n (ends_in polls)) refl (none_after n m polls l) (picked_is n polls (omega arith))
 
--- The polls without an outcome, by a test of their numbers.
+-- If a number is the first element of a list, then the number occurs in the list at least once.
 one_there : (m : ℕ) (xs : List ℕ) → 1 ≤ times m (m ∷ xs)
 one_there m xs = let e : one_if (m == m) ≡ 1 = ap one_if (are_equal m m refl) in omega arith
 

@@ -1,4 +1,4 @@
--- The polls of the devices, and the effect of an event or an opening on them.
+-- The polls of all devices after an event or a restart of the office.
 use Rattle.std.proofs.Common.{◌≡◌, ℕ, Bool, true, false, List, [], ◌∷◌, ◌++◌, map, refl, sym, ap, ◌∙◌, Option, Some, None, append_assoc, if◌then◌else◌}
 use Rattle.std.specs.List.{filter, filter_map, flat_map}
 use Rattle.std.specs.Option.{is_none}
@@ -30,7 +30,8 @@ Results = List (poll.Poll × Option session.Settlement)
 abbrev pub shown : Bool → Results → List Ended
 shown restarted rs = map (λ result. (result.0.number, end_by restarted result.1)) rs
 
--- The polls of one session.
+-- The numbers of a session's polls do not depend on whether a restart of the office ended the
+-- session.
 pub numbers_shown : (b : Bool) (rs : Results) → numbers_in (shown b rs) ≡ numbers_of rs
 numbers_shown b [] = refl
 numbers_shown b (r ∷ rs) = ap (λ ns. r.0.number ∷ ns) (numbers_shown b rs)
@@ -57,7 +58,7 @@ lost_shown ((p, None) ∷ rs) =
     (IsPermutation-sym _ _ (IsPermutation-middle (ends_in (shown false rs)) (lost_end p.number) (map lost_end (waiting_in (shown false rs)))))
 lost_shown ((p, Some s) ∷ rs) = IsPermutation-cons (as_end (p.number, s)) _ _ (lost_shown rs)
 
--- The pending numbers of a session.
+-- The pending polls of a session equal the polls of the session without an outcome.
 pub waiting_on : (device : Device) (events : List session.Event) → waiting_in (polls_on device false events) ≡ map (λ p. p.number) (pending device.timeout events)
 unfolding pending
 waiting_on device events = waiting_shown (results device.timeout [] events)
@@ -75,7 +76,8 @@ numbers-push_on laws device events e =
     numbers_shown false (results device.timeout [] (events ++ e ∷ [])) ∙ numbers-push laws device.timeout events e
     ∙ ap (λ ns. ns ++ number_by e) (sym (numbers_shown false (results device.timeout [] events)))
 
--- An extension of the first part extends the whole.
+-- If the first of two concatenated lists gets more elements, then the concatenation gets the same
+-- elements, up to their order.
 pub more_of : {X : Type 0} (us xs ys zs : List X) → IsPermutation us (xs ++ ys) → IsPermutation (us ++ zs) ((xs ++ zs) ++ ys)
 more_of us xs ys zs p =
     IsPermutation-trans _ _ _ (sorted_out us zs xs ys zs [] p (same_is _ _ (sym (append-nil zs)))) (same_is _ _ (ap (λ ws. (xs ++ zs) ++ ws) (append-nil ys)))
@@ -94,7 +96,8 @@ waiting_both ps qs =
 abbrev pub slot_with : Device → List EndedSession → Option (List session.Event) → Slot
 slot_with device ended present = record { device = device; ended = ended; present = present }
 
--- The polls of one device after one more event of its session.
+-- After a session event, the outcomes of the device are the earlier outcomes and those of the polls
+-- that the event ends.
 ends_more : (laws : SessionLaws) (device : Device) (ended : List EndedSession) (before : List session.Event) (h : session.Event)
     → IsPermutation (ends_in (polls_on device false (before ++ h ∷ []) ++ polls_on_ended device ended))
     (ends_in (polls_of_slot (slot_with device ended (Some before))) ++ map as_end (outcomes_at device.timeout before h))
@@ -117,7 +120,8 @@ numbers_more laws device ended before h =
     (IsPermutation-trans _ _ _ (more_of (numbers_in new) (numbers_in old) (number_by h) (numbers_in rest) (same_is _ _ (numbers-push_on laws device before h)))
     (same_is _ _ (ap (λ ns. ns ++ number_by h) (sym (numbers_both old rest)))))
 
--- Two extensions, one after the other, as one.
+-- If a list is extended twice, then the result is a permutation of one extension by all added
+-- elements.
 grown : {X : Type 0} (end middle start first later : List X) → IsPermutation end (middle ++ later) → IsPermutation middle (start ++ first)
     → IsPermutation end (start ++ (first ++ later))
 grown end middle start first later p q =
@@ -143,7 +147,8 @@ numbers_grown laws device ended before later h end p =
     grown end _ (numbers_in (polls_of_slot (slot_with device ended (Some before)))) (number_by h) (numbers_by later) p
     (numbers_more laws device ended before h)
 
--- The polls of one device after these events of its session.
+-- After several session events, the outcomes of the device are the earlier outcomes and those of
+-- the polls that the events end.
 ends_happened : (laws : SessionLaws) (device : Device) (ended : List EndedSession) (p : Option (List session.Event)) (before happenings : List session.Event) → EndLast happenings
     → IsPermutation (ends_in (polls_of_slot (with_happenings (slot_with device ended p) before happenings)))
     (ends_in (polls_of_slot (slot_with device ended (Some before))) ++ map as_end (settled_in device before happenings))
@@ -170,7 +175,7 @@ numbers_happened laws device ended p before (Piece m b ∷ later) last =
 numbers_happened laws device ended p before (Tick m ∷ later) last =
     numbers_grown laws device ended before later (Tick m) _ (numbers_happened laws device ended p (before ++ Tick m ∷ []) later last.1)
 
--- The polls that an event starts on a device.
+-- The numbers of the polls that an event starts on a device.
 abbrev pub new_on : (number at : ℕ) → List ReadSpan → Event → Device → Option (List session.Event) → List ℕ
 new_on number at spans e device None = []
 new_on number at spans e device (Some before) = numbers_by (reaches number at spans e device before)
@@ -193,7 +198,8 @@ numbers_reached laws number at spans e device ended None = same_is _ _ (sym (app
 numbers_reached laws number at spans e device ended (Some before) =
     numbers_happened laws device ended (Some before) before (reaches number at spans e device before) (ends_last number at spans e device before)
 
--- Only a device without a session connects.
+-- After a new connection, the outcomes of the device are unchanged, because the device had no
+-- session.
 connected_ends : (number at : ℕ) (e : Event) (device : Device) (ended : List EndedSession) (present : Option (List session.Event)) → present ≡ None
     → ends_in (polls_of_slot (slot_with device ended (Some []))) ≡ ends_in (polls_of_slot (slot_with device ended present)) ++ map as_end (settled_on number at e device present)
 connected_ends number at e device ended None none = sym (append-nil _)
@@ -216,7 +222,7 @@ numbers_if : (laws : SessionLaws) (number at : ℕ) (spans : List ReadSpan) (e :
 numbers_if laws number at spans e slot true free = same_is _ _ (connected_numbers number at spans e slot.device slot.ended slot.present (free refl))
 numbers_if laws number at spans e slot false free = numbers_reached laws number at spans e slot.device slot.ended slot.present
 
--- The polls of all devices after an event.
+-- If an event connects a device, then the device has no present session.
 abbrev pub AreFree : Event → List Slot → Type 0
 AreFree e [] = Unit {0}
 AreFree e (slot ∷ slots) = (connects e slot.device ≡ true → slot.present ≡ None) × AreFree e slots

@@ -1,4 +1,4 @@
--- Polls and outcomes may follow the records before them.
+-- Lemmas that the rules accept each poll and each outcome after the earlier records.
 use Rattle.std.proofs.Common.{◌≡◌, ℕ, suc, ◌+◌, ◌≤◌, ◌==◌, Bool, true, false, cond, List, [], ◌∷◌, ◌++◌, map, reverse, length, refl, sym, ap, subst, ◌∙◌, Option, Some, None, arith, if◌then◌else◌}
 use Rattle.std.specs.List.{find}
 use Rattle.std.specs.Option.{is_some}
@@ -34,7 +34,7 @@ use Rattle.office_rules.proofs.DeviceSlots.{HaveSameDevices, same_devices, found
 use Rattle.office_rules.proofs.QuietFacts.{IsQuiet, AreQuiet, books_quiet, added_each, quiet_reply, later_first, later_part_first}
 use Rattle.office_rules.proofs.QuietEvents.{IsPassed, passed}
 
--- A record that concerns no poll may follow.
+-- If a record concerns no poll, then the rules of `PollsFit` accept the record.
 quiet_fits : (f : Fact) (facts : List Fact) → IsQuiet f → PollsFit facts → PollsFit (f ∷ facts)
 quiet_fits (fact.Poll p) facts q h = absurd (let e : Some p ≡ None = q.poll in cc)
 quiet_fits (fact.Outcome e) facts q h = absurd (let n : Some e ≡ None = q.ended in cc)
@@ -52,7 +52,8 @@ all_quiet_fit [] facts q h = h
 all_quiet_fit (f ∷ added) facts q h =
     subst PollsFit (sym (later_first f added facts)) (all_quiet_fit added (f ∷ facts) q.1 (quiet_fits f facts q.0 h))
 
--- The readings of the response to a started poll.
+-- True if the poll was started and the records satisfy `PollsFit`. The readings in the poll's
+-- response may then be recorded.
 record WasStarted (poll : Poll) (facts : List Fact) : Type 0 where
   started : is_some (poll_of facts poll.number) ≡ true
   polls : PollsFit facts
@@ -109,7 +110,7 @@ outcome_fits : IsKeptByOutcomes PollsFit
 outcome_fits at settled facts here h =
     words_fit at settled.0 settled.1 _ (record { started = here.started; pending = here.pending }, h)
 
--- The polls of a round have consecutive numbers within the limit.
+-- The records after the polls of a round are added.
 abbrev recorded_sends : (at : ℕ) → Device → List Send → List Fact → List Fact
 recorded_sends at device sends facts = reverse (map (poll_by at device) sends) ++ facts
 
@@ -159,7 +160,7 @@ sent_fit at spans slots facts given None same h found few = h
 sent_fit at spans slots facts given (Some slot) same h found few =
     present_fits at slot.device slot.present spans facts h (found_is_known slots facts given slot same found) few
 
--- A command, with or without an idempotency key.
+-- If a command is accepted, then the rules of `PollsFit` accept the polls that the command starts.
 command_fits : (at : ℕ) (slots : List Slot) (facts : List Fact) (c : Command) → HaveSameDevices slots facts → asks_past_numbers slots facts at c ≡ false
     → PollsFit facts → PollsFit (reverse (added_by (next_poll facts) at slots facts c) ++ facts)
 command_fits at slots facts (command.StartPoll c) same few h =
@@ -191,8 +192,8 @@ event_fits law past ends at (event.Asked asked) p h =
     (all_quiet_fit (reply_by at asked) (reverse added ++ facts) (quiet_reply at asked)
     (command_fits at (slots_of past) facts asked.command (same_devices past) few h))
 
--- For all accepted events, polls and outcomes may follow the records before them. The premises:
--- sessions settle only pending polls, and each poll ends once.
+-- After all accepted events, the rules accept each poll and each outcome after the earlier records.
+-- The premises are that sessions end only pending polls, and that each poll ends once.
 pub polls_fit : SettlesPending → ((history : History) → AreAccepted history → PollsEndOnce history) → (history : History) → AreAccepted history
     → PollsFit (facts_of history)
 polls_fit law once [] h = tt

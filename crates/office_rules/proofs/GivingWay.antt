@@ -1,4 +1,4 @@
--- A void, and the installation of its meter.
+-- Lemmas about the effect of a void on the installation of the voided entry's meter.
 use Rattle.std.proofs.Common.{◌≡◌, ℕ, ◌+◌, if◌then◌else◌, ◌∷◌, sym, ap, ◌∙◌, Option}
 use Rattle.std.specs.Option.{is_some, option_map, option_and_then}
 use Rattle.energy_core.specs.declared.entries.Last.{Last}
@@ -16,7 +16,7 @@ use Rattle.office_rules.specs.Voids.{VoidedEntriesGiveWay}
 use Rattle.office_rules.proofs.Journals.{installed_fits, well}
 use Rattle.office_rules.proofs.Stepping.{installation_by, named, own_line, installed_so, line_after}
 
--- An installation whose counter has this state, with this energy.
+-- An installation whose counter state and total energy are replaced by the given values.
 abbrev stood : Opening → journal.Journal → Last → ℕ → Installation
 stood o lines last total = record { opening = o; last = last; total = total; ended = journal.is_ended lines }
 

@@ -1,4 +1,5 @@
--- The meters of a register follow one another in time.
+-- Lemmas that each meter of an accounting register is opened only after the register's earlier
+-- meters were closed.
 use Rattle.std.proofs.Common.{◌≡◌, ℕ, ◌≤◌, Bool, true, false, cond, List, [], ◌∷◌, refl, sym, ap, subst, ◌∙◌, inl, inr, Option, Some, None, arith}
 use Rattle.std.specs.List.{filter, find, cons_option}
 use Rattle.std.specs.Option.{option_map, option_and_then}
@@ -18,11 +19,11 @@ use Rattle.office_rules.specs.Lawful.{OpeningFits, LineFits, AreLawful}
 use Rattle.office_rules.proofs.Lookups.{same_text, same_itself}
 use Rattle.office_rules.proofs.Journals.{by_name, none_and_some, line_if, by_opening, nothing_before, IsInstalled, installed_fits, well}
 
--- The timestamp of a meter's last valid entry, or of its opening.
+-- The timestamp of a meter's last valid entry, or of its opening if the meter has no valid entry.
 abbrev pub last_at : List Fact → Opening → ℕ
 last_at facts o = (last_in (installed o) (journal_of facts o.meter)).at
 
--- An installed meter stays installed.
+-- If a meter is installed, then it is still installed after a record is added.
 still_installed : (f : Fact) (facts : List Fact) (o : Opening) → AreLawful (f ∷ facts) → IsInstalled facts o → IsInstalled (f ∷ facts) o
 still_installed (fact.Device d) facts o h there = there
 still_installed (fact.List l) facts o h there = there
@@ -38,7 +39,8 @@ still_installed (fact.Poll p) facts o h there = there
 still_installed (fact.Outcome e) facts o h there = there
 still_installed (fact.Reply r) facts o h there = there
 
--- The journal of a meter after a line of one.
+-- If a property holds for a meter's journal unchanged and with a new line, then it holds for the
+-- journal after the line's record.
 by_line : (P : journal.Journal → Type 0) (facts : List Fact) (o : Opening) (meter : List ℕ) (line : journal.Line) → LineFits facts meter line
     → IsInstalled facts o
     → (journals.Fits (installed o) (journal_of facts o.meter) line → P (line ∷ journal_of facts o.meter))
@@ -53,7 +55,8 @@ by_line P facts o meter line fits there here elsewhere =
     (here (subst (λ (x : Opening). journals.Fits (installed x) (journal_of facts x.meter) line) is fits.fits)))
     (λ e. subst (λ b. P (cons_option (cond b (Some line) None) (journal_of facts o.meter))) (sym e) elsewhere)
 
--- The timestamp of a counter's state is not later than the latest record.
+-- In lawful records, the timestamp of a meter's last entry is at most the latest timestamp of the
+-- records.
 pub last_is_recorded : VoidsGoNoFurther → (facts : List Fact) (o : Opening) → AreLawful facts → IsInstalled facts o → last_at facts o ≤ latest_in facts
 last_is_recorded law [] o h there = absurd (cc)
 last_is_recorded law (fact.Device d ∷ facts) o h there = omega (arith, last_is_recorded law facts o h.1 there)
@@ -85,13 +88,13 @@ last_is_recorded law (fact.Poll p ∷ facts) o h there = omega (arith, last_is_r
 last_is_recorded law (fact.Outcome e ∷ facts) o h there = omega (arith, last_is_recorded law facts o h.1 there)
 last_is_recorded law (fact.Reply r ∷ facts) o h there = omega (arith, last_is_recorded law facts o h.1 there)
 
--- The meter was closed, and its last timestamp is at most this one.
+-- True if the meter was closed, and the timestamp of its last entry is at most `at`.
 pub record IsOver (facts : List Fact) (at : ℕ) (o : Opening) : Type 0 where
   pub there : IsInstalled facts o
   pub ended : is_ended facts o ≡ true
   pub last : last_at facts o ≤ at
 
--- The same property of a journal.
+-- True if the journal has a closing, and the timestamp of its last entry is at most `at`.
 record IsDone (o : Opening) (at : ℕ) (lines : journal.Journal) : Type 0 where
   ended : journal.is_ended lines ≡ true
   last : (last_in (installed o) lines).at ≤ at
@@ -130,7 +133,8 @@ abbrev pub AllOver : List Fact → (at : ℕ) → List Opening → Type 0
 AllOver facts at [] = Unit {0}
 AllOver facts at (o ∷ os) = IsOver facts at o × AllOver facts at os
 
--- Each of these meters, the latest first, was opened after all meters before it were closed.
+-- True if each meter of a list was opened after all earlier meters of the list were closed. The
+-- list begins with the latest meter.
 abbrev pub InTurn : List Fact → List Opening → Type 0
 InTurn facts [] = Unit {0}
 InTurn facts (o ∷ os) = IsInstalled facts o × AllOver facts o.at os × InTurn facts os
@@ -144,7 +148,7 @@ still_in_turn law f facts [] h turn = tt
 still_in_turn law f facts (o ∷ os) h turn =
     (still_installed f facts o h turn.0, all_still_over law f facts o.at os h turn.1, still_in_turn law f facts os h turn.2)
 
--- A closed meter stays closed at later times.
+-- If meters were closed at a time, then they are also closed at every later time.
 over_by_now : VoidsGoNoFurther → (facts : List Fact) (at now : ℕ) (os : List Opening) → AreLawful facts → latest_in facts ≤ now
     → AllOver facts at os → AllOver facts now os
 over_by_now law facts at now [] h latest over = tt
@@ -153,7 +157,7 @@ over_by_now law facts at now (o ∷ os) h latest over = (
   over_by_now law facts at now os h latest over.1,
 )
 
--- The openings at a register, the latest first.
+-- The openings at an accounting register. The latest opening comes first.
 abbrev pub openings_at : List Fact → (register : List ℕ) → List Opening
 openings_at facts register = filter (λ o. same o.register register) (openings_in facts)
 
@@ -172,7 +176,7 @@ ended_where_free facts o h =
       | inr e ↦ absurd (let s : Some (installation_of facts o) ≡ None = sym (cond-false _ _ _ e) ∙ h in cc)
     ]
 
--- At a free register all meters are closed.
+-- If no meter is open at an accounting register, all meters at the register are closed.
 all_over : VoidsGoNoFurther → (facts : List Fact) (register : List ℕ) (now : ℕ) (os : List Opening) → AreLawful facts → latest_in facts ≤ now
     → open_at facts register ≡ None → openings_at facts register ≡ os → InTurn facts os → AllOver facts now os
 all_over law facts register now [] h latest free is turn = tt
@@ -201,7 +205,8 @@ opened_in_turn law p facts register h turn =
       | inr e ↦ subst (InTurn (f ∷ facts)) (sym (cond-false _ _ _ e)) (still_in_turn law f facts os h turn)
     ]
 
--- The meters of a register follow one another.
+-- In lawful records, each meter of an accounting register was opened after the register's earlier
+-- meters were closed.
 pub in_turn : VoidsGoNoFurther → (facts : List Fact) (register : List ℕ) → AreLawful facts → InTurn facts (openings_at facts register)
 in_turn law [] register h = tt
 in_turn law (fact.Device d ∷ facts) register h = still_in_turn law (fact.Device d) facts (openings_at facts register) h (in_turn law facts register h.1)

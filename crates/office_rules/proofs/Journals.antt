@@ -1,4 +1,4 @@
--- Lawful records have fitting journals.
+-- Lemmas that the journals of meters in lawful records are lawful.
 use Rattle.std.proofs.Common.{◌≡◌, ℕ, true, false, cond, List, [], ◌∷◌, refl, sym, ap, subst, ◌∙◌, inl, inr, Option, Some, None}
 use Rattle.std.specs.List.{cons_option}
 use Rattle.std.proofs.lemmas.Bool.{cases_Bool, cond-true, cond-false}
@@ -18,7 +18,8 @@ use Rattle.office_rules.proofs.Lookups.{same_text, find_none, each_found}
 use Rattle.office_rules.proofs.Openings.{openings_apart}
 use Rattle.std.proofs.lemmas.List.Elements.{All-contains}
 
--- A case distinction: another meter, or this one.
+-- If a statement about two names holds for equal names and for different names, then the statement
+-- holds.
 pub by_name : {P : Type 0} (a b : List ℕ) → (same a b ≡ true → a ≡ b → P) → (same a b ≡ false → P) → P
 by_name a b here elsewhere =
     elim (cases_Bool (same a b)) [
@@ -29,7 +30,7 @@ by_name a b here elsewhere =
 pub none_and_some : {X P : Type 0} (o : Option X) (x : X) → o ≡ None → o ≡ Some x → P
 none_and_some o x n s = absurd (let e : None ≡ Some x = sym n ∙ s in cc)
 
--- The line, if it belongs to the meter.
+-- The line of a journal if it belongs to the meter, otherwise `None`.
 abbrev pub line_if : (meter m : List ℕ) → journal.Line → Option journal.Line
 line_if meter m line = cond (same meter m) (Some line) None
 
@@ -40,7 +41,7 @@ no_line facts m meter line fits none rest =
     (λ e name. none_and_some (opening_of facts m) fits.opening none (subst (λ (t : List ℕ). opening_of facts t ≡ Some fits.opening) name fits.there))
     (λ e. ap (λ b. cons_option (cond b (Some line) None) (journal_of facts m)) e ∙ rest)
 
--- Before its opening a meter has an empty journal.
+-- If a meter is not installed, then its journal is empty.
 pub nothing_before : (facts : List Fact) (m : List ℕ) → AreLawful facts → opening_of facts m ≡ None → journal_of facts m ≡ []
 nothing_before [] m h none = refl
 nothing_before (fact.Device d ∷ facts) m h none = nothing_before facts m h.1 none
@@ -58,7 +59,7 @@ nothing_before (fact.Poll p ∷ facts) m h none = nothing_before facts m h.1 non
 nothing_before (fact.Outcome e ∷ facts) m h none = nothing_before facts m h.1 none
 nothing_before (fact.Reply r ∷ facts) m h none = nothing_before facts m h.1 none
 
--- The name of the opening's meter finds this opening.
+-- True if a search for the name of the opening's meter finds this opening.
 abbrev pub IsInstalled : List Fact → Opening → Type 0
 IsInstalled facts opening = opening_of facts opening.meter ≡ Some opening
 
@@ -77,7 +78,8 @@ one_line facts o meter line fits there rest =
     subst (λ b. journals.AreFitting (installed o) (cons_option (cond b (Some line) None) (journal_of facts o.meter))) (sym e) (here, rest))
     (λ e. subst (λ b. journals.AreFitting (installed o) (cons_option (cond b (Some line) None) (journal_of facts o.meter))) (sym e) rest)
 
--- Of two openings, the meter's name finds the later or the earlier.
+-- After a new opening is recorded, a search for a meter's name finds the new opening or an earlier
+-- opening.
 pub by_opening : {P : Type 0} (facts : List Fact) (p o : Opening) → IsInstalled (fact.Opening p ∷ facts) o
     → (p ≡ o → P) → (IsInstalled facts o → P) → P
 by_opening facts p o found here elsewhere =
@@ -85,7 +87,7 @@ by_opening facts p o found here elsewhere =
     (λ e name. here (same_Some p o (sym (cond-true _ _ _ e) ∙ found)))
     (λ e. elsewhere (sym (cond-false _ _ _ e) ∙ found))
 
--- The journal of an installed meter fits.
+-- If a meter is installed, then the rules of the journal accept each line of its journal.
 pub installed_fits : (facts : List Fact) (o : Opening) → AreLawful facts → IsInstalled facts o → Fitting facts o
 installed_fits [] o h there = tt
 installed_fits (fact.Device d ∷ facts) o h there = installed_fits facts o h.1 there
@@ -108,7 +110,7 @@ installed_fits (fact.Poll p ∷ facts) o h there = installed_fits facts o h.1 th
 installed_fits (fact.Outcome e ∷ facts) o h there = installed_fits facts o h.1 there
 installed_fits (fact.Reply r ∷ facts) o h there = installed_fits facts o h.1 there
 
--- The numbers of an installed meter are in range.
+-- If a meter is installed, then the count and the scale factor at its opening are in range.
 pub well : (facts : List Fact) (o : Opening) → AreLawful facts → IsInstalled facts o → IsWellInstalled (installed o)
 well [] o h there = absurd (cc)
 well (fact.Device d ∷ facts) o h there = well facts o h.1 there
@@ -126,7 +128,7 @@ well (fact.Poll p ∷ facts) o h there = well facts o h.1 there
 well (fact.Outcome e ∷ facts) o h there = well facts o h.1 there
 well (fact.Reply r ∷ facts) o h there = well facts o h.1 there
 
--- The name of its meter finds each recorded opening.
+-- If an opening is recorded, then a search for its meter's name finds this opening.
 pub found : (facts : List Fact) (o : Opening) → AreLawful facts → IsRecorded facts o → IsInstalled facts o
 found facts o h there =
     All-contains (λ (x : Opening). IsInstalled facts x) (openings_in facts) o

@@ -1,4 +1,4 @@
--- A settled poll adds only an outcome and readings to the records.
+-- Lemmas that a poll that ends adds only an outcome and readings to the records.
 use Rattle.std.proofs.Common.{◌≡◌, ℕ, Bool, true, false, cond, List, [], ◌∷◌, ◌++◌, map, reverse, refl, sym, ap, ◌∙◌, Option, Some, None, append_assoc}
 use Rattle.std.specs.List.{filter_map, cons_option, flat_map}
 use Rattle.std.proofs.lemmas.List.{reverse-append}
@@ -22,7 +22,7 @@ use Rattle.office_rules.specs.Readings.{as_fact, judgement, reading_of, is_read_
 use Rattle.office_rules.specs.Sessions.{Slot}
 use Rattle.office_rules.specs.History.{with_words, with_outcome, with_outcomes, settled_by, with_settled, lost, with_lost}
 
--- A lookup that finds no readings.
+-- True if a lookup finds neither entries nor rejected readings.
 pub record SkipsReadings {X : Type 0} (f : Fact → Option X) : Type 0 where
   pub entry : (b : BookedEntry) → f (fact.Entry b) ≡ None
   pub hold : (h : HeldReading) → f (fact.Hold h) ≡ None
@@ -68,7 +68,7 @@ by_words f s at number session.Silent facts = refl
 by_words f s at number (session.Malformed malformation) facts = refl
 by_words f s at number (session.Lost cause) facts = refl
 
--- A lookup that finds no readings and no outcomes.
+-- True if a lookup finds neither readings nor outcomes of polls.
 pub record SkipsSettled {X : Type 0} (f : Fact → Option X) : Type 0 where
   pub readings : SkipsReadings f
   pub outcome : (e : EndedPoll) → f (fact.Outcome e) ≡ None
@@ -89,7 +89,7 @@ pub outcomes-append : (at : ℕ) (xs ys : List (ℕ × session.Settlement)) (fac
 outcomes-append at [] ys facts = refl
 outcomes-append at (x ∷ xs) ys facts = outcomes-append at xs ys (with_outcome at x facts)
 
--- The settlements of an event on all sessions.
+-- The polls that an event ends on all sessions, each with its result.
 abbrev pub settled_on_all : (number at : ℕ) → Event → List Slot → List (ℕ × session.Settlement)
 settled_on_all number at e slots = flat_map (settled_by number at e) slots
 
@@ -100,7 +100,7 @@ settled_is number at e (slot ∷ slots) facts =
     settled_is number at e slots (with_outcomes at (settled_by number at e slot) facts)
     ∙ sym (outcomes-append at (settled_by number at e slot) (settled_on_all number at e slots) facts)
 
--- The settlement of a pending poll at an opening: the poll is lost.
+-- The result of a poll that was pending when the office restarted: the poll is lost.
 abbrev pub as_lost : Poll → ℕ × session.Settlement
 as_lost poll = (poll.number, session.Lost Restart)
 

@@ -1,4 +1,4 @@
--- The records stay lawful after a void and after an exchange.
+-- Lemmas that the records stay lawful after a void of an entry and after an exchange of meters.
 use Rattle.std.proofs.Common.{◌≡◌, ℕ, ℤ, pos, negsuc, ◌<◌, ◌≤◌, ◌≤ℤ◌, max, nat_lt, Bool, true, false, cond, ◌&&◌, List, ◌∷◌, refl, sym, ap, ◌∙◌, Option, Some, None, arith}
 use Rattle.std.specs.List.{cons_option, AllByRecursion}
 use Rattle.std.specs.Option.{is_some, option_map, option_and_then}
@@ -30,7 +30,7 @@ use Rattle.office_rules.specs.Refusals.{is_not_voidable, verdict_at, is_held_for
 use Rattle.office_rules.specs.Lawful.{LineFits, AreLawful}
 use Rattle.office_rules.proofs.Lookups.{same_itself}
 
--- No reason of refusal applies.
+-- If an event is not refused, then no reason to refuse the event applies.
 pub not_refused : (past : History) (at : ℕ) (e : Event) → refusal_of past at e ≡ None → AllByRecursion (λ why. refuses past at e why ≡ false) reasons
 not_refused past at e h = none_pass (refuses past at e) reasons h
 
@@ -44,7 +44,7 @@ same_cause_itself cause.TooFast = refl
 same_cause_itself cause.TotalFull = refl
 same_cause_itself cause.NotBelowRange = refl
 
--- A verdict that rejects for no cause accepts.
+-- If a verdict rejects a reading for no cause, then the verdict accepts the reading.
 accepts : (v : Verdict) → ((why : Cause) → is_held_for why (Some v) ≡ false) → (rolls : ℕ) × (step : ℕ) × (v ≡ verdict.Accepted rolls step)
 accepts (verdict.Accepted rolls step) h = (rolls, step, refl)
 accepts (verdict.Held c) h = absurd (let e : true ≡ false = sym (same_cause_itself c) ∙ h c in cc)
@@ -76,7 +76,8 @@ next_fits : (facts : List Fact) (o : Opening) (before : List EntryRow) (row : En
 next_fits facts o before row None h none = tt
 next_fits facts o before row (Some next) h none = next_plausible facts o before row next h none
 
--- The entry may be voided.
+-- If a void is not refused, then the voided entry exists, and the rules of the journal accept the
+-- void.
 around_fits : (facts : List Fact) (m : List ℕ) (place : ℕ) (o : Opening) (found : Option journal.Around) → opening_of facts m ≡ Some o
     → journal.row_at place (rows_of facts o) ≡ found
     → is_not_voidable (option_map (place_in facts o) found) ≡ false
@@ -125,7 +126,7 @@ void_by past at place (Some m) h taken =
     last.1.0 last.1.1.0 last.1.1.1.0 last.1.1.1.1.0 last.1.1.1.1.1.0 last.1.1.1.1.1.1.0 last.1.1.1.1.1.1.1.0 last.1.1.1.1.1.1.1.1.0 in
     ((void_fits facts m place (opening_of facts m) refl last.0 none, ltb-false moment_limit at limit.0), h)
 
--- The records stay lawful after a void that is not refused.
+-- If a void is accepted, then the records are still lawful after the void is recorded.
 pub void_lawful : (past : History) (at : ℕ) (c : VoidEntry) → AreLawful (facts_of past) → refusal_of past at (event.Command (command.Void c)) ≡ None
     → AreLawful (facts_of (Fed at (event.Command (command.Void c)) ∷ past))
 void_lawful past at c h taken = void_by past at c.place c.meter h taken
@@ -133,7 +134,7 @@ void_lawful past at c h taken = void_by past at c.place c.meter h taken
 max_least : (a b c : ℕ) → a ≤ c → b ≤ c → max a b ≤ c
 max_least a b c h k = grind (arith, nat_tests)
 
--- A closed meter is not open.
+-- After the closing of a meter is recorded, the meter is closed.
 ended_now : (facts : List Fact) (o : Opening) (meter : List ℕ) (e : Entry) → same meter o.meter ≡ true
     → is_ended (fact.Entry (record { meter = meter; kind = kind.Closing; entry = e }) ∷ facts) o ≡ true
 ended_now facts o meter e is =
@@ -149,7 +150,8 @@ free_after facts o r e is =
     ap (λ (x : Option Opening). option_and_then if_open (option_map (installation_of (f ∷ facts)) x)) is
     ∙ none_open (f ∷ facts) o (is_ended (f ∷ facts) o) refl (ended_now facts o o.meter e (same_itself o.meter))
 
--- The records after an exchange: the open meter is closed, and the new one opened.
+-- If an exchange is accepted, then the rules accept its records. The records are the closing of the
+-- old meter and the opening of the new meter.
 pub exchange_fits : (facts : List Fact) (at : ℕ) (r m : List ℕ) (o : Opening) (last rolls raw ceiling range : ℕ) (sf : ℤ) → AreLawful facts
     → at ≤ moment_limit → latest_in facts ≤ at
     → opening_of facts o.meter ≡ Some o → installed_at facts r ≡ Some o → is_ended facts o ≡ false

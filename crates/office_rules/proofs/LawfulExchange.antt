@@ -1,4 +1,4 @@
--- The records stay lawful after an exchange that is not refused.
+-- The lemma that the records stay lawful after an accepted exchange of meters.
 use Rattle.std.proofs.Common.{◌≡◌, ℕ, ℤ, pos, negsuc, ◌<◌, ◌≤◌, ◌≤ℤ◌, nat_lt, nat_le, Bool, true, false, cond, ◌||◌, List, [], ◌∷◌, ◌++◌, reverse, refl, sym, subst, Option, Some, None, arith}
 use Rattle.std.specs.Option.{option_map, option_and_then, option_to_list, is_none, is_some}
 use Rattle.std.proofs.lemmas.Bool.{or_parts, ltb-false}
@@ -35,7 +35,8 @@ some_there : {X P : Type 0} (b : Bool) (x y : X) (o : Option X) → cond b (Some
 some_there true x y o e here later = here refl
 some_there false x y o e here later = later e
 
--- A register with an installed meter exists in the records.
+-- If a meter was installed at an accounting register, then the accounting register exists in the
+-- records.
 pub register_known : (facts : List Fact) (r : List ℕ) (o : Opening) → AreLawful facts → installed_at facts r ≡ Some o → is_some (register_of facts r) ≡ true
 register_known [] r o h e = absurd (cc)
 register_known (fact.Device d ∷ facts) r o h e = register_known facts r o h.1 e
@@ -71,7 +72,7 @@ record IsGood (facts : List Fact) (m : List ℕ) (range raw ceiling : ℕ) (sf :
   scaled : (negsuc 2 ≤ℤ sf) × (sf ≤ℤ pos 3)
   limited : (1 ≤ ceiling) × (ceiling ≤ 1000000000)
 
--- The closing has no fault.
+-- True if the closing in an exchange does not have the fault `why`.
 abbrev NoFault : (at : ℕ) → Exchange → Option Installation → TermFault → Type 0
 NoFault at c row why = makes_fault at why (command.Exchange c) row ≡ false
 

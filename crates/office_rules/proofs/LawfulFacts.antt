@@ -1,4 +1,4 @@
--- The records of accepted events are lawful.
+-- The records after any accepted events are lawful.
 use Rattle.std.proofs.Common.{◌≡◌, ℕ, ◌+◌, ◌≤◌, nat_lt, false, List, [], ◌∷◌, ◌++◌, map, reverse, length, refl, sym, ap, subst, Option, Some, None, arith}
 use Rattle.std.specs.List.{flat_map}
 use Rattle.std.specs.Option.{option_and_then}
@@ -36,7 +36,8 @@ use Rattle.office_rules.proofs.Additions.{device_fits, list_fits, register_fits,
 use Rattle.office_rules.proofs.Starts.{polls_fit}
 use Rattle.office_rules.proofs.Replies.{asked_fits}
 
--- The pending polls of the sessions are the polls without an outcome.
+-- True if the pending polls on the sessions have the same numbers as the recorded polls without an
+-- outcome.
 abbrev HaveSamePending : List Slot → List Fact → Type 0
 HaveSamePending slots facts = (n : ℕ) → times n (flat_map pending_on slots) ≡ times n (poll_numbers (pending_in facts))
 
@@ -60,7 +61,7 @@ lost_kept at facts timely h =
     (outcomes_kept at all facts timely h
     (open_once facts (settled_numbers all) h.lawful (λ n. omega (arith, ap (times n) (lost_numbers (pending_in facts))))))
 
--- An opening of the office.
+-- If a start of the office is accepted, then the records are still lawful after the start.
 opened_kept : (at : ℕ) (facts : List Fact) → AreLawful facts → opening_refusal_of facts at ≡ None → AreKept at (with_lost at facts)
 opened_kept at facts h taken =
     let back = none_parts (nat_lt at (latest_in facts)) refusal.ClockBack _ taken in
@@ -68,7 +69,7 @@ opened_kept at facts h taken =
     lost_kept at facts (ltb-false moment_limit at limit.0)
     (record { lawful = h; latest = ltb-false at (latest_in facts) back.0 })
 
--- A command.
+-- The records of the store after the records of a command are added.
 abbrev commanded : History → (at : ℕ) → Command → List Fact
 commanded past at c = reverse (added_by (next_poll (facts_of past)) at (slots_of past) (facts_of past) c) ++ facts_of past
 
@@ -112,7 +113,7 @@ command_fits law past at (command.StartRound c) h latest planned accepted time t
     polls_fit (slots_of past) (facts_of past) at (spans_by (facts_of past) (command.StartRound c)) c.device (slot_of (slots_of past) c.device)
     (same_devices past) h time.within refl (is_few past at (command.StartRound c) taken.few)
 
--- The given time of a reading is not later than the command.
+-- If a reading by hand is accepted, then its time is not later than the time of the command.
 read_in_time : (at : ℕ) (given : Option ℕ) → is_later at given ≡ false → read_at at given ≤ at
 read_in_time at None h = omega arith
 read_in_time at (Some earlier) h = ltb-false at earlier h
@@ -160,8 +161,8 @@ after_event settles law past at (event.Command c) accepted planned pending h lat
 after_event settles law past at (event.Asked asked) accepted planned pending h latest kept time =
     asked_kept law past at asked h latest planned accepted
 
--- The records are lawful. The premises: sessions settle only pending polls, each poll ends once,
--- and the energy of meters balances.
+-- The records after any accepted events are lawful. The premises are that sessions end only pending
+-- polls, that each poll ends once, and that the energy of meters balances.
 kept : SettlesPending → ((history : History) → AreAccepted history → PollsEndOnce history) → MetersAreKept → (history : History)
     → AreAccepted history → ListsArePlanned history → AreKept (latest_of history) (facts_of history)
 kept settles once law [] h planned = record { lawful = tt; latest = omega arith }

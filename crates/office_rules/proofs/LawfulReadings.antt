@@ -1,4 +1,5 @@
--- A reading at an open meter may follow, and so may an entry by hand.
+-- Lemmas that the rules accept the recorded result of a reading, and an entry by hand, at an open
+-- meter.
 use Rattle.std.proofs.Common.{◌≡◌, ℕ, ℤ, ◌≤◌, nat_lt, Bool, true, false, cond, ◌||◌, List, ◌∷◌, ◌++◌, reverse, refl, sym, ap, subst, Option, Some, None, arith}
 use Rattle.std.specs.List.{AllByRecursion}
 use Rattle.std.specs.Option.{option_map, option_and_then, option_to_list, is_some}
@@ -33,8 +34,8 @@ use Rattle.office_rules.specs.Refusals.{refuses, reasons, refusal_of, makes_faul
 use Rattle.office_rules.specs.Lawful.{AreLawful}
 use Rattle.office_rules.proofs.Openings.{found_installed}
 
--- The open installation at a register: the latest one there, which its name finds and which was not
--- closed.
+-- True if an installation is open at an accounting register. The installation is the latest at the
+-- register, a search for its meter's name finds its opening, and its meter was not closed.
 pub record IsOpen (facts : List Fact) (register : List ℕ) (row : Installation) : Type 0 where
   pub opening : Opening
   pub there : installed_at facts register ≡ Some opening
@@ -71,7 +72,8 @@ by_verdict facts o poll r (verdict.Accepted rolls step) h there unended started 
     subst (λ (sf : ℤ). judgement row (record { at = r.at; raw = r.raw; sf = sf }) ≡ verdict.Accepted rolls step) plain.0.scale e in
     ((record { opening = o; there = there; fits = (unended, record { step = step; accepted = here }) }, timely), h)
 
--- The records stay lawful after a reading at a register, of a started poll.
+-- If a poll was started, then the records are still lawful after a reading in the poll's response
+-- is recorded.
 pub reading_fits : (facts : List Fact) (register : List ℕ) (poll : ℕ) (r : Reading) (row : Option Installation) → AreLawful facts
     → is_some (poll_of facts poll) ≡ true → r.at ≤ moment_limit
     → open_at facts register ≡ row → AreLawful (with_reading poll r row facts)
@@ -81,7 +83,7 @@ reading_fits facts register poll r (Some row) h started timely e =
     subst (λ (x : Installation). AreLawful (with_reading poll r (Some x) facts)) open_there.row_is
     (by_verdict facts open_there.opening poll r (judgement (installation_of facts open_there.opening) r) h open_there.installed open_there.unended started timely refl)
 
--- An entry by hand.
+-- Lemmas about entries by hand at an open meter.
 
 pub entered_fits : (facts : List Fact) (o : Opening) (e : Entry)
     → AllByRecursion (λ why. entering.refuses o.range (installation_of facts o).total (installation_of facts o).last e why ≡ false) entering.faults
@@ -94,7 +96,8 @@ entered_fits facts o e all =
       entered = ap (entering.answered o.range l e) (find-none (entering.refuses o.range (installation_of facts o).total l e) entering.faults all);
     }
 
--- The records stay lawful after an entry without faults at the open meter, if there is one.
+-- If an entry by hand has no fault at the open meter, then the records are still lawful after the
+-- entry is added. Without an open meter, no entry is added.
 manual_row : (facts : List Fact) (at : ℕ) (c : Manual) (register : List ℕ) (row : Option Installation) → AreLawful facts → open_at facts register ≡ row
     → read_at at c.at ≤ moment_limit
     → makes_fault at fault.NegativeStep (command.Manual c) row ≡ false → makes_fault at fault.NotLater (command.Manual c) row ≡ false
@@ -112,7 +115,7 @@ manual_row facts at c register (Some row) h is timely a b d e f =
     subst (λ (y : Installation). AreLawful (fact.Entry (record { meter = y.opening.meter; kind = kind.Manual; entry = x }) ∷ facts)) open_there.row_is
     ((record { opening = o; there = open_there.installed; fits = (open_there.unended, entered_fits facts o x own) }, timely), h)
 
--- A given time is not later than the event.
+-- If a reading by hand is accepted, then its time does not exceed the greatest timestamp.
 read_in_time : (at : ℕ) (given : Option ℕ) → is_later at given ≡ false → at ≤ moment_limit → read_at at given ≤ moment_limit
 read_in_time at None h timely = timely
 read_in_time at (Some earlier) h timely = let before : earlier ≤ at = ltb-false at earlier h in omega (arith, before, timely)
@@ -133,7 +136,7 @@ manual_by past at raw rolls given (Some register) h taken =
     manual_row facts at c register (open_at facts register) h refl (read_in_time at given later.1 (ltb-false moment_limit at limit.0))
     four.0 four.1.0 four.1.1.0 four.1.1.1.0 beyond.1
 
--- The records stay lawful after an entry by hand that is not refused.
+-- If an entry by hand is accepted, then the records are still lawful after the entry is recorded.
 pub manual_lawful : (past : History) (at : ℕ) (c : Manual) → AreLawful (facts_of past) → refusal_of past at (event.Command (command.Manual c)) ≡ None
     → AreLawful (facts_of (Fed at (event.Command (command.Manual c)) ∷ past))
 manual_lawful past at c h taken = manual_by past at c.raw c.rolls c.at c.register h taken

@@ -1,4 +1,4 @@
--- Lookups in lists by name.
+-- Lookups by name in lists of devices, registers and meters.
 use Rattle.std.proofs.Common.{◌≡◌, ◌≢◌, ℕ, ◌<◌, Bool, true, false, cond, ◌||◌, List, [], ◌∷◌, map, refl, sym, ap, subst, ◌∙◌, inl, inr, Option, Some, None, arith}
 use Rattle.std.specs.List.{find, list_any, All, AllPairs}
 use Rattle.std.specs.Option.{is_some}
@@ -9,7 +9,7 @@ use Rattle.std.proofs.lemmas.List.Kept.{AllPairs-cons}
 use Rattle.std.proofs.lemmas.Slice.Eq.{bytes_eq-Decides}
 use Rattle.office_rules.specs.Facts.{same}
 
--- Equal names are equal texts.
+-- If two names compare as equal, then they have the same bytes.
 pub same_text : (a b : List ℕ) → same a b ≡ true → a ≡ b
 same_text a b h = (bytes_eq-Decides a b).0 h
 
@@ -29,7 +29,8 @@ pub none_parts : {X : Type 0} (b : Bool) (x : X) (o : Option X) → cond b (Some
 none_parts true x o h = absurd (cc)
 none_parts false x o h = (refl, h)
 
--- A search finds nothing: the first element does not pass, and no other does.
+-- If a search in a list finds nothing, then the first element fails the test. A search in the rest
+-- of the list finds nothing either.
 pub find_none : {X : Type 0} (p : X → Bool) (x : X) (xs : List X) → find p (x ∷ xs) ≡ None → (p x ≡ false) × (find p xs ≡ None)
 find_none p x xs h = none_parts (p x) x (find p xs) h
 
@@ -38,7 +39,7 @@ passes_step : {X : Type 0} (p : X → Bool) (b : Bool) (y x : X) (o : Option X) 
 passes_step p true y x o e later h = let same_one : y ≡ x = cc in ap p (sym same_one) ∙ e
 passes_step p false y x o e later h = later h
 
--- An element that a search finds passes.
+-- If a search finds an element, then the element passes the test of the search.
 pub find_passes : {X : Type 0} (p : X → Bool) (xs : List X) (x : X) → find p xs ≡ Some x → p x ≡ true
 find_passes p [] x h = absurd (cc)
 find_passes p (y ∷ ys) x h = passes_step p (p y) y x (find p ys) refl (find_passes p ys x) h
@@ -60,7 +61,7 @@ list_any-agree p q [] h = refl
 list_any-agree p q (x ∷ xs) h =
     ap (λ b. b || list_any p xs) (h x) ∙ ap (λ b. q x || b) (list_any-agree p q xs h)
 
--- The names are distinct: no later element has the same name.
+-- True if the names of a list are distinct, so no later element has the name of an earlier element.
 abbrev pub AreApart : {X : Type 0} → (X → List ℕ) → List X → Type 0
 AreApart name [] = Unit {0}
 AreApart name (x ∷ xs) = (find (λ y. same (name y) (name x)) xs ≡ None) × AreApart name xs
@@ -83,7 +84,8 @@ found_step name false y x xs o none later h =
       | inr other ↦ cond-false _ _ _ other ∙ later h
     ]
 
--- An element that any test finds is found by its name.
+-- If the names of a list are distinct, then an element that any search finds is also found by its
+-- name.
 pub found_by_name : {X : Type 0} (name : X → List ℕ) (p : X → Bool) (xs : List X) (x : X) → AreApart name xs
     → find p xs ≡ Some x → find (λ y. same (name y) (name x)) xs ≡ Some x
 found_by_name name p [] x apart h = absurd (cc)
@@ -102,7 +104,7 @@ apart_step name x y xs none found =
       | inr other ↦ cond-false _ _ _ other ∙ found
     ]
 
--- Each element is found by its name.
+-- If the names of a list are distinct, then a search by name finds each element of the list.
 pub each_found : {X : Type 0} (name : X → List ℕ) (xs : List X) → AreApart name xs
     → All (λ (x : X). find (λ y. same (name y) (name x)) xs ≡ Some x) xs
 each_found {X} name [] apart = All-nil (λ (x : X). find (λ y. same (name y) (name x)) [] ≡ Some x)
@@ -121,7 +123,7 @@ others_differ {X} name x (y ∷ ys) none =
     (λ e. false≢true (sym parts.0 ∙ (bytes_eq-Decides (name y) (name x)).1 (sym e)))
     (others_differ name x ys parts.1)
 
--- No two elements have the same name.
+-- If the names of a list are distinct, then no two elements of the list have the same name.
 pub all_differ : {X : Type 0} (name : X → List ℕ) (xs : List X) → AreApart name xs → AllPairs (λ (a b : X). name a ≢ name b) xs
 all_differ name [] apart = λ i j d before inside. absurd (let none : j < 0 = inside in omega arith)
 all_differ {X} name (x ∷ xs) apart =

@@ -1,4 +1,4 @@
--- The polls that an opening of the office loses.
+-- Lemmas about the polls that are lost when the office restarts.
 use Rattle.std.proofs.Common.{◌≡◌, ℕ, ◌==◌, Bool, true, false, cond, List, [], ◌∷◌, ◌++◌, length, map, reverse, refl, sym, ap, ◌∙◌}
 use Rattle.std.specs.List.{filter}
 use Rattle.std.proofs.lemmas.List.{map-append, append-nil, reverse-append, reverse-reverse}
@@ -28,7 +28,7 @@ map-reverse {Y = Y} f (x ∷ xs) =
     ap (map f) (reverse-append (x ∷ []) xs) ∙ map-append f (reverse xs) (x ∷ [])
     ∙ ap (λ (ys : List Y). ys ++ f x ∷ []) (map-reverse f xs) ∙ sym (reverse-append (f x ∷ []) (map f xs))
 
--- The poll has no outcome.
+-- True if a poll has no recorded outcome.
 abbrev pub is_pending : List Fact → Poll → Bool
 is_pending facts poll = length (ends_of facts poll.number) == 0
 

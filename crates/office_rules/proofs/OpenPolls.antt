@@ -1,5 +1,5 @@
--- Pending polls are open. Their settlement preserves each property that the outcome of an open poll
--- preserves.
+-- Lemmas about pending polls, which have no outcome. If one outcome preserves a property of the
+-- records, then the outcomes of all pending polls preserve the property.
 use Rattle.std.proofs.Common.{◌≡◌, ℕ, ◌+◌, ◌<◌, ◌≤◌, ◌==◌, true, false, cond, List, [], ◌∷◌, ◌++◌, map, reverse, length, refl, sym, ap, subst, ◌∙◌, arith, append_assoc}
 use Rattle.std.specs.List.{find, filter, flat_map}
 use Rattle.std.specs.Option.{is_some}
@@ -20,16 +20,16 @@ use Rattle.office_rules.proofs.EndedFacts.{end_fact, settled_on_all, polls-with_
 use Rattle.office_rules.proofs.Times.{times, times-nil, times-cons, times-permutation, times_parted, one_if, one_if-same, one_if_cases, passes_if_among, found_if_among}
 use Rattle.office_rules.proofs.SettledOnce.{SettlesPending, settled_numbers, settled_at_most}
 
--- The poll was started, and nothing ended it.
+-- True if the poll was started and has no recorded outcome.
 pub record IsOpen (facts : List Fact) (number : ℕ) : Type 0 where
   pub started : is_some (poll_of facts number) ≡ true
   pub pending : ends_of facts number ≡ []
 
--- Each of these polls is open, and occurs here once.
+-- True if each poll number in the list occurs once, and its poll has no outcome yet.
 abbrev pub AreOpenOnce : List Fact → List ℕ → Type 0
 AreOpenOnce facts ns = (n : ℕ) → 0 < times n ns → (times n ns ≡ 1) × IsOpen facts n
 
--- The records of the other polls are unchanged.
+-- After one poll gets its outcome, all other polls without an outcome still have no outcome.
 still_open : (at : ℕ) (settled : ℕ × session.Settlement) (facts : List Fact) (n : ℕ) → settled.0 == n ≡ false → IsOpen facts n
     → IsOpen (with_outcome at settled facts) n
 still_open at settled facts n other here = record {
@@ -50,7 +50,8 @@ others_open at number settlement ns facts h n among =
     absurd (omega (arith, times-cons n number ns, all.0, one)))
     (λ other none. (omega (arith, times-cons n number ns, all.0, none), still_open at (number, settlement) facts n other all.1))
 
--- A property that the outcome of an open poll preserves.
+-- True if a property of the records is preserved whenever a poll without an outcome gets its
+-- outcome.
 abbrev pub IsKeptByOutcomes : (List Fact → Type 0) → Type 0
 IsKeptByOutcomes P = (at : ℕ) (settled : ℕ × session.Settlement) (facts : List Fact) → IsOpen facts settled.0 → P facts → P (with_outcome at settled facts)
 
@@ -62,11 +63,12 @@ outcomes_keep P keeps at ((number, settlement) ∷ later) facts h once =
     outcomes_keep P keeps at later (with_outcome at (number, settlement) facts) (keeps at (number, settlement) facts here.1 h)
     (others_open at number settlement (settled_numbers later) facts once)
 
--- The numbers of polls.
+-- The numbers of a list of polls.
 abbrev pub poll_numbers : List Poll → List ℕ
 poll_numbers polls = map (λ poll. poll.number) polls
 
--- Each number belongs to one poll, and none exceeds their count.
+-- True if the number occurs at most once among the polls, and does not occur if it exceeds the
+-- number of polls.
 record StandsOnce (n : ℕ) (polls : List Poll) : Type 0 where
   once : times n (poll_numbers polls) ≤ 1
   none_above : length polls < n → times n (poll_numbers polls) ≡ 0
@@ -92,7 +94,8 @@ none_from_length : {X : Type 0} (xs : List X) → length xs == 0 ≡ true → xs
 none_from_length [] h = refl
 none_from_length (x ∷ xs) h = absurd (let e : length (x ∷ xs) ≡ 0 = eqb-true (length (x ∷ xs)) 0 h in omega arith)
 
--- Pending polls are open, if each occurs as often as among the polls without an outcome.
+-- If each number of a list occurs at most as often as among the pending polls, then its polls are
+-- distinct and have no outcome.
 open_once : (facts : List Fact) (ns : List ℕ) → AreNumbered (polls_in facts)
     → ((n : ℕ) → times n ns ≤ times n (poll_numbers (pending_in facts))) → AreOpenOnce facts ns
 open_once facts ns h at_most n among =
@@ -109,7 +112,8 @@ open_once facts ns h at_most n among =
       },
     )
 
--- The settlements of an event.
+-- Adding the outcomes of two lists of ended polls one after another yields the same records as
+-- adding the outcomes of the concatenated list.
 outcomes-append : (at : ℕ) (xs ys : List (ℕ × session.Settlement)) (facts : List Fact)
     → with_outcomes at (xs ++ ys) facts ≡ with_outcomes at ys (with_outcomes at xs facts)
 outcomes-append at [] ys facts = refl
@@ -136,7 +140,7 @@ settled_keeps law P keeps past ends number at e h =
     subst P (sym (settled_is number at e (slots_of past) facts))
     (outcomes_keep P keeps at all facts h (open_once facts (settled_numbers all) ends.numbered at_most))
 
--- An opening loses each pending poll.
+-- The result of a poll that was pending when the office restarted: the poll is lost.
 abbrev as_lost : Poll → ℕ × session.Settlement
 as_lost poll = (poll.number, session.Lost Restart)
 

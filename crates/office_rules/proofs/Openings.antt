@@ -1,4 +1,4 @@
--- Installed meters are found by their names.
+-- Lemmas that a search for a meter's name finds each installed meter.
 use Rattle.std.proofs.Common.{◌≡◌, ℕ, List, [], ◌∷◌, Some}
 use Rattle.office_events.specs.declared.facts.Opening.{Opening}
 use Rattle.office_events.specs.declared.facts.Fact.{Fact}
@@ -7,7 +7,7 @@ use Rattle.office_rules.specs.Facts.{same, openings_in, opening_of, installed_at
 use Rattle.office_rules.specs.Lawful.{AreLawful}
 use Rattle.office_rules.proofs.Lookups.{AreApart, found_by_name}
 
--- The names of meters are distinct.
+-- In lawful records, the names of meters are distinct.
 pub openings_apart : (facts : List Fact) → AreLawful facts → AreApart (λ (o : Opening). o.meter) (openings_in facts)
 openings_apart [] h = tt
 openings_apart (fact.Device d ∷ facts) h = openings_apart facts h.1

@@ -1,4 +1,4 @@
--- Outcomes and readings may follow the records before them.
+-- Lemmas that the rules accept outcomes and readings after the earlier records.
 use Rattle.std.proofs.Common.{◌≡◌, ℕ, ◌+◌, ◌<◌, ◌≤◌, ◌==◌, true, false, cond, List, [], ◌∷◌, map, reverse, length, refl, sym, ap, subst, ◌∙◌, Option, Some, None, arith}
 use Rattle.std.specs.List.{find, filter}
 use Rattle.std.specs.Option.{is_some}
@@ -32,7 +32,7 @@ poll_skips = record { readings = record { entry = λ b. refl; hold = λ h. refl 
 ended_skips : SkipsReadings as_ended
 ended_skips = record { entry = λ b. refl; hold = λ h. refl }
 
--- The records are lawful, and none is later than a time.
+-- True if the records are lawful, and no timestamp is later than `at`.
 pub record AreKept (at : ℕ) (facts : List Fact) : Type 0 where
   pub lawful : AreLawful facts
   pub latest : latest_in facts ≤ at
@@ -40,7 +40,7 @@ pub record AreKept (at : ℕ) (facts : List Fact) : Type 0 where
 abbrev IsStarted : List Fact → ℕ → Type 0
 IsStarted facts number = is_some (poll_of facts number) ≡ true
 
--- The readings of a response.
+-- The timestamp of a reading's record is the time of the reading.
 moment_read : (meter : List ℕ) (poll : ℕ) (r : Reading) (v : Verdict) → moment_in (as_fact meter poll r v) ≡ r.at
 moment_read meter poll r (Accepted rolls step) = refl
 moment_read meter poll r (Held cause) = refl
@@ -51,7 +51,7 @@ latest_read at poll r None facts now h = h
 latest_read at poll r (Some row) facts now h =
     max_least _ (latest_in facts) at (omega (arith, now, moment_read row.opening.meter poll r (judgement row r))) h
 
--- A reading belongs to a started poll.
+-- True if the records are lawful, and the poll of a reading was started.
 record AreRead (at poll : ℕ) (facts : List Fact) : Type 0 where
   kept : AreKept at facts
   started : IsStarted facts poll
@@ -97,12 +97,12 @@ words_kept at number session.Silent facts timely h = h.kept
 words_kept at number (session.Malformed malformation) facts timely h = h.kept
 words_kept at number (session.Lost cause) facts timely h = h.kept
 
--- The poll was started, and nothing ended it.
+-- True if the poll was started and has no recorded outcome.
 pub record IsOpen (facts : List Fact) (number : ℕ) : Type 0 where
   pub started : is_some (poll_of facts number) ≡ true
   pub pending : ends_of facts number ≡ []
 
--- Each of these polls is open, and occurs here once.
+-- True if each poll number in the list occurs once, and its poll has no outcome yet.
 abbrev pub AreOpenOnce : List Fact → List ℕ → Type 0
 AreOpenOnce facts ns = (n : ℕ) → 0 < times n ns → (times n ns ≡ 1) × IsOpen facts n
 
@@ -117,7 +117,7 @@ outcome_kept at settled facts timely here h =
       started = here.started;
     })
 
--- The records of the other polls are unchanged.
+-- After one poll gets its outcome, all other polls without an outcome still have no outcome.
 still_open : (at : ℕ) (settled : ℕ × session.Settlement) (facts : List Fact) (n : ℕ) → settled.0 == n ≡ false → IsOpen facts n
     → IsOpen (with_outcome at settled facts) n
 still_open at settled facts n other here =
@@ -141,7 +141,7 @@ others_open at number settlement ns facts h n among =
     absurd (omega (arith, times-cons n number ns, all.0, one)))
     (λ other none. (omega (arith, times-cons n number ns, all.0, none), still_open at (number, settlement) facts n other all.1))
 
--- Outcomes of open polls may follow.
+-- After distinct polls without an outcome get their outcomes, the records are still lawful.
 pub outcomes_kept : (at : ℕ) (settled : List (ℕ × session.Settlement)) (facts : List Fact) → at ≤ moment_limit → AreKept at facts
     → AreOpenOnce facts (settled_numbers settled) → AreKept at (with_outcomes at settled facts)
 outcomes_kept at [] facts timely h once = h
@@ -150,11 +150,12 @@ outcomes_kept at ((number, settlement) ∷ later) facts timely h once =
     outcomes_kept at later (with_outcome at (number, settlement) facts) timely (outcome_kept at (number, settlement) facts timely here.1 h)
     (others_open at number settlement (settled_numbers later) facts once)
 
--- The numbers of polls.
+-- The numbers of a list of polls.
 abbrev pub poll_numbers : List Poll → List ℕ
 poll_numbers polls = map (λ poll. poll.number) polls
 
--- Each number belongs to one poll, and none exceeds their count.
+-- True if the number occurs at most once among the polls, and does not occur if it exceeds the
+-- number of polls.
 record StandsOnce (n : ℕ) (polls : List Poll) : Type 0 where
   once : times n (poll_numbers polls) ≤ 1
   none_above : length polls < n → times n (poll_numbers polls) ≡ 0
@@ -189,7 +190,8 @@ none_from_length : {X : Type 0} (xs : List X) → length xs == 0 ≡ true → xs
 none_from_length [] h = refl
 none_from_length (x ∷ xs) h = absurd (let e : length (x ∷ xs) ≡ 0 = eqb-true (length (x ∷ xs)) 0 h in omega arith)
 
--- Pending polls are open, if each occurs as often as among the polls without an outcome.
+-- If each number of a list occurs at most as often as among the pending polls, then its polls are
+-- distinct and have no outcome.
 pub open_once : (facts : List Fact) (ns : List ℕ) → AreLawful facts
     → ((n : ℕ) → times n ns ≤ times n (poll_numbers (pending_in facts))) → AreOpenOnce facts ns
 open_once facts ns h at_most n among =

@@ -1,4 +1,4 @@
--- No poll is pending in an ended session. The effect of an opening of the office on the polls.
+-- Lemmas that no poll is pending in an ended session. A restart of the office ends all sessions.
 use Rattle.std.proofs.Common.{◌≡◌, ℕ, Bool, true, false, List, [], ◌∷◌, ◌++◌, map, refl, sym, ap, ◌∙◌, Option, Some, None, if◌then◌else◌}
 use Rattle.std.specs.List.{flat_map}
 use Rattle.std.specs.List.Sorted.{IsPermutation}
@@ -22,7 +22,7 @@ abbrev pub AreOver : List Slot → Type 0
 AreOver [] = Unit {0}
 AreOver (slot ∷ slots) = (waiting_in (polls_on_ended slot.device slot.ended) ≡ []) × AreOver slots
 
--- The pending polls are those of the present sessions.
+-- The pending polls of a device are the pending polls of its present session.
 waiting_with : (device : Device) (ended : List EndedSession) (present : Option (List session.Event)) → waiting_in (polls_on_ended device ended) ≡ []
     → waiting_in (polls_of_slot (slot_with device ended present)) ≡ pending_on (slot_with device ended present)
 waiting_with device ended None over = over
@@ -39,7 +39,7 @@ waiting_slots (slot ∷ slots) over =
     ∙ ap (λ ns. ns ++ waiting_in (polls_of_slots slots)) (waiting_with slot.device slot.ended slot.present over.0)
     ∙ ap (λ ns. pending_on slot ++ ns) (waiting_slots slots over.1)
 
--- A session ends with a closing, and then no poll is pending.
+-- After a session ends with a close event, no poll of the session is pending.
 over_happened : (laws : SessionLaws) (device : Device) (ended : List EndedSession) (p : Option (List session.Event)) (before happenings : List session.Event) → waiting_in (polls_on_ended device ended) ≡ []
     → let slot = with_happenings (slot_with device ended p) before happenings in waiting_in (polls_on_ended slot.device slot.ended) ≡ []
 over_happened laws device ended p before [] over = over
@@ -80,7 +80,7 @@ pub over-restarted : (slots : List Slot) → AreOver slots → AreOver (map slot
 over-restarted [] over = tt
 over-restarted (slot ∷ slots) over = (over_restarted slot.device slot.ended slot.present over.0, over-restarted slots over.1)
 
--- An opening loses each pending poll, and starts none.
+-- After a restart of the office, each pending poll has ended as lost, and no poll was started.
 ends_with : (device : Device) (ended : List EndedSession) (present : Option (List session.Event))
     → IsPermutation (ends_in (polls_of_slot (slot_restarted (slot_with device ended present)))) (ends_in (polls_of_slot (slot_with device ended present)) ++ map lost_end (pending_on (slot_with device ended present)))
 ends_with device ended None = same_is _ _ (sym (append-nil _))

@@ -1,4 +1,4 @@
--- Lists with the same elements in another order.
+-- Lemmas about permutations of lists.
 use Rattle.std.proofs.Common.{◌≡◌, ℕ, zero, suc, ◌<◌, ◌≤◌, Bool, true, false, cond, List, [], ◌∷◌, ◌++◌, length, get_or, refl, sym, ap, subst, arith, Option, Some, None, append_assoc}
 use Rattle.std.specs.List.{filter, filter_map, flat_map, cons_option, swap, Contains}
 use Rattle.std.specs.Option.{option_to_list}
@@ -11,14 +11,15 @@ use Rattle.std.proofs.lemmas.List.Sorted.{IsPermutation-refl, IsPermutation-tran
 pub same_is : {X : Type 0} (xs ys : List X) → xs ≡ ys → IsPermutation xs ys
 same_is xs ys e = let P : List _ → Type 0 = λ zs. IsPermutation xs zs in subst P e (IsPermutation-refl xs)
 
--- The first two parts change places.
+-- Exchanging the first two of three concatenated lists yields a permutation of the concatenation.
 pub exchanged : {X : Type 0} (xs ys zs : List X) → IsPermutation (xs ++ (ys ++ zs)) (ys ++ (xs ++ zs))
 exchanged xs ys zs =
     IsPermutation-trans _ _ _ (same_is _ _ (sym (append_assoc xs ys zs)))
     (IsPermutation-trans _ _ _ (IsPermutation-append_left zs (xs ++ ys) (ys ++ xs) (IsPermutation-append_comm xs ys))
     (same_is _ _ (append_assoc ys xs zs)))
 
--- Two lists, each extended.
+-- If two lists are each split into two parts, then their concatenation is a permutation of both
+-- first parts followed by both second parts.
 pub sorted_out : {X : Type 0} (us vs xs ys zs ws : List X) → IsPermutation us (xs ++ ys) → IsPermutation vs (zs ++ ws) → IsPermutation (us ++ vs) ((xs ++ zs) ++ (ys ++ ws))
 sorted_out us vs xs ys zs ws p q =
     IsPermutation-trans _ _ _ (IsPermutation-append us (xs ++ ys) vs (zs ++ ws) p q)
@@ -26,7 +27,8 @@ sorted_out us vs xs ys zs ws p q =
     (IsPermutation-trans _ _ _ (IsPermutation-append_right xs (ys ++ (zs ++ ws)) (zs ++ (ys ++ ws)) (exchanged ys zs ws))
     (same_is _ _ (sym (append_assoc xs zs (ys ++ ws))))))
 
--- An element and one element of a list change places.
+-- After an element is exchanged with an element of a list, the results of the mapped list and of
+-- the outer element are only permuted.
 exchange_at : {X Y : Type 0} (f : X → List Y) (xs : List X) (j : ℕ) (y z : X) → j < length xs → z ≡ get_or xs j z → IsPermutation (f y ++ flat_map f xs) (f z ++ flat_map f (set xs j y))
 exchange_at f [] j y z l e = absurd (let h : j < 0 = l in omega arith)
 exchange_at f (x ∷ xs) zero y z l e =
@@ -67,7 +69,8 @@ flat_map-swap f (x ∷ xs) i j p q =
     let P : List _ → Type 0 = λ ys. IsPermutation (flat_map f (x ∷ xs)) (flat_map f ys) in
     subst P (swap_is (x ∷ xs) i j x p q) (exchange_both f (x ∷ xs) i j a b p q (get_or_default (x ∷ xs) i x a p) (get_or_default (x ∷ xs) j x b q))
 
--- The images of each element.
+-- If two lists are permutations, then mapping each of them with a function to lists and
+-- concatenating the results yields permutations.
 pub IsPermutation-flat_map : {X Y : Type 0} (f : X → List Y) (xs ys : List X) → IsPermutation xs ys → IsPermutation (flat_map f xs) (flat_map f ys)
 IsPermutation-flat_map f xs ys h =
     IsPermutation-keeps xs (λ zs. IsPermutation (flat_map f xs) (flat_map f zs)) (IsPermutation-refl (flat_map f xs))
@@ -99,7 +102,7 @@ IsPermutation-filter t xs ys p =
     IsPermutation-trans _ _ _ (same_is _ _ (filter-flat_map t xs))
     (IsPermutation-trans _ _ _ (IsPermutation-flat_map (λ x. cond (t x) (x ∷ []) []) xs ys p) (same_is _ _ (sym (filter-flat_map t ys))))
 
--- A list of at most one element has no other order.
+-- If a list is a permutation of a list with one element, then the two lists are equal.
 one_place : {X : Type 0} (x y : X) (k : ℕ) → k < 1 → get_or (y ∷ []) k x ≡ x → y ≡ x
 one_place x y zero l e = e
 one_place x y (suc k) l e = absurd (let h : suc k < 1 = l in omega arith)

@@ -1,4 +1,4 @@
--- Each started poll has exactly one recorded outcome, or is pending.
+-- Lemmas that each started poll has exactly one recorded outcome or is pending.
 use Rattle.std.proofs.Common.{◌≡◌, ℕ, zero, suc, ◌<◌, ◌==◌, inl, inr, Bool, true, false, cond, List, [], ◌∷◌, map, length, reverse, get_or, Option, Some, None, refl, ap, subst, ◌∙◌, arith}
 use Rattle.std.specs.Prelude.{Contains}
 use Rattle.std.specs.List.{filter, flat_map}
@@ -37,7 +37,7 @@ map_none : {X Y : Type 0} (f : X → Y) (xs : List X) → map f xs ≡ [] → xs
 map_none f [] e = refl
 map_none f (x ∷ xs) e = let none : suc (length (map f xs)) ≡ 0 = ap length e in absurd (omega arith)
 
--- A poll without an outcome is pending on the session of a device.
+-- If a poll has no outcome, then the poll is pending on the session of a device.
 waiting : (history : History) → PollsEndOnce history → (poll : Poll) → Contains (polls_in (facts_of history)) poll
     → ends_of (facts_of history) poll.number ≡ [] → Contains (flat_map pending_on (slots_of history)) poll.number
 waiting history h poll is none =

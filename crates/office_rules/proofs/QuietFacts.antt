@@ -1,4 +1,4 @@
--- The records that a command adds, and the records that concern no poll.
+-- Lemmas about the records that a command adds, and about records that concern no poll.
 use Rattle.std.proofs.Common.{◌≡◌, ℕ, true, List, [], ◌∷◌, ◌++◌, map, reverse, refl, ap, ◌∙◌, Option, Some, None, append_assoc}
 use Rattle.std.specs.List.{filter_map, cons_option}
 use Rattle.std.specs.Option.{option_map, option_and_then, option_to_list}
@@ -23,7 +23,7 @@ use Rattle.office_rules.specs.Sessions.{Slot, Send, slot_of, sends_at, device_by
 use Rattle.office_rules.specs.History.{Made, made_by, made_on, corrected_at, entries_by, openings_by, opening_by, register_by, installed_by, poll_by, polls_from, spans_by, added_by, reply_by, kind_of}
 use Rattle.office_rules.specs.Refusals.{is_start}
 
--- A property of each of these records.
+-- True if the property `P` holds for each record of a list.
 abbrev pub Each : (Fact → Type 0) → List Fact → Type 0
 Each P [] = Unit {0}
 Each P (f ∷ facts) = P f × Each P facts
@@ -48,7 +48,7 @@ pub each_mapped : {X : Type 0} (P : Fact → Type 0) (f : X → Fact) → ((x : 
 each_mapped P f h [] = tt
 each_mapped P f h (x ∷ xs) = (h x, each_mapped P f h xs)
 
--- The latest record comes first.
+-- Adding records one by one places the latest record first.
 pub later_first : (f : Fact) (added facts : List Fact) → reverse (f ∷ added) ++ facts ≡ reverse added ++ (f ∷ facts)
 later_first f added facts =
     ap (λ (fs : List Fact). fs ++ facts) (reverse-append (f ∷ []) added) ∙ append_assoc (reverse added) (f ∷ []) facts
@@ -57,15 +57,15 @@ pub later_part_first : (added later facts : List Fact) → reverse (added ++ lat
 later_part_first added later facts =
     ap (λ (fs : List Fact). fs ++ facts) (reverse-append added later) ∙ append_assoc (reverse later) (reverse added) facts
 
--- Records that a lookup does not find.
+-- If a lookup finds none of the added records, then its result is unchanged.
 pub unseen : {X : Type 0} (look : Fact → Option X) (added facts : List Fact) → Each (λ f. look f ≡ None) added
     → filter_map look (reverse added ++ facts) ≡ filter_map look facts
 unseen look [] facts h = refl
 unseen look (f ∷ added) facts h =
     ap (filter_map look) (later_first f added facts) ∙ unseen look added (f ∷ facts) h.1 ∙ ap (λ o. cons_option o (filter_map look facts)) h.0
 
--- A property of each list, register, installation, entry and void is a property of a command's
--- records, except devices and polls.
+-- A property of each list, register, installation, entry and void record. It is a property of all
+-- records of a command except devices and polls.
 pub record HoldsOfBooks (P : Fact → Type 0) : Type 0 where
   pub list : (put : DeviceList) → P (fact.List put)
   pub register : (register : Register) → P (fact.Register register)
@@ -90,7 +90,7 @@ polls_each P number at spans None h = tt
 polls_each P number at spans (Some slot) h =
     each_mapped P (poll_by at slot.device) (h slot.device) (sends_at number at slot.device slot.present spans)
 
--- The device that a command adds.
+-- The device that a command adds, or `None`.
 abbrev pub new_device : Command → Option Device
 new_device (command.AddDevice c) = device_by c
 new_device _ = None
@@ -119,13 +119,13 @@ added_each P h number at slots facts (command.StartPoll c) device send =
 added_each P h number at slots facts (command.StartRound c) device send =
     polls_each P number at (spans_by facts (command.StartRound c)) (slot_of slots c.device) (send refl)
 
--- The answer that is kept.
+-- A property of every stored response is a property of the response to a request.
 pub reply_each : (P : Fact → Type 0) → ((reply : Reply) → P (fact.Reply reply)) → (at : ℕ) (asked : Asked) → Each P (reply_by at asked)
 reply_each P h at asked =
     each_map P (λ caller. fact.Reply (record { caller = caller; number = asked.number; request = asked.request; kind = kind_of asked.command; at = at }))
     (λ caller. h _) asked.caller
 
--- The record starts no poll, ends none, and rejects no reading of one.
+-- True if the record starts no poll, ends no poll, and is not a rejected reading of a poll.
 pub record IsQuiet (f : Fact) : Type 0 where
   pub poll : as_poll f ≡ None
   pub ended : as_ended f ≡ None

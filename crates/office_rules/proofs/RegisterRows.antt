@@ -1,4 +1,5 @@
--- The rows of a register, installation after installation.
+-- Lemmas about the interval rows of an accounting register, which are the interval rows of its
+-- meters one after another.
 use Rattle.std.proofs.Common.{◌≡◌, ℕ, zero, suc, ◌+◌, ◌*◌, ◌^◌, ◌%◌, ◌<◌, ◌≤◌, List, [], ◌∷◌, ◌++◌, reverse, length, refl, sym, ap, subst, ◌∙◌, inl, inr, ◌⊎◌, arith}
 use Rattle.std.specs.Prelude.{All, slice_index_or}
 use Rattle.std.specs.List.{flat_map}
@@ -21,7 +22,7 @@ use Rattle.office_rules.proofs.Lists.{reverse_cons}
 use Rattle.office_rules.proofs.Journals.{IsInstalled, installed_fits, well}
 use Rattle.office_rules.proofs.InTurn.{last_at, last_is_recorded, AllOver, InTurn, openings_at, in_turn}
 
--- The theorems on journals and their interval rows.
+-- The theorems about journals and their interval rows that this proof uses.
 pub record FromJournals : Type 0 where
   pub kept : laws.JournalsAreKept
   pub accounts : laws.IntervalRowsAreAccounts
@@ -29,7 +30,8 @@ pub record FromJournals : Type 0 where
   pub within : RowsLieWithin
   pub no_further : VoidsGoNoFurther
 
--- All rows begin at n or later, each after the rows before it.
+-- True if all interval rows begin at or after the time `n`, and each row begins after the earlier
+-- rows.
 abbrev From : ℕ → List Share → Type 0
 From n [] = Unit {0}
 From n (row ∷ rows) = (n ≤ row.start) × From n rows
@@ -38,7 +40,8 @@ abbrev NeverFall : List Share → Type 0
 NeverFall [] = Unit {0}
 NeverFall (row ∷ rows) = From row.start rows × NeverFall rows
 
--- Quarter hours that begin before n, and those that end after n.
+-- Quarter-hour rows that begin before the time `n`, and quarter-hour rows that end after the time
+-- `n`.
 abbrev Before : ℕ → List Share → Type 0
 Before n [] = Unit {0}
 Before n (row ∷ rows) = (row.start % 900 ≡ 0) × (row.start < n) × Before n rows
@@ -83,7 +86,7 @@ never_at (row ∷ rows) zero (suc j) d h le lt = from_at row.start rows j d h.0 
 never_at (row ∷ rows) (suc i) zero d h le lt = absurd (omega (arith, le))
 never_at (row ∷ rows) (suc i) (suc j) d h le lt = never_at rows i j d h.1 (omega (arith, le)) (omega (arith, lt))
 
--- The rows of one installation.
+-- Lemmas about the interval rows of one meter.
 
 from_ascending : (n : ℕ) (rows : List Share) → All (λ later. n < later) (starts_of rows) → From n rows
 from_ascending n [] h = tt
@@ -108,7 +111,8 @@ after_within opened last (row ∷ rows) h =
     let here = All-head (LiesWithin opened last) row rows h in
     (here.quarter, here.following, after_within opened last rows (All-tail (LiesWithin opened last) row rows h))
 
--- The properties of the rows of an installation.
+-- The start times of one meter's interval rows never fall. The rows are between the opening and the
+-- last entry, and their energy is at most 4 * 10^18 mWh.
 record IsFine (facts : List Fact) (o : Opening) : Type 0 where
   never_fall : NeverFall (rows_of_opening facts o)
   within : All (LiesWithin o.at (last_at facts o)) (rows_of_opening facts o)
@@ -125,9 +129,10 @@ fine law facts o h there =
       energy = omega (arith, law.sums (installed o) lines own fits, (law.kept (installed o) lines own fits).account.within);
     }
 
--- Installations, one after another.
+-- Lemmas about the interval rows of several meters, one after another.
 
--- The rows of these installations, which are given the latest first.
+-- The interval rows of a list of meters that begins with the latest. The rows of the earliest meter
+-- come first.
 abbrev rows_in_turn : List Fact → List Opening → List Share
 rows_in_turn facts os = flat_map (rows_of_opening facts) (reverse os)
 
@@ -136,7 +141,7 @@ one_more facts o os =
     let f : Opening → List Share = rows_of_opening facts in
     ap (flat_map f) (reverse_cons o os) ∙ flat_map-append f (reverse os) (o ∷ []) ∙ ap (λ rows. rows_in_turn facts os ++ rows) (append-nil (f o))
 
--- The last timestamps of these meters are at most this one.
+-- True if the timestamp of each meter's last entry is at most `at`.
 abbrev LastBy : List Fact → (at : ℕ) → List Opening → Type 0
 LastBy facts at [] = Unit {0}
 LastBy facts at (o ∷ os) = (last_at facts o ≤ at) × LastBy facts at os
@@ -167,7 +172,8 @@ all_never_fall law facts (o ∷ os) h turn =
     (all_before law facts o.at os h turn.2 (last_over facts o.at os turn.1))
     (after_within o.at (last_at facts o) (rows_of_opening facts o) this.within))
 
--- An installation without rows has no energy. With rows, its last timestamp is after its opening.
+-- If a meter has no interval rows, then it has no energy. If it has interval rows, then its last
+-- entry is later than its opening.
 rows_go_on : (opened last : ℕ) (rows : List Share) → All (LiesWithin opened last) rows → energy_of rows ≤ 4 * 10 ^ 18
     → (energy_of rows ≡ 0) ⊎ (opened < last)
 rows_go_on opened last [] h few = inl refl
@@ -179,7 +185,8 @@ energy_with facts o os =
     let mwh : Share → ℕ = λ row. row.mwh in
     ap energy_of (one_more facts o os) ∙ sum_by-append mwh (rows_in_turn facts os) (rows_of_opening facts o)
 
--- There are at most as many meters with energy as seconds.
+-- The energy of a register's meters is at most 4 * 10^18 mWh for each second up to the last
+-- timestamp.
 all_energy : FromJournals → (facts : List Fact) (at : ℕ) (os : List Opening) → AreLawful facts → InTurn facts os → LastBy facts at os
     → energy_of (rows_in_turn facts os) ≤ at * (4 * 10 ^ 18)
 all_energy law facts at [] h turn last = omega arith
@@ -198,7 +205,7 @@ all_energy law facts at (o ∷ os) h turn last =
           )
     ]
 
--- Lawful records.
+-- Lemmas about the interval rows of accounting registers in lawful records.
 
 moments_bounded : (facts : List Fact) → AreLawful facts → latest_in facts ≤ moment_limit
 moments_bounded [] h = omega arith

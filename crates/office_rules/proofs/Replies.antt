@@ -1,4 +1,5 @@
--- A command with an idempotency key is followed by its kept answer.
+-- Lemmas about the stored response to a request, which follows the records of the request's
+-- command.
 use Rattle.std.proofs.Common.{◌≡◌, ℕ, ◌≤◌, ◌==◌, nat_lt, false, ◌||◌, ◌&&◌, List, ◌++◌, reverse, refl, sym, ap, subst, ◌∙◌, Option, Some, None}
 use Rattle.std.specs.List.{find}
 use Rattle.std.specs.Option.{is_none, option_map, option_and_then, option_to_list}
@@ -27,7 +28,7 @@ no_reply = record {
   poll = λ p h. refl;
 }
 
--- A command alone keeps no answer.
+-- The records of a command contain no stored response.
 no_reply_added : (number at : ℕ) (slots : List Slot) (facts : List Fact) (c : Command)
     → replies_in (reverse (added_by number at slots facts c) ++ facts) ≡ replies_in facts
 no_reply_added number at slots facts c =
@@ -54,7 +55,8 @@ by_caller facts known at asked (Some caller) h timely kept new good = (
   h,
 )
 
--- If the command may follow, so may its kept answer.
+-- If the rules accept the records of a command, then they also accept the stored response to the
+-- command's request.
 pub asked_fits : (number at : ℕ) (slots : List Slot) (facts : List Fact) (asked : Asked) → at ≤ moment_limit
     → kept_of facts (event.Asked asked) ≡ None → is_bad_request asked refusal.Limit ≡ false
     → AreLawful (reverse (added_by number at slots facts asked.command) ++ facts)

@@ -1,4 +1,4 @@
--- The effect of one more event on the polls of a session, by the theorems on sessions.
+-- Lemmas about how one more event changes the polls of a session.
 use Rattle.std.proofs.Common.{◌≡◌, ℕ, Bool, true, false, cond, not, ◌&&◌, List, [], ◌∷◌, ◌++◌, map, refl, ap, ◌∙◌, Option, Some, None}
 use Rattle.std.specs.List.{filter, find}
 use Rattle.std.specs.List.Sorted.{IsPermutation}
@@ -16,8 +16,8 @@ use Rattle.poll_core.specs.Settling.{Event, Start, Piece, Tick, Close, Settlemen
 use Rattle.poll_core.specs.Laws.{outcomes_by_poll, outcomes_by_event, with_event, new_result}
 use Rattle.office_rules.proofs.Permutations.{same_is}
 
--- The theorems: the events settle each poll that has an outcome exactly once, and the effect of one
--- more event.
+-- The theorems about sessions that the proofs use. Each poll with an outcome ended exactly once,
+-- and one more event has a known effect.
 pub record SessionLaws : Type 0 where
   pub once : (timeout : ℕ) (events : List Event) → IsPermutation (outcomes_by_poll timeout events) (outcomes_by_event timeout events)
   pub outcomes : (timeout : ℕ) (events : List Event) (event : Event) →
@@ -25,11 +25,11 @@ pub record SessionLaws : Type 0 where
   pub results : (timeout : ℕ) (events : List Event) (event : Event) →
       results timeout [] (events ++ event ∷ []) ≡ map (with_event events event) (results timeout [] events) ++ new_result (started timeout events event)
 
--- The polls that were started.
+-- The numbers of the polls that a session started.
 abbrev pub numbers_of : List (Poll × Option Settlement) → List ℕ
 numbers_of rs = map (λ r. r.0.number) rs
 
--- The poll that an event starts.
+-- The number of the poll that a session event starts.
 abbrev pub number_by : Event → List ℕ
 number_by (Start moment poll unit span) = poll ∷ []
 number_by (Piece moment bytes) = []
@@ -46,7 +46,8 @@ numbers-new_result t es (Piece m b) = refl
 numbers-new_result t es (Tick m) = refl
 numbers-new_result t es (Close m c) = refl
 
--- A start adds its poll, and no other event adds one.
+-- After a start event, the session has one more poll number. After any other session event, the
+-- poll numbers are unchanged.
 pub numbers-push : (laws : SessionLaws) (t : ℕ) (es : List Event) (e : Event) → numbers_of (results t [] (es ++ e ∷ [])) ≡ numbers_of (results t [] es) ++ number_by e
 numbers-push laws t es e =
     let new = new_result (started t es e) in
@@ -55,14 +56,15 @@ numbers-push laws t es e =
     ∙ ap (λ ns. ns ++ numbers_of new) (numbers-with_event es e (results t [] es))
     ∙ ap (λ ns. numbers_of (results t [] es) ++ ns) (numbers-new_result t es e)
 
--- One more event adds the outcomes that it settles.
+-- After a session event, the outcomes of the session are the earlier outcomes and those of the
+-- polls that the event ends.
 pub outcomes_by_poll-push : (laws : SessionLaws) (t : ℕ) (es : List Event) (e : Event) → IsPermutation (outcomes_by_poll t (es ++ e ∷ [])) (outcomes_by_poll t es ++ outcomes_at t es e)
 outcomes_by_poll-push laws t es e =
     IsPermutation-trans _ _ _ (laws.once t (es ++ e ∷ []))
     (IsPermutation-trans _ _ _ (same_is _ _ (laws.outcomes t es e))
     (IsPermutation-append_left (outcomes_at t es e) (outcomes_by_event t es) (outcomes_by_poll t es) (IsPermutation-sym (outcomes_by_poll t es) (outcomes_by_event t es) (laws.once t es))))
 
--- A start settles nothing.
+-- If a session event starts a poll, then the event ends no poll.
 pub outcomes_at-start : (t : ℕ) (es : List Event) (m n u : ℕ) (s : Span) → outcomes_at t es (Start m n u s) ≡ []
 unfolding outcomes_at
 outcomes_at-start t es m n u s = refl
@@ -76,7 +78,7 @@ none_left true x y h = refl
 none_left false None y h = h
 none_left false (Some o) y h = refl
 
--- A closing settles each poll that is left.
+-- If a poll is pending, then a close event ends the poll.
 close_settles : (es : List Event) (m : ℕ) (c : Closing) (p : Poll) → is_none (settled_by es (Close m c) p) ≡ false
 unfolding settled_by ending_at
 close_settles es m c p =
@@ -95,7 +97,7 @@ none_wait : (es : List Event) (m : ℕ) (c : Closing) (rs : List (Poll × Option
 none_wait es m c [] = refl
 none_wait es m c (r ∷ rs) = skipped (is_none (option_or r.1 (settled_by es (Close m c) r.0))) (with_event es (Close m c) r) (filter (λ r. is_none r.1) (map (with_event es (Close m c)) rs)) (closed_step es m c r.0 r.1) (none_wait es m c rs)
 
--- No poll is pending in a closed session.
+-- No poll is pending after a close event.
 pub pending-close : (laws : SessionLaws) (t : ℕ) (es : List Event) (m : ℕ) (c : Closing) → pending t (es ++ Close m c ∷ []) ≡ []
 unfolding pending
 pending-close laws t es m c =

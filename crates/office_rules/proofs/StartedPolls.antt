@@ -1,4 +1,4 @@
--- The polls that a command starts: their records, and their numbers on the sessions.
+-- Lemmas about the polls that a command starts, in the records and on the sessions.
 use Rattle.std.proofs.Common.{◌≡◌, ℕ, suc, ◌+◌, Bool, true, false, cond, List, [], ◌∷◌, ◌++◌, map, reverse, length, refl, sym, ap, subst, ◌∙◌, arith, Option, Some, None, if◌then◌else◌}
 use Rattle.std.specs.List.{flat_map}
 use Rattle.std.specs.List.Sorted.{IsPermutation}
@@ -24,7 +24,7 @@ use Rattle.office_rules.proofs.QuietFacts.{AreQuiet, IsQuiet, later_first, quiet
 abbrev pub numbers : List Fact → List ℕ
 numbers facts = map (λ poll. poll.number) (polls_in facts)
 
--- The records of polls that are sent.
+-- The records after the polls of sent reads are added.
 abbrev recorded_sends : (at : ℕ) → Device → List Send → List Fact → List Fact
 recorded_sends at device sends facts = reverse (map (poll_by at device) sends) ++ facts
 
@@ -41,7 +41,7 @@ sent_ends at device [] facts = refl
 sent_ends at device (send ∷ sends) facts =
     ap ended_in (later_first (poll_by at device send) (map (poll_by at device) sends) facts) ∙ sent_ends at device sends (poll_by at device send ∷ facts)
 
--- The polls have consecutive numbers.
+-- The polls of sent reads have consecutive numbers in the records.
 abbrev AreNumberedIn : List Fact → Type 0
 AreNumberedIn facts = AreNumbered (polls_in facts)
 
@@ -65,7 +65,7 @@ sent_numbered number at device before (span ∷ spans) facts h is =
     (sent_numbered (number + 1) at device (before ++ start_by at device send ∷ []) spans (poll_by at device send ∷ facts)
     (is, h) (one_more number (length (polls_in facts)) is))
 
--- The records of a command: its polls have consecutive numbers, and no poll ends.
+-- The records of a command add polls with consecutive numbers, and end no poll.
 pub record AddsPolls (facts added : List Fact) (sends : List Send) : Type 0 where
   pub numbered : AreNumbered (polls_in (reverse added ++ facts))
   pub started : IsPermutation (numbers (reverse added ++ facts)) (sent_numbers sends ++ numbers facts)
@@ -96,7 +96,7 @@ adds_round : (at : ℕ) (spans : List ReadSpan) (o : Option Slot) (facts : List 
 adds_round at spans None facts h = adds_quiet facts [] [] h tt refl
 adds_round at spans (Some slot) facts h = adds_present at slot.device slot.present spans facts h
 
--- Without requested reads nothing is sent.
+-- If a command requests no reads, then the command sends nothing.
 none_at : (number at : ℕ) (device : Device) (present : Option (List session.Event)) → sends_at number at device present [] ≡ []
 none_at number at device None = refl
 none_at number at device (Some before) = refl
@@ -114,7 +114,7 @@ command_adds at slots facts c h =
     (added_each IsQuiet books_quiet (next_poll facts) at slots facts c (λ d e. record { poll = refl; ended = refl; hold = refl }) (λ e. absurd (cc)))
     (none_from (next_poll facts) at (slot_of slots None))
 
--- On the sessions a command settles nothing, and starts the polls that it sends.
+-- A command ends no polls on the sessions, and starts exactly the polls whose reads it sends.
 settles_none : (number at : ℕ) (c : Command) (device : Device) (present : Option (List session.Event)) → settled_on number at (event.Command c) device present ≡ []
 settles_none number at c device None = refl
 settles_none number at c device (Some before) = command_settles number at [] c device before

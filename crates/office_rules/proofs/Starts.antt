@@ -1,4 +1,4 @@
--- The records stay lawful after polls that are not refused.
+-- Lemmas that the records stay lawful after the polls of an accepted command are added.
 use Rattle.std.proofs.Common.{◌≡◌, ℕ, ◌+◌, ◌≤◌, true, false, List, ◌++◌, reverse, length, refl, sym, ap, subst, ◌∙◌, Option, Some, None}
 use Rattle.std.specs.Option.{is_some}
 use Rattle.mb_wire.specs.declared.span.ReadSpan.{ReadSpan}
@@ -28,7 +28,7 @@ present_fits facts at spans slot None is h timely known few = h
 present_fits facts at spans slot (Some before) is h timely known few =
     round_fits at (next_poll facts) slot.device before spans facts h timely refl known few
 
--- The polls that are sent on the session of a device have consecutive numbers.
+-- After the polls that are sent on a device's session are recorded, the records are still lawful.
 pub polls_fit : (slots : List Slot) (facts : List Fact) (at : ℕ) (spans : List ReadSpan) (given : Option (List ℕ)) (o : Option Slot)
     → HaveSameDevices slots facts → AreLawful facts → at ≤ moment_limit → slot_of slots given ≡ o
     → length (polls_in facts) + length (sends_from (next_poll facts) at spans o) ≤ poll_limit

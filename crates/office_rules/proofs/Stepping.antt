@@ -1,4 +1,4 @@
--- One more record, and the installation of a meter.
+-- Lemmas about the installation of a meter after a new record.
 use Rattle.std.proofs.Common.{◌≡◌, ℕ, true, false, cond, List, [], ◌∷◌, sym, ap, subst, ◌∙◌, inl, inr, Some, None}
 use Rattle.std.specs.List.{cons_option}
 use Rattle.std.proofs.lemmas.Bool.{cases_Bool, cond-true, cond-false}
@@ -21,11 +21,12 @@ use Rattle.office_rules.specs.Steps.{Stays, OtherMetersStay, HoldsChangeNothing,
 use Rattle.office_rules.proofs.Lookups.{same_text, same_itself, find_passes}
 use Rattle.office_rules.proofs.Journals.{nothing_before, IsInstalled, installed_fits, well}
 
--- The installation of a meter, by its journal.
+-- The installation of a meter, computed from its journal.
 abbrev pub installation_by : Opening → journal.Journal → Installation
 installation_by o lines = standing o (journal.entries_of (opened o) lines) (journal.is_ended lines)
 
--- Equal journals give equal installations.
+-- If a record leaves the journal of a meter unchanged, then the record leaves the meter's
+-- installation unchanged.
 same_journal : (f : Fact) (facts : List Fact) (o : Opening) → journal_of (f ∷ facts) o.meter ≡ journal_of facts o.meter → Stays f facts o
 same_journal f facts o is =
     record {
@@ -64,11 +65,12 @@ openings_begin o facts h =
       intervals = ap (books.interval_rows (installed o)) none;
     }
 
--- An opening that a name finds has the name.
+-- If a search by name finds an opening, then the opening's meter has this name.
 pub named : (facts : List Fact) (m : List ℕ) (o : Opening) → opening_of facts m ≡ Some o → o.meter ≡ m
 named facts m o there = same_text o.meter m (find_passes (λ (x : Opening). same x.meter m) (openings_in facts) o there)
 
--- A line of the meter, after its journal.
+-- If a journal line may be added to the records of its meter, then the rules of the journal accept
+-- the line.
 pub own_line : (facts : List Fact) (meter : List ℕ) (line : journal.Line) (o : Opening) → LineFits facts meter line → opening_of facts meter ≡ Some o
     → journals.Fits (installed o) (journal_of facts o.meter) line
 own_line facts meter line o fits there =
@@ -83,7 +85,7 @@ line_after facts meter line o is =
     let e : same meter o.meter ≡ true = ap (same meter) is ∙ same_itself meter in
     ap (λ b. cons_option (cond b (Some line) None) (journal_of facts o.meter)) e
 
--- An installation with another energy.
+-- An installation with its total energy replaced.
 abbrev with_total : Opening → EntryKind → Entry → journal.Journal → ℕ → Installation
 with_total o k e lines n = record {
   opening = o;

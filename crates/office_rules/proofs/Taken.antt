@@ -1,4 +1,4 @@
--- The properties of a command that is not refused.
+-- Lemmas about the properties of an accepted command.
 use Rattle.std.proofs.Common.{◌≡◌, ℕ, ◌≤◌, nat_lt, Bool, true, false, ◌||◌, List, [], ◌∷◌, refl, None}
 use Rattle.std.specs.List.{find}
 use Rattle.std.proofs.lemmas.Bool.{or_parts, ltb-false}
@@ -15,7 +15,8 @@ use Rattle.office_rules.specs.Refusals.{refuses, reasons, refusal_of, is_mistime
 use Rattle.office_rules.proofs.LawfulChanges.{not_refused}
 use Rattle.office_rules.proofs.Lookups.{none_parts}
 
--- The event's timestamp is valid.
+-- If an event is accepted, then its timestamp is not before the latest accepted event, and does not
+-- exceed the greatest timestamp.
 pub record IsTimely (past : History) (at : ℕ) : Type 0 where
   pub on_time : latest_of past ≤ at
   pub within : at ≤ moment_limit
@@ -27,7 +28,7 @@ is_timely past at e h =
     let limit = or_parts (nat_lt moment_limit at) _ all.1.1.1.1.1.1.1.1.1.1.0 in
     record { on_time = ltb-false at (latest_of past) back.0; within = ltb-false moment_limit at limit.0 }
 
--- None of these reasons applies to the command.
+-- If a command is accepted, then no reason to refuse the command applies.
 pub record IsTaken (past : History) (at : ℕ) (c : Command) : Type 0 where
   pub known : asks_unknown (slots_of past) (facts_of past) c ≡ false
   pub new : asks_taken (slots_of past) (facts_of past) c ≡ false
@@ -61,7 +62,7 @@ is_taken past at c h =
       few = limit.1.1.1.1.1.1.1.1.1.1.0;
     }
 
--- If an event with an idempotency key is not refused, its command is not refused.
+-- If a request with an idempotency key is not refused, then the request's command is not refused.
 less_refused : (p q : Refusal → Bool) → ((why : Refusal) → p why ≡ false → q why ≡ false) → (xs : List Refusal) → find p xs ≡ None → find q xs ≡ None
 less_refused p q less [] h = refl
 less_refused p q less (why ∷ xs) h =
@@ -80,7 +81,7 @@ command_of_asked past at asked h =
     (λ why refused. both_false (is_mistimed (latest_of past) at why) (asks_wrongly (slots_of past) (facts_of past) at asked.command why) (is_bad_request asked why) refused)
     reasons h
 
--- An event that is not refused has a valid idempotency key, if it has one.
+-- If a request is accepted, then its idempotency key is valid.
 pub good_request : (past : History) (at : ℕ) (asked : Asked) → refusal_of past at (event.Asked asked) ≡ None → is_bad_request asked refusal.Limit ≡ false
 good_request past at asked h =
     let all = not_refused past at (event.Asked asked) h in

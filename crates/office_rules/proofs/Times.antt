@@ -1,4 +1,4 @@
--- The number of times that a number occurs in a list.
+-- Lemmas about how often a number occurs in a list.
 use Rattle.std.proofs.Common.{◌≡◌, ℕ, ◌+◌, ◌<◌, ◌≤◌, ◌==◌, Bool, true, false, cond, not, List, [], ◌∷◌, ◌++◌, map, refl, sym, ap, ◌∙◌, inl, inr, Some, arith}
 use Rattle.std.specs.List.{filter, find, sum_by}
 use Rattle.std.specs.List.Sorted.{IsPermutation}
@@ -7,7 +7,7 @@ use Rattle.std.proofs.lemmas.Bool.{cases_Bool, cond-true, eqb-true, eq-eqb}
 use Rattle.std.proofs.lemmas.List.Sums.{sum_by-append}
 use Rattle.std.proofs.lemmas.List.Sorted.{sum_by-IsPermutation}
 
--- 1 if the numbers are equal, else 0.
+-- The value 1 if two numbers are equal, otherwise 0.
 abbrev pub one_if : ℕ → ℕ → ℕ
 one_if n m = cond (m == n) 1 0
 
@@ -45,7 +45,8 @@ one_if-same n = cond-true (n == n) 1 0 (eq-eqb n n refl)
 one_if_other : (n m : ℕ) → m == n ≡ false → one_if n m ≡ 0
 one_if_other n m h = ap (λ b. cond b 1 0) h
 
--- A case distinction: the same number, or another one.
+-- If a statement about two numbers holds for equal numbers and for different numbers, then the
+-- statement holds.
 pub one_if_cases : {P : Type 0} (n m : ℕ) → (m ≡ n → P) → (m == n ≡ false → one_if n m ≡ 0 → P) → P
 one_if_cases n m here elsewhere =
     elim (cases_Bool (m == n)) [
@@ -59,13 +60,14 @@ parts_step : {X : Type 0} (f : X → ℕ) (n : ℕ) (b : Bool) (x : X) (us vs xs
 parts_step f n true x us vs xs h = omega (arith, times-cons n (f x) (map f us), times-cons n (f x) (map f xs))
 parts_step f n false x us vs xs h = omega (arith, times-cons n (f x) (map f vs), times-cons n (f x) (map f xs))
 
--- The elements that pass, and those that do not.
+-- The occurrences among elements that pass a test and the occurrences among elements that fail the
+-- test add up to all occurrences.
 pub times_parted : {X : Type 0} (f : X → ℕ) (p : X → Bool) (n : ℕ) (xs : List X)
     → times n (map f (filter p xs)) + times n (map f (filter (λ x. not (p x)) xs)) ≡ times n (map f xs)
 times_parted f p n [] = omega (arith, times-nil n)
 times_parted f p n (x ∷ xs) = parts_step f n (p x) x (filter p xs) (filter (λ y. not (p y)) xs) xs (times_parted f p n xs)
 
--- A number that occurs among the elements that pass, passes.
+-- If a number occurs among the elements that pass a test, then the number passes the test.
 passing_step : {X : Type 0} (f : X → ℕ) (g : ℕ → Bool) (n : ℕ) (b : Bool) (x : X) (xs : List X) → g (f x) ≡ b
     → (0 < times n (map f xs) → g n ≡ true) → 0 < times n (map f (cond b (x ∷ xs) xs)) → g n ≡ true
 passing_step f g n true x xs e later h =
@@ -86,7 +88,7 @@ found_step f n x xs later h =
     one_if_cases n (f x) (λ same_number. ap (λ b. is_some (cond b (Some x) (find (λ y. f y == n) xs))) (eq-eqb (f x) n same_number))
     (λ other none. ap (λ b. is_some (cond b (Some x) (find (λ y. f y == n) xs))) other ∙ later (omega (arith, none, h)))
 
--- A number that occurs in a list is found there.
+-- If a number occurs in a list, then a search for the number finds it.
 pub found_if_among : {X : Type 0} (f : X → ℕ) (n : ℕ) (xs : List X) → 0 < times n (map f xs) → is_some (find (λ x. f x == n) xs) ≡ true
 found_if_among f n [] h = absurd (omega (arith, times-nil n, h))
 found_if_among f n (x ∷ xs) h = found_step f n x xs (found_if_among f n xs) (omega (arith, times-cons n (f x) (map f xs), h))

@@ -1,4 +1,4 @@
--- The records of the store, the latest first, and lookups that filter them.
+-- The records of the store, and lookups that filter them. The latest record comes first.
 use Rattle.std.specs.Prelude.{ℕ, ◌==◌, max, Bool, false, ◌&&◌, List, [], ◌∷◌, reverse, length, Option, Some, None}
 use Rattle.std.specs.Option.{option_and_then}
 use Rattle.std.specs.List.{find, filter, filter_map}
@@ -21,28 +21,30 @@ use Rattle.read_plan.specs.PlannedLists.{Planned}
 use Rattle.point_list.specs.declared.point.ListedPoint.{ListedPoint}
 use Rattle.office_events.specs.declared.facts.Fact.TheVariants as fact
 
--- The greatest timestamp: 2099-12-31 24:00 UTC.
+-- The greatest timestamp that the office accepts: 2099-12-31 24:00 UTC.
 abbrev pub moment_limit : ℕ
 moment_limit = LAST_MOMENT
 
--- The greatest number of a poll, 2^62.
+-- The greatest number of a poll: 2^62.
 abbrev pub poll_limit : ℕ
 poll_limit = MAX_POLLS
 
--- The greatest number of a caller's request, 2^63 - 1.
+-- The greatest number of a caller's request: 2^63 - 1.
 abbrev pub request_limit : ℕ
 request_limit = MAX_REQUEST
 
--- Two names are equal if their bytes are.
+-- True if two names are equal, which means that their bytes are equal.
 abbrev pub same : List ℕ → List ℕ → Bool
 same a b = bytes_eq a b
 
--- Whether a given name is this name. An invalid given name (`None`) equals no name.
+-- True if a name in a command equals a stored name. An invalid name in a command (`None`) equals no
+-- stored name.
 abbrev pub is_named : Option (List ℕ) → List ℕ → Bool
 is_named None name = false
 is_named (Some given) name = same given name
 
--- The content of a record if it is of the kind in the function's name; otherwise `None`.
+-- The content of a record if the record has the kind that the function's name states, otherwise
+-- `None`.
 abbrev pub as_device : Fact → Option Device
 as_device (fact.Device device) = Some device
 as_device _ = None
@@ -83,7 +85,7 @@ abbrev pub as_ended : Fact → Option EndedPoll
 as_ended (fact.Outcome ended) = Some ended
 as_ended _ = None
 
--- The contents of all records of one kind, the latest first. Each list corresponds to a table.
+-- The contents of all records of one kind, as in a database table. The latest record comes first.
 abbrev pub devices_in : List Fact → List Device
 devices_in facts = filter_map as_device facts
 
@@ -114,7 +116,8 @@ polls_in facts = filter_map as_poll facts
 abbrev pub ended_in : List Fact → List EndedPoll
 ended_in facts = filter_map as_ended facts
 
--- The device, the accounting register or the opening with a name; `None` if no record has it.
+-- The device, the accounting register or the opening with the given name, or `None` if no record
+-- has the name.
 abbrev pub device_of : List Fact → List ℕ → Option Device
 device_of facts name = find (λ device. same device.name name) (devices_in facts)
 
@@ -124,50 +127,53 @@ register_of facts name = find (λ register. same register.name name) (registers_
 abbrev pub opening_of : List Fact → List ℕ → Option Opening
 opening_of facts meter = find (λ opening. same opening.meter meter) (openings_in facts)
 
--- The accounting registers of the device with this name, in the order in which they were added.
+-- The accounting registers of the device with the given name, in the order in which they were
+-- added.
 abbrev pub registers_of : List Fact → List ℕ → List Register
 registers_of facts device =
     reverse (filter (λ register. same register.device device) (registers_in facts))
 
--- The opening of the latest meter at the accounting register with this name; `None` if none was
--- installed.
+-- The opening of the latest meter at the accounting register with the given name, or `None` if no
+-- meter was installed there.
 abbrev pub installed_at : List Fact → List ℕ → Option Opening
 installed_at facts register = find (λ opening. same opening.register register) (openings_in facts)
 
--- The list; `None` if it has no points.
+-- The point list, or `None` if the list has no points.
 abbrev pub if_some : List ListedPoint → Planned → Option Planned
 if_some [] list = None
 if_some (point ∷ points) list = Some list
 
--- The latest point list of the device with this name. A list without points counts as no list.
+-- The latest point list of the device with the given name, or `None`. A list without points counts
+-- as no list.
 abbrev pub list_of : List Fact → List ℕ → Option Planned
 list_of facts device =
     option_and_then (λ put. if_some put.list.points put.list)
     (find (λ put. same put.device device) (lists_in facts))
 
--- The stored response of a request, by its idempotency key: caller and number.
+-- The stored response to the request with the idempotency key `caller` and `number`.
 abbrev pub reply_of : List Fact → (caller : List ℕ) → (number : ℕ) → Option Reply
 reply_of facts caller number =
     find (λ reply. same reply.caller caller && (reply.number == number)) (replies_in facts)
 
--- The poll with this number; `None` if it was not started.
+-- The poll with the given number, or `None` if no such poll was started.
 abbrev pub poll_of : List Fact → ℕ → Option Poll
 poll_of facts number = find (λ poll. poll.number == number) (polls_in facts)
 
--- All recorded outcomes of the poll with this number.
+-- All recorded outcomes of the poll with the given number.
 abbrev pub ends_of : List Fact → ℕ → List EndedPoll
 ends_of facts number = filter (λ ended. ended.poll == number) (ended_in facts)
 
--- The latest recorded outcome of the poll with this number, if there is one.
+-- The latest recorded outcome of the poll with the given number, or `None` without an outcome.
 abbrev pub end_of : List Fact → ℕ → Option EndedPoll
 end_of facts number = find (λ ended. ended.poll == number) (ended_in facts)
 
--- The polls without an outcome, in the order in which they were started.
+-- The polls without a recorded outcome, in the order in which they were started.
 abbrev pub pending_in : List Fact → List Poll
 pending_in facts =
     filter (λ poll. length (ends_of facts poll.number) == 0) (reverse (polls_in facts))
 
--- The timestamp of a record; 0 for devices, point lists and accounting registers, which have none.
+-- The timestamp of a record, or 0 for a device, a point list or an accounting register, which have
+-- no timestamp.
 abbrev pub moment_in : Fact → ℕ
 moment_in (fact.Device device) = 0
 moment_in (fact.List list) = 0
@@ -180,7 +186,7 @@ moment_in (fact.Poll poll) = poll.at
 moment_in (fact.Outcome ended) = ended.at
 moment_in (fact.Reply reply) = reply.at
 
--- The greatest timestamp of all records; 0 without records.
+-- The greatest timestamp of all records, or 0 without records.
 abbrev pub latest_in : List Fact → ℕ
 latest_in [] = 0
 latest_in (f ∷ facts) = max (moment_in f) (latest_in facts)

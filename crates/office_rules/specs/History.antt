@@ -1,4 +1,5 @@
--- The openings and events that an office accepted, and the records that they leave.
+-- The starts of the office and the events that the office accepted, and the records that follow
+-- from them.
 use Rattle.std.specs.Prelude.{ℕ, ◌+◌, ◌==◌, List, [], ◌∷◌, ◌++◌, map, drop, reverse, Option, Some, None, length, if◌then◌else◌}
 use Rattle.std.specs.Option.{option_map, option_and_then, option_to_list}
 use Rattle.poll_core.specs.Settling as session
@@ -38,26 +39,26 @@ use Rattle.office_rules.specs.Facts.{polls_in, poll_of, pending_in, list_of}
 use Rattle.office_rules.specs.Readings.{with_reply}
 use Rattle.office_rules.specs.Sessions.{Slot, Send, slot_of, command_in, started_on, sends_at, reaches, device_by, slots_after, slot_restarted}
 
--- An accepted opening of the office, or an accepted event.
+-- An accepted start of the office, which is a start of the program, or an accepted event.
 pub data Accepted : Type 0 where
   Opened : (at : ℕ) → Accepted
   Fed : (at : ℕ) → (event : Event) → Accepted
 
--- All accepted openings and events, the latest first.
+-- All accepted starts of the office and all accepted events. The latest comes first.
 abbrev pub History : Type 0
 History = List Accepted
 
--- The timestamp of the latest accepted opening or event; 0 if there is none.
+-- The timestamp of the latest accepted start of the office or event, or 0 if nothing was accepted.
 abbrev pub latest_of : History → ℕ
 latest_of [] = 0
 latest_of (Opened at ∷ past) = at
 latest_of (Fed at e ∷ past) = at
 
--- The number that the next poll will have: one more than the number of polls so far.
+-- The number of the next poll, which is one more than the number of recorded polls.
 abbrev pub next_poll : List Fact → ℕ
 next_poll facts = length (polls_in facts) + 1
 
--- The recorded outcome of a poll: the kind of its settlement, without the register values of a
+-- The recorded outcome of a poll: the kind of its result, without the register values of a
 -- response.
 abbrev pub outcome_of : session.Settlement → Outcome
 outcome_of (session.Answered words) = outcome.Answered
@@ -66,25 +67,27 @@ outcome_of session.Silent = outcome.Silent
 outcome_of (session.Malformed malformation) = outcome.Malformed malformation
 outcome_of (session.Lost cause) = outcome.Lost cause
 
--- The records with the readings of a poll's response added, if the poll was answered. Any other
--- settlement adds nothing.
+-- The records after the readings in the response to a poll are added. If the poll was not answered,
+-- nothing is added.
 abbrev pub with_words : ℕ → (number : ℕ) → session.Settlement → List Fact → List Fact
 with_words at number (session.Answered words) facts =
     with_reply at (poll_of facts number) words facts
 with_words at number _ facts = facts
 
--- The records with the outcome of a poll added, and then the readings of its response.
+-- The records after the outcome of a poll is added, followed by the readings in its response.
 abbrev pub with_outcome : ℕ → (ℕ × session.Settlement) → List Fact → List Fact
 with_outcome at settled facts =
     with_words at settled.0 settled.1
     (fact.Outcome (record { poll = settled.0; at = at; outcome = outcome_of settled.1 }) ∷ facts)
 
--- The records with the outcomes of several polls added, each with its readings, in order.
+-- The records after the outcomes of several polls are added in order, each followed by its
+-- readings.
 abbrev pub with_outcomes : ℕ → List (ℕ × session.Settlement) → List Fact → List Fact
 with_outcomes at [] facts = facts
 with_outcomes at (settled ∷ later) facts = with_outcomes at later (with_outcome at settled facts)
 
--- The polls that these events settle on a session, in order, after the events `before`.
+-- The polls that a list of session events ends, in order, each with its result. `before` are the
+-- earlier events of the session.
 abbrev pub settled_in : Device → List session.Event → List session.Event
     → List (ℕ × session.Settlement)
 settled_in device before [] = []
@@ -92,30 +95,33 @@ settled_in device before (happening ∷ later) =
     session.outcomes_at device.timeout before happening
     ++ settled_in device (before ++ happening ∷ []) later
 
--- The polls that an event of the office settles on the session of a device; none without a session.
+-- The polls that an event of the office ends on the session of a device, each with its result.
+-- Without a session, no poll ends.
 abbrev pub settled_on : (number at : ℕ) → Event → Device → Option (List session.Event)
     → List (ℕ × session.Settlement)
 settled_on number at e device None = []
 settled_on number at e device (Some before) =
     settled_in device before (reaches number at [] e device before)
 
--- The polls that an event of the office settles on the session of a slot's device.
+-- The polls that an event of the office ends on the present session of a slot's device, each with
+-- its result.
 abbrev pub settled_by : (number at : ℕ) → Event → Slot → List (ℕ × session.Settlement)
 settled_by number at e slot = settled_on number at e slot.device slot.present
 
--- The records with the polls added that an event settles, device by device, in the order in which
--- the devices were added.
+-- The records after the outcomes of all polls that an event ends are added. The devices are
+-- processed in the order in which they were added.
 abbrev pub with_settled : (number at : ℕ) → Event → List Slot → List Fact → List Fact
 with_settled number at e [] facts = facts
 with_settled number at e (slot ∷ slots) facts =
     with_settled number at e slots (with_outcomes at (settled_by number at e slot) facts)
 
--- The read function of the function code in a command. An accepted command has code 3 or 4.
+-- The read function for the Modbus function code in a command. An accepted command has the code 3
+-- or 4.
 abbrev pub function_by : ℕ → ReadFunction
 function_by function = if function == 3 then HoldingRegisters else InputRegisters
 
--- Where an accounting register's scale is, as the command gives it: a fixed scale, or a Modbus
--- address.
+-- The source of an accounting register's scale factor, as the command states it. The source is a
+-- fixed scale factor or a Modbus address.
 abbrev pub scale_by : GivenScale → ScaleSource
 scale_by (given.Fixed sf) = source.Fixed sf
 scale_by (given.Register address) = source.Register address
@@ -132,7 +138,7 @@ register_by c name device =
       scale = scale_by c.scale;
     })
 
--- The opening record of a new meter at the accounting register, at timestamp `at`.
+-- The record of the opening of a new meter at an accounting register, at the timestamp `at`.
 abbrev pub opening_by : ℕ → Install → (register meter : List ℕ) → Fact
 opening_by at c register meter =
     fact.Opening (record {
@@ -145,7 +151,7 @@ opening_by at c register meter =
       sf = c.sf;
     })
 
--- The installation that an exchange requests after the closing of the old meter.
+-- The installation of the new meter that an exchange installs after the old meter is closed.
 abbrev pub installed_by : Exchange → Install
 installed_by c =
     record {
@@ -157,19 +163,21 @@ installed_by c =
       range = c.range;
     }
 
--- The time of a reading by hand: the given time, or else the time of the command.
+-- The timestamp of a reading by hand: the time in the command, or the time of the command if it
+-- states none.
 abbrev pub read_at : (at : ℕ) → Option ℕ → ℕ
 read_at at None = at
 read_at at (Some earlier) = earlier
 
--- The entry that a command makes: at which accounting register, of which kind, and its numbers.
+-- The parameters of the entry that a command makes, which are its accounting register, its kind,
+-- its times and its counts.
 pub record Made : Type 0 where
   pub register : Option (List ℕ)
   pub kind : EntryKind
   pub entry : Entry
 
--- The entry that a command makes for a meter whose counter has this state; `None` if the command
--- makes none.
+-- The entry that a command records for a meter with the counter's state `last`, or `None` if the
+-- command records no entry.
 abbrev pub made_by : (at : ℕ) → Last → Command → Option Made
 made_by at last (command.Exchange c) =
     Some (record {
@@ -203,8 +211,8 @@ made_by at last (command.Close c) =
     })
 made_by at last _ = None
 
--- The accounting register at which a command makes an entry; `None` if it makes none, or the name
--- is invalid.
+-- The accounting register at which a command records an entry, or `None` if the command records no
+-- entry or the name is invalid.
 abbrev pub corrected_at : Command → Option (List ℕ)
 corrected_at (command.Exchange c) = c.register
 corrected_at (command.Reset c) = c.register
@@ -213,21 +221,23 @@ corrected_at (command.Manual c) = c.register
 corrected_at (command.Close c) = c.register
 corrected_at _ = None
 
--- The record of the entry that a command makes for this installation; `None` if it makes none.
+-- The record of the entry that a command makes for an installation, or `None` if the command makes
+-- no entry.
 abbrev pub made_on : (at : ℕ) → Command → Installation → Option Fact
 made_on at c row = option_map
     (λ made. fact.Entry
     (record { meter = row.opening.meter; kind = made.kind; entry = made.entry }))
     (made_by at row.last c)
 
--- The record of the entry that a command makes for the open meter at its register; empty if it
--- makes none or no meter is open.
+-- The record of the entry that a command makes for the open meter at its register. The list is
+-- empty if the command makes no entry or no meter is open.
 abbrev pub entries_by : (at : ℕ) → List Fact → Command → List Fact
 entries_by at facts c =
     option_to_list
     (option_and_then (made_on at c) (option_and_then (open_at facts) (corrected_at c)))
 
--- The opening record that an installation makes; empty if one of its names is invalid.
+-- The record of the opening that an installation command makes. The list is empty if one of the
+-- names is invalid.
 abbrev pub openings_by : (at : ℕ) → Install → List Fact
 openings_by at c =
     option_to_list
@@ -238,24 +248,27 @@ openings_by at c =
 abbrev pub reads_of : Planned → List ReadSpan
 reads_of list = map (λ read. read.span) list.reads
 
--- The reads of a round from index `from` of the plan on; none without a point list.
+-- The reads of a round from the index `from` of the plan to its end. Without a point list, there
+-- are no reads.
 abbrev pub round_spans : (from : ℕ) → Option Planned → List ReadSpan
 round_spans from None = []
 round_spans from (Some list) = drop from (reads_of list)
 
--- The reads that a command requests; none for a command that starts no polls.
+-- The reads that a command requests. A command that starts no polls requests none.
 abbrev pub spans_by : List Fact → Command → List ReadSpan
 spans_by facts (command.StartPoll c) = c.span ∷ []
 spans_by facts (command.StartRound c) =
     round_spans c.from (option_and_then (list_of facts) c.device)
 spans_by facts _ = []
 
--- The reads that the command of an event requests; none if the event has no command.
+-- The reads that the command in an event of the office requests. An event without a command
+-- requests none.
 abbrev pub spans_in : List Fact → Option Command → List ReadSpan
 spans_in facts None = []
 spans_in facts (Some c) = spans_by facts c
 
--- The reads that can be started on the session of a slot, from the first; none without a slot.
+-- The reads that the session of a slot's device can start, beginning with the first. Without a
+-- slot, no read starts.
 abbrev pub sends_from : (number at : ℕ) → List ReadSpan → Option Slot → List Send
 sends_from number at spans None = []
 sends_from number at spans (Some slot) = sends_at number at slot.device slot.present spans
@@ -265,7 +278,7 @@ abbrev pub sends_by : (number at : ℕ) → List Slot → List Fact → Command 
 sends_by number at slots facts c =
     sends_from number at (spans_by facts c) (slot_of slots (started_on c))
 
--- The poll record of a read that is started on a device at timestamp `at`.
+-- The record of a poll, whose read starts on a device at the timestamp `at`.
 abbrev pub poll_by : (at : ℕ) → Device → Send → Fact
 poll_by at device send =
     fact.Poll (record {
@@ -277,14 +290,15 @@ poll_by at device send =
       span = send.span;
     })
 
--- The poll records of the reads that can be started on a slot; none without a slot.
+-- The records of the polls whose reads a slot's session can start. Without a slot, the list is
+-- empty.
 abbrev pub polls_from : (number at : ℕ) → List ReadSpan → Option Slot → List Fact
 polls_from number at spans None = []
 polls_from number at spans (Some slot) =
     map (poll_by at slot.device) (sends_at number at slot.device slot.present spans)
 
--- The records that a command adds, in order; none for an invalid name, which no accepted command
--- has.
+-- The records that a command adds, in order. The list is empty for an invalid name, which no
+-- accepted command has.
 abbrev pub added_by : (number at : ℕ) → List Slot → List Fact → Command → List Fact
 added_by number at slots facts (command.AddDevice c) =
     option_to_list (option_map fact.Device (device_by c))
@@ -310,7 +324,7 @@ added_by number at slots facts (command.StartRound c) =
     polls_from number at (round_spans c.from (option_and_then (list_of facts) c.device))
     (slot_of slots c.device)
 
--- The kind of a command, which is stored with the response to its request.
+-- The kind of a command, which is stored with the response to the command's request.
 abbrev pub kind_of : Command → CommandKind
 kind_of (command.AddDevice c) = done.Device
 kind_of (command.PutList c) = done.List
@@ -325,7 +339,7 @@ kind_of (command.Void c) = done.Void
 kind_of (command.StartPoll c) = done.Start
 kind_of (command.StartRound c) = done.Start
 
--- The record of the response to a request; empty if the caller's name is invalid.
+-- The record of the response to a request. The list is empty if the caller's name is invalid.
 abbrev pub reply_by : (at : ℕ) → Asked → List Fact
 reply_by at asked = option_to_list (option_map
     (λ caller. fact.Reply
@@ -338,8 +352,8 @@ reply_by at asked = option_to_list (option_map
     }))
     asked.caller)
 
--- The records after an event. `slots` is the state of the devices before the event, and `number`
--- the number of the next poll.
+-- The records after an event. `slots` contains the sessions of all devices before the event, and
+-- `number` is the number of the next poll.
 abbrev pub facts_after : (number at : ℕ) → Event → List Slot → List Fact → List Fact
 facts_after number at (event.Connected given) slots facts = facts
 facts_after number at (event.Bytes given piece) slots facts =
@@ -352,24 +366,25 @@ facts_after number at (event.Command c) slots facts =
 facts_after number at (event.Asked asked) slots facts =
     reverse (added_by number at slots facts asked.command ++ reply_by at asked) ++ facts
 
--- The outcome record of a poll that was pending when the office was opened: the poll is lost.
+-- The outcome record of a poll that was pending when the office restarted. The poll is lost.
 abbrev pub lost : ℕ → Poll → Fact
 lost at poll = fact.Outcome (record { poll = poll.number; at = at; outcome = outcome.Lost Restart })
 
--- The records after an opening of the office: each pending poll has the outcome lost.
+-- The records after a start of the office. Each pending poll gets the outcome "lost".
 abbrev pub with_lost : ℕ → List Fact → List Fact
 with_lost at facts = reverse (map (lost at) (pending_in facts)) ++ facts
 
 abbrev mutual
-  -- The records that these accepted openings and events leave, the latest first.
+  -- The records that follow from a list of accepted starts of the office and accepted events. The
+  -- latest record comes first.
   pub facts_of : History → List Fact
   facts_of [] = []
   facts_of (Opened at ∷ past) = with_lost at (facts_of past)
   facts_of (Fed at e ∷ past) =
       facts_after (next_poll (facts_of past)) at e (slots_of past) (facts_of past)
 
-  -- The slots of the devices after these accepted openings and events, with the events of their
-  -- sessions.
+  -- The slots of all devices after a list of accepted starts of the office and accepted events. A
+  -- slot contains a device and the events of its sessions.
   pub slots_of : History → List Slot
   slots_of [] = []
   slots_of (Opened at ∷ past) = map slot_restarted (slots_of past)

@@ -1,4 +1,4 @@
--- Theorems on the records that any accepted events leave.
+-- Theorems about the records after any accepted events.
 use Rattle.std.specs.Prelude.{◌≡◌, ◌≢◌, false, List, [], ◌∷◌, Option, Some, All}
 use Rattle.std.specs.List.{AllPairs}
 use Rattle.energy_core.specs.TrueRun.{Item}
@@ -19,31 +19,32 @@ use Rattle.office_rules.specs.Lawful.{AreLawful}
 use Rattle.office_rules.specs.Endings.{EachEndsOnce}
 use Rattle.office_rules.specs.Laws.{IsRecorded, IsKept, IsUntraced}
 
--- If the command stores a point list, the list has the reads of its plan. The type `PlannedList`
--- guarantees this.
+-- True if a command stores no point list, or if the reads of its point list equal the reads of its
+-- plan. The type `PlannedList` guarantees this condition.
 abbrev pub PutsPlanned : Option Command → Type 0
 PutsPlanned (Some (command.PutList c)) = IsPlanned c.list
 PutsPlanned _ = Unit {0}
 
--- All point lists of accepted commands have the reads of their plans.
+-- True if all point lists in accepted commands have the reads of their plans.
 abbrev pub ListsArePlanned : History → Type 0
 ListsArePlanned [] = Unit {0}
 ListsArePlanned (Opened at ∷ past) = ListsArePlanned past
 ListsArePlanned (Fed at e ∷ past) = PutsPlanned (command_in e) × ListsArePlanned past
 
--- A possible past of an office: each opening and event was accepted after those before it, and each
--- point list has the reads of its plan.
+-- True if a list of starts of the office and of events is a possible past of the office. Each item
+-- was accepted after the earlier items, and each point list has the reads of its plan.
 pub record IsPast (history : History) : Type 0 where
   pub accepted : AreAccepted history
   pub planned : ListsArePlanned history
 
--- The records that accepted events leave are lawful.
+-- Theorem: the records after any accepted events are lawful.
 abbrev pub FactsAreLawful : Type 0
 FactsAreLawful = (history : History) → AreAccepted history → ListsArePlanned history
     → AreLawful (facts_of history)
 
--- No two devices, registers or meters have the same name, so each is found by its name. The open
--- meter at an accounting register is the latest there, so at most one is open.
+-- True if no two devices, accounting registers or meters have the same name, so a search by name
+-- finds each of them. Any open meter at an accounting register is the latest meter there, so at
+-- most one meter is open.
 pub record AreDistinct (facts : List Fact) : Type 0 where
   pub devices : AllPairs (λ (a b : Device). a.name ≢ b.name) (devices_in facts)
   pub registers : AllPairs (λ (a b : Register). a.name ≢ b.name) (registers_in facts)
@@ -58,13 +59,14 @@ pub record AreDistinct (facts : List Fact) : Type 0 where
   pub latest : (opening : Opening) → IsRecorded facts opening → is_ended facts opening ≡ false
       → installed_at facts opening.register ≡ Some opening
 
--- The names of devices, accounting registers and meters in lawful records are distinct.
+-- Theorem: the names of devices, accounting registers and meters in lawful records are distinct.
 abbrev pub NamesAreDistinct : Type 0
 NamesAreDistinct = (facts : List Fact) → AreLawful facts → AreDistinct facts
 
--- Each poll ended once, or is pending. The energy and the interval rows of each meter come from its
--- valid entries, and voids leave no trace. For a meter whose readings are a true run, energy and
--- interval rows are the true ones.
+-- True if the polls and meters of a past satisfy all theorems. Each poll ended once or is pending.
+-- The energy and the interval rows of each meter come from its valid entries, and voids leave no
+-- trace. If the readings come from an honest meter that is polled often enough, the energy and the
+-- interval rows equal the true ones.
 pub record AreTrue (history : History) : Type 0 where
   pub polls : EachEndsOnce history
   pub lawful : AreLawful (facts_of history)
@@ -78,6 +80,6 @@ pub record AreTrue (history : History) : Type 0 where
       → ShowsTrueRun (installed opening) (journal_of (facts_of history) opening.meter) first items
       → IsKeptTruly (installed opening) (journal_of (facts_of history) opening.meter) first items
 
--- The records of each possible past are true in the sense of `AreTrue`.
+-- Theorem: the records of each possible past satisfy `AreTrue`.
 abbrev pub BooksAreTrue : Type 0
 BooksAreTrue = (history : History) → AreAccepted history → ListsArePlanned history → AreTrue history

@@ -1,4 +1,4 @@
--- Theorems on the meters in lawful records.
+-- Theorems about the meters in lawful records.
 use Rattle.std.specs.Prelude.{◌≤◌, ℕ, ◌≡◌, ◌+◌, List}
 use Rattle.std.specs.List.{All, Contains}
 use Rattle.energy_core.specs.Value.{value_of}
@@ -16,21 +16,21 @@ use Rattle.office_rules.specs.Meters.{opened, installed, journal_of, entries_of,
 use Rattle.office_rules.specs.Intervals.{rows_of_opening}
 use Rattle.office_rules.specs.Lawful.{AreLawful}
 
--- The records have this opening of a meter.
+-- True if the records contain the opening of a meter.
 abbrev pub IsRecorded : List Fact → Opening → Type 0
 IsRecorded facts opening = Contains (openings_in facts) opening
 
--- The journal of each meter in lawful records is lawful: each line may follow those before it.
+-- Theorem: in lawful records, the rules of the journal accept each line of a meter's journal after
+-- the earlier lines.
 abbrev pub JournalsFit : Type 0
 JournalsFit = (facts : List Fact) (opening : Opening) → AreLawful facts → IsRecorded facts opening
     → AreFitting (installed opening) (journal_of facts opening.meter)
 
--- The energy of a meter balances. Its total, the value of its opening, and the values that changes
--- set are one sum. The last value, a full range for each rollover, and the values before changes
--- are an equal sum.
+-- True if the energy of a meter balances. The total energy, the opening value and the values that
+-- changes set add up to one sum. The last value, a full range for each rollover, and the values
+-- before changes add up to the same sum.
 --
--- Also the account of its valid entries is sound, and the interval rows come from its steps and add
--- up to its total.
+-- The account of the valid entries is sound, and the interval rows add up to the total energy.
 pub record IsKept (facts : List Fact) (opening : Opening) : Type 0 where
   pub energy : (installation_of facts opening).total + value_of (opened opening)
       + set_anew (entries_of facts opening)
@@ -40,48 +40,51 @@ pub record IsKept (facts : List Fact) (opening : Opening) : Type 0 where
   pub rows : IsAccount (steps_in facts opening) (rows_of_opening facts opening)
   pub sum : energy_of (rows_of_opening facts opening) ≡ (installation_of facts opening).total
 
--- The energy of each meter in lawful records balances.
+-- Theorem: the energy of each meter in lawful records balances, as `IsKept` describes.
 abbrev pub MetersAreKept : Type 0
 MetersAreKept = (facts : List Fact) (opening : Opening) → AreLawful facts → IsRecorded facts opening
     → IsKept facts opening
 
--- If a meter's valid readings and its readings since the last void are a true run, none of the
--- latter was rejected. The steps, the energy and the interval rows are the true ones.
+-- Theorem: suppose that an honest meter was polled often enough. Its readings are those that were
+-- valid after the last void, and all later readings. Then none of the later readings was rejected.
+-- The recorded steps, energy and interval rows equal the true ones.
 abbrev pub TruthIsRecorded : Type 0
 TruthIsRecorded = (facts : List Fact) (opening : Opening) (first : Item) (items : List Item)
     → AreLawful facts → IsRecorded facts opening
     → truth.ShowsTrueRun (installed opening) (journal_of facts opening.meter) first items
     → truth.IsKeptTruly (installed opening) (journal_of facts opening.meter) first items
 
--- A meter's valid entries are those that no void names, and they leave the same account as a
--- journal without any other line.
+-- True if the valid entries of a meter are the entries that no void names. These entries lead to
+-- the same account as a journal that contains only the valid entries.
 pub record IsUntraced (facts : List Fact) (opening : Opening) : Type 0 where
   pub rows : journals.HasItsRows (installed opening) (journal_of facts opening.meter)
   pub alone : journals.LeavesNoTrace (installed opening) (journal_of facts opening.meter)
 
--- Voided entries leave no trace in the account of a meter in lawful records.
+-- Theorem: in lawful records, voided entries leave no trace in the account of a meter.
 abbrev pub VoidsLeaveNoTrace : Type 0
 VoidsLeaveNoTrace = (facts : List Fact) (opening : Opening) → AreLawful facts
     → IsRecorded facts opening → IsUntraced facts opening
 
--- The poll number in a record; 0 if the record has none.
+-- The poll number in a record, or 0 if the record has no poll number.
 abbrev pub poll_in : Fact → ℕ
 poll_in (fact.Hold held) = held.poll
 poll_in (fact.Poll poll) = poll.number
 poll_in (fact.Outcome ended) = ended.poll
 poll_in _ = 0
 
--- The request number in a record; 0 if the record has none.
+-- The request number in a record, or 0 if the record has no request number.
 abbrev pub request_in : Fact → ℕ
 request_in (fact.Reply reply) = reply.number
 request_in _ = 0
 
--- The timestamp, the poll number and the request number of a record are within their limits.
+-- True if the timestamp, the poll number and the request number of a record are within their
+-- limits.
 pub record IsBounded (f : Fact) : Type 0 where
   pub moment : moment_in f ≤ moment_limit
   pub poll : poll_in f ≤ poll_limit
   pub request : request_in f ≤ request_limit
 
--- The timestamps and numbers of lawful records are within their limits.
+-- Theorem: in lawful records, the timestamps, poll numbers and request numbers are within their
+-- limits.
 abbrev pub FactsAreBounded : Type 0
 FactsAreBounded = (facts : List Fact) → AreLawful facts → All IsBounded facts

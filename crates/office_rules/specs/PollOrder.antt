@@ -1,13 +1,12 @@
--- The rule for polls, outcomes and rejected readings: which of them may be added to the records
--- before it.
+-- The rule for adding polls, outcomes and rejected readings to the earlier records.
 use Rattle.std.specs.Prelude.{◌≡◌, true, List, [], ◌∷◌, is_some}
 use Rattle.office_events.specs.declared.facts.Fact.{Fact}
 use Rattle.office_events.specs.declared.facts.Fact.TheVariants as fact
 use Rattle.office_rules.specs.Facts.{poll_of}
 use Rattle.office_rules.specs.Lawful.{PollFits, EndFits}
 
--- The rule holds for all records: poll numbers are consecutive, the devices of polls exist, only
--- pending polls end, and rejected readings belong to started polls.
+-- True if poll numbers are consecutive, the devices of polls exist, only pending polls end, and
+-- rejected readings belong to started polls.
 abbrev pub PollsFit : List Fact → Type 0
 PollsFit [] = Unit {0}
 PollsFit (fact.Poll poll ∷ facts) = PollFits facts poll × PollsFit facts

@@ -1,4 +1,4 @@
--- The ranges of the numbers of installations in lawful records.
+-- The ranges of counts, scale factors and energies of installations in lawful records.
 use Rattle.std.specs.Prelude.{◌≡◌, ℕ, ◌≤◌, ◌<◌, List, Some}
 use Rattle.energy_core.specs.declared.limits.TheConstants.{MAX_CEILING, MAX_RANGE, MAX_TOTAL, MIN_RANGE}
 use Rattle.energy_core.specs.Account.{IsScale}
@@ -10,8 +10,8 @@ use Rattle.office_rules.specs.Lawful.{AreLawful}
 use Rattle.office_rules.specs.Meters.{installation_of, meter_of, installation_at, open_at, entry_at}
 use Rattle.office_rules.specs.Laws.{IsRecorded}
 
--- All numbers of an installation are in range, so that its next entry can be judged without
--- overflow.
+-- True if the counts, the scale factor and the limits of an installation are in range. The next
+-- entry can then be judged without overflow.
 pub record IsSound (row : Installation) : Type 0 where
   pub range : (MIN_RANGE ≤ row.opening.range) × (row.opening.range ≤ MAX_RANGE)
   pub ceiling : (1 ≤ row.opening.ceiling) × (row.opening.ceiling ≤ MAX_CEILING)
@@ -19,8 +19,8 @@ pub record IsSound (row : Installation) : Type 0 where
   pub scale : IsScale row.last.sf
   pub total : row.total ≤ MAX_TOTAL
 
--- The numbers are in range for each recorded installation, however it is looked up, and for the
--- state before each entry.
+-- True if `IsSound` holds for each recorded installation and for the state before each entry. The
+-- installation may be looked up by name or by accounting register.
 pub record AreInRange (facts : List Fact) : Type 0 where
   pub recorded : (opening : Opening) → IsRecorded facts opening
       → IsSound (installation_of facts opening)
@@ -34,6 +34,6 @@ pub record AreInRange (facts : List Fact) : Type 0 where
       → entry_at facts meter place ≡ Some found
       → IsSound found.before
 
--- The numbers of all installations in lawful records are in range.
+-- Theorem: `AreInRange` holds for all lawful records.
 abbrev pub InstallationsAreInRange : Type 0
 InstallationsAreInRange = (facts : List Fact) → AreLawful facts → AreInRange facts

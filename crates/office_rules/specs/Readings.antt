@@ -1,4 +1,4 @@
--- The readings that the response to a poll gives for the meters of its device.
+-- The readings of a device's meters in the response to a poll.
 use Rattle.std.specs.Prelude.{ℕ, ℤ, ◌+◌, ◌-◌, ◌==◌, nat_le, Bool, true, ◌&&◌, List, [], ◌∷◌, Option, Some, None, slice_index, if◌then◌else◌}
 use Rattle.std.specs.Option.{option_map}
 use Rattle.energy_core.specs.declared.entries.Entry.TheVariants.{Step}
@@ -21,42 +21,43 @@ use Rattle.office_events.specs.declared.questions.PollRow.{PollRow}
 use Rattle.office_rules.specs.Facts.{registers_of, poll_of, end_of}
 use Rattle.office_rules.specs.Meters.{open_at}
 
--- A poll, with its recorded outcome if it has one.
+-- A poll, together with its recorded outcome if it has one.
 abbrev pub poll_row : List Fact → Poll → PollRow
 poll_row facts poll = record { poll = poll; ended = end_of facts poll.number }
 
--- The poll with this number, with its recorded outcome if it has one; `None` if it was not started.
+-- The poll with a given number, together with its recorded outcome if it has one. `None` if the
+-- poll was not started.
 abbrev pub poll_row_of : List Fact → ℕ → Option PollRow
 poll_row_of facts number = option_map (poll_row facts) (poll_of facts number)
 
--- Whether the read contains `count` Modbus registers from `address` on.
+-- True if a read contains `count` Modbus registers from `address` on.
 abbrev pub contains : ReadSpan → (address count : ℕ) → Bool
 contains span address count =
     nat_le span.address address && nat_le (address + count) (span.address + span.count)
 
--- Whether the read contains the Modbus register of the scale; true for a fixed scale.
+-- True if a read contains the Modbus register of a scale factor, or if the scale factor is fixed.
 abbrev pub contains_scale : ReadSpan → ScaleSource → Bool
 contains_scale span (source.Fixed sf) = true
 contains_scale span (source.Register address) = contains span address 1
 
--- Whether the read covers this accounting register: it has its function code, and contains its
--- counter and its scale.
+-- True if a read covers an accounting register. The function codes are equal, and the read contains
+-- the accounting register's counter and scale factor.
 abbrev pub is_read_by : ReadSpan → Register → Bool
 is_read_by span register =
     (code_of span.function == code_of register.function) && contains span register.address 2
     && contains_scale span register.scale
 
--- The value of the Modbus register at an address, among the register values of the read.
+-- The value of the Modbus register at `address` in the response to a read.
 abbrev pub word_at : ReadSpan → (words : List ℕ) → (address : ℕ) → ℕ
 word_at span words address = slice_index words (address - span.address)
 
--- The scale of an accounting register: fixed, or from the register values of the read.
+-- The scale factor of an accounting register, either fixed or taken from the response to a read.
 abbrev pub scale_of : ReadSpan → List ℕ → ScaleSource → ℤ
 scale_of span words (source.Fixed sf) = sf
 scale_of span words (source.Register address) = scale_value (word_at span words address)
 
 -- The reading of an accounting register in a response: its counter, from two Modbus registers with
--- the high word first, and its scale.
+-- the high word first, and its scale factor.
 abbrev pub reading_of : ℕ → ReadSpan → List ℕ → Register → Reading
 reading_of at span words register = record {
   at = at;
@@ -65,14 +66,14 @@ reading_of at span words register = record {
   sf = scale_of span words register.scale;
 }
 
--- The verdict on a reading, judged at the present state of an installation.
+-- The verdict on a reading, judged by the present state of an installation.
 abbrev pub judgement : Installation → Reading → Verdict
 judgement row reading =
     verdict_of row.opening.range (record { ceiling = row.opening.ceiling; total = row.total })
     row.last reading
 
--- The record of a reading with this verdict: an entry of its meter if it is accepted, otherwise a
--- rejected reading with its cause.
+-- The record of a reading with a given verdict. An accepted reading is an entry of its meter, and
+-- any other reading is a rejected reading with its cause.
 abbrev pub as_fact : (meter : List ℕ) → (poll : ℕ) → Reading → Verdict → Fact
 as_fact meter poll reading (Accepted rolls step) =
     fact.Entry (record
@@ -87,17 +88,18 @@ as_fact meter poll reading (Held cause) =
       cause = cause;
     })
 
--- The record of a reading of an installation, judged at the installation's present state.
+-- The record of a reading of an installation, judged by the installation's present state.
 abbrev pub reading_fact : (poll : ℕ) → Reading → Installation → Fact
 reading_fact poll reading row = as_fact row.opening.meter poll reading (judgement row reading)
 
--- The records with a reading of this installation added; unchanged if no meter is open (`None`).
+-- The records after a reading of an installation is added. Without an open installation (`None`),
+-- nothing is added.
 abbrev pub with_reading : (poll : ℕ) → Reading → Option Installation → List Fact → List Fact
 with_reading poll reading None facts = facts
 with_reading poll reading (Some row) facts = reading_fact poll reading row ∷ facts
 
--- The records with a response's reading at an accounting register added; unchanged if the read does
--- not cover the register.
+-- The records after the reading at an accounting register in a response is added. If the read does
+-- not cover the register, nothing is added.
 abbrev pub with_register : ℕ → Poll → List ℕ → Register → List Fact → List Fact
 with_register at poll words register facts =
     if is_read_by poll.span register
@@ -105,14 +107,14 @@ with_register at poll words register facts =
     (open_at facts register.name) facts
     else facts
 
--- The records with a response's readings at several accounting registers added, in order.
+-- The records after the readings at several accounting registers in a response are added, in order.
 abbrev pub with_registers : ℕ → Poll → List ℕ → List Register → List Fact → List Fact
 with_registers at poll words [] facts = facts
 with_registers at poll words (register ∷ registers) facts =
     with_registers at poll words registers (with_register at poll words register facts)
 
--- The records with the readings in a poll's response added: one for each covered accounting
--- register of the device, in the order in which the registers were added.
+-- The records after all readings in the response to a poll are added. Each covered accounting
+-- register of the device adds one reading, in the order in which the registers were added.
 abbrev pub with_reply : ℕ → Option Poll → List ℕ → List Fact → List Fact
 with_reply at None words facts = facts
 with_reply at (Some poll) words facts =

@@ -8,15 +8,15 @@ use Rattle.office_rules.specs.Facts.{moment_limit}
 use Rattle.office_rules.specs.Intervals.{rows_of_register}
 use Rattle.office_rules.specs.Lawful.{AreLawful}
 
--- The rows can be summed into civil days, one by one. Their start times never fall, none exceeds
--- the greatest timestamp, and the sum of their energy fits in 128 bits.
+-- True if the interval rows can be added up by civil day, row by row. Their start times never fall,
+-- no start time exceeds the greatest timestamp, and the sum of their energies fits in 128 bits.
 pub record CanBeFolded (rows : List Share) : Type 0 where
   pub never_fall : IsNonDecreasingBy (λ row. row.start) rows
   pub moments : All (λ row. row.start ≤ moment_limit) rows
   pub energy : energy_of rows < 2 ^ 128
 
--- In lawful records the interval rows of each accounting register can be summed into days, because
--- each meter is closed before the next is opened.
+-- Theorem: the interval rows of each accounting register in lawful records can be added up by day.
+-- They are in order because each meter is closed before the next meter is opened.
 abbrev pub RegistersAreInTurn : Type 0
 RegistersAreInTurn = (facts : List Fact) (register : List ℕ) → AreLawful facts
     → CanBeFolded (rows_of_register facts register)

@@ -1,4 +1,4 @@
--- How one more lawful record changes an installation.
+-- Theorems about how a new lawful record changes an installation.
 use Rattle.std.specs.Prelude.{◌≡◌, ◌+◌, true, false, List, [], ◌∷◌, Some, None, if◌then◌else◌}
 use Rattle.energy_core.specs.declared.entries.Entry.{Entry}
 use Rattle.energy_core.specs.declared.entries.Step.{Step}
@@ -19,25 +19,27 @@ use Rattle.office_rules.specs.Intervals.{rows_of_opening}
 use Rattle.office_rules.specs.Lawful.{AreLawful}
 use Rattle.office_rules.specs.Meters.{line_of, opened, installed, journal_of, rows_of, installation_of}
 
--- The record `f` changes neither the installation, nor its entry rows, nor its interval rows.
+-- True if the record `f` leaves an installation, its entry rows and its interval rows unchanged.
 pub record Stays (f : Fact) (facts : List Fact) (opening : Opening) : Type 0 where
   pub installation : installation_of (f ∷ facts) opening ≡ installation_of facts opening
   pub rows : rows_of (f ∷ facts) opening ≡ rows_of facts opening
   pub intervals : rows_of_opening (f ∷ facts) opening ≡ rows_of_opening facts opening
 
--- A record that has no line in a meter's journal changes nothing of this meter.
+-- Theorem: if a record has no line in a meter's journal, then the record leaves the meter
+-- unchanged.
 abbrev pub OtherMetersStay : Type 0
 OtherMetersStay = (f : Fact) (facts : List Fact) (opening : Opening)
     → line_of opening.meter f ≡ None
     → Stays f facts opening
 
--- A rejected reading changes nothing of any meter.
+-- Theorem: a rejected reading leaves every meter unchanged.
 abbrev pub HoldsChangeNothing : Type 0
 HoldsChangeNothing = (held : HeldReading) (facts : List Fact) (opening : Opening)
     → Stays (fact.Hold held) facts opening
 
--- After its opening a new installation is found by its name and at its accounting register. Its
--- counter has the opening's state, and it has no energy and no rows.
+-- True if an opening begins an installation. The installation is found by its name and at its
+-- accounting register. Its counter has the state of the opening, its energy is 0, and it has no
+-- rows.
 pub record Begins (facts : List Fact) (opening : Opening) : Type 0 where
   pub by_name : opening_of (fact.Opening opening ∷ facts) opening.meter ≡ Some opening
   pub at_register : installed_at (fact.Opening opening ∷ facts) opening.register ≡ Some opening
@@ -46,12 +48,12 @@ pub record Begins (facts : List Fact) (opening : Opening) : Type 0 where
   pub rows : rows_of (fact.Opening opening ∷ facts) opening ≡ []
   pub intervals : rows_of_opening (fact.Opening opening ∷ facts) opening ≡ []
 
--- Each lawful opening record begins an installation, as `Begins` describes.
+-- Theorem: each lawful opening record begins an installation, as `Begins` describes.
 abbrev pub OpeningsBegin : Type 0
 OpeningsBegin = (opening : Opening) (facts : List Fact) → AreLawful (fact.Opening opening ∷ facts)
     → Begins facts opening
 
--- The state of an installation after one more entry of its meter.
+-- The state of an installation after a new entry of its meter.
 abbrev pub moved_by : EntryKind → Entry → Installation → Installation
 moved_by k e row = record {
   opening = row.opening;
@@ -60,14 +62,16 @@ moved_by k e row = record {
   ended = if is_closing k then true else row.ended;
 }
 
--- The step from an installation's last entry to one more entry.
+-- The step of the counter from the last entry of an installation to a new entry.
 abbrev pub step_from : Installation → Entry → Step
 step_from row e = step_to row.opening.range row.last e
 
--- One more entry of an open meter advances the installation by its step, and adds one entry row.
+-- True if a new entry of an open meter advances the installation by the entry's step of the
+-- counter, and adds one entry row.
 --
--- The shares of the step extend the interval rows. Two equal definitions say how: they are joined
--- to the last row, or each is added to the row of its quarter hour.
+-- The quarter-hour shares of the step extend the interval rows. Two equal definitions state the
+-- result. The first merges the shares into the last interval row, and the second adds each share to
+-- the row of its quarter hour.
 pub record MovesOn (booked : BookedEntry) (facts : List Fact) (opening : Opening) : Type 0 where
   pub unended : (installation_of facts opening).ended ≡ false
   pub goes_on : journals.ContinuesJournal (installed opening) (journal_of facts opening.meter)
@@ -83,7 +87,7 @@ pub record MovesOn (booked : BookedEntry) (facts : List Fact) (opening : Opening
       rows_of_opening (fact.Entry booked ∷ facts) opening
       ≡ with_each shares (rows_of_opening facts opening)
 
--- Each lawful entry record advances its meter's installation, as `MovesOn` describes.
+-- Theorem: each lawful entry record advances the installation of its meter, as `MovesOn` describes.
 abbrev pub EntriesMoveOn : Type 0
 EntriesMoveOn = (booked : BookedEntry) (facts : List Fact) (opening : Opening)
     → AreLawful (fact.Entry booked ∷ facts)

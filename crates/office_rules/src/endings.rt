@@ -1,4 +1,4 @@
-//! Theorems on how polls end.
+//! Theorems about how the polls of an office end.
 ghost use Rattle.office_rules.specs.History.{History};
 ghost use Rattle.office_rules.specs.Refusals.{AreAccepted};
 ghost use Rattle.office_rules.specs.PollEndings.{PollsEndOnce};
@@ -7,7 +7,7 @@ ghost use Rattle.office_rules.specs.Endings.{EachEndsOnce};
 use poll_core::{each_once, one_event_more};
 
 /// Proves for all accepted events that each poll has ended or is pending. A poll that ended has
-/// exactly one recorded outcome, which its session's events give.
+/// exactly one recorded outcome, which follows from the events of the poll's session.
 pub fn polls_end_once()
     ensures polls { (history : History) → AreAccepted history → PollsEndOnce history }
     ensures each { (history : History) → AreAccepted history → EachEndsOnce history }

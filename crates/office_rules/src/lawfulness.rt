@@ -1,12 +1,12 @@
-//! Theorems on the records of an office, for all accepted events.
+//! Theorems about the records of an office after any accepted events.
 ghost use Rattle.office_rules.specs.Lawfulness.{BooksAreTrue, FactsAreLawful, NamesAreDistinct};
 
 use crate::endings::polls_end_once;
 use crate::laws::{meters_are_kept, truth_is_recorded, voids_leave_no_trace};
 use poll_core::one_event_more;
 
-/// Proves that the records that any accepted events leave are lawful: each may follow those before
-/// it.
+/// Proves that the records after any accepted events are lawful. The rules accept each record after
+/// the earlier records.
 pub fn facts_are_lawful()
     ensures { FactsAreLawful }
 {
@@ -16,14 +16,14 @@ pub fn facts_are_lawful()
 }
 
 /// Proves that no two devices, registers or meters in lawful records have the same name. The open
-/// meter at a register is the latest there.
+/// meter at an accounting register is the latest meter at this register.
 pub fn names_are_distinct()
     ensures { NamesAreDistinct }
 {}
 
 /// Proves for all accepted events that each poll ended once or is pending. The energy and the
-/// interval rows of each meter are those of its valid entries. For a meter whose readings are a
-/// true run, they are the true ones.
+/// interval rows of each meter come from its valid entries. If an honest meter is polled often
+/// enough, its recorded energy and interval rows equal the true ones.
 pub fn books_are_true()
     ensures { BooksAreTrue }
 {

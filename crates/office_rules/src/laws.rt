@@ -1,4 +1,4 @@
-//! Theorems on lawful records.
+//! Theorems about lawful records, in which the rules accept each record after the earlier records.
 ghost use Rattle.office_rules.specs.Laws.{FactsAreBounded, JournalsFit, MetersAreKept, TruthIsRecorded, VoidsLeaveNoTrace};
 ghost use Rattle.office_rules.specs.Ranges.{InstallationsAreInRange};
 
@@ -7,13 +7,15 @@ use meter_journal::{
     places_were_kept, rows_stand, truth_is_kept, voids_leave_no_trace as journal_voids,
 };
 
-/// Proves that each line of a meter's journal in lawful records may follow those before it.
+/// Proves that the rules of the journal accept each line of a meter's journal in lawful records
+/// after the earlier lines.
 pub fn journals_fit()
     ensures { JournalsFit }
 {}
 
-/// Proves that the energy of each installation in lawful records balances. It is the last value
-/// less the first, plus a full range for each recorded rollover, plus the recorded differences.
+/// Proves that the energy of each installation in lawful records balances. The energy is the last
+/// value less the first, plus a full range for each recorded rollover, plus the differences that
+/// resets and rescales record.
 ///
 /// Voided entries do not count, and the interval rows add up to the energy.
 pub fn meters_are_kept()
@@ -25,9 +27,9 @@ pub fn meters_are_kept()
     interval_rows_add_up();
 }
 
-/// Proves that readings of an honest meter that is read often enough, with no entries but readings,
-/// are recorded truly. None of the readings since the last void is rejected. The steps, the total
-/// and the interval rows are the true ones.
+/// Proves that the readings of an honest meter are recorded truly if the meter is polled often
+/// enough and has no entries but readings. No reading since the last void is rejected. The recorded
+/// steps, total energy and interval rows equal the true ones.
 pub fn truth_is_recorded()
     ensures { TruthIsRecorded }
 {
@@ -47,8 +49,8 @@ pub fn facts_are_bounded()
     ensures { FactsAreBounded }
 {}
 
-/// Proves that the numbers of each installation in lawful records are in range, now and before each
-/// entry.
+/// Proves that the counts, scale factors and energies of each installation in lawful records are in
+/// range, now and before each entry.
 pub fn installations_are_in_range()
     ensures { InstallationsAreInRange }
 {

@@ -1,4 +1,5 @@
-//! Defines an office's records, answers and refusals, which the contracts of the crates above use.
+//! Defines the records, answers and refusals of an office. The contracts of the crates that depend
+//! on this crate use these definitions.
 #![tactic(auto)]
 
 mod endings;

@@ -1,4 +1,4 @@
-//! Theorems on the order of polls and outcomes.
+//! Theorems about the order of polls and their outcomes.
 ghost use Rattle.office_rules.specs.History.{History, facts_of};
 ghost use Rattle.office_rules.specs.Refusals.{AreAccepted};
 ghost use Rattle.office_rules.specs.PollOrder.{PollsFit};

@@ -1,4 +1,4 @@
-//! A theorem on the interval rows of accounting registers.
+//! A theorem about the interval rows of accounting registers.
 ghost use Rattle.office_rules.specs.Registers.{RegistersAreInTurn};
 
 use meter_journal::{
@@ -6,8 +6,8 @@ use meter_journal::{
     voids_go_no_further,
 };
 
-/// Proves that in lawful records the start times of an accounting register's interval rows never
-/// fall, also from one meter to the next. So the rows can be summed into days.
+/// Proves that the start times of an accounting register's interval rows in lawful records never
+/// fall, even from one meter to the next. Therefore the rows can be added up by day.
 pub fn registers_are_in_turn()
     ensures { RegistersAreInTurn }
 {

@@ -1,36 +1,37 @@
-//! Theorems on how one more record changes a meter.
+//! Theorems about how a new record changes a meter.
 ghost use Rattle.office_rules.specs.Steps.{EntriesMoveOn, HoldsChangeNothing, OpeningsBegin, OtherMetersStay};
 ghost use Rattle.office_rules.specs.Voids.{VoidedEntriesGiveWay};
 
 use meter_journal::{entries_go_on, voids_change_two_rows};
 
-/// Proves that a record without a line in a meter's journal does not change this meter's
-/// installation and rows.
+/// Proves that a record leaves a meter's installation and rows unchanged if the record has no line
+/// in the meter's journal.
 pub fn other_meters_stay()
     ensures { OtherMetersStay }
 {}
 
-/// Proves that a rejected reading changes no installation.
+/// Proves that a rejected reading leaves all installations unchanged.
 pub fn holds_change_nothing()
     ensures { HoldsChangeNothing }
 {}
 
-/// Proves that a new installation has the state of its opening, and is found by its name and at its
-/// accounting register.
+/// Proves that a new installation has the state of its opening entry, and is found by its name and
+/// at its accounting register.
 pub fn openings_begin()
     ensures { OpeningsBegin }
 {}
 
-/// Proves that one more entry advances its meter's installation, rows and interval rows by its
-/// step.
+/// Proves that a new entry advances the installation, the rows and the interval rows of its meter
+/// by one step.
 pub fn entries_move_on()
     ensures { EntriesMoveOn }
 {
     entries_go_on();
 }
 
-/// Proves the effect of a void. It changes the rows of its entry and of the next valid entry. The
-/// steps around the entry change in the meter's installation and interval rows.
+/// Proves the effect of a void on the meter. The rows of the voided entry and of the next valid
+/// entry change. The steps around the voided entry are replaced in the meter's energy and interval
+/// rows.
 pub fn voided_entries_give_way()
     ensures { VoidedEntriesGiveWay }
 {

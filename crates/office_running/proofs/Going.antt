@@ -1,4 +1,4 @@
--- The steps of a run, and its turns.
+-- Lemmas on the steps of a run at one timestamp, and on the turns of its event loop.
 use Rattle.std.proofs.Common.{◌≡◌, ◌⊎◌, inl, inr, ℕ, true, false, Bool, List, [], ◌∷◌, ◌++◌, Option, Some, None, Result, refl, sym, ap, ◌∙◌, subst, append_assoc}
 use Rattle.std.specs.Prelude.{max, position, slice_get, if◌then◌else◌}
 use Rattle.office_events.specs.declared.answers.Answer.{Answer}
@@ -37,9 +37,9 @@ use Rattle.office_program.specs.Texts.Passing.{Lasts}
 use Rattle.run_status.specs.Advice.Lacks.{LooksUp}
 use Rattle.office_running.specs.Runs.{AreAt, BooksRun, Goes, IsOfRound, ReadsClock, RunsOn, Step, Fed, Asks, TakesTurns, TurnsFrom, history_with, latest_of, steps_of, with_step}
 
--- ---- at one time
+-- ---- Steps of a run at one timestamp
 
--- Nothing happened.
+-- If a run leaves its office unchanged, then it has made no step.
 pub goes_none : {B : Type 0} (names : List (List ℕ)) (at : ℕ) (ledger : B → Ledger) (office : Office B) → Goes names at ledger office office
 goes_none names at ledger office = record {
   stands = λ past stands clean. record { steps = []; each = tt; stands = stands };
@@ -56,7 +56,8 @@ each_of_both : {names : List (List ℕ)} (at : ℕ) (later earlier : List (Step 
 each_of_both at [] earlier a b = b
 each_of_both at (one ∷ later) earlier a b = (a.0, each_of_both at later earlier a.1 b)
 
--- Consecutive steps.
+-- If steps at a timestamp are followed by more steps at this timestamp, then all are steps at this
+-- timestamp.
 pub goes_both : {B : Type 0} (names : List (List ℕ)) (at : ℕ) (ledger : B → Ledger) (a b c : Office B) → Goes names at ledger a b → Goes names at ledger b c
     → Goes names at ledger a c
 goes_both names at ledger a b c first next = record {
@@ -74,7 +75,7 @@ goes_both names at ledger a b c first next = record {
   zone = next.zone ∙ first.zone;
 }
 
--- ---- A turn of the devices
+-- ---- Steps of a turn of the event loop that process events of devices
 
 abbrev of_events : (names : List (List ℕ)) → List Answered → List (Step names)
 of_events names [] = []
@@ -84,7 +85,7 @@ after_events : (names : List (List ℕ)) (past : History) (fed : List Answered) 
 after_events names past [] = refl
 after_events names past (one ∷ earlier) = ap (λ h. with_answer h one.at one.event one.result) (after_events names past earlier)
 
--- The action of a round is an event of a round.
+-- If a polling round requests an event, then the event belongs to a polling round.
 abbrev WishesOfRound : Option Event → Type 0
 WishesOfRound None = Unit {0}
 WishesOfRound (Some e) = IsOfRound e
@@ -171,7 +172,7 @@ goes_turn names ledger sees at old new begun failures turned observer opened tur
   zone = lasts.zone;
 }
 
--- One event of a round is fed, and nothing else.
+-- After one event of a polling round is fed, the office has made one step.
 pub goes_fed : {B : Type 0} (names : List (List ℕ)) (ledger : B → Ledger) (at : ℕ) (e : Event) (answer : Result Answer Refusal) (old new : Office B)
     → After ledger old new (λ past. Stands ledger (with_answer past at e answer) new) → Ends ledger old new e answer → IsOfRound e → Goes names at ledger old new
 goes_fed names ledger at e answer old new feeds ends is = record {
@@ -184,7 +185,7 @@ goes_fed names ledger at e answer old new feeds ends is = record {
   zone = ends.zone;
 }
 
--- ---- the requests of clients
+-- ---- Steps of a turn of the event loop that answer requests of clients
 
 abbrev of_connections : (names : List (List ℕ)) → List (Connection names) → List (Step names)
 of_connections names [] = []
@@ -215,7 +216,7 @@ goes_asked names at ledger old new ask = record {
   zone = ask.zone;
 }
 
--- ---- Turns
+-- ---- Turns of the event loop
 
 pub no_turns : {B : Type 0} (names : List (List ℕ)) (ledger : B → Ledger) (first : ℕ) (begun : Option (List ℕ)) (office : Office B)
     → TakesTurns names ledger first first begun begun office office
@@ -225,7 +226,8 @@ no_turns names ledger first begun office = record {
   zone = refl;
 }
 
--- The clock is read, and the next steps have the latest time that it has returned.
+-- If the clock is read and then steps happen at its latest time, then these steps are one more turn
+-- of the event loop.
 one_turn : {B : Type 0} (names : List (List ℕ)) (ledger : B → Ledger) (first before latest : ℕ) (begun between now : Option (List ℕ)) (a b c : Office B)
     → TakesTurns names ledger first before begun between a b → ReadsClock before latest between now → Goes names latest ledger b c
     → TakesTurns names ledger first latest begun now a c
@@ -246,7 +248,7 @@ one_turn names ledger first before latest begun between now a b c turns reads go
   zone = goes.zone ∙ turns.zone;
 }
 
--- Turns were taken, and the clock was read since for the next turn.
+-- True if some turns of the event loop are complete, and the clock was read for the next turn.
 pub record Begins {B : Type 0} (names : List (List ℕ)) (ledger : B → Ledger) (first latest : ℕ) (begun now : Option (List ℕ)) (old new : Office B) : Type 0 where
   pub before : ℕ
   pub between : Option (List ℕ)
@@ -262,7 +264,7 @@ first_begins names ledger first latest begun now office reads = record {
   reads = reads;
 }
 
--- The steps before the next reading of the clock have its latest time.
+-- After steps at the latest time of the clock, the next turn of the event loop is complete.
 pub turn_ends : {B : Type 0} (names : List (List ℕ)) (ledger : B → Ledger) (first latest at : ℕ) (begun now : Option (List ℕ)) (a b c : Office B)
     → at ≡ latest → Begins names ledger first latest begun now a b → Goes names at ledger b c → TakesTurns names ledger first latest begun now a c
 turn_ends names ledger first latest at begun now a b c same begins goes =
@@ -279,7 +281,8 @@ next_begins names ledger first latest later at begun now after a b c d same begi
   reads = reads;
 }
 
--- A query before the turns changes nothing.
+-- If an office is only queried before turns of the event loop, then it processed these turns and
+-- nothing else.
 pub turns_after_asking : {B T : Type 0} (names : List (List ℕ)) (ledger : B → Ledger) (first : ℕ) (begun now : Option (List ℕ)) (a b c : Office B)
     (answer : Result T Refusal) → OnlyAsks ledger a b answer → TurnsFrom names ledger first begun now b c → TurnsFrom names ledger first begun now a c
 turns_after_asking names ledger first begun now a b c answer asks goes = record {
@@ -291,9 +294,9 @@ turns_after_asking names ledger first begun now a b c answer asks goes = record 
   };
 }
 
--- ---- a run
+-- ---- A complete run, from the opening of the office to the end
 
--- A store that is only read is unchanged.
+-- If a store is only read, then it still has the records of its history.
 pub reads_stand : (old new : Ledger) (past : History) → KeepsFacts old new → BooksStand old past → BooksStand new past
 reads_stand old new past keeps stands = record {
   is_past = stands.is_past;
@@ -305,7 +308,8 @@ reads_stand old new past keeps stands = record {
   };
 }
 
--- A run after an opening.
+-- After a run opened the office, the store has the records of the opening and of the turns of the
+-- event loop.
 pub ran_opened : {B : Type 0} (names : List (List ℕ)) (ledger : B → Ledger) (past : History) (begun opened now : Option (List ℕ)) (office new : Office B) (books : B)
     → books ≡ books_in new → ((ledger (books_in office)).is_clean → Opens ledger past begun opened office) → RunsOn names ledger opened now office new
     → (ledger books).is_clean → BooksRun names begun now (ledger books) past
@@ -328,14 +332,15 @@ ran_opened {B = B} names ledger past begun opened now office new books is opens 
       stand = so.stands.books;
     }))
 
--- A store that is only queried is unchanged, and lasts.
+-- If a store is only queried, then it still has the records of its history.
 pub looked_stand : (a b c : Ledger) (past : History) → LooksUp b c → (BooksStand a past → BooksStand b past) → BooksStand a past → BooksStand c past
 looked_stand a b c past looks before stands = reads_stand b c past looks.keeps (before stands)
 
 pub looked_last : (a b c : Ledger) → LooksUp b c → Lasts a b → Lasts a c
 looked_last a b c looks first = record { clean = λ clean. first.clean (looks.clean clean); zone = looks.zone ∙ first.zone }
 
--- A wrong result that was taken as true stays recorded.
+-- If a store is clean after two calls (no wrong result of it was used), then it was clean before
+-- the two calls.
 pub lasts_both : (a b c : Ledger) → Lasts a b → Lasts b c → Lasts a c
 lasts_both a b c first next = record { clean = λ clean. first.clean (next.clean clean); zone = next.zone ∙ first.zone }
 

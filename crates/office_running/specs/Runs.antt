@@ -1,5 +1,5 @@
--- What a run does with its office: which events and requests the office processes, and at which
--- times.
+-- The definition of a run of `sunreg run`: which events and requests the office processes, and at
+-- which timestamps.
 use Rattle.std.specs.Prelude.{◌≡◌, ◌⊎◌, ℕ, max, List, [], ◌∷◌, ◌++◌, length, Option}
 use Rattle.socket_link.specs.Clocks.{TellsMoment}
 use Rattle.office_events.specs.declared.commands.Command.{Command}
@@ -18,21 +18,23 @@ use Rattle.office_http.specs.Serving.{with_asked}
 use Rattle.office_http.specs.Connections.Connections.{Connection}
 use Rattle.office_running.specs.declared.leftovers.Left.{Left}
 
--- ---- at one time
+-- ---- Steps of a run at one timestamp
 
--- One step of a run: the office processed an event of a device's round, or answered the requests on
--- a client's connection. `names` are the host names that requests may give.
+-- One step of a run: the office processed an event of a device's polling round, or answered the
+-- requests on a client's connection.
+--
+-- `names` are the host names that requests may name.
 pub data Step (names : List (List ℕ)) : Type 0 where
   Fed : Answered → Step names
   Asks : Connection names → Step names
 
--- The command starts the reads of a device, so a round may request it.
+-- The command starts the Modbus reads of a device, so a polling round may request it.
 abbrev pub StartsRound : Command → Type 0
 StartsRound (command.StartRound start) = Unit {0}
 StartsRound _ = ⊥
 
--- The event is one of a round: its device was connected, sent bytes or is gone, its reads are
--- started; or it is a timer event.
+-- True if the event belongs to a polling round: the device was connected, sent bytes or is gone, or
+-- its reads are started. A timer event also counts.
 abbrev pub IsOfRound : Event → Type 0
 IsOfRound (event.Connected device) = Unit {0}
 IsOfRound (event.Bytes device piece) = Unit {0}
@@ -41,65 +43,70 @@ IsOfRound (event.Gone device closing) = Unit {0}
 IsOfRound (event.Command given) = StartsRound given
 IsOfRound (event.Asked asked) = ⊥
 
--- The step happened at time `at`; an event in it is one of a round.
+-- The step of a run happened at timestamp `at`. If the step is an event, the event belongs to a
+-- polling round.
 abbrev pub IsStepAt : {names : List (List ℕ)} → (at : ℕ) → Step names → Type 0
 IsStepAt at (Fed fed) = (fed.at ≡ at) × IsOfRound fed.event
 IsStepAt at (Asks one) = one.at ≡ at
 
--- Each of the steps happened at time `at`.
+-- Each step of the run in the list happened at timestamp `at`.
 abbrev pub AreAt : {names : List (List ℕ)} → (at : ℕ) → List (Step names) → Type 0
 AreAt at [] = Unit {0}
 AreAt at (one ∷ earlier) = IsStepAt at one × AreAt at earlier
 
--- What the office has accepted after this step.
+-- The history of the office after it made one more step of a run.
 abbrev pub with_step : {names : List (List ℕ)} → History → Step names → History
 with_step past (Fed fed) = with_answer past fed.at fed.event fed.result
 with_step past (Asks one) = with_asked past one.at one.asked
 
--- What the office has accepted after several steps; the list has the latest step first.
+-- The history of the office after it made several steps of a run; the list has the latest step
+-- first.
 abbrev pub history_with : {names : List (List ℕ)} → (past : History) → List (Step names)
     → History
 history_with past [] = past
 history_with past (one ∷ earlier) = with_step (history_with past earlier) one
 
--- The office is in the state after some steps, all at time `at`.
+-- The office is in the state after it made some steps of a run, all at timestamp `at`.
 pub record StandsAfterSteps {B : Type 0} (names : List (List ℕ)) (at : ℕ) (ledger : B → Ledger)
     (past : History) (office : Office B) : Type 0 where
   pub steps : List (Step names)
   pub each : AreAt at steps
   pub stands : Stands ledger (history_with past steps) office
 
--- Whatever the sockets deliver, the office processes only events of rounds and requests, all at
--- time `at`. A store that is clean after the call was clean before it, and its zone stays.
+-- Whatever the sockets deliver, the office processes only events of polling rounds and requests of
+-- clients, all at timestamp `at`.
+--
+-- If a store is clean after the call (no wrong result of it was used), then the store was clean
+-- before the call. The store's time zone is unchanged.
 pub record Goes {B : Type 0} (names : List (List ℕ)) (at : ℕ) (ledger : B → Ledger)
     (old new : Office B) : Type 0 where
   pub stands : After ledger old new (λ past. StandsAfterSteps names at ledger past new)
   pub clean : (ledger (books_in new)).is_clean → (ledger (books_in old)).is_clean
   pub zone : (ledger (books_in new)).zone ≡ (ledger (books_in old)).zone
 
--- ---- from time to time
+-- ---- Turns of the event loop, from timestamp to timestamp
 
--- The clock was read once. `latest` is the later one of the time that it returned and the latest
--- time before.
+-- The clock was read once. `latest` is the later of the time that the clock returned and the
+-- earlier latest timestamp.
 pub record ReadsClock (before latest : ℕ) (begun now : Option (List ℕ)) : Type 0 where
   pub told : ℕ
   pub tells : TellsMoment begun now told
   pub is_latest : latest ≡ max before told
 
--- A turn of the run's loop: the time that the clock returned, and the turn's steps, the latest
--- first.
+-- A turn of the run's event loop: the time that the clock returned, and the steps of the turn, the
+-- latest step first.
 pub record Turn (names : List (List ℕ)) : Type 0 where
   pub told : ℕ
   pub steps : List (Step names)
 
--- The latest time that the clock has returned in these turns; at least `first`, the time before
--- them.
+-- The latest time that the clock has returned in a list of turns of the event loop. It is at least
+-- `first`, the timestamp before these turns.
 abbrev pub latest_of : {names : List (List ℕ)} → (first : ℕ) → List (Turn names) → ℕ
 latest_of first [] = first
 latest_of first (turn ∷ earlier) = max (latest_of first earlier) turn.told
 
--- The clock was read once in each turn. All steps of a turn have the latest time that the clock had
--- returned by then.
+-- The clock was read once in each turn of the event loop. All steps of a turn happened at the
+-- latest time that the clock had returned by this turn.
 abbrev pub AreTurns : {names : List (List ℕ)} → (first : ℕ) → (begun now : Option (List ℕ))
     → List (Turn names) → Type 0
 AreTurns first begun now [] = now ≡ begun
@@ -107,13 +114,13 @@ AreTurns first begun now (turn ∷ earlier) =
     (between : Option (List ℕ)) × AreTurns first begun between earlier
     × TellsMoment between now turn.told × AreAt (latest_of first (turn ∷ earlier)) turn.steps
 
--- The steps of all turns; the latest step is first.
+-- The steps of all turns of the event loop; the latest step is first.
 abbrev pub steps_of : {names : List (List ℕ)} → List (Turn names) → List (Step names)
 steps_of [] = []
 steps_of (turn ∷ earlier) = turn.steps ++ steps_of earlier
 
--- The office is in the state after some turns. `latest` is the latest time that the clock has
--- returned.
+-- The office is in the state after some turns of the event loop. `latest` is the latest time that
+-- the clock has returned.
 pub record StandsAfterTurns {B : Type 0} (names : List (List ℕ)) (first latest : ℕ)
     (begun now : Option (List ℕ)) (ledger : B → Ledger) (past : History)
     (office : Office B) : Type 0 where
@@ -122,8 +129,10 @@ pub record StandsAfterTurns {B : Type 0} (names : List (List ℕ)) (first latest
   pub is_latest : latest ≡ latest_of first turns
   pub stands : Stands ledger (history_with past (steps_of turns)) office
 
--- The office processed some turns and nothing else. A store that is clean after them was clean
--- before, and its zone stays.
+-- The office processed some turns of the event loop and nothing else.
+--
+-- If a store is clean after the turns (no wrong result of it was used), then the store was clean
+-- before the turns. The store's time zone is unchanged.
 pub record TakesTurns {B : Type 0} (names : List (List ℕ)) (ledger : B → Ledger)
     (first latest : ℕ) (begun now : Option (List ℕ)) (old new : Office B) : Type 0 where
   pub stands : After ledger old new
@@ -131,13 +140,13 @@ pub record TakesTurns {B : Type 0} (names : List (List ℕ)) (ledger : B → Led
   pub clean : (ledger (books_in new)).is_clean → (ledger (books_in old)).is_clean
   pub zone : (ledger (books_in new)).zone ≡ (ledger (books_in old)).zone
 
--- The office processed some turns, beginning at time `first`.
+-- The office processed some turns of the event loop, beginning at timestamp `first`.
 pub record TurnsFrom {B : Type 0} (names : List (List ℕ)) (ledger : B → Ledger) (first : ℕ)
     (begun now : Option (List ℕ)) (old new : Office B) : Type 0 where
   pub latest : ℕ
   pub turns : TakesTurns names ledger first latest begun now old new
 
--- The clock was read, and then the office processed some turns.
+-- After the clock was read, the office processed some turns of the event loop.
 pub record RunsOn {B : Type 0} (names : List (List ℕ)) (ledger : B → Ledger)
     (begun now : Option (List ℕ)) (old new : Office B) : Type 0 where
   pub first : ℕ
@@ -145,9 +154,10 @@ pub record RunsOn {B : Type 0} (names : List (List ℕ)) (ledger : B → Ledger)
   pub tells : TellsMoment begun between first
   pub turns : TurnsFrom names ledger first between now old new
 
--- ---- a run
+-- ---- A complete run, from the opening of the office to the end
 
--- The store holds the records of an opening, at a time of the clock, and of the turns after it.
+-- The store has the records of an opening of the office, and of the turns of the event loop after
+-- this opening. The opening has a time that the clock returned.
 pub record StandAfterOpening (names : List (List ℕ)) (begun now : Option (List ℕ))
     (ledger : Ledger) (past : History) : Type 0 where
   pub at : ℕ
@@ -160,13 +170,15 @@ pub record StandAfterOpening (names : List (List ℕ)) (begun now : Option (List
   pub are : AreTurns first between now turns
   pub stand : BooksStand ledger (history_with (Opened at ∷ past) (steps_of turns))
 
--- The store is in its earlier state, or holds the records of an opening and of the turns after it.
+-- The store is in its state before the run, or has the records of the run. These are the records of
+-- an opening of the office and of the turns of the event loop after this opening.
 abbrev pub BooksRun : (names : List (List ℕ)) → (begun now : Option (List ℕ)) → Ledger
     → (past : History) → Type 0
 BooksRun names begun now ledger past =
     BooksStand ledger past ⊎ StandAfterOpening names begun now ledger past
 
--- `left` has the time of the store's latest record, and the number of its pending polls.
+-- `left` has the timestamp of the store's latest record, and the number of the store's pending
+-- polls.
 pub record IsLeft (past : History) (left : Left) : Type 0 where
   pub latest : left.latest ≡ latest_in (facts_of past)
   pub waiting : left.waiting ≡ length (pending_in (facts_of past))

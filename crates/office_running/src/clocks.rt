@@ -1,5 +1,5 @@
-//! The two clocks of a run: the monotonic clock by which it waits, and the clock that gives the
-//! times of events.
+//! Reads the two clocks of a run of `sunreg run`: the monotonic clock for waiting, and the system
+//! clock for the timestamps of events.
 ghost use Rattle.std.specs.Prelude.{◌≡◌};
 ghost use Rattle.office_running.specs.Runs.{ReadsClock};
 
@@ -9,8 +9,7 @@ use run_schedule::{RunTime, SteadyClock};
 use socket_link::Clock;
 use std::time::{SystemTime, UNIX_EPOCH};
 
-// Returns how many milliseconds of the present second have passed, by the clock that gives the
-// times of events.
+// Returns the milliseconds that have passed since the system clock's present second began.
 fn part_of_second<R: std::rt::Clock>(rt: &R) -> u64 {
     let Ok(now) = SystemTime::now(rt) else {
         return 0;
@@ -21,9 +20,11 @@ fn part_of_second<R: std::rt::Clock>(rt: &R) -> u64 {
     }
 }
 
-/// Returns the time of a run that begins now. The time is a millisecond late, since both clocks
-/// return whole milliseconds. No second of the run therefore begins before the clock returns its
-/// time: otherwise an event at its beginning would have almost no time.
+/// Returns the time of a run that begins now.
+///
+/// The run's time is one millisecond late, since both clocks return whole milliseconds. Each second
+/// of the run therefore begins after the system clock returns that second's timestamp. Otherwise an
+/// event at the beginning of a second would have almost no time until its timeout.
 pub(crate) fn time_from<R: std::rt::Clock>(rt: &R, moment: u64) -> RunTime {
     let base = moment
         .saturating_mul(1000)
@@ -32,14 +33,17 @@ pub(crate) fn time_from<R: std::rt::Clock>(rt: &R, moment: u64) -> RunTime {
     RunTime::new(base, even_milliseconds(rt))
 }
 
-/// Returns how many milliseconds remain until the next second of the run.
+/// Returns the milliseconds until the next second of the run.
 pub(crate) fn to_next_second<R: std::rt::Clock>(rt: &R, time: &mut RunTime) -> u64 {
     time.read(even_milliseconds(rt));
     time.to_next_second()
 }
 
-/// Returns the time for the next events: the clock's, or the latest time if the clock is before it.
-/// Reports once that the clock was set back, and that it went ahead by more than a minute.
+/// Returns the timestamp of the next events: the system clock's time, or the latest timestamp of
+/// the run if the clock is earlier.
+///
+/// Reports once if the clock was set back, and once if the clock jumped ahead by more than a
+/// minute.
 pub(crate) fn read_clock<C: Clock>(
     steady: &mut SteadyClock,
     clock: &mut C,
@@ -60,7 +64,7 @@ pub(crate) fn read_clock<C: Clock>(
     reading.moment
 }
 
-/// Returns the time of the run now, in seconds.
+/// Returns the present time of the run, in seconds.
 pub(crate) fn read_time<R: std::rt::Clock>(rt: &R, time: &mut RunTime) -> u64 {
     time.read(even_milliseconds(rt));
     time.seconds()

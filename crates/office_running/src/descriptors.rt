@@ -1,22 +1,23 @@
-//! How many file descriptors a run may open.
+//! Determines how many file descriptors a run of `sunreg run` may open.
 use mio::Poll;
 use run_schedule::{MOST_PEERS, clients_for, needed_limit, wanted_descriptors};
 use std::alloc::{AllocError, Global};
 use std::net::Net;
 
-/// The recommended limit of file descriptors suffices for at least this many devices.
+/// The recommended limit of file descriptors suffices for at least this number of devices.
 const MOST_DEVICES: usize = 64;
 
-/// The number of clients that a run accepts at once if it may open only few file descriptors.
+/// The number of clients that a run accepts at once, if the limit of file descriptors leaves some
+/// client slots unused.
 #[derive(Clone, Copy)]
 pub(crate) struct FewClients {
     pub(crate) clients: usize,
-    /// The limit of file descriptors that would allow a client in each slot.
+    /// The limit of file descriptors that would allow a client in each client slot.
     pub(crate) limit: usize,
 }
 
-// Counts the file descriptors that the process may still open, up to `most`: opens them, and closes
-// them again.
+// Counts the file descriptors that the process may still open, up to `most`, by opening and closing
+// them.
 fn count_descriptors<R: Net>(rt: &R, alloc: Global, most: usize) -> Result<usize, AllocError> {
     let mut opened = Vec::new(alloc);
     for _descriptor in 0..most {
@@ -28,9 +29,10 @@ fn count_descriptors<R: Net>(rt: &R, alloc: Global, most: usize) -> Result<usize
     Ok(opened.len())
 }
 
-/// Returns how many clients a run with this number of devices accepts at once. If that leaves slots
-/// empty, also returns the recommended limit. Call this when everything but devices and clients is
-/// open.
+/// Returns the number of clients that a run with `devices` devices accepts at once.
+///
+/// If this number leaves client slots unused, the function also returns the recommended limit of
+/// file descriptors. Call this function when everything but devices and clients is open.
 pub(crate) fn find_clients<R: Net>(
     rt: &R,
     alloc: Global,

@@ -1,4 +1,4 @@
-//! The devices of a run, and their rounds.
+//! The devices of a run of `sunreg run`, with their connections and polling rounds.
 ghost use Rattle.std.specs.Prelude.{ℕ, List};
 ghost use Rattle.office_running.specs.Runs.{Goes};
 
@@ -16,12 +16,14 @@ use run_schedule::Phase;
 use std::alloc::{AllocError, Global};
 use std::net::Net;
 
-/// The largest number of chunks that are read from a device before the time advances: more than its
-/// pending responses have.
+/// The largest number of chunks that are read from a device before the run's time advances. The
+/// pending responses of a device have fewer chunks.
 const MOST_PIECES: u32 = 64;
 
-// Passes the office's answer and notifications for a device's bytes to the rounds. The device's
-// round gets the answer, unless it is about to start reads, to which it is no answer.
+// Passes the office's answer and notifications for a device's bytes to the polling rounds.
+//
+// The round of the device gets the answer only while it waits for responses. A round that is about
+// to start reads would take the answer for that of its start.
 fn tell_rounds(
     rounds: &mut [Round],
     place: usize,
@@ -36,7 +38,7 @@ fn tell_rounds(
     }
 }
 
-/// The devices of a run: the connection to each, and the state of its round.
+/// The devices of a run: the connection to each, and the state of its polling round.
 #[derive(Drop)]
 pub(crate) struct Polling {
     every: u64,
@@ -45,7 +47,8 @@ pub(crate) struct Polling {
 }
 
 impl Polling {
-    /// Creates the devices. Each rests until the first multiple of `every` seconds after now.
+    /// Creates the devices of a run. Each device waits for its first polling round until the next
+    /// multiple of `every` seconds.
     pub(crate) fn new(
         alloc: Global,
         sites: &[Site],
@@ -65,24 +68,24 @@ impl Polling {
         })
     }
 
-    /// Returns the number of devices.
+    /// Returns the number of devices that the run polls.
     pub(crate) fn count(&self) -> usize {
         self.slots.len()
     }
 
-    /// Marks the device in a slot as ready: it may have sent bytes.
+    /// Marks the device in a slot as ready, because it may have sent bytes.
     pub(crate) fn mark(&mut self, place: usize) {
         if place < self.slots.len() {
             self.slots[place].ready = true;
         }
     }
 
-    /// Returns whether any device is ready.
+    /// Returns whether any device is marked as ready, because it may have sent bytes.
     pub(crate) fn is_ready(&self) -> bool {
         self.slots.iter().any(|slot| slot.ready)
     }
 
-    // Marks the connection in a slot as failed, and reports the failure.
+    // Marks the connection to the device in a slot as failed, and reports the failure.
     fn fail(&mut self, place: usize, voice: &mut Voice, now: Now) {
         if place < self.slots.len() {
             let every = self.every;
@@ -95,7 +98,7 @@ impl Polling {
         }
     }
 
-    // Begins a connection to the device in a slot, if one is due.
+    // Begins a connection to the device in a slot, if its polling round is due.
     fn begin<R: Net>(
         &mut self,
         rt: &R,
@@ -114,7 +117,8 @@ impl Polling {
         }
     }
 
-    /// Begins all connections that are due. The token of the first device is `first`.
+    /// Begins the connections to all devices whose polling rounds are due. The socket token of the
+    /// first device is `first`.
     pub(crate) fn begin_all<R: Net>(
         &mut self,
         rt: &R,
@@ -128,7 +132,7 @@ impl Polling {
         }
     }
 
-    // Reports how the round in a slot ended, and closes its connection.
+    // Reports the outcome of the polling round in a slot, and closes its connection.
     fn finish(&mut self, place: usize, voice: &mut Voice, now: Now) {
         if place < self.slots.len() && place < self.rounds.len() {
             let sum = self.rounds[place].sum;
@@ -140,7 +144,7 @@ impl Polling {
         }
     }
 
-    // Sends the pending frames to a device, or closes its connection if its round is over.
+    // Sends the pending frames to a device, or closes its connection if its polling round is over.
     fn settle(&mut self, place: usize, voice: &mut Voice, now: Now) {
         if place < self.slots.len() && place < self.rounds.len() {
             if self.slots[place].timing.phase != Phase::Polling {
@@ -161,7 +165,7 @@ impl Polling {
         }
     }
 
-    /// Feeds a device event to the office, and then the events that the rounds request.
+    /// Feeds a device event to the office, and then the events that the polling rounds request.
     pub(crate) fn feed<B: Books>(
         &mut self,
         device_event: DeviceEvent,
@@ -176,8 +180,7 @@ impl Polling {
         self.settle_all(voice, now);
     }
 
-    // Handles what was seen of a new connection in a slot. Returns the event for the office, if
-    // there is one.
+    // Handles the state of a new connection in a slot. Returns the event for the office, if any.
     fn joined(
         &mut self,
         place: usize,
@@ -201,8 +204,8 @@ impl Polling {
         }
     }
 
-    // Looks what has arrived on the connection in a slot. Returns the event for the office, if
-    // there is one.
+    // Checks the connection in a slot for bytes, its establishment or its end. Returns the event
+    // for the office, if any.
     fn look(&mut self, place: usize, voice: &mut Voice, now: Now) -> Option<DeviceEvent> {
         if place >= self.slots.len() {
             return None;
@@ -220,8 +223,8 @@ impl Polling {
         }
     }
 
-    // Handles a device that took longer than its time. Returns the event for the office, if there
-    // is one.
+    // Handles a device whose connection or polling round exceeded its time limit. Returns the event
+    // for the office, if any.
     fn expire(&mut self, place: usize, voice: &mut Voice, now: Now) -> Option<DeviceEvent> {
         if place < self.slots.len() && self.slots[place].timing.phase == Phase::Connecting {
             self.fail(place, voice, now);
@@ -230,7 +233,7 @@ impl Polling {
         Some(DeviceEvent::Closed(place, Closing::Failed))
     }
 
-    // Looks for the next event of the device in a slot.
+    // Returns the next event of the device in a slot, if any.
     fn device_event(&mut self, place: usize, voice: &mut Voice, now: Now) -> Option<DeviceEvent> {
         if place >= self.slots.len() {
             return None;
@@ -244,8 +247,8 @@ impl Polling {
         None
     }
 
-    // Returns the name of the device in a slot, if its round has pending responses or is about to
-    // start more reads.
+    // Returns the name of the device in a slot, if the device's polling round waits for responses
+    // or is about to start more reads.
     fn waiting_at(&self, place: usize) -> Option<Option<Name>> {
         if place >= self.rounds.len() {
             return None;
@@ -256,7 +259,8 @@ impl Polling {
         }
     }
 
-    /// Marks a device with pending responses as ready, whether or not the system reported anything.
+    /// Marks a device with pending responses as ready, even if the system reported no event of its
+    /// socket.
     pub(crate) fn mark_waiting(&mut self, place: usize) {
         if self.waiting_at(place).is_some() {
             self.mark(place);
@@ -274,8 +278,10 @@ impl Polling {
         Some((device, bytes))
     }
 
-    // Feeds the bytes of one device to the office. The events that its round then requests wait for
-    // the next turn: a read that started at a past time would have a shorter timeout.
+    // Feeds the bytes of one device to the office.
+    //
+    // The events that its polling round then requests wait for the next turn: a read that started
+    // at an earlier time would have a shorter timeout.
     fn hear<B: Books>(
         &mut self,
         place: usize,
@@ -302,7 +308,8 @@ impl Polling {
         );
     }
 
-    // Feeds at most one chunk from a device with pending responses. Returns whether there was none.
+    // Feeds at most one chunk from a device with pending responses to the office. Returns whether
+    // there was no chunk.
     #[tactic(auto, using(crate::proofs::Going::goes_none))]
     fn hear_piece<B: Books>(
         &mut self,
@@ -323,7 +330,8 @@ impl Polling {
         }
     }
 
-    /// Feeds the bytes that a device with pending responses has sent, before the time advances.
+    /// Feeds the bytes that a device with pending responses has sent to the office, before the time
+    /// advances.
     pub(crate) fn hear_device<B: Books>(
         &mut self,
         place: usize,
@@ -342,8 +350,8 @@ impl Polling {
         }
     }
 
-    /// Feeds the next event of the device in a slot, with at most one chunk of bytes. Returns
-    /// whether there was an event.
+    /// Feeds the next event of the device in a slot to the office, with at most one chunk of bytes.
+    /// Returns whether there was an event.
     #[tactic(auto, using(crate::proofs::Going::goes_none, crate::proofs::Going::goes_both))]
     pub(crate) fn attend<B: Books>(
         &mut self,

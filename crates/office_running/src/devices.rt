@@ -1,4 +1,4 @@
-//! The connections to devices.
+//! The TCP connections to devices.
 ghost use Rattle.std.specs.Prelude.{◌≤◌, ◌<◌, ◌^◌};
 
 use crate::settings::Site;
@@ -12,22 +12,22 @@ use std::alloc::Global;
 use std::io::Read;
 use std::net::Net;
 
-/// What was seen on a connection.
+/// The event that a check of a connection to a device finds.
 #[derive(Drop)]
 pub(crate) enum Seen {
-    /// Nothing has happened yet.
+    /// Nothing has happened on the connection yet.
     Nothing,
-    /// The connection is established.
+    /// The connection to the device is established.
     Stands,
-    /// Bytes arrived.
+    /// Bytes arrived from the device.
     Bytes(Vec<u8>),
     /// The device closed the connection.
     Closed,
-    /// The connection failed.
+    /// The connection to the device failed.
     Failed,
 }
 
-/// A device: its connection, its unsent bytes, and when its next round is due.
+/// A device: its connection, its unsent bytes, and the time of its next polling round.
 #[derive(Drop)]
 pub(crate) struct Slot {
     pub(crate) site: Site,
@@ -38,11 +38,12 @@ pub(crate) struct Slot {
     alloc: Global,
     stream: Option<TcpStream>,
     unsent: Outbox,
-    /// How the connection ended, if that was seen but not yet reported to the office.
+    /// The reason why the connection ended, if the end of the connection was noticed but not yet
+    /// reported to the office.
     ended: Option<Closing>,
 }
 
-// Returns whether a new connection is established, or `None` if it is still pending.
+// Returns whether a new connection is established; `None` if it is still pending.
 fn stands(stream: &TcpStream) -> Option<bool> {
     match stream.take_error() {
         Ok(None) => {}
@@ -54,7 +55,7 @@ fn stands(stream: &TcpStream) -> Option<bool> {
     Some(true)
 }
 
-// Limits the time between rounds to the range from 1 to 86,400 seconds.
+// Returns the time between polling rounds, limited to the range from 1 to 86,400 seconds.
 fn spacing(every: u64) -> u64
     ensures some { 0 < result }
     ensures few { result ≤ 86400 }
@@ -62,7 +63,8 @@ fn spacing(every: u64) -> u64
     every.max(1).min(MOST_EVERY)
 }
 
-// Limits a time so that adding the time between rounds cannot overflow.
+// Returns a time in seconds, limited so that adding the time between polling rounds cannot
+// overflow.
 fn bounded(time: u64) -> u64
     ensures { result ≤ 2 ^ 62 }
 {
@@ -70,7 +72,8 @@ fn bounded(time: u64) -> u64
 }
 
 impl Slot {
-    /// Creates a device that rests until the first multiple of `every` seconds after now.
+    /// Creates a device that waits for its first polling round until the next multiple of `every`
+    /// seconds.
     pub(crate) fn new(alloc: Global, site: Site, every: u64, now: u64) -> Slot {
         Slot {
             site,
@@ -84,7 +87,7 @@ impl Slot {
         }
     }
 
-    // Begins a connection to the device. Returns whether that succeeded.
+    // Begins a connection to the device. Returns whether the attempt succeeded.
     fn connect<R: Net>(&mut self, rt: &R, registry: &Registry, token: Token) -> bool {
         let Ok(mut stream) = TcpStream::connect(rt, self.site.addr) else {
             return false;
@@ -98,7 +101,8 @@ impl Slot {
         true
     }
 
-    /// Begins a connection, and measures its time from now on. Returns whether that succeeded.
+    /// Begins a connection to the device, and starts the time limit of the connection at `time`.
+    /// Returns whether the attempt succeeded.
     pub(crate) fn begin<R: Net>(
         &mut self,
         rt: &R,
@@ -112,7 +116,7 @@ impl Slot {
         self.connect(rt, registry, token)
     }
 
-    // Closes the connection.
+    // Closes the connection to the device.
     fn close(&mut self) {
         self.stream = None;
         self.unsent = Outbox::empty(self.alloc);
@@ -120,19 +124,21 @@ impl Slot {
         self.ready = false;
     }
 
-    /// Ends a round: closes the connection, and lets the device rest until it is due.
+    /// Ends a polling round: closes the connection to the device, which then waits until its next
+    /// polling round is due.
     pub(crate) fn rest(&mut self, every: u64, time: u64) {
         self.close();
         self.timing.rest(spacing(every), bounded(time));
     }
 
-    /// Handles a failed connection: the device is tried again after a pause that grows.
+    /// Handles a failed connection. The next attempt to connect follows after a pause that grows
+    /// with each failure.
     pub(crate) fn fail(&mut self, every: u64, time: u64) {
         self.close();
         self.timing.fail(spacing(every), bounded(time));
     }
 
-    // Looks whether a new connection is established.
+    // Checks whether a new connection is established.
     fn connection(&self) -> Seen {
         match &self.stream {
             Some(stream) => match stands(stream) {
@@ -144,7 +150,7 @@ impl Slot {
         }
     }
 
-    // Returns a copy of bytes that arrived.
+    // Returns a copy of bytes that arrived from the device.
     fn piece(&self, bytes: &[u8]) -> Seen {
         match bytes.to_vec(self.alloc) {
             Ok(bytes) => Seen::Bytes(bytes),
@@ -152,7 +158,7 @@ impl Slot {
         }
     }
 
-    // Reads the bytes that arrived, at most one chunk.
+    // Reads the bytes that arrived from the device, at most one chunk.
     fn take(&self) -> Seen {
         let mut room = [0u8; 260];
         let got = match &self.stream {
@@ -184,8 +190,8 @@ impl Slot {
         }
     }
 
-    /// Queues frames after the unsent bytes, and sends what the socket accepts. If that fails, the
-    /// next look reports it.
+    /// Queues frames after the unsent bytes, and sends as much as the socket accepts. If sending
+    /// fails, the next check of the connection reports the failure.
     pub(crate) fn send_more(&mut self, frames: &[u8]) {
         let done = self.unsent.put(frames);
         if done.is_err() || !self.send() {
@@ -193,7 +199,8 @@ impl Slot {
         }
     }
 
-    // Looks what has happened on the connection.
+    // Returns the event on the connection: bytes arrived, or the connection was established or has
+    // ended.
     fn see(&mut self) -> Seen {
         match self.ended {
             Some(Closing::Gone) => return Seen::Closed,
@@ -213,8 +220,8 @@ impl Slot {
         }
     }
 
-    /// Looks what has happened on the connection. The connection stays ready if the look showed
-    /// bytes or that it is established.
+    /// Returns the event on the connection. The device stays marked as ready if bytes arrived or
+    /// the connection was established.
     pub(crate) fn look(&mut self) -> Seen {
         let seen = self.see();
         self.ready = matches!(seen, Seen::Stands | Seen::Bytes(_));
@@ -222,7 +229,7 @@ impl Slot {
     }
 
     /// Reads at most one chunk from a device that is being polled. If the connection has ended, the
-    /// next look reports it.
+    /// next check of the connection reports the end.
     pub(crate) fn listen(&mut self) -> Option<Vec<u8>> {
         if !self.ready || self.timing.phase != Phase::Polling {
             return None;

@@ -1,4 +1,5 @@
-//! The loop of a run: clock, timer event, devices, clients, output, and the wait for sockets.
+//! The event loop of a run of `sunreg run`. A turn of the loop handles the clock, a timer event,
+//! devices, clients and output, and waits for sockets.
 ghost use Rattle.std.specs.Prelude.{◌≡◌, ℕ, List};
 ghost use Rattle.http_request.specs.Hosts.{texts};
 ghost use Rattle.office_running.specs.Runs.{Goes, ReadsClock, RunsOn, TakesTurns, TurnsFrom};
@@ -30,14 +31,13 @@ use std::os::fd::RawFd;
 use std::rt::Files;
 use std::time::Duration;
 
-/// The token of the first device.
+/// The socket token of the first device.
 const FIRST_DEVICE: usize = PORT_TOKEN + 1;
 
-/// After a failed accept: the milliseconds until accepting a connection is tried again.
+/// The number of milliseconds after a failed accept until the next try.
 const RETRY: u64 = 100;
 
-// When a run ends: at a time of its own clock, or at a time of the clock that gives the times of
-// events.
+// The time when a run ends, in seconds: a time of the run, or a timestamp of the system clock.
 #[derive(Clone, Copy)]
 struct End {
     time: u64,
@@ -50,27 +50,29 @@ impl End {
     }
 }
 
-/// The state of a running process: its port, its devices and its output.
+/// The state of a run: its sockets, its devices, its HTTP port and its output.
 #[derive(Drop)]
 struct Running {
     poll: Poll,
     polling: Polling,
     port: HttpPort,
     voice: Voice,
-    /// The lines that report events, and the messages to people.
+    /// The queued output: lines that report events, and messages on standard error.
     lines: Outlet,
     sayings: Outlet,
     files: FileWatch,
-    /// The time of the run at which a file of the office was found missing; `None` if none is.
+    /// The time of the run at which a file of the office was found missing; `None` if no file is
+    /// missing.
     lost_at: Option<u64>,
-    /// The time of the present turn.
+    /// The time of the present turn of the event loop, in seconds since the run began.
     time: u64,
-    /// Whether the present turn has a timer event: a second has passed since the turn before, or
-    /// the clock returned a later time.
+    /// Whether the present turn of the event loop has a timer event. It has one if a second has
+    /// passed since the previous turn, or the clock returned a later time.
     ticks: bool,
 }
 
-// Creates the observer of the office for these devices, and reports what the devices lack.
+// Creates the observer of the office for the devices in `sites`, and reports what the devices lack,
+// such as a point list.
 fn voice_of(
     alloc: Global,
     sites: &[Site],
@@ -86,7 +88,7 @@ fn voice_of(
     Ok(voice)
 }
 
-// Returns the descriptors of standard output and standard error.
+// Returns the file descriptors of standard output and standard error.
 fn descriptors_of(settings: &Settings<'_>) -> (Option<RawFd>, Option<RawFd>) {
     match settings.descriptors {
         Some(descriptors) => (Some(descriptors.output), Some(descriptors.errors)),
@@ -94,7 +96,7 @@ fn descriptors_of(settings: &Settings<'_>) -> (Option<RawFd>, Option<RawFd>) {
     }
 }
 
-// Opens a port, and registers it so that new connections wake the loop.
+// Opens a TCP port, and registers the port so that new connections wake the event loop.
 fn listen<R: Net>(rt: &R, registry: &Registry, addr: SocketAddr) -> Result<TcpListener, RunFault> {
     let Ok(mut listener) = TcpListener::bind(rt, addr) else {
         return Err(RunFault::Port);
@@ -105,8 +107,9 @@ fn listen<R: Net>(rt: &R, registry: &Registry, addr: SocketAddr) -> Result<TcpLi
     }
 }
 
-// Creates the HTTP port over a listener. It accepts this many clients at once, and keeps as many
-// requests as the settings leave room for.
+// Creates the HTTP port over a listening socket.
+//
+// The port accepts `clients` clients at once, and keeps as many requests as the settings allow.
 fn port_of(
     alloc: Global,
     listener: TcpListener,
@@ -118,7 +121,7 @@ fn port_of(
 }
 
 impl Running {
-    // Opens the port. Each device rests until it is due.
+    // Opens the HTTP port of a run, and creates its devices, which rest until they are due.
     fn open<R: Net + Files>(
         rt: &R,
         alloc: Global,
@@ -174,8 +177,8 @@ impl Running {
         }
     }
 
-    // Looks whether a file of the office is missing, and reports it. From then on no command is
-    // executed.
+    // Checks whether a file of the office is missing, and reports a missing file. After a file is
+    // missing, no command is executed.
     fn find_loss<R: Files>(&mut self, rt: &R) {
         if let Some(lost) = self.files.look(rt) {
             self.voice.say_lost(self.files.path(lost.index), lost.loss);
@@ -188,8 +191,10 @@ impl Running {
         }
     }
 
-    // Checks that the files of the office are still there. If one is missing, the run ends a second
-    // or two later, so that clients that have just connected still get a response.
+    // Checks that the files of the office still exist.
+    //
+    // If a file is missing, the run ends a second or two later, so that clients that have just
+    // connected still get a response.
     fn look_at_files<R: Files>(&mut self, rt: &R) {
         match self.lost_at {
             Some(time) => {
@@ -201,13 +206,13 @@ impl Running {
         }
     }
 
-    // Does the once-a-second work that does not involve the office.
+    // Performs the once-a-second work that does not involve the office.
     fn begin_second<R: Net>(&mut self, rt: &R, now: Now) {
         self.port.sweep(now.time);
         self.polling.begin_all(rt, self.poll.registry(), FIRST_DEVICE, &mut self.voice, now);
     }
 
-    // Does the once-a-second work, if it is due.
+    // Performs the once-a-second work, if it is due.
     #[tactic(auto, using(crate::proofs::Going::goes_none, crate::proofs::Going::goes_both))]
     fn tick<R: Net, B: Books>(&mut self, rt: &R, office: &mut Office<B>, now: Now)
         ensures { (names : List (List ℕ))
@@ -221,7 +226,7 @@ impl Running {
         }
     }
 
-    // Attends to each client connection, new ones included.
+    // Serves each client connection, including new ones.
     fn attend_peers<R: std::rt::Clock + Files, B: Books>(
         &mut self,
         rt: &R,
@@ -246,16 +251,17 @@ impl Running {
         }
     }
 
-    // Discards cached responses after a device event, because the event may have recorded
-    // something.
+    // Discards cached responses after a device event, because the event may have changed the store.
     fn note_fed(&mut self, has_fed: bool) {
         if has_fed {
             self.port.forget_replies();
         }
     }
 
-    // Attends to the device in a slot. If it had an event, also attends to the clients, so that
-    // they wait for one device's event only.
+    // Processes the next event of the device in a slot.
+    //
+    // If the device had an event, the function also serves the clients. A client therefore waits
+    // for at most one event of a device.
     fn attend_device<R: std::rt::Clock + Files, B: Books>(
         &mut self,
         rt: &R,
@@ -275,7 +281,7 @@ impl Running {
         }
     }
 
-    // Attends to each device.
+    // Processes the next event of each device.
     fn attend_devices<R: std::rt::Clock + Files, B: Books>(
         &mut self,
         rt: &R,
@@ -292,7 +298,7 @@ impl Running {
         }
     }
 
-    // Attends to the devices and the clients.
+    // Processes the next event of each device, and serves the clients.
     fn go_on<R: Net + std::rt::Clock + Files, B: Books>(
         &mut self,
         rt: &R,
@@ -310,7 +316,7 @@ impl Running {
         self.attend_peers(rt, names, earlier, office, now);
     }
 
-    // Ends the rounds that are in progress.
+    // Ends the polling rounds that are in progress.
     fn end_rounds<B: Books>(&mut self, office: &mut Office<B>, now: Now)
         ensures { (names : List (List ℕ))
             → Goes names now.moment B.ledger office.old office.new }
@@ -325,8 +331,8 @@ impl Running {
         }
     }
 
-    // Attends to the devices and the clients, and ends the rounds if the run's time is up. Returns
-    // whether the time is up.
+    // Processes the next event of each device, and serves the clients. If the run's time is up,
+    // also ends the polling rounds. Returns whether the time is up.
     fn act<R: Net + std::rt::Clock + Files, B: Books>(
         &mut self,
         rt: &R,
@@ -347,7 +353,8 @@ impl Running {
         true
     }
 
-    // Returns how many milliseconds to wait for the sockets; 0 if a second has passed in this turn.
+    // Returns the number of milliseconds to wait for the sockets; 0 if a second has passed in this
+    // turn of the event loop.
     fn patience<R: std::rt::Clock>(&self, rt: &R, time: &mut RunTime) -> u64 {
         if self.polling.is_ready() || self.port.is_ready() {
             return 0;
@@ -363,8 +370,8 @@ impl Running {
         }
     }
 
-    // Waits at most this many milliseconds until a socket is ready, and marks the devices and
-    // clients that are.
+    // Waits at most `milliseconds` until a socket is ready, and marks the devices and clients with
+    // ready sockets.
     fn look(&mut self, events: &mut Events<Global>, milliseconds: u64) -> Result<(), RunFault> {
         match self
             .poll
@@ -418,7 +425,8 @@ impl Running {
         self.wait(rt, time, events)
     }
 
-    // Feeds the bytes that devices have sent. Only devices with pending responses are read.
+    // Feeds the bytes that devices have sent to the office. Only bytes of devices with pending
+    // responses are read.
     fn hear_devices<B: Books>(&mut self, office: &mut Office<B>, now: Now)
         ensures { (names : List (List ℕ))
             → Goes names now.moment B.ledger office.old office.new }
@@ -430,7 +438,7 @@ impl Running {
         }
     }
 
-    // Makes one turn of the loop. Returns whether the run's time is up.
+    // Performs one turn of the event loop. Returns whether the run's time is up.
     fn turn<R: Net + std::rt::Clock + Files, B: Books, W: Write, E: Write>(
         &mut self,
         rt: &R,
@@ -452,11 +460,11 @@ impl Running {
         Ok(is_over)
     }
 
-    // Returns the time of the next turn. If that turn has a timer event, first feeds what devices
-    // have sent, at the time of the turn that ends.
+    // Returns the timestamp of the next turn of the event loop.
     //
-    // The clocks are read first. A response that arrived before its deadline is therefore never a
-    // timeout, even if the process was delayed.
+    // The clocks are read first. If the next turn has a timer event, the function then feeds the
+    // bytes that devices have sent, with the timestamp of the present turn. A response that arrived
+    // before its deadline is therefore never a timeout, even if the process was delayed.
     #[tactic(auto, using(crate::proofs::Going::goes_none))]
     fn end_turn<R: std::rt::Clock, B: Books, C: Clock>(
         &mut self,
@@ -482,7 +490,7 @@ impl Running {
         moment
     }
 
-    // Makes turns until the run's time is up.
+    // Performs turns of the event loop until the run's time is up.
     fn turns<R: Net + std::rt::Clock + Files, B: Books, C: Clock, W: Write, E: Write>(
         &mut self,
         rt: &R,
@@ -518,7 +526,7 @@ impl Running {
     }
 }
 
-// Returns when a run that begins now ends.
+// Returns the time when a run that begins now ends.
 fn end_of(settings: &Settings<'_>, now: u64) -> End {
     End {
         time: match settings.lasts {
@@ -529,7 +537,8 @@ fn end_of(settings: &Settings<'_>, now: u64) -> End {
     }
 }
 
-// Opens the port of an open office. Reports what its store had pending, and the port.
+// Opens the HTTP port for an open office. Reports the pending polls of the office's store, and the
+// port.
 fn open<R: Net + Files, W: Write>(
     rt: &R,
     alloc: Global,
@@ -552,7 +561,8 @@ fn open<R: Net + Files, W: Write>(
     }
 }
 
-// Opens the port, and makes turns from time `moment` on until the run's time is up.
+// Opens the HTTP port, and performs turns of the event loop from timestamp `moment` on, until the
+// run's time is up.
 fn run_from<R: Net + std::rt::Clock + Files, B: Books, C: Clock, W: Write, E: Write>(
     rt: &R,
     alloc: Global,
@@ -596,11 +606,11 @@ fn run_from<R: Net + std::rt::Clock + Files, B: Books, C: Clock, W: Write, E: Wr
     )
 }
 
-/// Reports what the store of an open office had pending, polls its devices and serves HTTP, until
-/// the run's time is up.
+/// Polls the devices of an open office and serves HTTP, until the run's time is up. Reports the
+/// pending polls of the store first.
 ///
-/// The first query of the web page is made once at the beginning. A store that caches lookups then
-/// answers it from the cache, so no device waits for it later.
+/// The first query of the web page is made once at the beginning. A store that caches lookups can
+/// later answer this query from its cache, so no device waits for the query.
 pub(crate) fn run_open<R: Net + std::rt::Clock + Files, B: Books, C: Clock, W: Write, E: Write>(
     rt: &R,
     alloc: Global,

@@ -1,25 +1,26 @@
-//! Why a run ended early.
+//! The reasons why a run of `sunreg run` ends early.
 use command_io::ExitStatus;
 use std::alloc::AllocError;
 use std::error::Error;
 use std::fmt;
 use std::fmt::{Display, Formatter};
 
-/// Why a run ended early.
+/// The reason why a run ended early.
 #[derive(Clone, Copy, Debug, PartialEq, Eq)]
 pub enum RunFault {
-    /// The office was not opened. The refusal was printed, and the command ends with this status.
+    /// The office was not opened. The refusal was printed, and the command ends with this exit
+    /// status.
     Unopened(ExitStatus),
-    /// The port cannot be opened.
+    /// The HTTP port cannot be opened.
     Port,
     /// The system cannot report which sockets are ready.
     Sockets,
     /// Printing the lines of the run failed.
     Output,
-    /// The office has stopped: its store failed, or memory ran out, while it settled a device's
-    /// event.
+    /// The office has stopped because its store failed, or memory ran out, while it processed an
+    /// event of a device.
     Stopped,
-    /// Out of memory.
+    /// Memory ran out.
     Memory,
 }
 
@@ -33,14 +34,17 @@ impl Display for RunFault {
     fn fmt<W: fmt::Write>(&self, f: &mut Formatter<W>) -> fmt::Result {
         match self {
             RunFault::Unopened(_) => write!(f, "the office was not opened"),
-            RunFault::Port => write!(f, "can't listen on the port: is it in use?"),
-            RunFault::Sockets => write!(f, "can't wait for sockets"),
-            RunFault::Output => write!(f, "can't write to standard output"),
+            RunFault::Port => write!(
+                f,
+                "can't listen on the port: in use, or not an address of this machine"
+            ),
+            RunFault::Sockets => write!(f, "waiting for sockets failed"),
+            RunFault::Output => write!(f, "can't write standard output"),
             RunFault::Stopped => write!(
                 f,
-                "the office has stopped, because its file failed or memory ran out; check the disk, and start again"
+                "the office stopped because its file failed or memory ran out: check the disk, then restart"
             ),
-            RunFault::Memory => write!(f, "memory ran out"),
+            RunFault::Memory => write!(f, "out of memory"),
         }
     }
 }

@@ -1,4 +1,5 @@
-//! Watches the files that the office has open: whether their paths still lead to them.
+//! Watches the files that the office has open, to detect whether each path still leads to the same
+//! file.
 use http_peers::RunSystem;
 use run_schedule::{FileLoss, FileMark, file_loss};
 use std::alloc::{AllocError, Global};
@@ -8,28 +9,28 @@ use std::os::unix::fs::MetadataExt;
 use std::rt::Files;
 use std::time::Duration;
 
-/// A file that the office has open, with its identity at the last look.
+/// A file that the office has open, with its identity at the last check.
 #[derive(Drop)]
 struct WatchedFile {
     path: String,
     mark: FileMark,
 }
 
-/// The files that the office has open.
+/// The files that the office has open, with their identities.
 #[derive(Drop)]
 pub(crate) struct FileWatch {
     files: Vec<WatchedFile>,
 }
 
-/// A lost file: its index, and how it was lost.
+/// A lost file: its index in the list of watched files, and the way in which the file was lost.
 #[derive(Clone, Copy)]
 pub(crate) struct LostFile {
     pub(crate) index: usize,
     pub(crate) loss: FileLoss,
 }
 
-// Returns the identity of the file at a path, or `None` if there is no file. Fails if the system
-// cannot look.
+// Returns the identity of the file at a path; `None` if no file exists there. Fails if the system
+// cannot check the path.
 fn mark_at<R: Files>(rt: &R, path: &str) -> io::Result<Option<FileMark>> {
     match fs::metadata(rt, path) {
         Ok(found) => Ok(Some(FileMark {
@@ -45,8 +46,8 @@ fn mark_at<R: Files>(rt: &R, path: &str) -> io::Result<Option<FileMark>> {
     }
 }
 
-// Returns the identity of an open file. If the path leads to no file now, the identity differs from
-// that of each file found there later.
+// Returns the identity of an open file. If no file exists at the path now, the returned identity
+// differs from the identity of each file found at the path later.
 fn first_mark<R: Files>(rt: &R, path: &str) -> FileMark {
     match mark_at(rt, path) {
         Ok(Some(mark)) => mark,
@@ -66,8 +67,8 @@ impl WatchedFile {
         })
     }
 
-    // Returns how the file at the path was lost, or `None` if it was not, or if the system cannot
-    // look.
+    // Returns the way in which the file at the path was lost. Returns `None` if the file was not
+    // lost, or if the system cannot check the path.
     fn loss<R: Files>(&self, rt: &R) -> Option<FileLoss> {
         match mark_at(rt, self.path.as_str()) {
             Ok(found) => file_loss(self.mark, found),
@@ -75,7 +76,8 @@ impl WatchedFile {
         }
     }
 
-    // Like `loss`, but stores the new identity of a file that is still there.
+    // Returns the way in which the file at the path was lost, as `loss` does. Stores the new
+    // identity of a file that still exists.
     fn look<R: Files>(&mut self, rt: &R) -> Option<FileLoss> {
         let found = match mark_at(rt, self.path.as_str()) {
             Ok(found) => found,
@@ -90,7 +92,7 @@ impl WatchedFile {
 }
 
 impl FileWatch {
-    /// Begins to watch the files at these paths, which the office has open.
+    /// Begins to watch the files at the paths in `paths`, which the office has open.
     pub(crate) fn open<R: Files>(
         rt: &R,
         alloc: Global,
@@ -103,7 +105,7 @@ impl FileWatch {
         Ok(FileWatch { files })
     }
 
-    /// Looks at each file, and returns the first that is lost.
+    /// Checks each file, and returns the first lost file, if any.
     pub(crate) fn look<R: Files>(&mut self, rt: &R) -> Option<LostFile> {
         for index in 0..self.files.len() {
             if index < self.files.len() {
@@ -115,7 +117,7 @@ impl FileWatch {
         None
     }
 
-    /// Returns the path of a file.
+    /// Returns the path of the file with this index; an empty path if there is no such file.
     pub(crate) fn path(&self, index: usize) -> &str {
         match self.files.get(index) {
             Some(file) => file.path.as_str(),
@@ -129,7 +131,7 @@ impl FileWatch {
     }
 }
 
-/// The system, and whether the files of an office were there at the last look.
+/// The clocks of the system, and whether the office's files existed at the last check.
 #[derive(Drop)]
 pub(crate) struct Watching<'r, R: std::rt::Clock> {
     rt: &'r R,

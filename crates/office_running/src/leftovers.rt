@@ -1,4 +1,4 @@
-//! What a store has pending before an office is opened over it.
+//! The pending polls of a store before an office is opened over it.
 ghost use Rattle.std.specs.Prelude.{◌≡◌, false, nat_lt, IfSome};
 ghost use Rattle.office_core.specs.Leaving.{BooksStand};
 ghost use Rattle.office_rules.specs.History.{History};
@@ -10,16 +10,16 @@ use office_books::Books;
 use socket_link::Clock;
 use std::io::Write;
 
-/// What a store has pending.
+/// The latest record and the pending polls of a store.
 #[derive(Clone, Copy, Debug, PartialEq, Eq)]
 pub(crate) struct Left {
-    /// The time of the latest record, in seconds since 1970-01-01 UTC.
+    /// The timestamp of the latest record, in seconds since 1970-01-01 UTC.
     pub(crate) latest: u64,
-    /// The number of pending polls.
+    /// The number of the store's pending polls.
     pub(crate) waiting: usize,
 }
 
-/// Returns what a store has pending; `None` if the store fails.
+/// Returns the latest record and the pending polls of a store; `None` if the store fails.
 pub(crate) fn left_in<B: Books>(books: &mut B) -> Option<Left>
     ensures stands { (past : History) → BooksStand (B.ledger books.old) past
         → BooksStand (B.ledger books.new) past }
@@ -39,7 +39,7 @@ pub(crate) fn left_in<B: Books>(books: &mut B) -> Option<Left>
     }
 }
 
-/// Prints what a store has pending; nothing for `None`.
+/// Prints the latest record and the pending polls of a store; prints nothing for `None`.
 pub(crate) fn print_left<W: Write>(left: Option<Left>, output: &mut W) -> Result<(), RunFault> {
     let Some(left) = left else {
         return Ok(());
@@ -51,8 +51,10 @@ pub(crate) fn print_left<W: Write>(left: Option<Left>, output: &mut W) -> Result
     }
 }
 
-/// Reports that an office cannot be opened since its latest record is later than the clock: both
-/// times, and what can be done. Returns whether the record is later; if not, it reports nothing.
+/// Reports that an office cannot be opened because its latest record is later than the clock. The
+/// report has both times and says what can be done.
+///
+/// Returns whether the latest record is later. If the record is not later, nothing is reported.
 pub fn say_ahead<E: Write>(latest: u64, now: u64, errors: &mut E) -> bool
     ensures ahead { result ≡ nat_lt now latest }
     ensures silent { result ≡ false → errors.new ≡ errors.old }
@@ -67,8 +69,8 @@ pub fn say_ahead<E: Write>(latest: u64, now: u64, errors: &mut E) -> bool
     is_ahead
 }
 
-/// Reports that an office cannot be opened because its latest record is later than the clock;
-/// reports nothing if it is not.
+/// Reports that an office cannot be opened because its latest record is later than the clock.
+/// Reports nothing if it is not later.
 pub(crate) fn say_unopened<C: Clock, E: Write>(left: Option<Left>, clock: &mut C, errors: &mut E) {
     let Some(left) = left else {
         return;

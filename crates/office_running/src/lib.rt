@@ -1,4 +1,5 @@
-//! Polls devices on a schedule and serves HTTP on a port, in one thread over one open office.
+//! Polls devices on a schedule and serves HTTP on a port, in one thread, for one open office
+//! (`sunreg run`).
 #![tactic(auto)]
 
 mod clocks;

@@ -18,7 +18,7 @@ use std::io::Write;
 use std::net::Net;
 use std::rt::Files;
 
-/// The store that a run returns, and how the run ended.
+/// The store that a run returns, and the result of the run.
 #[derive(Drop)]
 pub struct Ran<B> {
     pub books: B,
@@ -26,15 +26,15 @@ pub struct Ran<B> {
 }
 
 /// Opens an office over a store, polls its devices on a schedule, and serves HTTP on a port. The
-/// run ends when its time is up or its end time has come.
+/// run ends after its duration, or at its end time.
 ///
 /// Prints the time of the latest record and the number of lost polls, and `listening PORT` when the
 /// port is open. Then prints a line for each event. Lines that cannot be written without waiting
 /// for a reader are dropped and counted. Reports on `errors`, once each, what a device lacks, and
-/// what each refusal and each rejected reading means.
+/// the meaning of each refusal and each rejected reading.
 ///
-/// If the clock is set back, the run reports that once, and later events have the latest time. All
-/// events of the office have times of the clock, in seconds since 1970-01-01 UTC.
+/// If the clock is set back, the run reports that once, and later events have the latest timestamp
+/// so far. All timestamps are in seconds since 1970-01-01 UTC.
 pub fn run_office<R: Net + std::rt::Clock + Files, B: Books, C: Clock, W: Write, E: Write>(
     rt: &R,
     alloc: Global,

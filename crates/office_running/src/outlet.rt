@@ -1,4 +1,4 @@
-//! The output of a run, written without waiting for its reader.
+//! Writes the output of a run of `sunreg run` without waiting for a reader.
 use mio::unix::SourceFd;
 use mio::{Events, Interest, Poll, Token};
 use run_status::LineQueue;
@@ -8,14 +8,14 @@ use std::net::Net;
 use std::os::fd::RawFd;
 use std::time::Duration;
 
-/// The number of bytes in one write to an output whose reader may block it. Any pipe or terminal
-/// that is writable accepts them.
+/// The number of bytes in one write to an output whose reader may block it. Any writable pipe or
+/// terminal accepts this number of bytes.
 const PIECE: usize = 512;
 
-/// The largest number of writes in one turn.
+/// The largest number of writes to an output in one turn of the event loop.
 const MOST_PIECES: u32 = 128;
 
-// Determines whether a descriptor can be written without waiting.
+// Determines whether a file descriptor can be written without waiting.
 #[derive(Drop)]
 struct Gauge {
     poll: Poll,
@@ -24,7 +24,8 @@ struct Gauge {
 }
 
 impl Gauge {
-    // Returns `None` if the system cannot determine it, as for a file: a write to a file waits for
+    // Creates a check of a file descriptor. Returns `None` if the system cannot check the
+    // descriptor. The system cannot check a regular file, but a write to a regular file waits for
     // no reader.
     fn open<R: Net>(rt: &R, alloc: Global, descriptor: RawFd) -> Option<Gauge> {
         let Ok(poll) = Poll::new(rt) else {
@@ -46,8 +47,8 @@ impl Gauge {
         })
     }
 
-    // Returns whether the descriptor can be written now. Registering it again makes the system look
-    // at it now.
+    // Returns whether the file descriptor can be written now. The function registers the descriptor
+    // again, so that the system checks it now.
     fn is_writable(&mut self) -> bool {
         let registered = self.poll.registry().reregister(
             &mut SourceFd(&self.descriptor),
@@ -67,8 +68,10 @@ impl Gauge {
     }
 }
 
-/// An output whose lines are written without waiting. Lines that the reader does not accept yet
-/// wait in a queue, and are dropped when the queue is full.
+/// An output whose lines are written without waiting.
+///
+/// Lines that the reader does not accept yet wait in a queue, and are dropped when the queue is
+/// full.
 #[derive(Drop)]
 pub(crate) struct Outlet {
     queue: LineQueue,
@@ -76,7 +79,8 @@ pub(crate) struct Outlet {
 }
 
 impl Outlet {
-    /// Opens an output on a descriptor. Without a descriptor, a write is assumed not to wait.
+    /// Opens an output on a file descriptor. Without a descriptor, a write is assumed never to
+    /// wait.
     pub(crate) fn open<R: Net>(rt: &R, alloc: Global, descriptor: Option<RawFd>) -> Outlet {
         Outlet {
             queue: LineQueue::new(alloc),
@@ -87,7 +91,8 @@ impl Outlet {
         }
     }
 
-    /// Queues lines with this time.
+    /// Queues lines for the output. If earlier lines were dropped, first queues a line with
+    /// timestamp `at` that reports the number of dropped lines.
     pub(crate) fn put(&mut self, at: u64, lines: &[u8]) {
         self.queue.tell_dropped(at);
         if !lines.is_empty() {
@@ -95,7 +100,7 @@ impl Outlet {
         }
     }
 
-    // Returns how many bytes can be written now without waiting.
+    // Returns the number of bytes that can be written now without waiting.
     fn room(&mut self) -> usize {
         let waiting = self.queue.waiting().len();
         if waiting == 0 {
@@ -113,7 +118,7 @@ impl Outlet {
         }
     }
 
-    // Writes and flushes this many bytes.
+    // Writes and flushes the first `count` queued bytes.
     fn write_piece<W: Write>(&mut self, count: usize, output: &mut W) -> io::Result<()> {
         let waiting = self.queue.waiting();
         let piece = waiting.get(..count).unwrap_or(waiting);
@@ -123,8 +128,8 @@ impl Outlet {
         Ok(())
     }
 
-    /// Writes the queued lines, as far as the reader accepts them now. If the reader has closed its
-    /// end, the lines stay queued, as with a full pipe.
+    /// Writes the queued lines, as far as the reader accepts them now. If the reader has closed the
+    /// pipe, the lines stay queued, as with a full pipe.
     pub(crate) fn write<W: Write>(&mut self, output: &mut W) -> io::Result<()> {
         for _piece in 0..MOST_PIECES {
             let count = self.room();
@@ -141,7 +146,8 @@ impl Outlet {
     }
 }
 
-/// Writes lines without waiting for the reader of a descriptor. Drops what cannot be written now.
+/// Writes lines without waiting for the reader of a file descriptor. Drops what cannot be written
+/// now.
 pub fn write_without_waiting<R: Net, W: Write>(
     rt: &R,
     alloc: Global,

@@ -1,11 +1,11 @@
-//! The settings of a run.
+//! The settings of a run of `sunreg run`.
 use carried_books::EarlierRegister;
 use office_events::Name;
 use std::net::SocketAddr;
 use std::os::fd::RawFd;
 
-/// A device to poll: its name in the office, and its address. The name is `None` if the text is no
-/// valid name.
+/// A device to poll: its name in the office, and its address. The name is `None` if it is not
+/// valid.
 #[derive(Clone, Copy)]
 pub struct Site {
     pub name: Option<Name>,
@@ -22,29 +22,32 @@ pub struct Descriptors {
 /// The settings of a run. Times are in seconds.
 #[derive(Clone, Copy)]
 pub struct Settings<'n> {
-    /// The address and port on which HTTP is served.
+    /// The local address and port on which HTTP is served.
     pub listen: SocketAddr,
-    /// The time between rounds of a device, 1 to 86,400. A value outside is limited to this range.
+    /// The time between polling rounds of a device, 1 to 86,400 seconds. Other values are limited
+    /// to this range.
     pub every: u64,
-    /// How many seconds the process runs; `None` is without an end.
+    /// The number of seconds that the process runs; `None` for no limit.
     pub lasts: Option<u64>,
-    /// A time of the clock, in seconds since 1970-01-01 UTC, at which the process ends in any case;
-    /// `None` is without one.
+    /// The timestamp at which the process ends in any case, in seconds since 1970-01-01 UTC; `None`
+    /// for no such timestamp.
     pub ends: Option<u64>,
-    /// The names by which an HTTP request may name the host, beside those of this machine.
+    /// The host names that HTTP requests may name, besides those of this machine.
     pub host_names: &'n [&'n str],
-    /// The bytes of requests that the store kept when it was opened, and their limit. A command
-    /// that exceeds the limit gets status 503. `None` is no limit.
+    /// The number of request bytes in the store when the store was opened, and the limit of this
+    /// number.
+    ///
+    /// A command that exceeds the limit gets status 503. With `None` there is no limit.
     pub kept: u64,
     pub most_kept: Option<u64>,
-    /// What earlier files of the office have of its accounting registers. Their energy is reported
-    /// together with that of the open file.
+    /// The data of the office's accounting registers in its earlier files. Energy is reported over
+    /// these files and the open file together.
     pub earlier: &'n [EarlierRegister],
-    /// The paths of the files that the store has open. The run watches them until it ends.
+    /// The paths of the files that the store has open. The run watches these files until it ends.
     pub files: &'n [&'n str],
-    /// Whether a line is printed for each poll.
+    /// Whether the run prints a line for each poll.
     pub verbose: bool,
-    /// The descriptors of output and errors, so that a write never waits for a reader; `None` if a
-    /// write never waits.
+    /// The file descriptors of standard output and standard error, so that a write never waits for
+    /// a reader; `None` if a write never waits anyway.
     pub descriptors: Option<Descriptors>,
 }

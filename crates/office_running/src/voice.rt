@@ -1,4 +1,5 @@
-//! What a run reports of the events of its office, and what it remembers to report only once.
+//! Reports the events of a run of `sunreg run`, and stores which events were reported, so that each
+//! is reported once.
 use crate::descriptors::FewClients;
 use crate::leftovers::Left;
 use office_events::{Answer, Event, Name, Note, Observer, Refusal};
@@ -13,24 +14,27 @@ use script_text::write_note;
 use std::alloc::{AllocError, Global};
 use std::{io, mem};
 
-/// The state of a device after its last round.
+/// The state of a device after its last polling round.
 #[derive(Clone, Copy, Debug, PartialEq, Eq)]
 pub(crate) enum Standing {
     Unknown,
-    /// A poll was answered.
+    /// A poll of the device was answered.
     Answers,
     /// The device was connected, and none of its polls was answered.
     Silent,
-    /// The device was not connected.
+    /// No connection to the device was established.
     Unreachable,
 }
 
-/// The observer of an office: keeps the figures of `/status`, the lines to print, and the messages
-/// to people. A line is omitted, or cut off, if memory runs out.
+/// The observer of an office. It collects the figures of `/status`, the lines to print, and the
+/// messages on standard error.
+///
+/// If memory runs out, a line of the log is omitted or cut off.
 #[derive(Drop)]
 pub(crate) struct Voice {
     pub(crate) monitor: RunMonitor,
-    /// Whether the office has stopped.
+    /// Whether the run must end early, because the office has stopped or a file of the office is
+    /// lost.
     pub(crate) stopped: bool,
     /// What the devices lacked when the run began, such as a point list.
     pub(crate) lacks: Vec<DeviceLack>,
@@ -44,7 +48,7 @@ pub(crate) struct Voice {
     is_full: bool,
 }
 
-// Returns the state of a device after a round with these outcomes of its polls.
+// Returns the state of a device after a polling round, by the outcomes of the round's polls.
 fn standing_by(sum: Sum) -> Standing {
     if sum.answered > 0 {
         Standing::Answers
@@ -66,7 +70,8 @@ fn word_of(standing: Standing) -> &'static [u8] {
     }
 }
 
-// Returns the text for how a file of the office was lost, which follows the file's path.
+// Returns the text that says how a file of the office was lost. It follows the file's path in the
+// message.
 fn how_lost(loss: FileLoss) -> &'static [u8] {
     match loss {
         FileLoss::Missing => b"removed or renamed while in use",
@@ -75,8 +80,8 @@ fn how_lost(loss: FileLoss) -> &'static [u8] {
     }
 }
 
-// Returns whether every round has such an event, so that it needs no report: an accepted
-// connection, or an accepted end after the last poll.
+// Returns whether the event needs no report because every polling round has such an event. These
+// events are an accepted connection, and an accepted end of the connection after the last poll.
 fn is_usual(event: &Event, answer: Result<Answer, Refusal>) -> bool {
     match event {
         Event::Connected(_) => answer.is_ok(),
@@ -85,7 +90,7 @@ fn is_usual(event: &Event, answer: Result<Answer, Refusal>) -> bool {
     }
 }
 
-// Appends the line of a poll that ended, or of a reading that was accepted.
+// Appends the line for a poll that ended, or for a reading that was accepted.
 fn put_poll(text: &mut Vec<u8>, at: u64, name: &Option<Name>, note: &Note) -> io::Result<()> {
     if matches!(note, Note::Held { .. }) {
         return Ok(());
@@ -131,7 +136,7 @@ impl Voice {
         });
     }
 
-    /// Reports what the devices lack.
+    /// Reports what all devices lack.
     pub(crate) fn say_lacks(&mut self) {
         for place in 0..self.lacks.len() {
             if place < self.lacks.len() {
@@ -141,7 +146,7 @@ impl Voice {
         }
     }
 
-    // Returns the name of the device in a slot; `None` if there is none.
+    // Returns the name of the device in a slot; `None` without a slot or a valid name.
     fn name(&self, place: Option<usize>) -> Option<Name> {
         let place = place?;
         if place < self.names.len() {
@@ -150,17 +155,18 @@ impl Voice {
         None
     }
 
-    /// Returns the lines to print, and clears them.
+    /// Returns the queued lines, and empties the queue of lines.
     pub(crate) fn take_lines(&mut self) -> Vec<u8> {
         mem::replace(&mut self.lines, Vec::new(self.alloc))
     }
 
-    /// Returns the messages to people, and clears them.
+    /// Returns the queued messages on standard error, and empties the queue of messages.
     pub(crate) fn take_said(&mut self) -> Vec<u8> {
         mem::replace(&mut self.said, Vec::new(self.alloc))
     }
 
-    /// Reports what the store had pending, and the port of HTTP.
+    /// Reports the latest record and the pending polls that the store had before the run, and the
+    /// HTTP port.
     pub(crate) fn tell_opened(&mut self, left: Option<Left>, port: u16) {
         if let Some(left) = left {
             let _done = put_number(&mut self.lines, b"books to ", left.latest);
@@ -171,7 +177,7 @@ impl Voice {
         let _done = put(&mut self.lines, b"\n");
     }
 
-    /// Reports that the clock is this many seconds before the latest time of the run.
+    /// Reports that the clock is `seconds` seconds before the latest timestamp of the run.
     pub(crate) fn tell_set_back(&mut self, moment: u64, seconds: u64) {
         let _done = put_number(&mut self.lines, b"", moment);
         let _done = put_number(&mut self.lines, b" clock set back ", seconds);
@@ -186,8 +192,7 @@ impl Voice {
         let _done = put(&mut self.said, b"\n");
     }
 
-    /// Reports that the clock went from one time to a much later one, further than a run allows
-    /// between two readings.
+    /// Reports that the clock jumped ahead, from one timestamp to a much later one.
     pub(crate) fn tell_ahead(&mut self, before: u64, moment: u64) {
         let _done = put_number(&mut self.said, b"sunreg: the clock jumped from ", before);
         let _done = put_number(&mut self.said, b" to ", moment);
@@ -197,7 +202,7 @@ impl Voice {
         );
     }
 
-    /// Reports once that a command was refused since the limit of kept requests is reached.
+    /// Reports once that a command was refused because the limit of stored requests is reached.
     pub(crate) fn say_full(&mut self) {
         if !self.is_full {
             self.is_full = true;
@@ -208,7 +213,7 @@ impl Voice {
         }
     }
 
-    /// Reports that few clients are accepted at once.
+    /// Reports that the run serves only few clients at once, because file descriptors are scarce.
     pub(crate) fn say_few(&mut self, few: FewClients) {
         let _done = put_number(
             &mut self.said,
@@ -243,8 +248,8 @@ impl Voice {
         );
     }
 
-    /// Reports that a file of the office was missing when a command was to be acknowledged, and is
-    /// there again.
+    /// Reports that a file of the office was missing when a command was committed, and that the run
+    /// stops.
     pub(crate) fn say_gone(&mut self) {
         let _done = put(
             &mut self.said,
@@ -252,7 +257,7 @@ impl Voice {
         );
     }
 
-    /// Reports the state of a device, if it changed.
+    /// Reports the state `now` of a device, if it differs from the earlier state `before`.
     pub(crate) fn tell_standing(
         &mut self,
         at: u64,
@@ -266,7 +271,8 @@ impl Voice {
         }
     }
 
-    /// Reports how the polls of a round ended. Returns the state of the device after it.
+    /// Reports the outcomes of a polling round. Returns the state of the polled device after this
+    /// polling round.
     pub(crate) fn tell_round(
         &mut self,
         at: u64,
@@ -290,7 +296,7 @@ impl Voice {
         now
     }
 
-    // Reports the polls that ended.
+    // Reports the poll or the accepted reading in each notification.
     fn tell_polls(&mut self, at: u64, name: &Option<Name>, notes: &[Note]) {
         for note in notes {
             let _done = put_poll(&mut self.lines, at, name, note);
@@ -298,7 +304,7 @@ impl Voice {
     }
 }
 
-// Returns whether the event is a device's connection or part of its round.
+// Returns the topic of a report on an event: the device's connection, or its polling round.
 fn topic_of(event: &Event) -> Topic {
     match event {
         Event::Connected(_) => Topic::Connection,
@@ -307,7 +313,8 @@ fn topic_of(event: &Event) -> Topic {
 }
 
 impl Voice {
-    // Reports why an event of a device was refused, unless that was its last report.
+    // Reports why an event of a device was refused, unless the last report on the device gave the
+    // reason.
     fn say_refusal(&mut self, device: &Option<Name>, event: &Event, why: Refusal) {
         let is_new = self.told.tell(ToldNumber {
             topic: topic_of(event),
@@ -319,8 +326,8 @@ impl Voice {
         }
     }
 
-    // Handles the answer to a device event. A connection or started reads clear earlier reports
-    // about the device.
+    // Handles the office's answer to a device event. An accepted connection or started reads clear
+    // earlier reports about the device.
     fn say_answer(
         &mut self,
         device: &Option<Name>,
@@ -338,7 +345,8 @@ impl Voice {
         }
     }
 
-    // Reports why a reading of a meter was rejected, unless that was its last report.
+    // Reports why a reading of a meter was rejected, unless the last report on the meter gave the
+    // reason.
     fn say_note(&mut self, note: &Note) {
         match note {
             Note::Outcome { .. } => {}
@@ -356,7 +364,7 @@ impl Voice {
         }
     }
 
-    // Reports an event to people.
+    // Reports a device event on standard error, by the office's answer and notifications.
     fn say(
         &mut self,
         device: &Option<Name>,

@@ -1,4 +1,5 @@
--- Records that are stored in the tables.
+-- Proofs that the store stores the records that a transaction wrote to the tables, as the trait
+-- `Books` requires.
 use Rattle.std.proofs.Common.{◌≡◌, ℕ, List, [], true, false, refl, sym, subst, Result, Ok, Err, IsTrue}
 use Rattle.sqlite.specs.Store.{Ghosts}
 use Rattle.sqlite.specs.Held.{Held, state}
@@ -16,7 +17,7 @@ use Rattle.office_store.specs.Laws.Laws.{DatabasesTellTheirFacts}
 use Rattle.office_store.specs.Answers.{answer_of}
 use Rattle.office_store.specs.Stored.{IsStored, ledger_of}
 
--- All records that a connection holds have the same time zone.
+-- If a connection's database encodes two lists of records, both lists have the same time zone.
 pub known_in : {S : Type 0} → DatabasesTellTheirFacts → (g : Ghosts S) (zone other : List ℕ) (h : Held S) (facts others : List Fact)
     → HoldsFacts g zone h facts → HoldsFacts g other h others → HoldsFacts g other h facts
 unfolding HoldsFacts
@@ -61,7 +62,8 @@ all_booked tell g old new n zone facts (Err e) books = record {
   goes = record { clean = (books []).clean; faults = refl; zone = refl };
 }
 
--- Records that are written to the tables are stored.
+-- If a transaction wrote records to the tables, the store then has the old records and the written
+-- records.
 pub booked : {S : Type 0} → DatabasesTellTheirFacts → (g : Ghosts S) (old new : Held S) (n m : Failures) (zone : Zone) (facts given : List Fact) → given ≡ facts
     → (done : Result (Unit {0}) RowFault) (answer : Result (Unit {0}) BooksFault) → answer ≡ answer_of done → m ≡ faults_after answer n
     → ((text : List ℕ) → BooksFacts g text given old new done)
@@ -72,7 +74,7 @@ booked tell g old new n m zone facts given these done answer is count books =
     let P : Result (Unit {0}) BooksFault → Type 0 = λ a. Books (ledger_of g old n zone) (ledger_of g new (faults_after a n) zone) given a in
     subst F these (subst M (sym count) (subst P (sym is) (all_booked tell g old new n zone given done books)))
 
--- The records that an open connection holds are those of one database.
+-- If an open connection's database encodes two lists of records, the lists are equal up to order.
 pub one_books : {S : Type 0} → DatabasesTellTheirFacts → (g : Ghosts S) (h : Held S) (facts others : List Fact)
     → HasCleanDisk (state g h) → IsTrue (state g h).is_open → IsStored g h facts → IsStored g h others → AreSame facts others
 unfolding HoldsFacts

@@ -1,4 +1,4 @@
--- The records of a store that was created or opened.
+-- Proofs about the records of a store that was created or opened.
 use Rattle.std.proofs.Common.{◌≡◌, inl, inr, ℕ, Bool, true, false, List, [], refl, Result, Ok, Err, IsTrue}
 use Rattle.sqlite.specs.Store.{Ghosts}
 use Rattle.sqlite.specs.Tree.{Trees}
@@ -15,11 +15,11 @@ use Rattle.store_facts.specs.Holding.{HasFacts, HoldsFacts, LeavesFacts}
 use Rattle.office_store.specs.Laws.Files.{HasFactsIn, NewFilesHaveNone, OpenedFilesKeepTheirs}
 use Rattle.office_store.specs.Database.{HasFile, HoldsAlone, KeepsFile}
 
--- While the store is open, a crash leaves the last commit.
+-- True if a crash leaves the last commit while the store is open.
 abbrev pub Settles : {S : Type 0} → Ghosts S → Held S → Type 0
 Settles g h = (trees : Trees) → IsTrue (state g h).is_open → (state g h).may_leave trees → trees ≡ (state g h).committed.trees
 
--- The records of an open connection.
+-- If a connection is open, its database encodes exactly one list of records, up to order.
 alone : {S : Type 0} (g : Ghosts S) (zone : List ℕ) (h : Held S) (facts : List Fact) → Settles g h
     → (HasCleanDisk (state g h) → IsTrue (state g h).is_open × HasFacts zone facts (state g h).committed) → HoldsAlone g zone h facts
 unfolding HoldsFacts LeavesFacts
@@ -30,7 +30,7 @@ alone g zone h facts settles shows = record {
       record { facts = facts; one = inl refl; db = (state g h).committed; has = it.1; same = settles trees it.0 may };
 }
 
--- ---- a created store
+-- ---- the records after a store was created
 
 pub holds_none : {S X E : Type 0} → NewFilesHaveNone → (g : Ghosts S) (zone : List ℕ) (old new : Held S) (x : X) → Settles g new → old.schema ≡ no_schema
     → TransactsTo {E = E} (state g old) (state g new) (Ok x) (Makes zone) → HoldsAlone g zone new []
@@ -40,11 +40,11 @@ holds_none none g zone old new x settles blank does =
     let is = it.2 blank in
     (it.1, record { content = is.0; tables = is.2; are = none zone is.0 is.1 }))
 
--- ---- an opened store
+-- ---- the records after a store was opened
 
 module _ {S X E : Type 0} (theirs : OpenedFilesKeepTheirs) (g : Ghosts S) (zone : List ℕ) (old new : Held S)
     (first : HasCleanDisk (state g new) → HasCleanDisk (state g old)) where
-  -- What holds after an office's store was opened with this result, for a file of any layout.
+  -- The contract of opening a store, for a file of any layout.
   abbrev pub Opens : Result X E → Type 0
   Opens result = HasCleanDisk (state g new) → (layout : Layout) (content : Content)
       → (IsTrue (state g old).is_open → IsFile layout zone (state g old).committed content) → OpensFile layout zone content (state g old) (state g new) result
@@ -77,7 +77,7 @@ module _ {S X E : Type 0} (theirs : OpenedFilesKeepTheirs) (g : Ghosts S) (zone 
         ];
   }
 
--- A connection that was opened had no open transaction.
+-- If a connection was opened as a store, it had no open transaction.
 pub was_idle : {X E C : Type 0} (b : Bool) (x : X) (e : E) → (IsTrue b → (Ok x ≡ Err e) × C) → b ≡ false
 was_idle true x e busy =
     let no : Ok x ≡ Err e = (busy refl).0 in

@@ -1,4 +1,4 @@
--- How the results of table queries become results of the store.
+-- Conversions from the results of table queries to results of the store.
 use Rattle.std.specs.Prelude.{Result, Ok, Err}
 use Rattle.sqlite.specs.declared.error.ErrorCode.TheVariants.{OutOfMemory}
 use Rattle.sqlite.specs.declared.error.Error.TheVariants.{SqliteFailure}
@@ -8,8 +8,8 @@ use Rattle.office_books.specs.declared.faults.StoreFault.TheVariants.{Refused, D
 use Rattle.office_books.specs.declared.faults.BooksFault.{BooksFault}
 use Rattle.office_books.specs.declared.faults.BooksFault.TheVariants.{Store, Memory}
 
--- The fault of the store for a fault of the tables. A row out of its ranges is damage, out of
--- memory is `Memory`, and any other error is a refusal.
+-- The fault of the store that reports a fault of the tables. A row out of its ranges is damage, out
+-- of memory is `Memory`, and any other error is a refusal.
 abbrev pub fault_of : RowFault → BooksFault
 fault_of row.Damaged = Store Damaged
 fault_of (row.Sql (SqliteFailure OutOfMemory)) = Memory

@@ -1,4 +1,4 @@
--- The records of a database in which a store was created or opened.
+-- Definitions about the records of a database in which a store was created or opened.
 use Rattle.std.specs.Prelude.{◌⊎◌, ℕ, List, [], ◌∷◌}
 use Rattle.sqlite.specs.Tree.{Trees}
 use Rattle.sqlite.specs.Store.{Ghosts}
@@ -10,19 +10,20 @@ use Rattle.store_facts.specs.Holding.{HoldsFacts, LeavesFacts, IsLeft}
 use Rattle.office_store.specs.Laws.Files.{HasFactsIn}
 
 module _ {S : Type 0} (g : Ghosts S) (zone : List ℕ) where
-  -- The file of the connection, of any version, has these records. This needs a database that gave
-  -- back what was written to it.
+  -- True if the file of a connection, of any version, encodes the records. The definition assumes
+  -- that reads of the database file return the written bytes.
   abbrev pub HasFile : Held S → List Fact → Type 0
   HasFile h facts = HasCleanDisk (state g h)
       → (layout : Layout) × HasFactsIn layout zone facts (state g h).committed
 
-  -- The database of the connection has these records, and a crash leaves exactly these records.
+  -- True if the database of a connection encodes the records, and a crash leaves exactly the same
+  -- records.
   pub record HoldsAlone (h : Held S) (facts : List Fact) : Type 0 where
     pub holds : HoldsFacts g zone h facts
     pub leaves : LeavesFacts g zone h (facts ∷ [])
 
-  -- The last commit is unchanged. A crash leaves what it could leave before the call, or the tables
-  -- of these records.
+  -- True if a call keeps the last commit. A crash leaves tables that a crash before the call could
+  -- leave, or tables that encode the records.
   pub record KeepsFile (old new : Held S) (facts : List Fact) : Type 0 where
     pub kept : HasCleanDisk (state g new) → KeepsCommit (state g old) (state g new)
     pub leaves : HasCleanDisk (state g new) → (trees : Trees) → (state g new).may_leave trees

@@ -1,4 +1,4 @@
--- The result of creating or opening a store, and the connection that it returns.
+-- Definitions about the result of creating or opening a store, and about the returned connection.
 use Rattle.std.specs.Prelude.{◌≡◌, ◌⊎◌, Result, Ok, Err}
 use Rattle.sqlite.specs.Store.{Ghosts}
 use Rattle.sqlite.specs.Held.{Held}
@@ -8,19 +8,19 @@ use Rattle.store_files.specs.declared.faults.OpenFault.TheVariants.{NotOurs, Zon
 use Rattle.office_store.specs.declared.books.SqlBooks.{SqlBooks}
 use Rattle.office_store.specs.declared.books.Unopened.{Unopened}
 
--- The result without its connection: the time zone of the store, or the fault.
+-- The time zone of the store, or the fault, from the result of creating or opening the store.
 abbrev pub told_by : {S : Type 0} {g : Ghosts S} → Result (SqlBooks S g) (Unopened S)
     → Result Zone OpenFault
 told_by (Ok books) = Ok books.zone
 told_by (Err unopened) = Err unopened.fault
 
--- The connection of the store, or the connection that is returned with the fault.
+-- The connection of the store, or the connection that is returned with a fault.
 abbrev pub connection_in : {S : Type 0} {g : Ghosts S} → Result (SqlBooks S g) (Unopened S) → Held S
 connection_in (Ok books) = books.connection
 connection_in (Err unopened) = unopened.connection
 
--- The connection is returned unchanged if the fault is `NotOurs` or `Zone`: the database is not
--- ours, or its zone is not valid.
+-- True if the connection is returned unchanged after a fault `NotOurs` or `Zone`. The faults mean
+-- that the database is not a store, or that its time zone is invalid.
 abbrev pub HandsBackUntouched : {S : Type 0} → Held S → Unopened S → Type 0
 HandsBackUntouched connection unopened =
     (unopened.fault ≡ NotOurs) ⊎ (unopened.fault ≡ NoZone)

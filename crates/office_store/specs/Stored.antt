@@ -10,21 +10,21 @@ use Rattle.office_books.specs.Ledgers.{Ledger}
 use Rattle.store_facts.specs.Holding.{HoldsFacts, LeavesFacts}
 
 module _ {S : Type 0} (g : Ghosts S) where
-  -- The database has the tables of these records, for some time zone.
+  -- True if the tables of a database encode the records, with some time zone.
   pub record IsStored (h : Held S) (facts : List Fact) : Type 0 where
     pub zone : List ℕ
     pub holds : HoldsFacts g zone h facts
 
-  -- The database has the tables of some records. A crash leaves the tables of one of the lists in
-  -- `left`, for the same time zone.
+  -- True if the tables of a database encode some records, and a crash leaves tables that encode one
+  -- of the lists in `left`. The time zone is the same.
   pub record MayBeLeft (h : Held S) (left : List (List Fact)) : Type 0 where
     pub zone : List ℕ
     pub facts : List Fact
     pub holds : HoldsFacts g zone h facts
     pub leaves : LeavesFacts g zone h left
 
-  -- The model of the store, which its trait describes as a ledger. It is clean while the database
-  -- gave back what was written to it, and open while the connection is open.
+  -- The model of the store that the trait `Books` specifies. The model is clean while reads of the
+  -- database file return the written bytes, and open while the connection is open.
   abbrev pub ledger_of : Held S → Failures → Zone → Ledger
   ledger_of h failures zone = record {
     holds = IsStored h;

@@ -1,4 +1,4 @@
-//! Writing records to the tables of the store, in one transaction. To book is to write records.
+//! Writes records to the tables of the store, in one transaction.
 
 mod books;
 mod corrections;

@@ -1,4 +1,5 @@
-//! The store in a SQLite database: its connection, its time zone, and its failures so far.
+//! The store of metering records in a SQLite database, with its connection, its time zone, and its
+//! count of failures.
 ghost use Rattle.std.specs.Prelude.{◌≡◌, false};
 
 use interval_core::Zone;
@@ -7,7 +8,7 @@ use sqlite::{Alter, Connection};
 use std::alloc::Global;
 use store_files::OpenFault;
 
-/// The store of an office in a SQLite database. No transaction is open between calls.
+/// The store of metering records in a SQLite database. No transaction is open between calls.
 #[derive(Drop)]
 pub struct SqlBooks<S: Alter> {
     pub(crate) connection: Connection<S>,
@@ -17,7 +18,7 @@ pub struct SqlBooks<S: Alter> {
     ghost idle: { connection.in_transaction ≡ false },
 }
 
-/// A database that was not opened as a store: its connection, and the reason.
+/// A database that was not opened as a store, with its connection and the fault.
 #[derive(Drop)]
 pub struct Unopened<S: Alter> {
     pub connection: Connection<S>,
@@ -25,7 +26,7 @@ pub struct Unopened<S: Alter> {
 }
 
 impl<S: Alter> SqlBooks<S> {
-    /// Returns the connection to the database. The tables stay.
+    /// Returns the connection to the database. The tables remain.
     pub fn into_connection(self) -> Connection<S>
         ensures { result ≡ self.connection }
     {

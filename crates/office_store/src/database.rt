@@ -1,4 +1,4 @@
-//! Creating a store in a database, or opening one.
+//! Creates a store in a database, or opens a store.
 ghost use Rattle.std.specs.Prelude.{◌≡◌, ◌≢◌, ◌⊎◌, ℕ, List, [], false, Err, IsTrue, IfOk, IfErr};
 ghost use Rattle.sqlite.specs.Held.{state};
 ghost use Rattle.sqlite.specs.State.{HasCleanDisk};
@@ -23,11 +23,11 @@ use std::alloc::Global;
 use store_files::OpenFault;
 
 impl<S: Alter> SqlBooks<S> {
-    /// Creates the tables of a new store in a database without tables, for the days of a time zone.
-    /// Runs one transaction, whose commit is the last call of the database.
+    /// Creates the tables of a new store in a database without tables. `zone` determines the civil
+    /// days of the store. Runs one transaction, whose commit is the last call of the database.
     ///
     /// Faults: `NotOurs` if the database has any table, index or view, or a transaction is open.
-    /// `Zone` if the text is not a time zone.
+    /// `Zone` if `zone` is not a valid time zone.
     pub fn create(
         alloc: Global,
         connection: Connection<S>,

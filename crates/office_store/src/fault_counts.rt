@@ -1,4 +1,4 @@
-//! Mapping faults of the tables to faults of the store, and counting failures.
+//! Converts faults of the tables to faults of the store, and counts failures of the database.
 ghost use Rattle.std.specs.Prelude.{◌≡◌};
 ghost use Rattle.office_books.specs.Faults.{faults_after};
 ghost use Rattle.office_store.specs.Answers.{answer_of, fault_of};
@@ -7,7 +7,7 @@ use office_books::{BooksFault, Failures, StoreFault};
 use sqlite::{Error, ErrorCode};
 use store_tables::RowFault;
 
-/// Maps a fault of the tables to a fault of the store.
+/// Converts a fault of the tables to a fault of the store.
 fn fault_of(fault: RowFault) -> BooksFault
     ensures { result ≡ fault_of fault }
 {
@@ -18,7 +18,8 @@ fn fault_of(fault: RowFault) -> BooksFault
     }
 }
 
-/// Maps the result of a query to that of the store, and counts a failure of the database.
+/// Converts the result of a table query to a result of the store, and counts a failure of the
+/// database.
 pub(crate) fn answered<T: Drop>(
     failures: &mut Failures,
     found: Result<T, RowFault>,

@@ -1,4 +1,4 @@
-//! Theorems about the tables of an office's store.
+//! Theorems about the tables of a store of metering records.
 
 mod laws;
 

@@ -1,4 +1,5 @@
-//! The store of an office in a SQLite database.
+//! Stores metering records in a SQLite database: creates and opens a store, writes records, and
+//! answers queries.
 #![tactic(auto)]
 
 mod bookings;

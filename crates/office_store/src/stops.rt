@@ -1,4 +1,4 @@
-//! The files of an office's store after a crash.
+//! Closes a store's connection, and states theorems about the store's files after a crash.
 
 mod connection_end;
 mod laws;

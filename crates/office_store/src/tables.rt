@@ -1,4 +1,5 @@
-//! The trait `Books`, the interface of an office's store, over the tables of a database.
+//! Implements the trait `Books`, the interface of a store of metering records, over the tables of a
+//! database.
 use crate::books::SqlBooks;
 use crate::fault_counts::answered;
 use crate::laws::databases_tell_their_facts;

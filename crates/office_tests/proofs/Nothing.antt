@@ -1,4 +1,4 @@
--- An empty store is in the state of the empty past.
+-- The lemma that an empty store agrees with the empty history of events.
 use Rattle.std.proofs.Common.{zero, suc, [], ◌∷◌, inl, refl, arith}
 use Rattle.std.specs.Prelude.{All}
 use Rattle.memory_books.specs.declared.list_books.ListBooks.{ListBooks}

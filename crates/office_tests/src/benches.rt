@@ -1,5 +1,5 @@
-//! A test bench: an office with two devices that are polled at once, and an observer of every
-//! event.
+//! A test setup with an office that polls two devices at the same time, and with an observer of
+//! every event.
 use crate::links::{SECOND_REPLY, first_reply};
 use crate::offices::{assert_list_accepted, inv, office_after};
 use office_books::Books;
@@ -9,35 +9,37 @@ use poll_core::Closing;
 use std::alloc::Global;
 use std::process::Abort;
 
-/// An event of the device in a slot.
+/// An event of the device in the slot with this index of the setup.
 #[derive(Clone, Copy)]
 pub(crate) enum Step {
     Stands(usize),
-    /// The response to the slot's first read arrives: 125 registers of 0.
+    /// The device in this slot sends its response to the first read: 125 Modbus registers with the
+    /// value 0.
     First(usize),
-    /// The response to the slot's second read arrives: one register of 7.
+    /// The device in this slot sends its response to the second read: one Modbus register with the
+    /// value 7.
     Second(usize),
-    /// These bytes arrive from the device in the slot.
+    /// The device in this slot sends these bytes.
     Came(usize, &'static [u8]),
     Ended(usize, Closing),
-    /// A timer event: a second has passed.
+    /// A timer event, which has no input from a device.
     Tick,
 }
 
-/// An event and its time.
+/// An event with its time, in seconds since 1970-01-01 UTC.
 pub(crate) type Moment = (u64, Step);
 
-/// The script lines that add the two devices.
+/// The script lines that add the two devices, `inv` and `two`.
 static DEVICES: [&str; 2] = ["1000 device inv 1 5 1", "1000 device two 1 5 1"];
 
 const NAMES: [&[u8]; 2] = [b"inv", b"two"];
 
-/// Returns the names of the devices.
+/// Returns the names of the two devices.
 pub(crate) fn names() -> [Option<Name>; 2] {
     [inv(), Name::new(b"two")]
 }
 
-/// The rounds of the two devices in an office, and the observer.
+/// The polling rounds of the two devices in an office, and the observer.
 #[derive(Drop)]
 pub(crate) struct Bench<W> {
     pub(crate) rounds: Vec<Round>,
@@ -60,8 +62,7 @@ fn device_event(rt: &impl Abort, alloc: Global, step: Step) -> DeviceEvent {
     }
 }
 
-/// Feeds these events to an office with both devices. The point list of each device needs two
-/// reads.
+/// Runs these events in an office with both devices. The plan of each device has two reads.
 pub(crate) fn play<B: Books, W: Observer + Drop>(
     rt: &impl Abort,
     alloc: Global,

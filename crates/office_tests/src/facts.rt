@@ -1,4 +1,4 @@
-//! Builds the records of an office's store.
+//! Builds the records of an office's store from a short form.
 use crate::offices::name_of;
 use energy_core::{Cause, Entry};
 use mb_wire::{ReadFunction, ReadSpan};
@@ -11,27 +11,28 @@ use poll_core::Outcome;
 use std::alloc::Global;
 use std::process::Abort;
 
-/// A record of an office's store, in short form.
+/// A short form of a record in the office's store.
 #[derive(Clone, Copy)]
 pub(crate) enum Booked {
     /// A device with this name.
     Device(&'static [u8]),
-    /// An accounting register: its name, its device, and the function, address and scale of its
-    /// counter.
+    /// An accounting register, by its name, its device's name, and the Modbus function, the Modbus
+    /// address and the scale of its counter.
     Register(&'static [u8], &'static [u8], ReadFunction, u16, ScaleSource),
-    /// A meter with this name is installed at the accounting register `main` at this time. Its
-    /// counter shows 0, and a count is 1 Wh.
+    /// The installation of the named meter at the accounting register `main` at this time. Its
+    /// counter starts at 0, and one count is 1 Wh.
     Opening(&'static [u8], u64),
-    /// An entry of a meter: its kind, its time, and the value of the counter.
+    /// An entry of a meter, by the meter's name, the kind of entry, its time, and the count.
     Entry(&'static [u8], EntryKind, u64, u32),
-    /// The void of a meter's entry: the index of the entry, and the time of the void.
+    /// A void of a meter's entry, by the meter's name, the sequence number of the entry, and the
+    /// time of the void.
     Void(&'static [u8], u64, u64),
-    /// The start of a poll of `inv`.
+    /// The start of the poll of the device `inv` with this number.
     Poll(u64),
-    /// The poll with this number timed out.
+    /// The timeout of the poll with this number.
     Ended(u64),
-    /// A rejected reading of a meter by a poll: the poll, the time, the counter's value, and the
-    /// cause.
+    /// A rejected reading, by the meter's name, the poll's number, the time, the count and the
+    /// cause of the rejection.
     Hold(&'static [u8], u64, u64, u32, Cause),
 }
 
@@ -101,7 +102,7 @@ fn fact(rt: &impl Abort, booked: &Booked) -> Fact {
     }
 }
 
-/// Returns the records of a history, in order.
+/// Returns the records of a list of short forms, in order.
 pub(crate) fn facts(rt: &impl Abort, alloc: Global, history: &[Booked]) -> Vec<Fact> {
     let mut facts = Vec::new(alloc);
     for booked in history {

@@ -1,4 +1,4 @@
-//! Tests rounds whose link fails at each of its calls in turn.
+//! Tests polling rounds in which a chosen call of the connection (link) to the device fails.
 use crate::links::replies;
 use crate::offices::opened;
 use crate::rounds::{ANSWERED, BOTH_AT_ONCE, Ends, LOST, ends, listed, round};
@@ -9,13 +9,14 @@ use office_rounds::RoundFault;
 use std::alloc::Global;
 use std::process::Abort;
 
-// The number of calls of the link in a round. Writes and reads transfer 7 bytes: 4 calls for both
-// requests, 37 up to the end of the first response, 2 for the second.
+// The number of calls of the link in one polling round, which transfers at most 7 bytes in each
+// call. Both requests together need 4 calls, the first response needs 37, and the second response
+// needs 2.
 const CALLS: u64 = 43;
 
 const UP_TO_FIRST: u64 = 41;
 
-// Returns whether both polls ended as they must if call `number` of the link fails.
+// Returns true if both polls have the expected outcomes when call `number` of the link fails.
 fn are_ends(polls: Ends, number: u64) -> bool {
     if number <= UP_TO_FIRST {
         polls == [LOST, LOST, None]
@@ -26,8 +27,8 @@ fn are_ends(polls: Ends, number: u64) -> bool {
     }
 }
 
-/// Runs a round in which both polls are pending at once, and one call of the link fails. The fault
-/// is `Link`, and each pending poll is lost because of the failure. A restart changes no outcome.
+/// Runs a polling round in which both polls are pending and call `number` of the link fails. The
+/// round fails with the fault `Link`, and each pending poll is lost. A restart changes no outcome.
 pub(crate) fn fail_call<B: Books>(rt: &impl Abort, alloc: Global, books: B, number: u64) {
     let mut office = listed(rt, alloc, books, BOTH_AT_ONCE);
     let mut given = [0; 24];
@@ -45,7 +46,7 @@ pub(crate) fn fail_call<B: Books>(rt: &impl Abort, alloc: Global, books: B, numb
     assert!(rt; are_ends(ends(&mut again), number), "call {number}");
 }
 
-/// If any call of a link fails, all pending polls are lost.
+/// If any call of a link fails, all pending polls of the polling round are lost.
 #[test]
 fn a_failing_link_loses_what_waits(rt: HostRuntime) {
     for number in 1..=CALLS + 1 {

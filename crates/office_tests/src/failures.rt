@@ -1,4 +1,4 @@
-//! Tests stores of which one call fails, each in turn, for each kind of event and query.
+//! Tests each kind of event and query of an office over a store that fails at a chosen call.
 use crate::offices::{inv, opened, request_of};
 use crate::scripts::{print_event, print_line};
 use crate::tried::{Trial, try_failing};
@@ -10,12 +10,12 @@ use std::process::Abort;
 use std::str;
 
 enum Kind {
-    /// A command or a query. If the store refuses a call, the line is sent again.
+    /// A command or a query. If the store fails, the test sends the script line again.
     Asks,
-    /// A command with this number in its idempotency key.
+    /// A command in a request whose idempotency key has this number.
     Requests(u64),
-    /// An event of a device. If the store refuses a call, these rows exist when the office is
-    /// opened again.
+    /// A device event. If the store fails, the office must have these rows after it is opened
+    /// again.
     Happens(&'static str),
 }
 
@@ -146,15 +146,15 @@ meter m2 last 1 sf 1 at 3600 total 0 open
     ),
 ];
 
-// A query after the office was opened again. The opening of the office has ended the pending poll.
+// A query after the office was opened again, which recorded the pending poll as lost.
 static END: Line = asks!("poll 5", "poll 5 lost 4\n");
 
 static ROWS: [&str; 6] = [
     "poll 1", "poll 2", "poll 3", "poll 4", "meter m1", "meter m2",
 ];
 
-// Script lines that a stopped office refuses. An office stops if its store fails while it handles a
-// device event.
+// Script lines that a stopped office refuses. An office stops if its store fails during a device
+// event.
 static ASKED: [&str; 7] = [
     "9000 tick",
     "9000 connect inv",
@@ -169,7 +169,7 @@ fn is_stopped<T: Drop>(answer: Result<T, Refusal>) -> bool {
     matches!(answer, Err(Refusal::Stopped))
 }
 
-// Returns whether a stopped office refuses the queries for which scripts have no line.
+// Returns true if a stopped office refuses the queries that scripts cannot send.
 fn has_stopped<B: Books>(office: &mut Office<B>) -> bool {
     is_stopped(office.device(&inv()))
         && is_stopped(office.register(&inv()))
@@ -178,7 +178,7 @@ fn has_stopped<B: Books>(office: &mut Office<B>) -> bool {
         && is_stopped(office.repeat(&inv(), 1, b""))
 }
 
-/// Asserts that a stopped office refuses every event and every query.
+/// Asserts that a stopped office refuses all events and queries.
 pub(crate) fn assert_stopped<B: Books>(rt: &impl Abort, alloc: Global, office: &mut Office<B>) {
     for line in ASKED {
         let printed = print_line(rt, alloc, office, line);
@@ -202,7 +202,7 @@ fn print_kind<B: Books>(
     }
 }
 
-// Plays a line. If its event has stopped the office, returns the rows that must exist after a
+// Runs a script line. If its event stops the office, returns the rows that must exist after a
 // restart.
 fn play_line<B: Books>(
     rt: &impl Abort,
@@ -225,8 +225,8 @@ fn play_line<B: Books>(
     None
 }
 
-// Opens a stopped office again. It must have its earlier rows, and no pending poll. Returns how
-// often the store has failed.
+// Opens a stopped office again, and asserts that it has these rows and no pending poll. Returns the
+// number of failures of the store.
 fn open_again<B: Books>(rt: &impl Abort, alloc: Global, mut office: Office<B>, rows: &str) -> u64 {
     assert_stopped(rt, alloc, &mut office);
     let mut again = opened(rt, alloc, office.into_books(), 9000);
@@ -239,7 +239,7 @@ fn open_again<B: Books>(rt: &impl Abort, alloc: Global, mut office: Office<B>, r
     again.into_books().faults()
 }
 
-/// Plays all lines over a store. Returns how often the store has failed.
+/// Runs all script lines over a store, and returns the number of failures of the store.
 pub(crate) fn play<B: Books>(rt: &impl Abort, alloc: Global, books: B) -> u64 {
     let mut office = opened(rt, alloc, books, 0);
     for line in &LINES {
@@ -252,8 +252,8 @@ pub(crate) fn play<B: Books>(rt: &impl Abort, alloc: Global, books: B) -> u64 {
     last.into_books().faults()
 }
 
-/// If any one call of the store fails, a command succeeds when it is repeated. A device event stops
-/// the office. When the office is opened again, it has its earlier rows.
+/// If one call of the store fails, a repeated command succeeds, and a device event stops the
+/// office. After the office is opened again, it has its earlier rows.
 #[test]
 fn each_call_of_the_books_may_fail(rt: HostRuntime) {
     for failing in 1..1000 {

@@ -1,5 +1,5 @@
-//! Tests the numbers and the texts of refusals and faults, and how the failures of a store are
-//! counted.
+//! Tests the numeric codes and the texts of refusals and faults, and the failure counter of a
+//! store.
 use energy_core::Cause;
 use office_books::{BooksFault, Failures, StoreFault};
 use office_events::{Refusal, StoreCause};
@@ -16,7 +16,7 @@ const NO_DAY: &str = "an interval row has no civil day in the zone of the books"
 
 const MEMORY: &str = "memory ran out";
 
-// The refusals, in the order of their numbers, from 1 to 17.
+// The refusals in the order of their numeric codes, 1 to 17.
 static REFUSALS: [Refusal; 17] = [
     Refusal::NotFound,
     Refusal::Exists,
@@ -83,14 +83,14 @@ static STORES: [(StoreFault, &str); 2] = [
     (StoreFault::Damaged, DAMAGED),
 ];
 
-// Asserts that a fault has this text, without a full stop.
+// Asserts that a fault has this text, and that the text does not end with a full stop.
 fn assert_text<F: Display>(rt: &impl Abort, alloc: Global, fault: &F, text: &str) {
     let said = format!(in alloc; "{fault}").expect(rt, "a text");
     assert!(rt; said.as_str() == text);
     assert!(rt; !text.ends_with('.'));
 }
 
-/// Each refusal has its number from 1 to 17, and its text.
+/// Each refusal has its numeric code, 1 to 17, and its text.
 #[test]
 fn refusals_have_numbers_and_sentences(rt: HostRuntime) {
     let mut number = 0u8;
@@ -106,7 +106,8 @@ fn refusals_have_numbers_and_sentences(rt: HostRuntime) {
     }
 }
 
-/// Each fault of a round or of a store has its text, and each fault of a round has its number.
+/// Each fault of a polling round has its numeric code and its text, and each fault of a store has
+/// its text.
 #[test]
 fn faults_have_numbers_and_sentences(rt: HostRuntime) {
     for (fault, number, text) in &ROUNDS {
@@ -124,8 +125,8 @@ const STORE_REFUSED: BooksFault = BooksFault::Store(StoreFault::Refused);
 
 const STORE_DAMAGED: BooksFault = BooksFault::Store(StoreFault::Damaged);
 
-// What a store answers in each call. Then how often it has failed up to that call, and its last
-// failure.
+// The results of the calls of a store. Each result is given with the expected number of failures
+// and the expected last failure.
 static CALLS: [(Result<u8, BooksFault>, u64, Option<BooksFault>); 5] = [
     (Ok(7), 0, None),
     (Err(STORE_REFUSED), 1, Some(STORE_REFUSED)),
@@ -134,8 +135,8 @@ static CALLS: [(Result<u8, BooksFault>, u64, Option<BooksFault>); 5] = [
     (Ok(9), 2, Some(STORE_DAMAGED)),
 ];
 
-/// Each failure of a store is counted, and the last one is kept. Out of memory is kept but not
-/// counted.
+/// Each failure of a store is counted, and the last failure is noted. If memory runs out, the
+/// failure is noted but not counted.
 #[test]
 fn each_failure_is_counted_with_its_kind(rt: HostRuntime) {
     let mut failures = Failures::new();

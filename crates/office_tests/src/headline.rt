@@ -1,4 +1,5 @@
-//! Tests a complete run: a device is polled, and the reading of its meter is recorded.
+//! Tests a complete run of events over a store. A device is polled, and the reading of its meter is
+//! recorded.
 use crate::offices::event_of;
 use crate::runs::run_anew;
 use interval_core::Zone;
@@ -9,7 +10,7 @@ use poll_core::{LostCause, Outcome};
 use std::alloc::Global;
 use std::process::Abort;
 
-// The events of the run, each with its answer.
+// The events of the tested run, each with its expected answer.
 static EVENTS: [(&str, Result<Answer, Refusal>); 8] = [
     (
         "1000 device inv 1 5 1",
@@ -32,7 +33,7 @@ static EVENTS: [(&str, Result<Answer, Refusal>); 8] = [
             of: 1,
         }),
     ),
-    // The response of the device. The counter shows 5200, at the scale factor 0.
+    // The response of the device, which contains the count 5200 at the scale factor 0.
     (
         "1900 bytes inv 000000000009010306000014500000",
         Ok(Answer::Noted),
@@ -56,7 +57,7 @@ fn events(rt: &impl Abort, alloc: Global) -> Vec<(u64, Event)> {
     events
 }
 
-// Asserts that the events of the run have these answers, in order.
+// Asserts that the events of the tested run have these answers, in order.
 fn assert_answers(rt: &impl Abort, answers: &[Result<Answer, Refusal>]) {
     assert!(rt; answers.len() == EVENTS.len());
     for (answer, (line, expected)) in answers.iter().zip(&EVENTS) {
@@ -64,15 +65,16 @@ fn assert_answers(rt: &impl Abort, answers: &[Result<Answer, Refusal>]) {
     }
 }
 
-// The pending poll is lost when the store is opened again.
+// The expected outcome of the poll that is pending at the end of the tested run. The poll is lost
+// when the store is opened again.
 const LOST: EndedPoll = EndedPoll {
     poll: 2,
     at: 1902,
     outcome: Outcome::Lost(LostCause::Restart),
 };
 
-// Asserts that an office over the run's store can't be opened at a time before the latest event. At
-// a later time it is opened.
+// Asserts that the store of the tested run cannot be opened at a time before the latest event, but
+// at a later time.
 fn assert_opened_again<B: Books>(rt: &impl Abort, alloc: Global, books: B) {
     let (books, why) = run(alloc, books, 1900, &[]).err().expect(rt, "a refusal");
     assert!(rt; why == Refusal::ClockBack);
@@ -93,8 +95,8 @@ fn assert_run<B: Books>(rt: &impl Abort, alloc: Global, mut done: Run<B>) {
     assert_opened_again(rt, alloc, done.office.into_books());
 }
 
-/// A run returns the answer to each event. Its store can be opened again, and the pending poll is
-/// then lost.
+/// A run of events returns the answer to each event. If a poll is pending at the end, it is lost
+/// when the store is opened again.
 #[test]
 fn a_run_keeps_each_answer(rt: HostRuntime) {
     let zone = Zone::read("UTC0").expect(&rt, "a zone");

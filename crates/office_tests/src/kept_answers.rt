@@ -1,4 +1,4 @@
-//! Tests a store that caches the answers of lookups. The store below it refuses one of its calls.
+//! Tests a store with a cache of lookup results, over a store that fails at a chosen call.
 use crate::facts::Booked;
 use crate::offices::LIST;
 use crate::steps::{Step, try_step};
@@ -12,7 +12,7 @@ use office_events::ScaleSource;
 use std::alloc::Global;
 use std::process::Abort;
 
-// A point list whose plan has one read.
+// A point list with one read in its plan.
 const SHORT: &[u8] = b"name,function,area,address,type,scale\na,3,0,0,acc32,\n";
 
 const HOLDING: ReadFunction = ReadFunction::HoldingRegisters;
@@ -97,11 +97,13 @@ static STEPS: [Step; 49] = [
     Step::Held(b"old", Span::All, &[]),
 ];
 
-// The number of calls of the store below. A step without a cached answer makes one call. An entry
-// that does not exist makes two, and an entry by the rows around it three.
+// The expected number of calls of the store below the cache. A test step whose result is not cached
+// makes one call. A lookup of a missing entry makes two calls, and a lookup with `entry_near` makes
+// three.
 const CALLS: u64 = 41;
 
-// The accounting registers of `inv`, and one of another device at the address of the first.
+// The records of the accounting registers of `inv`, and of a register of the device `pv` at an
+// address that `inv` also uses.
 const REGISTERS: Step = Step::Books(&[
     Booked::Device(b"inv"),
     Booked::Device(b"pv"),
@@ -112,8 +114,8 @@ const REGISTERS: Step = Step::Books(&[
     Booked::Register(b"last", b"inv", HOLDING, 65_534, FIXED),
 ]);
 
-// The reads and the accounting registers of the golden test `polls/registers_of_a_read` of
-// `script_cases`.
+// Modbus reads, each with the accounting registers that the read covers. The golden test
+// `scripts/polls/registers_of_a_read` of `golden_cases` has the same reads.
 static READS: [Step; 12] = [
     Step::Read(3, 100, 2, &["fixed"]),
     Step::Read(3, 100, 1, &[]),
@@ -131,8 +133,8 @@ static READS: [Step; 12] = [
 
 const REFUSED: BooksFault = BooksFault::Store(StoreFault::Refused);
 
-// Asserts that each step has its answer. If the store below refuses a call, the step is tried
-// again.
+// Asserts that each test step has its expected result. If the store below the cache fails, the step
+// is repeated.
 fn assert_steps<B: Books>(rt: &impl Abort, alloc: Global, books: &mut B, steps: &[Step]) {
     for (place, step) in steps.iter().enumerate() {
         match try_step(rt, alloc, books, *step) {
@@ -146,8 +148,8 @@ fn assert_steps<B: Books>(rt: &impl Abort, alloc: Global, books: &mut B, steps: 
     }
 }
 
-// Plays steps over a caching store, and then the last step over the store below. Returns how often
-// the store below had failed before the last step.
+// Executes test steps over a store with a cache, then the last step over the store below the cache.
+// Returns the number of failures before the last step.
 fn play<B: Books>(rt: &impl Abort, alloc: Global, beneath: B, steps: &[Step]) -> u64 {
     let mut books = KeptBooks::new(alloc, beneath);
     assert_steps(rt, alloc, &mut books, steps);
@@ -159,13 +161,14 @@ fn play<B: Books>(rt: &impl Abort, alloc: Global, beneath: B, steps: &[Step]) ->
     faults
 }
 
-/// Plays all steps over a caching store, and returns how often the store below has failed.
+/// Executes all test steps over a store with a cache, and returns the number of failures of the
+/// store below the cache.
 pub(crate) fn play_all<B: Books>(rt: &impl Abort, alloc: Global, beneath: B) -> u64 {
     play(rt, alloc, beneath, &STEPS)
 }
 
-/// Plays one of the reads, by its index, before and after the accounting registers of its device
-/// are cached.
+/// Executes the Modbus read with this index twice, before and after the accounting registers of its
+/// device are cached.
 pub(crate) fn read_twice<B: Books>(
     rt: &impl Abort,
     alloc: Global,
@@ -178,7 +181,7 @@ pub(crate) fn read_twice<B: Books>(
     }
 }
 
-// Asserts that the store below gets exactly this number of calls.
+// Asserts that a test makes exactly the given number of calls of the store below the cache.
 fn assert_calls(rt: &impl Abort, alloc: Global, trial: Trial, calls: u64) {
     for failing in 1..=calls.saturating_add(1) {
         let faults = try_failing(rt, alloc, failing, trial);
@@ -189,13 +192,14 @@ fn assert_calls(rt: &impl Abort, alloc: Global, trial: Trial, calls: u64) {
     }
 }
 
-/// Cached answers are right even if any one call of the store below is refused.
+/// If any one call of the store below the cache fails, the cached results are still correct.
 #[test]
 fn kept_answers_outlive_failures(rt: HostRuntime) {
     assert_calls(&rt, rt.alloc(), Trial::Kept, CALLS);
 }
 
-/// The accounting registers of a read are queried only once from the store below.
+/// The accounting registers that a Modbus read covers are queried only once from the store below
+/// the cache.
 #[test]
 fn a_read_is_asked_of_the_store_once(rt: HostRuntime) {
     for place in 0..READS.len() {

@@ -1,5 +1,5 @@
-//! Tests which file a run continues, and when it begins a new file. A run may have a file for each
-//! month or year.
+//! Tests which store file a run of `sunreg run` continues, and when the run creates a new file. A
+//! run may create a file for each month or year.
 use energy_report::Period;
 use interval_core::{Day, Zone};
 use run_schedule::{
@@ -8,8 +8,9 @@ use run_schedule::{
 use std::alloc::Global;
 use std::process::Abort;
 
-// Names of files in a folder beside `office.db`. Then the period whose file a run continues by
-// months, and the one by years. A period is empty if the run begins a file.
+// The names of the files in a folder, with the expected period of the file that a run of `sunreg
+// run` continues. The first period is for monthly files, and the second for yearly files. The
+// period is empty if the run creates a file.
 static FOLDERS: [(&str, &str, &str); 8] = [
     ("office.db office.db-wal  .", "", ""),
     (
@@ -61,7 +62,7 @@ fn assert_led(rt: &impl Abort, alloc: Global, names: &str, period: Period, wante
     }
 }
 
-/// A run continues the file of the latest period.
+/// A run of `sunreg run` continues the file of the latest period.
 #[test]
 fn books_are_led_in_the_file_that_was_made_last(rt: HostRuntime) {
     for (names, by_month, by_year) in FOLDERS {
@@ -72,8 +73,9 @@ fn books_are_led_in_the_file_that_was_made_last(rt: HostRuntime) {
     assert_led(&rt, rt.alloc(), days, Period::Day, "2026-12-01");
 }
 
-// The period of a file, which is empty for a file without one. Then the current period, the file's
-// last entry, and what a run does at time 1,000.
+// Test cases with the expected plan of a run of `sunreg run` at time 1,000. Each case has the
+// file's period, the current period, and the timestamp of the file's last entry. The period of a
+// file without a period is an empty text.
 static CASES: [(&str, &str, u64, Plan); 14] = [
     ("", "2026-11", 1000, Plan::Carry),
     ("", "2026-11", 1001, Plan::Wait),
@@ -100,7 +102,8 @@ fn plan_at(led: &str, current: &str, last_entry: u64) -> Plan {
     plan_of(led, current.as_bytes(), last_entry, 1000)
 }
 
-/// A file whose period is over is rolled over, unless its last entry is later than the clock.
+/// After the end of a file's period, `sunreg run` rolls the file over, unless the file's last entry
+/// is later than the clock.
 #[test]
 fn files_of_periods_that_are_over_are_carried(rt: HostRuntime) {
     nothing_goes_back();
@@ -118,18 +121,20 @@ fn until(every: u64) -> Option<u64> {
     period_until(&zone, Period::Month, day, every, 1_795_780_800)
 }
 
-/// A file is used to the end of its period, and then for the round that is due at that time.
+/// A run of `sunreg run` uses a file until the end of the file's period. The polling round that is
+/// due at that time also uses the file.
 #[test]
 fn a_file_has_the_round_that_is_due_at_its_end(rt: HostRuntime) {
     assert!(rt; until(2) == Some(1_796_083_201));
     assert!(rt; until(900) == Some(1_796_083_230));
-    // If the next file can't be created, the run tries again at the next full hour.
+    // If `sunreg run` cannot create the next file, it tries again at the next full hour.
     assert!(rt; next_try(2, 1_795_780_800) == Some(1_795_784_401));
     assert!(rt; next_try(900, 1_795_784_399) == Some(1_795_784_430));
     assert!(rt; next_try(900, 4_102_444_801) == None);
 }
 
-/// A run does not begin earlier than the previous one, even if the clock was set back.
+/// A run of `sunreg run` never begins at an earlier time than the previous run, even if the clock
+/// was set back.
 #[test]
 fn no_run_begins_before_the_one_before_it(rt: HostRuntime) {
     let mut time = OnwardTime::new();

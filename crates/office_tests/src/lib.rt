@@ -1,7 +1,7 @@
-//! Tests of the office that no script shows: failing links and stores, caching stores, rounds,
-//! schedules, and the reports of a run.
+//! Tests that no script can run. They cover failing connections and stores, stores with caches,
+//! polling rounds, schedules, and the reports of `sunreg run`.
 //!
-//! What a script shows is a golden test of `script_cases` or `http_cases`.
+//! Tests that a script can run are golden tests of `golden_cases`.
 #![tactic(auto)]
 
 #[cfg(test)]

@@ -1,12 +1,12 @@
-//! Links to devices that time out, and the responses of a device.
+//! Connections (links) to devices that time out, and the responses of a test device.
 use mb_wire::{LastTake, Link, LinkFailed, Took};
 use std::alloc::Global;
 use std::process::Abort;
 
-/// The response to the second read of the point list: a register of 7.
+/// The response to the second read of the point list: one Modbus register with the value 7.
 pub(crate) const SECOND_REPLY: &[u8] = b"\x00\x01\x00\x00\x00\x05\x01\x03\x02\x00\x07";
 
-/// Returns the response to the first read of the point list: 125 registers of 0.
+/// Returns the response to the first read of the point list: 125 Modbus registers with the value 0.
 pub(crate) fn first_reply(rt: &impl Abort, alloc: Global) -> Vec<u8> {
     let mut bytes = b"\x00\x00\x00\x00\x00\xfd\x01\x03\xfa"
         .to_vec(alloc)
@@ -22,7 +22,7 @@ pub(crate) fn replies(rt: &impl Abort, alloc: Global) -> Vec<u8> {
     bytes
 }
 
-/// A link that accepts all writes, and whose reads time out.
+/// A link to a device that accepts all writes, and on which each read times out.
 #[derive(Drop)]
 pub(crate) struct IdleLink {
     takes: u64,

@@ -1,4 +1,4 @@
-//! Counts the calls of the store that an office makes before it refuses an event, or answers a
+//! Tests how many calls of the store the office makes before it refuses an event or answers a
 //! retry.
 use crate::offices::{READ, event_of, new_books, office_after, opened, request_of};
 use failing_books::FailingBooks;
@@ -8,7 +8,8 @@ use office_events::{Answer, CommandKind, Event, Refusal, StoreCause};
 use std::alloc::Global;
 use std::process::Abort;
 
-// A script line, the number of calls of the store before the answer, and the refusal.
+// A script line, the expected number of calls of the store before the office answers, and the
+// expected refusal.
 static CASES: [(&str, u64, Refusal); 25] = [
     ("2000 device inv 1 5 1", 0, Refusal::Exists),
     ("1000 device two 1 5 1", 0, Refusal::ClockBack),
@@ -37,15 +38,16 @@ static CASES: [(&str, u64, Refusal); 25] = [
     ("2000 round inv 0", 1, Refusal::NotFound),
 ];
 
-// The number of calls of the store when an office without pending polls is opened.
+// The number of calls of the store for the opening of an office without pending polls.
 const OPENING: u64 = 3;
 
 const REFUSED: Result<Answer, Refusal> = Err(Refusal::Store(StoreCause::Refused));
 
-// The script line of a reading by hand that is accepted at time 2000.
+// The script line of a manual reading that is accepted at time 2000.
 const KEPT: &str = "1900 manual main 5300 0";
 
-// Stores the devices and readings of `READ`, and a request.
+// Adds the devices and readings of the script `READ` to a store, and a request with an idempotency
+// key.
 fn book_read<B: Books>(rt: &impl Abort, alloc: Global, books: B) -> B {
     let mut office = office_after(rt, alloc, books, &READ);
     let (_, event) = request_of(rt, alloc, b"desk", 1, KEPT);
@@ -67,8 +69,8 @@ fn feed<B: Books>(
     opened(rt, alloc, books, 2000).feed(at, event)
 }
 
-// Returns the answer to an event if the store refuses the call that follows the first `calls`
-// calls.
+// Returns the answer to an event of a script line if the store fails at the call after the first
+// `calls` calls.
 fn feed_after(
     rt: &impl Abort,
     alloc: Global,
@@ -81,7 +83,7 @@ fn feed_after(
     feed(rt, alloc, books, at, event)
 }
 
-/// When the office has found why an event is refused, it makes no further call of the store.
+/// After the office has found the reason to refuse an event, it makes no further call of the store.
 #[test]
 fn books_are_asked_no_more_than_it_takes(rt: HostRuntime) {
     for (line, calls, answer) in &CASES {
@@ -95,7 +97,7 @@ fn books_are_asked_no_more_than_it_takes(rt: HostRuntime) {
     }
 }
 
-/// With one call of the store, the office finds that a request is a retry.
+/// If a request is a retry, the office recognizes the retry with one call of the store.
 #[test]
 fn a_retry_is_looked_up_once(rt: HostRuntime) {
     let (at, event) = request_of(&rt, rt.alloc(), b"desk", 1, KEPT);

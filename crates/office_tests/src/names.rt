@@ -1,9 +1,9 @@
-//! Tests names, and copies of values.
+//! Tests the equality of names, the values of timeouts and windows, and copies of values.
 use crate::offices::{LIST, name_of, planned};
 use office_events::{Piece, Timeout, Window};
 use read_plan::lists_are_planned_once;
 
-/// Two names are equal only if their texts are equal.
+/// Two names are equal if and only if their texts are equal.
 #[test]
 fn a_name_is_its_text(rt: HostRuntime) {
     let name = name_of(&rt, b"m1");
@@ -12,7 +12,7 @@ fn a_name_is_its_text(rt: HostRuntime) {
     assert!(rt; !name.is(&name_of(&rt, b"m2")));
 }
 
-/// A timeout and a window return their numbers.
+/// A timeout and a window return the numbers from which the test created them.
 #[test]
 fn a_timeout_and_a_window_are_their_numbers(rt: HostRuntime) {
     let (timeout, window) = (Timeout::new(60), Window::new(16));
@@ -20,7 +20,7 @@ fn a_timeout_and_a_window_are_their_numbers(rt: HostRuntime) {
     assert!(rt; window.expect(&rt, "a window").polls() == 16);
 }
 
-/// A copy of bytes or of a planned list is equal to the original.
+/// A copy of bytes or of a planned point list is equal to the original.
 #[test]
 fn copies_are_the_same(rt: HostRuntime) {
     let bytes = b"abc".to_vec(rt.alloc()).expect(&rt, "bytes");

@@ -1,13 +1,14 @@
-//! An observer that writes a letter for each event.
+//! An observer for tests that writes letters for the events of an office.
 use office_events::{Answer, Command, Event, Note, Observer, Refusal};
 use poll_core::{Closing, Outcome};
 use std::alloc::Global;
 
-/// The letters of the observed events.
+/// An observer that writes letters for the observed events.
 ///
-/// Each event has the slot of its round, if any, and a letter: C connected, S a start, B bytes, T a
-/// timer event, G gone, F failed. `!` follows if the event was refused. A letter follows for each
-/// poll that ended: a answered, s silent (timed out), l lost.
+/// For each event, the observer writes the slot of the event's polling round, if any, and a letter.
+/// The letters are C (connected), S (start), B (bytes), T (timer event), G (gone) and F (failed).
+/// `!` follows if the event was refused. A letter for each ended poll follows: a (answered), s
+/// (timed out) or l (lost).
 #[derive(Drop)]
 pub(crate) struct Seen {
     pub(crate) text: String,

@@ -1,4 +1,4 @@
-//! Offices over stores in memory, and the events that tests feed to them.
+//! Creates offices over stores in memory, and the events that tests send to them.
 use failing_books::FailingBooks;
 use interval_core::Zone;
 use memory_books::ListBooks;
@@ -12,7 +12,8 @@ use script_lines::{GivenStart, ScriptLine};
 use std::alloc::Global;
 use std::process::Abort;
 
-/// A point list whose plan has two reads: of the Modbus registers 0 to 124, and of register 125.
+/// A point list whose plan has two reads. The first read is of the Modbus registers 0 to 124, and
+/// the second of the Modbus register 125.
 pub(crate) const LIST: &[u8] = b"name,function,area,address,type,scale
 a,3,0,0,acc32,
 b,3,0,124,uint16,
@@ -20,7 +21,7 @@ c,3,0,125,uint16,
 ";
 
 /// Script lines that add a device, its accounting register and its meter, and then poll the device.
-/// The response shows 5200 at the scale factor 0.
+/// The response has the count 5200 at the scale factor 0.
 pub(crate) static READ: [&str; 6] = [
     "1000 device inv 1 5 1",
     "1000 register main inv 3 40094 @40096",
@@ -30,7 +31,7 @@ pub(crate) static READ: [&str; 6] = [
     "1900 bytes inv 000000000009010306000014500000",
 ];
 
-/// Returns the name `inv`, which the device of most tests has.
+/// Returns the name `inv` of the device in most tests.
 pub(crate) fn inv() -> Option<Name> {
     Name::new(b"inv")
 }
@@ -44,13 +45,14 @@ pub(crate) fn new_books(rt: &impl Abort, alloc: Global) -> ListBooks {
     ListBooks::new(alloc, Zone::read("UTC0").expect(rt, "a zone"))
 }
 
-/// Returns a store in memory that refuses the call with number `call`. With 0 it refuses no call.
+/// Returns a store in memory that fails at the call with the number `call`. If `call` is 0, no call
+/// fails.
 pub(crate) fn books_failing_at(rt: &impl Abort, alloc: Global, call: u64) -> FailingBooks {
     FailingBooks::new(new_books(rt, alloc), call)
 }
 
-/// Opens an office. If the store refuses a call, the office is opened again over the returned
-/// store.
+/// Opens an office over a store. If a call of the store fails, the function opens the office again
+/// over the returned store.
 pub(crate) fn opened<B: Books>(rt: &impl Abort, alloc: Global, books: B, moment: u64) -> Office<B> {
     let (books, why) = match Office::open(alloc, books, moment) {
         Ok(office) => return office,
@@ -79,8 +81,8 @@ pub(crate) fn event_of(rt: &impl Abort, alloc: Global, line: &str) -> (u64, Even
     }
 }
 
-/// Returns the time and the command of a script line, as a request under an idempotency key. The
-/// bytes of the request are those of the line.
+/// Returns the time of a script line, and its command as a request with an idempotency key. The
+/// bytes of the request are the script line.
 pub(crate) fn request_of(
     rt: &impl Abort,
     alloc: Global,
@@ -103,13 +105,14 @@ pub(crate) fn request_of(
     }
 }
 
-/// Returns the point list of a text, with its plan.
+/// Parses a point list from a text, and returns the point list with the plan of its reads.
 pub(crate) fn planned(rt: &impl Abort, alloc: Global, text: &[u8]) -> PlannedList {
     let list = read_list(alloc, text).ok().expect(rt, "a list");
     PlannedList::new(alloc, list).ok().expect(rt, "a plan")
 }
 
-/// Feeds an event, and once more if the store refuses a call. Asserts that the event is accepted.
+/// Processes an event, and processes it again if the store fails. Asserts that the event is
+/// accepted.
 pub(crate) fn assert_accepted<B: Books>(
     rt: &impl Abort,
     office: &mut Office<B>,
@@ -121,7 +124,7 @@ pub(crate) fn assert_accepted<B: Books>(
     }
 }
 
-/// Opens an office, and feeds it the events of these lines.
+/// Opens an office and processes the events of these script lines.
 pub(crate) fn office_after<B: Books>(
     rt: &impl Abort,
     alloc: Global,
@@ -136,7 +139,7 @@ pub(crate) fn office_after<B: Books>(
     office
 }
 
-/// Stores the point list of a device.
+/// Sets the point list `LIST` of a device, and asserts that the office accepts it.
 pub(crate) fn assert_list_accepted<B: Books>(
     rt: &impl Abort,
     alloc: Global,

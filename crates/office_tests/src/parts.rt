@@ -1,5 +1,4 @@
-//! Tests queries for some of a meter's entries and quarter hours, for which the HTTP interface has
-//! no target.
+//! Tests queries for some of a meter's entries or quarter hours that no HTTP request can make.
 use crate::offices::{READ, event_of, office_after};
 use crate::site::LINES;
 use crate::tried::{Trial, try_in_memory};
@@ -38,7 +37,7 @@ const SHOWN: Entry = Entry::Step {
     rolls: 0,
 };
 
-// The closing of m1 in an exchange of meters.
+// The entry that closes the meter m1 in an exchange of meters.
 const CLOSED: MeterEntry = later!(2, EntryKind::Closing, true, 0, SHOWN);
 
 const VOIDED: MeterEntry = later!(2, EntryKind::Reading, false, 0, SHOWN);
@@ -56,8 +55,8 @@ const RESCALED: MeterEntry = later!(
     }
 );
 
-// An index, the greatest number of entries of m1 to return from that index, and the returned
-// entries.
+// Test cases with a sequence number and a maximum number of entries. Each case has the expected
+// entries of m1 from the sequence number on.
 type Asked = (u64, u32, &'static [MeterEntry]);
 
 static ENTRIES: [Asked; 7] = [
@@ -84,7 +83,7 @@ fn assert_entries<B: Books>(rt: &impl Abort, office: &mut Office<B>, asked: &[As
     }
 }
 
-// Time spans, each with the lines of the quarter hours that begin in it.
+// Time spans, each with the expected printed lines of the quarter hours that begin in the span.
 static SPANS: [(u64, u64, &[u8]); 3] = [
     (900, 900, b""),
     (901, u64::MAX, b"1800 22223\n"),
@@ -111,7 +110,7 @@ fn assert_spans<B: Books>(rt: &impl Abort, alloc: Global, office: &mut Office<B>
     }
 }
 
-// Asserts that only a name of a meter has entries and quarter hours.
+// Asserts that the name of a meter has entries and quarter hours, and that no other name has them.
 fn assert_none<B: Books>(rt: &impl Abort, alloc: Global, office: &mut Office<B>) {
     for name in [Name::new(b"main"), None] {
         assert!(rt; matches!(office.entries(&name, 1, 9), Err(Refusal::NotFound)));
@@ -138,8 +137,8 @@ pub(crate) fn ask_changed<B: Books>(rt: &impl Abort, alloc: Global, books: B) {
     assert_entries(rt, &mut office, &CHANGED);
 }
 
-/// A query returns exactly the entries from an index on, or exactly the quarter hours that begin in
-/// a time span.
+/// A query returns exactly the entries from a sequence number on, or exactly the quarter hours that
+/// begin in a time span.
 #[test]
 fn some_entries_and_quarter_hours_are_listed(rt: HostRuntime) {
     try_in_memory(&rt, rt.alloc(), Trial::Parts);

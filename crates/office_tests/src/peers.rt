@@ -1,4 +1,4 @@
-//! Tests the slots for HTTP connections. A run has 64 slots.
+//! Tests the 64 slots for the HTTP connections of clients to `sunreg run`.
 use run_schedule::{Admission, Peers};
 
 fn at(place: usize) -> Option<Admission> {
@@ -8,7 +8,7 @@ fn at(place: usize) -> Option<Admission> {
     })
 }
 
-// Returns 64 connections that have not sent a request. One came each second.
+// Returns 64 client connections without a request, which were opened one second apart.
 fn full() -> Peers {
     let mut peers = Peers::new();
     for second in 0..64 {
@@ -17,7 +17,7 @@ fn full() -> Peers {
     peers
 }
 
-/// A new connection gets the first free slot.
+/// A new client connection gets the first free slot.
 #[test]
 fn places_are_given_in_order(rt: HostRuntime) {
     let mut peers = Peers::new();
@@ -28,7 +28,7 @@ fn places_are_given_in_order(rt: HostRuntime) {
     assert!(rt; peers.admit(101, 10) == at(7));
 }
 
-/// If no slot is free, the oldest connection without a request is dropped for a new one.
+/// If no slot is free, a new client connection replaces the oldest connection without a request.
 #[test]
 fn the_oldest_that_has_not_asked_makes_room(rt: HostRuntime) {
     let mut peers = full();
@@ -39,7 +39,8 @@ fn the_oldest_that_has_not_asked_makes_room(rt: HostRuntime) {
     }
 }
 
-/// If each connection has sent a request, none is dropped, and a new one is not admitted.
+/// If no slot is free and each connection has sent a request, then a new client connection is
+/// rejected.
 #[test]
 fn none_makes_room_where_all_have_asked(rt: HostRuntime) {
     let mut peers = full();
@@ -51,8 +52,8 @@ fn none_makes_room_where_all_have_asked(rt: HostRuntime) {
     assert!(rt; peers.admit(64, 10) == at(63));
 }
 
-/// A connection lasts ten seconds in this test, with or without a request. A slot that was freed
-/// has no time limit.
+/// A client connection times out after ten seconds in this test, with or without a request. A free
+/// slot does not time out.
 #[test]
 fn a_silent_connection_lasts_ten_seconds(rt: HostRuntime) {
     let mut peers = full();

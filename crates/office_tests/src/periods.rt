@@ -1,4 +1,5 @@
-//! Tests when calendar periods end, and the names of the files for them.
+//! Tests when calendar periods (days, months and years) end, and which names the store files of
+//! periods have.
 use energy_report::{Period, period_name, periods_end_with_their_last_day};
 use interval_core::{Day, LAST_MOMENT, Zone, day_of};
 use run_schedule::{file_of_period, last_round, period_end, period_of_file};
@@ -7,16 +8,16 @@ use std::process::Abort;
 
 const CENTRAL_EUROPE: &str = "CET-1CEST,M3.5.0,M10.5.0/3";
 
-/// A time zone whose clocks go back by an hour on 1 December, at half past midnight. So this day
+/// A time zone whose clocks are set back by an hour on 1 December at 00:30, so that 1 December
 /// begins twice.
 const TWICE: &str = "AAA0BBB,J100/0,J335/0:30";
 
-// A time zone, a period, a time in the period, and the time at which the period ends. 0 means that
-// it does not end.
+// A time zone, a period, a time in the period, and the expected time of the period's end, or 0 if
+// the period has no end.
 type Case = (&'static str, Period, u64, u64);
 
 static ENDS: [Case; 21] = [
-    // Months end at local midnight, also when the clocks have changed.
+    // Months end at local midnight, also after a change to or from summer time.
     (CENTRAL_EUROPE, Period::Month, 1_795_780_800, 1_796_079_600),
     (CENTRAL_EUROPE, Period::Month, 1_796_079_599, 1_796_079_600),
     (CENTRAL_EUROPE, Period::Month, 1_798_757_999, 1_798_758_000),
@@ -29,7 +30,7 @@ static ENDS: [Case; 21] = [
     ("AAA12", Period::Month, 1_796_032_800, 1_796_126_400),
     ("UTC0", Period::Month, 4_102_444_799, 4_102_444_800),
     ("AAA5", Period::Month, 4_102_444_799, 0),
-    // Years and days also end at local midnight.
+    // Years and days end at local midnight.
     (CENTRAL_EUROPE, Period::Year, 1_795_780_800, 1_798_758_000),
     (CENTRAL_EUROPE, Period::Year, 1_798_758_000, 1_830_294_000),
     ("UTC0", Period::Year, 4_083_955_200, 4_102_444_800),
@@ -48,7 +49,7 @@ fn end_of(rt: &impl Abort, zone: &str, period: Period, time: u64) -> Option<u64>
     period_end(&zone, period, day, time)
 }
 
-/// Months, years and days end at local midnight, also if the clocks change.
+/// Months, years and days end at local midnight, also after a change to or from summer time.
 #[test]
 fn periods_end_at_local_midnight(rt: HostRuntime) {
     for (zone, period, time, end) in ENDS {
@@ -61,7 +62,7 @@ fn day(rt: &impl Abort, year: i16, month: i8, day: i8) -> Day {
     Day::new(year, month, day).ok().expect(rt, "a day")
 }
 
-// A year, a month, a day in the month, and the last day of the month.
+// A year, a month, a day in the month, and the expected last day of the month.
 static LAST_DAYS: [(i16, i8, i8, i8); 6] = [
     (2026, 11, 27, 30),
     (2026, 12, 1, 31),
@@ -71,7 +72,7 @@ static LAST_DAYS: [(i16, i8, i8, i8); 6] = [
     (2100, 2, 1, 28),
 ];
 
-/// The last day of a month or a year follows the calendar, with leap years.
+/// The last day of a month or a year is correct, also in leap years.
 #[test]
 fn periods_have_a_last_day(rt: HostRuntime) {
     periods_end_with_their_last_day();
@@ -83,7 +84,7 @@ fn periods_have_a_last_day(rt: HostRuntime) {
     }
 }
 
-/// A period has no end at a time past the last timestamp.
+/// A period has no end if the time is after the last supported timestamp.
 #[test]
 fn nothing_ends_past_the_last_moment(rt: HostRuntime) {
     let zone = Zone::read("UTC0").expect(&rt, "a zone");
@@ -92,7 +93,8 @@ fn nothing_ends_past_the_last_moment(rt: HostRuntime) {
     assert!(rt; period_end(&zone, Period::Day, day, u64::MAX) == None);
 }
 
-/// The last round of a file may take half of its interval, but at most 30 seconds.
+/// The last polling round in a store file may take half of its polling interval, but at most 30
+/// seconds.
 #[test]
 fn a_last_round_has_half_the_time_to_the_next(rt: HostRuntime) {
     for (every, seconds) in [(1, 0), (2, 1), (10, 5), (60, 30), (61, 30), (86_400, 30)] {
@@ -100,7 +102,7 @@ fn a_last_round_has_half_the_time_to_the_next(rt: HostRuntime) {
     }
 }
 
-/// The text of a period is a day, a month or a year, as reports show it.
+/// The text of a period is the day, the month or the year of the period, as in reports.
 #[test]
 fn periods_have_the_names_of_rows(rt: HostRuntime) {
     let day = day(&rt, 2026, 3, 7);
@@ -109,7 +111,7 @@ fn periods_have_the_names_of_rows(rt: HostRuntime) {
     assert!(rt; period_name(Period::Year, day).bytes() == b"2026".as_slice());
 }
 
-// The name of a file, the text of a period, and the name of the file for the period.
+// The name of a store file, the text of a period, and the expected name of the period's store file.
 static NAMES: [(&str, &str, &str); 7] = [
     ("office.db", "2026-11", "office-2026-11.db"),
     ("office.db", "2026", "office-2026.db"),
@@ -136,8 +138,8 @@ fn file_of(rt: &impl Abort, alloc: Global, file: &str, text: &str) -> Vec<u8> {
     file_of_period(alloc, file.as_bytes(), text.as_bytes()).expect(rt, "memory")
 }
 
-/// The name of a period's file has the period before `.db`, from which the program finds the period
-/// again.
+/// The name of a period's store file contains the period before `.db`. The program can parse the
+/// period from the name.
 #[test]
 fn files_have_their_period_before_the_end(rt: HostRuntime) {
     for (file, text, name) in NAMES {
@@ -148,7 +150,7 @@ fn files_have_their_period_before_the_end(rt: HostRuntime) {
     }
 }
 
-/// Names of files that are not for a month of `office.db`.
+/// File names that are not the name of a monthly file of the store `office.db`.
 static NO_MONTHS: [&str; 18] = [
     "office.db",
     "office-2026.db",
@@ -170,7 +172,7 @@ static NO_MONTHS: [&str; 18] = [
     "",
 ];
 
-/// Files with other names are not taken for the file of a month.
+/// A file belongs to no month unless its name is that of the office file with a month.
 #[test]
 fn other_files_are_of_no_month(rt: HostRuntime) {
     for name in &NO_MONTHS {
@@ -179,7 +181,7 @@ fn other_files_are_of_no_month(rt: HostRuntime) {
     }
 }
 
-// Texts, and whether each is the text of a period.
+// Texts, each with true if the text is the text of a period.
 static PERIODS: [(&str, bool); 17] = [
     ("2026", true),
     ("0000", true),
@@ -200,7 +202,7 @@ static PERIODS: [(&str, bool); 17] = [
     ("2026-01-1", false),
 ];
 
-/// A text is that of a period only if it has the form of a year, a month or a day.
+/// A text is a period only if it has the form of a year, a month or a day.
 #[test]
 fn periods_are_known_by_their_form(rt: HostRuntime) {
     for (text, is_period) in PERIODS {

@@ -1,4 +1,4 @@
-//! Tests rounds whose store refuses one of its calls, each in turn.
+//! Tests polling rounds of an office over a store that fails at a chosen call.
 use crate::failures::assert_stopped;
 use crate::links::replies;
 use crate::offices::opened;
@@ -11,7 +11,7 @@ use office_rounds::RoundFault;
 use std::alloc::Global;
 use std::process::Abort;
 
-// The fault of a round whose store refuses a call.
+// The expected fault of a polling round whose store fails.
 const REFUSED: Result<(), RoundFault> = Err(RoundFault::Refused(Refusal::Store(
     StoreCause::Refused,
 )));
@@ -20,8 +20,8 @@ const STOPPED: Result<(), RoundFault> = Err(RoundFault::Refused(Refusal::Stopped
 
 const NONE: Ends = [None, None, None];
 
-// The outcomes of the polls after a round whose store refused a call: at the first start, at the
-// first response, at the second start, and at the second response.
+// The expected outcomes of the polls after a failure of the store. The failure occurs when the
+// first start, the first response, the second start or the second response is recorded.
 static LEFT: [Ends; 4] = [
     NONE,
     [RESTARTED, None, None],
@@ -29,7 +29,7 @@ static LEFT: [Ends; 4] = [
     [ANSWERED, RESTARTED, None],
 ];
 
-// The number that means that no call was refused, or no call of the round.
+// The result of a test in which no call of the polling round failed.
 const NOT_REFUSED: u64 = 10;
 
 const NOT_BROKEN: u64 = 11;
@@ -45,12 +45,12 @@ fn place_of(left: Ends) -> u64 {
     place
 }
 
-/// Runs a round over a store that refuses a call; an event that is refused before the round is fed
-/// again.
+/// Executes a polling round over a store that fails at a chosen call. If an event before the round
+/// fails, it is processed again.
 ///
-/// If a start is refused, no poll is pending, and a restart adds nothing. If the call fails while a
-/// response is settled, the office stops, and the restart loses the poll. Returns the index in
-/// `LEFT` of the polls that the restart finds.
+/// If the start of a poll fails, no poll is pending, and a restart adds no outcome. If the call for
+/// a response fails, the office stops, and a restart loses the poll. Returns the index in `LEFT` of
+/// the outcomes after the restart.
 pub(crate) fn refuse_call<B: Books>(rt: &impl Abort, alloc: Global, books: B) -> u64 {
     let mut office = listed(rt, alloc, books, ONE_BY_ONE);
     let mut given = [0; 24];
@@ -76,8 +76,7 @@ pub(crate) fn refuse_call<B: Books>(rt: &impl Abort, alloc: Global, books: B) ->
     place_of(left)
 }
 
-/// If the store refuses a call, the round is broken off, and the outcomes of completed polls
-/// remain.
+/// If the store fails, the polling round ends, and the outcomes of completed polls remain recorded.
 #[test]
 fn failing_books_break_the_round_off(rt: HostRuntime) {
     let mut last = 0;

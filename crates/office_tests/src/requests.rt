@@ -1,5 +1,5 @@
-//! Tests requests that no client can send by HTTP, and the comparison of a request with the stored
-//! one.
+//! Tests requests that no client can send by HTTP, and the comparison of a request with a stored
+//! request.
 use crate::offices::{READ, office_after, request_of};
 use crate::tried::{Trial, try_in_memory};
 use office_books::{Books, Repeat};
@@ -10,8 +10,9 @@ use std::process::Abort;
 
 const START: &str = "3700 start inv 3 40094 3";
 
-// A command with its idempotency key, its answer, and the number of bytes that are sent to the
-// device. The retry of a start sends nothing.
+// Test cases with a command, its idempotency key, the expected answer, and the expected number of
+// bytes that the office sends to the device. A retry of a command that starts a poll sends no
+// bytes.
 static REQUESTS: [(&[u8], u64, &str, Result<Answer, Refusal>, usize); 4] = [
     (
         b"desk",
@@ -59,14 +60,14 @@ fn assert_repeats<B: Books>(rt: &impl Abort, office: &mut Office<B>) {
 }
 
 /// Sends the requests to an office whose meter was read, and compares each request with the stored
-/// one.
+/// request of its idempotency key.
 pub(crate) fn play<B: Books>(rt: &impl Abort, alloc: Global, books: B) {
     let mut office = office_after(rt, alloc, books, &READ);
     assert_requests(rt, alloc, &mut office);
     assert_repeats(rt, &mut office);
 }
 
-/// A request acts once, and a retry of a start sends nothing.
+/// A request is executed once, and a retry of a request that starts a poll sends no bytes.
 #[test]
 fn requests_act_once(rt: HostRuntime) {
     try_in_memory(&rt, rt.alloc(), Trial::Requests);

@@ -1,4 +1,4 @@
-//! Tests rounds that end or are broken off: what they print, and how their polls end.
+//! Tests the printed text of polling rounds that succeed or fail, and the outcomes of their polls.
 use crate::links::{IdleLink, replies};
 use crate::offices::{inv, office_after};
 use crate::rounds::{ANSWERED, Done, Ends, LOST, ONE_BY_ONE, ends, listed, round};
@@ -31,7 +31,8 @@ poll 1 lost 1
 ok
 ";
 
-// What a round prints if the device never responds. The device's timeout is five seconds.
+// The printed text of a polling round if the device does not respond within its timeout of five
+// seconds.
 const SILENT: &str = "ok
 started 1 1 2 00000000000601030000007d
 ok
@@ -59,13 +60,13 @@ poll 2 lost 3
 ok
 ";
 
-/// What a device does in a round.
+/// The behavior of the device in a polling round.
 #[derive(Clone, Copy)]
 enum Does {
-    /// The device responds to both reads. The call of the link with this number fails, if there is
-    /// one.
+    /// The device responds to both Modbus reads. If a number is given, the call of the link with
+    /// this number fails.
     Replies(Option<u64>),
-    /// The device closes the link.
+    /// The device closes the connection without a response.
     Ends,
     /// The device accepts no bytes.
     TakesNothing,
@@ -73,8 +74,8 @@ enum Does {
     IsSilent,
 }
 
-/// What the device does, the times that the clock shows, the result of the round, the printed text,
-/// and the outcomes of the polls.
+/// Test cases with the behavior of the device and the times of the clock. Each case has the
+/// expected result of the polling round, its printed text, and the outcomes of its polls.
 type Case = (
     Does,
     &'static [u64],
@@ -104,7 +105,7 @@ const FIRST: Ends = [LOST, None, None];
 const SECOND: Ends = [ANSWERED, LOST, None];
 
 static CASES: [Case; 11] = [
-    // The device responds to each read of the plan.
+    // The device responds to each Modbus read of the plan.
     (
         Does::Replies(None),
         &[1000, 1001],
@@ -112,9 +113,9 @@ static CASES: [Case; 11] = [
         BOTH_ANSWERED,
         BOTH,
     ),
-    // If the link ends, the device has closed it.
+    // The device closes the connection before it responds.
     (Does::Ends, &[1000], Ok(()), GONE, [WENT, None, None]),
-    // A device that does not respond still gets each read of the plan.
+    // The device does not respond, and the office still sends each Modbus read of the plan.
     (
         Does::IsSilent,
         &[1000, 1000, 1004, 1005, 1005, 1009, 1010],
@@ -122,8 +123,8 @@ static CASES: [Case; 11] = [
         SILENT,
         [WAS_SILENT, WAS_SILENT, None],
     ),
-    // If the office refuses a time, the poll is lost. The clock was set back, or is past the latest
-    // time that the office accepts.
+    // The office refuses a time, so the poll is lost. Either the clock was set back, or its time is
+    // after the latest time that the office accepts.
     (
         Does::IsSilent,
         &[1000, 1002, 1001],
@@ -138,18 +139,19 @@ static CASES: [Case; 11] = [
         BROKEN_OFF,
         FIRST,
     ),
-    // Each call of the link may fail: a write and a read for each poll. A fifth call is never made.
+    // One of the four calls of the link fails. The polling round makes one write and one read for
+    // each poll, and never a fifth call.
     (Does::Replies(Some(1)), &[1000], LINK, BROKEN_OFF, FIRST),
     (Does::Replies(Some(2)), &[1000], LINK, BROKEN_OFF, FIRST),
     (Does::Replies(Some(3)), &[1000], LINK, SECOND_LOST, SECOND),
     (Does::Replies(Some(4)), &[1000], LINK, SECOND_LOST, SECOND),
     (Does::Replies(Some(5)), &[1000], Ok(()), BOTH_ANSWERED, BOTH),
-    // A write that transfers no bytes counts as a failure of the link.
+    // If a write transfers no bytes, it counts as a failure of the link.
     (Does::TakesNothing, &[1000], LINK, BROKEN_OFF, FIRST),
 ];
 
-// Runs a round over a link in memory with this input. One call of the link may fail. Returns the
-// number of failed calls.
+// Executes a polling round over a link in memory with this input. One call of the link may fail.
+// Returns the number of failed calls.
 fn round_over_memory<B: Books>(
     alloc: Global,
     office: &mut Office<B>,
@@ -163,7 +165,8 @@ fn round_over_memory<B: Books>(
     (done, link.failures())
 }
 
-// Runs a round in which the device does this. Returns the number of failed calls of the link.
+// Executes a polling round with this behavior of the device. Returns the number of failed calls of
+// the link.
 fn round_of<B: Books>(
     alloc: Global,
     office: &mut Office<B>,
@@ -201,7 +204,8 @@ pub(crate) fn assert_case<B: Books>(rt: &impl Abort, alloc: Global, books: B, pl
 static FRAMES: &[u8] =
     b"\x00\x00\x00\x00\x00\x06\x01\x03\x00\x00\x00\x7d\x00\x01\x00\x00\x00\x06\x01\x03\x00\x7d\x00\x01";
 
-// Asserts that each read of the plan is sent once, if responses arrive in chunks of `piece` bytes.
+// Asserts that a polling round sends each Modbus read of the plan once, if responses arrive in
+// chunks of `piece` bytes.
 pub(crate) fn assert_pieces<B: Books>(rt: &impl Abort, alloc: Global, books: B, piece: usize) {
     let input = replies(rt, alloc);
     let mut office = listed(rt, alloc, books, ONE_BY_ONE);
@@ -213,8 +217,8 @@ pub(crate) fn assert_pieces<B: Books>(rt: &impl Abort, alloc: Global, books: B, 
     assert!(rt; ends(&mut office) == BOTH, "{piece}");
 }
 
-// Asserts that a round of a device without a point list is refused, after the device has connected
-// and disconnected. Also asserts that a round of an unknown device is refused.
+// Asserts that a polling round is refused for a device without a point list, and for an unknown
+// device. The device without a point list has first connected and disconnected.
 pub(crate) fn assert_not_found<B: Books>(rt: &impl Abort, alloc: Global, books: B) {
     let mut office = office_after(rt, alloc, books, &[ONE_BY_ONE]);
     for _round in 0..2 {
@@ -229,7 +233,7 @@ pub(crate) fn assert_not_found<B: Books>(rt: &impl Abort, alloc: Global, books: 
     }
 }
 
-// Runs a round whose writer accepts `room` bytes.
+// Executes a polling round whose output writer accepts `room` bytes.
 fn round_into<B: Books, L: Link>(
     alloc: Global,
     office: &mut Office<B>,
@@ -242,7 +246,7 @@ fn round_into<B: Books, L: Link>(
     round_over(alloc, link, office, name, &mut clock, &mut output)
 }
 
-// Asserts that a round whose writer accepts too few bytes is broken off.
+// Asserts that a polling round fails if its output writer accepts too few bytes.
 pub(crate) fn assert_narrow<B: Books>(
     rt: &impl Abort,
     alloc: Global,
@@ -259,7 +263,7 @@ pub(crate) fn assert_narrow<B: Books>(
     assert!(rt; ends(&mut office) == polls, "room for {room}");
 }
 
-// Asserts that a round reads its link at most 100,000 times.
+// Asserts that a polling round reads from its link at most 100,000 times.
 pub(crate) fn assert_takes<B: Books>(rt: &impl Abort, alloc: Global, books: B) {
     let mut office = listed(rt, alloc, books, ONE_BY_ONE);
     let mut link = IdleLink::new();
@@ -269,7 +273,7 @@ pub(crate) fn assert_takes<B: Books>(rt: &impl Abort, alloc: Global, books: B) {
     assert!(rt; ends(&mut office) == [LOST, None, None]);
 }
 
-/// Each round has the result, the printed text and the outcomes of its case.
+/// Each polling round has the expected result, printed text and outcomes.
 #[test]
 fn rounds_end_so(rt: HostRuntime) {
     for place in 0..CASES.len() {
@@ -277,7 +281,7 @@ fn rounds_end_so(rt: HostRuntime) {
     }
 }
 
-/// Responses may arrive complete or one byte at a time.
+/// If responses arrive complete or one byte at a time, then a polling round succeeds.
 #[test]
 fn replies_come_byte_by_byte(rt: HostRuntime) {
     for piece in [259, 1] {
@@ -285,14 +289,14 @@ fn replies_come_byte_by_byte(rt: HostRuntime) {
     }
 }
 
-/// A device without a point list, or an unknown device, is refused.
+/// If a device is unknown or has no point list, then its polling round is refused.
 #[test]
 fn a_device_that_is_not_found_is_refused(rt: HostRuntime) {
     try_in_memory(&rt, rt.alloc(), Trial::NoDevice);
 }
 
-/// A round is broken off at each line that can't be written: `ok`, the started poll, and the
-/// answered poll.
+/// A polling round ends at the first output line that cannot be written. The line is `ok`, the
+/// started poll, or the answered poll.
 #[test]
 fn each_line_may_fail(rt: HostRuntime) {
     for (room, polls) in [(2, NONE), (20, FIRST), (50, [ANSWERED, None, None])] {
@@ -300,7 +304,7 @@ fn each_line_may_fail(rt: HostRuntime) {
     }
 }
 
-/// A round is broken off after 100,000 reads of its link.
+/// A polling round ends after 100,000 reads from its link.
 #[test]
 fn a_round_has_so_many_takes(rt: HostRuntime) {
     try_in_memory(&rt, rt.alloc(), Trial::Takes);

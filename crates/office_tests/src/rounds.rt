@@ -1,4 +1,5 @@
-//! Rounds over links in memory, and the outcomes of their polls.
+//! Executes polling rounds over links in memory for tests, and looks up the outcomes of their
+//! polls.
 use crate::offices::{assert_list_accepted, inv, office_after};
 use mb_wire::Link;
 use office_books::Books;
@@ -15,7 +16,8 @@ pub(crate) const ONE_BY_ONE: &str = "1000 device inv 1 5 1";
 /// The script line of a device that may have two pending polls.
 pub(crate) const BOTH_AT_ONCE: &str = "1000 device inv 1 5 2";
 
-/// Returns an office with the device of this line and the device's point list.
+/// Returns an office with the device of this script line, and with the point list `LIST` of the
+/// device.
 pub(crate) fn listed<B: Books>(
     rt: &impl Abort,
     alloc: Global,
@@ -27,14 +29,14 @@ pub(crate) fn listed<B: Books>(
     office
 }
 
-/// The result of a round, and what it printed.
+/// The result of a polling round, and the text that it printed.
 #[derive(Drop)]
 pub(crate) struct Done {
     pub(crate) done: Result<(), RoundFault>,
     pub(crate) printed: Vec<u8>,
 }
 
-/// Runs a round of the device `inv` with a clock that shows these times.
+/// Executes a polling round of the device `inv` with a clock that returns these times.
 pub(crate) fn round<B: Books, L: Link>(
     alloc: Global,
     office: &mut Office<B>,
@@ -47,16 +49,16 @@ pub(crate) fn round<B: Books, L: Link>(
     Done { done, printed }
 }
 
-/// The outcomes of the first three polls. `None` is a poll that does not exist, and `Some(None)` is
-/// a pending one.
+/// The outcomes of the first three polls. `None` means that the poll does not exist. `Some(None)`
+/// means that the poll is pending.
 pub(crate) type Ends = [Option<Option<Outcome>>; 3];
 
 pub(crate) const ANSWERED: Option<Option<Outcome>> = Some(Some(Outcome::Answered));
 
-/// A failure of the link ended the poll.
+/// The outcome of a poll that was pending when the link failed.
 pub(crate) const LOST: Option<Option<Outcome>> = Some(Some(Outcome::Lost(LostCause::Failed)));
 
-/// The poll was pending when the office was opened again.
+/// The outcome of a poll that was pending when the office was opened again.
 pub(crate) const RESTARTED: Option<Option<Outcome>> = Some(Some(Outcome::Lost(LostCause::Restart)));
 
 fn end_of<B: Books>(office: &mut Office<B>, number: u64) -> Option<Option<Outcome>> {

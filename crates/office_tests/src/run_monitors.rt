@@ -1,4 +1,4 @@
-//! Tests a run's monitor: what it keeps of events, and which lines it writes.
+//! Tests the monitor of `sunreg run`, which counts events and writes log lines.
 use crate::benches::{Bench, Moment, Step, names, play};
 use crate::offices::{inv, new_books};
 use office_events::{Answer, Event, Refusal};
@@ -9,7 +9,7 @@ use std::alloc::Global;
 use std::process::Abort;
 use std::str;
 
-// Plays these events for both devices, with a monitor as the observer of all events.
+// Processes these events for both devices, with a monitor as the observer of all events.
 fn polled(rt: &impl Abort, alloc: Global, moments: &[Moment]) -> Bench<RunMonitor> {
     let monitor = RunMonitor::new(alloc, &names()).expect(rt, "a monitor");
     play(rt, alloc, new_books(rt, alloc), moments, monitor)
@@ -17,7 +17,7 @@ fn polled(rt: &impl Abort, alloc: Global, moments: &[Moment]) -> Bench<RunMonito
 
 const STANDS: Moment = (1001, Step::Stands(0));
 
-// The frames that the monitor passes on to the slots of devices, in order.
+// The Modbus frames that the monitor returns for each device slot, in order.
 static FRAMES: [(usize, &[u8]); 4] = [
     (0, b"\x00\x00\x00\x00\x00\x06\x01\x03\x00\x00\x00\x7d"),
     (0, b""),
@@ -25,13 +25,14 @@ static FRAMES: [(usize, &[u8]); 4] = [
     (2, b""),
 ];
 
-// Returns whether the device in this slot is connected. None if the slot is empty.
+// Returns true if the device in this slot is connected, or `None` if the slot is empty.
 fn is_connected(polled: &Bench<RunMonitor>, place: usize) -> Option<bool> {
     let state = polled.observer.states.get(place)?;
     Some(state.connected)
 }
 
-/// A frame waits in the monitor for the device to which it is sent, and is passed on once.
+/// The monitor stores a Modbus frame for the device to which the frame is sent, and returns the
+/// frame once.
 #[test]
 fn frames_wait_for_their_device(rt: HostRuntime) {
     let mut polled = polled(&rt, rt.alloc(), &[STANDS]);
@@ -44,14 +45,14 @@ fn frames_wait_for_their_device(rt: HostRuntime) {
     }
 }
 
-// The events after a device is connected. Then the numbers of polls that are lost and that time
-// out.
+// The events after a device has connected, and the expected numbers of polls that are lost and that
+// time out.
 static ENDINGS: [(&[Moment], u64, u64); 2] = [
     (&[STANDS, (1002, Step::Ended(0, Closing::Failed))], 1, 0),
     (&[STANDS, (1006, Step::Tick), (1011, Step::Tick)], 0, 2),
 ];
 
-/// If a connection has ended, the frames that wait for it are dropped.
+/// After the connection of a device has ended, the monitor drops the Modbus frames for the device.
 #[test]
 fn frames_of_an_ended_connection_are_dropped(rt: HostRuntime) {
     for (moments, lost, silent) in ENDINGS {
@@ -64,7 +65,7 @@ fn frames_of_an_ended_connection_are_dropped(rt: HostRuntime) {
     }
 }
 
-// A frame with another unit identifier, and then the end of the connection.
+// A Modbus frame with a wrong unit identifier, followed by the end of the connection.
 static WRONG_UNIT: [Moment; 3] = [
     STANDS,
     (1002, Step::Came(0, b"\x00\x00\x00\x00\x00\x03\x02\x83\x02")),
@@ -76,7 +77,7 @@ fn first_sum(polled: &Bench<RunMonitor>) -> Option<Sum> {
     Some(round.sum)
 }
 
-/// At the end of a round, the monitor has counted the polls by outcome.
+/// At the end of a polling round the monitor has counted the round's polls by outcome.
 #[test]
 fn a_round_has_a_sum(rt: HostRuntime) {
     let polled = polled(&rt, rt.alloc(), &WRONG_UNIT);
@@ -94,8 +95,8 @@ const LINES: &str = "1700000000 inv connected
 1700000002 inv round answered 3 silent 1 failed 0
 ";
 
-/// A monitor writes a line when a device connects, when an event is refused, when a connection
-/// ends, and at the end of a round. It writes none for a timer event.
+/// The monitor writes a log line for a new connection, a refused event, the end of a connection,
+/// and the end of a polling round. The monitor writes no log line for a timer event.
 #[test]
 fn lines_are_for_people(rt: HostRuntime) {
     let noted = Ok(Answer::Noted);

@@ -1,4 +1,4 @@
-//! Runs over an empty store.
+//! Processes a list of events over an empty store in memory.
 ghost use Rattle.std.specs.Prelude.{[], IfOk};
 ghost use Rattle.memory_books.specs.Listed.{ledger_of};
 ghost use Rattle.office_core.specs.EventRun.{RecordsAccepted};
@@ -9,8 +9,8 @@ use office_core::{Run, run};
 use office_events::{Event, Refusal};
 use std::alloc::Global;
 
-/// Runs events over a new store in memory. The main theorem about an office applies to any events,
-/// without a premise.
+/// Processes a list of events over a new store in memory. By the contract, the promise in
+/// `Headline.antt` holds for any events, without a precondition.
 pub(crate) fn run_anew(
     alloc: Global,
     zone: Zone,

@@ -1,4 +1,4 @@
-//! Tests messages that are printed once, and lines whose reader does not read.
+//! Tests messages that are printed only once, and log lines that no reader reads.
 use office_events::Name;
 use run_status::{LineQueue, Told, ToldNumber, Topic};
 
@@ -18,8 +18,8 @@ fn held(name: &[u8], number: u8) -> ToldNumber {
     }
 }
 
-/// The number of a refusal is reported once. It is reported again after another number, or after it
-/// was forgotten.
+/// A refusal is reported once for each device. After a different refusal, or after the report was
+/// forgotten, the refusal is reported again.
 #[test]
 fn a_number_is_told_until_it_changes(rt: HostRuntime) {
     let mut told = Told::new(rt.alloc());
@@ -44,8 +44,8 @@ const FIRST: &[u8] = b"one\ntwo\n";
 
 const DROPPED: &[u8] = b"1700000000 - dropped 3 lines\n";
 
-/// Lines for which there is no room are dropped and counted. In this test, 65,528 bytes wait after
-/// the first 8. So no other line has room until all of them were written.
+/// If a log queue has no space for a line, the queue drops and counts the line. In this test the
+/// queue is full with 65,536 bytes, and has no space until all of these bytes are written.
 #[test]
 fn lines_that_nobody_reads_are_counted(rt: HostRuntime) {
     let long = vec![in rt.alloc(); b'x'; 65_528].expect(&rt, "some room");

@@ -1,15 +1,15 @@
 //! Tests when devices are due to be polled.
 use run_schedule::{Phase, SteadyClock, Timing, next_due, next_pause, retry_at, round_until};
 
-/// A device is due at multiples of its interval. The last case is a quarter of an hour after
-/// 2023-11-14 22:13:20 UTC, which is no multiple.
+/// A device is due at multiples of its polling interval. The time 1,700,000,000 is 2023-11-14
+/// 22:13:20 UTC, which is not a multiple of 900 seconds.
 #[test]
 fn a_device_is_due_at_multiples(rt: HostRuntime) {
     let cases = [
         (60, 0, 60),
         (60, 59, 60),
         (60, 60, 120),
-        // If times at which a device was due were missed, they are not made up for.
+        // If polls were due in the past and missed, they are not repeated.
         (60, 187, 240),
         (1, 41, 42),
         (900, 1_700_000_000, 1_700_000_100),
@@ -22,8 +22,8 @@ fn a_device_is_due_at_multiples(rt: HostRuntime) {
     }
 }
 
-/// Pauses between attempts to connect double up to a minute. No pause passes the next time at which
-/// the device is due.
+/// The pauses between attempts to connect to a device double, up to a minute. A pause never ends
+/// after the next time at which the device is due.
 #[test]
 fn pauses_grow(rt: HostRuntime) {
     let mut pause = 0;
@@ -35,15 +35,15 @@ fn pauses_grow(rt: HostRuntime) {
     assert!(rt; retry_at(100, 32, 120) == 120);
 }
 
-/// A round may take as long as its interval, but at least a minute.
+/// A polling round may take as long as its polling interval, but at least a minute.
 #[test]
 fn a_round_lasts_a_minute_at_least(rt: HostRuntime) {
     assert!(rt; round_until(10, 1000) == 1060);
     assert!(rt; round_until(900, 1000) == 1900);
 }
 
-/// A clock that was set back is reported once. In this test it is set back by 40 seconds, and then
-/// catches up.
+/// If the clock was set back, this is reported once. In this test the clock is set back by 40
+/// seconds and then catches up.
 #[test]
 fn a_clock_that_is_set_back_is_told_once(rt: HostRuntime) {
     let mut steady_clock = SteadyClock::new(1000);
@@ -62,8 +62,8 @@ fn a_clock_that_is_set_back_is_told_once(rt: HostRuntime) {
     }
 }
 
-/// A clock that jumps ahead by more than a minute is reported. In this test it jumps by a minute,
-/// by a minute and a second, and by an hour after it was set back.
+/// If the clock jumps ahead by more than a minute, the jump is reported. In this test the clock
+/// jumps by a minute, by 61 seconds, and by an hour after it was set back.
 #[test]
 fn a_clock_that_goes_ahead_is_told(rt: HostRuntime) {
     let mut steady_clock = SteadyClock::new(1000);
@@ -79,8 +79,8 @@ fn a_clock_that_goes_ahead_is_told(rt: HostRuntime) {
     }
 }
 
-/// A device that can't be connected is tried again after longer and longer pauses. An attempt may
-/// take five seconds. In this test three attempts fail, and the fourth succeeds.
+/// Attempts to connect to a device are repeated after growing pauses, and may take five seconds
+/// each. In this test three attempts fail, and the fourth succeeds.
 #[test]
 fn a_device_is_tried_again(rt: HostRuntime) {
     let mut timing = Timing::new(60, 100);

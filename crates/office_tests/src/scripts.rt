@@ -1,4 +1,4 @@
-//! Prints an office's answers to the lines of a script.
+//! Prints an office's answers to script lines, for tests.
 use crate::offices::start_of;
 use energy_report::RowLines;
 use office_books::Books;
@@ -10,7 +10,7 @@ use std::alloc::Global;
 use std::io;
 use std::process::Abort;
 
-// Feeds an event to an office, and prints its notifications and its answer.
+// Processes an event, and prints the office's notifications and its answer.
 fn feed<B: Books>(
     office: &mut Office<B>,
     at: u64,
@@ -26,7 +26,7 @@ fn feed<B: Books>(
     }
 }
 
-// Prints the number of rows of a query, or why the query is refused.
+// Prints the number of rows of a query, or the reason why the office refuses the query.
 fn write_count(answer: Result<(), Refusal>, count: u64, output: &mut Vec<u8>) -> io::Result<()> {
     match answer {
         Ok(()) => write_end(count, output),
@@ -34,7 +34,7 @@ fn write_count(answer: Result<(), Refusal>, count: u64, output: &mut Vec<u8>) ->
     }
 }
 
-// Prints the answer to a query.
+// Prints the office's answer to a query.
 fn ask<B: Books>(
     office: &mut Office<B>,
     said: &ScriptLine,
@@ -63,7 +63,7 @@ fn ask<B: Books>(
     }
 }
 
-/// Returns the text that an office prints for an event.
+/// Returns the text that is printed for an event.
 pub(crate) fn print_event<B: Books>(
     rt: &impl Abort,
     alloc: Global,
@@ -76,7 +76,7 @@ pub(crate) fn print_event<B: Books>(
     output
 }
 
-/// Returns the text that an office prints for a script line.
+/// Returns the text that is printed for a script line.
 pub(crate) fn print_line<B: Books>(
     rt: &impl Abort,
     alloc: Global,

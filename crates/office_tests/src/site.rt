@@ -1,5 +1,5 @@
-//! Tests queries for the accounting registers and meters of a site, also if the store refuses a
-//! call. A site is all devices of an office.
+//! Tests queries for the accounting registers and meters of all devices (the site), also over a
+//! store that fails at a chosen call.
 use crate::offices::office_after;
 use crate::tried::{Trial, try_failing, try_in_memory};
 use office_books::Books;
@@ -10,8 +10,8 @@ use std::alloc::Global;
 use std::process::Abort;
 use std::str;
 
-/// Script lines with two devices whose names are not in order, and three accounting registers. One
-/// register never had a meter, one has its second meter, and the meter of one was closed.
+/// Script lines with two devices, not in the order of their names, and three accounting registers.
+/// The register `main` has its second meter, `export` has no meter, and `solo` has a closed meter.
 pub(crate) static LINES: [&str; 9] = [
     "1000 device roof 1 5 1",
     "1000 device inv 2 5 1",
@@ -24,8 +24,8 @@ pub(crate) static LINES: [&str; 9] = [
     "1900 close solo 9 0",
 ];
 
-// Each accounting register with its device and its latest meter. The counter at solo advanced from
-// 7 to 9 at the scale factor 2, which is 200 Wh. The meter m2 has just been installed.
+// Each accounting register with its device and its latest meter. The counter at `solo` advanced
+// from 7 to 9 at the scale factor 2, which is 200 Wh. The meter `m2` was just installed.
 const SITE: &str = "roof main meter m2 last 10 sf -1 at 1900 total 0 open
 roof export refused 1
 inv solo meter m3 last 9 sf 2 at 1900 total 200000 ended
@@ -54,8 +54,8 @@ fn assert_rows(rt: &impl Abort, alloc: Global, rows: &[SiteRow]) {
     assert!(rt; str::from_utf8(&text) == Ok(SITE));
 }
 
-/// Queries the site, and a second time if the store refuses a call. Returns 1 if the store refused
-/// a call, and otherwise 0.
+/// Queries the accounting registers of all devices, and repeats the query if the store fails.
+/// Returns the number of failures, 0 or 1.
 pub(crate) fn ask<B: Books>(rt: &impl Abort, alloc: Global, books: B) -> u64 {
     let mut office = office_after(rt, alloc, books, &LINES);
     match office.site() {
@@ -72,8 +72,8 @@ pub(crate) fn ask<B: Books>(rt: &impl Abort, alloc: Global, books: B) -> u64 {
     }
 }
 
-/// A query for the site makes six calls of the store. If one of them is refused, the query succeeds
-/// when it is repeated.
+/// A query for the accounting registers of all devices makes six calls of the store. If one of the
+/// calls fails, a repeated query succeeds.
 #[test]
 fn a_site_is_told_where_the_store_refuses_a_call(rt: HostRuntime) {
     let mut refused = 0u64;
@@ -81,12 +81,12 @@ fn a_site_is_told_where_the_store_refuses_a_call(rt: HostRuntime) {
         let asked = try_failing(&rt, rt.alloc(), failing, Trial::Site);
         refused = refused.saturating_add(asked);
     }
-    // One call for the devices, two for the accounting registers of the two devices, and three for
-    // the meters.
+    // One call of the store is for the devices, two are for the accounting registers of the two
+    // devices, and three are for the meters.
     assert!(rt; refused == 6);
 }
 
-// Names, and the latest meter at the accounting register with each name.
+// Names of accounting registers, each with the expected latest meter.
 static METERS: [(&[u8], &str); 5] = [
     (b"main", "meter m2 last 10 sf -1 at 1900 total 0 open\n"),
     (b"export", "refused 1\n"),
@@ -103,7 +103,7 @@ fn assert_meters<B: Books>(rt: &impl Abort, alloc: Global, office: &mut Office<B
     }
 }
 
-// Names, and the unit identifier of the device with each name.
+// Names of devices, each with the expected unit identifier.
 static UNITS: [(&[u8], Option<u8>); 4] = [
     (b"roof", Some(1)),
     (b"inv", Some(2)),
@@ -118,10 +118,10 @@ fn has_unit<B: Books>(office: &mut Office<B>, device: &Option<Name>, unit: Optio
     }
 }
 
-// The address and the scale of an accounting register.
+// The Modbus address and the scale factor of an accounting register.
 type Place = (u16, ScaleSource);
 
-// Names, and the address and the scale of the accounting register with each name.
+// Names of accounting registers, each with the expected Modbus address and scale factor.
 static PLACES: [(&[u8], Option<Place>); 5] = [
     (b"main", Some((40094, ScaleSource::Register(40096)))),
     (b"export", Some((40098, ScaleSource::Fixed(-3)))),
@@ -148,7 +148,7 @@ fn has_place<B: Books>(
     }
 }
 
-/// Looks up devices, registers and meters by their names.
+/// Looks up devices, accounting registers and meters by their names.
 pub(crate) fn look_up<B: Books>(rt: &impl Abort, alloc: Global, books: B) {
     let mut office = office_after(rt, alloc, books, &LINES);
     for _time in 0..2 {
@@ -164,7 +164,8 @@ pub(crate) fn look_up<B: Books>(rt: &impl Abort, alloc: Global, books: B) {
     }
 }
 
-/// Devices, accounting registers and meters are found by their names. Other names find nothing.
+/// A lookup by name finds the device, accounting register or meter with this name. If nothing has
+/// the name, the lookup finds nothing.
 #[test]
 fn devices_registers_and_meters_are_found_by_their_names(rt: HostRuntime) {
     try_in_memory(&rt, rt.alloc(), Trial::Names);

@@ -1,4 +1,4 @@
-//! Tests the status and the metrics of an office for a known history.
+//! Tests the status and the metrics of an office after a known history.
 use energy_core::{Cause, Last};
 use mb_wire::ReadFunction;
 use office_core::SiteRow;
@@ -65,7 +65,7 @@ fn devices() -> [DeviceState; 2] {
 const STATUS: &str =
     "{\"devices\":[{\"name\":\"inv\",\"connected\":true,\"last_reading\":1700000000},{\"name\":\"roof-2\",\"connected\":false,\"last_reading\":null}],\"polls\":{\"answered\":2,\"exception\":1,\"silent\":1,\"malformed\":0,\"lost\":1},\"readings\":1,\"held\":{\"not_accumulated\":1,\"scale_changed\":0,\"not_later\":0,\"span_too_long\":0,\"gap_too_long\":0,\"too_fast\":0,\"total_full\":0,\"not_below_range\":1},\"refusals\":1,\"lacks\":[]}\n";
 
-/// The status of a known history is this JSON text.
+/// The status after the known history has the expected JSON text.
 #[test]
 fn the_status_is_json(rt: HostRuntime) {
     let mut text = Vec::new(rt.alloc());
@@ -138,8 +138,8 @@ fn site_row(meter: &[u8], total: u64, ended: bool) -> Option<SiteRow> {
     })
 }
 
-// The site of a known history: an accounting register without a meter, and three meters, one of
-// which was closed.
+// The accounting registers of the known history: one without a meter, and three with a meter.
+// One of these meters is closed.
 fn site() -> Option<[SiteRow; 4]> {
     Some([
         SiteRow {
@@ -152,7 +152,7 @@ fn site() -> Option<[SiteRow; 4]> {
     ])
 }
 
-/// The metrics of a known history have this text. Only open meters are in it.
+/// The metrics after the known history have the expected text, with open meters only.
 #[test]
 fn the_metrics_are_in_text_format(rt: HostRuntime) {
     let mut text = Vec::new(rt.alloc());
@@ -162,8 +162,8 @@ fn the_metrics_are_in_text_format(rt: HostRuntime) {
     assert!(rt; str::from_utf8(&text) == Ok(METRICS));
 }
 
-// Returns the accounting register import of the device grid. A reading of it needs the Modbus
-// registers 40117 to 40125 by function 3.
+// Returns the accounting register `import` of the device `grid`. A reading of its counter needs the
+// Modbus registers 40117 to 40125, read by function 3.
 fn import() -> Option<Register> {
     Some(Register {
         name: Name::new(b"import")?,
@@ -189,7 +189,7 @@ fn no_meter(import: &Register) -> DeviceLack {
     lack(b"grid", Lack::NoMeter(*import))
 }
 
-// Returns a lack of each kind.
+// Returns one example of each reason why a device cannot be polled in a round.
 fn lacks(import: &Register) -> [DeviceLack; 5] {
     [
         lack(b"none", Lack::NoDevice),
@@ -203,7 +203,7 @@ fn lacks(import: &Register) -> [DeviceLack; 5] {
 const LACKS: &str =
     "\"refusals\":0,\"lacks\":[{\"device\":\"none\",\"lack\":\"no_device\"},{\"device\":\"inv\",\"lack\":\"no_list\"},{\"device\":\"inv\",\"lack\":\"no_register\"},{\"device\":\"grid\",\"lack\":\"not_in_list\",\"register\":\"import\"},{\"device\":\"grid\",\"lack\":\"no_meter\",\"register\":\"import\"}]}\n";
 
-/// The status says what each device lacks before it can be polled.
+/// The status reports why each device cannot be polled.
 #[test]
 fn what_devices_lack_is_in_the_status(rt: HostRuntime) {
     let mut text = Vec::new(rt.alloc());
@@ -221,7 +221,7 @@ sunreg: register import: missing from the point list of grid; add function 3, re
 sunreg: register import: no open meter; install one with POST /registers/import/install
 ";
 
-/// Each lack of a device has its text.
+/// Each reason why a device cannot be polled has its expected text.
 #[test]
 fn what_devices_lack_is_said(rt: HostRuntime) {
     let mut text = Vec::new(rt.alloc());

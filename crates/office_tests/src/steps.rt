@@ -1,4 +1,5 @@
-//! Steps over a store: records to write, or lookups with their answers.
+//! Test steps over a store, which write records or look up results and compare them with the
+//! expected results.
 use crate::facts::{Booked, facts};
 use crate::offices::{name_of, planned};
 use energy_core::Cause;
@@ -10,42 +11,44 @@ use office_events::{
 use std::alloc::Global;
 use std::process::Abort;
 
-/// A step over a store: records to write, or a lookup with this answer. The device of the records
-/// and lookups is `inv`.
+/// A test step over a store. The step writes records, or compares a lookup with its expected
+/// result. All steps use the device `inv`.
 #[derive(Clone, Copy)]
 pub(crate) enum Step {
     Books(&'static [Booked]),
     /// The device gets the point list with this text.
     Lists(&'static [u8]),
-    /// The plan of the device's point list has this number of reads.
+    /// The plan of the device's point list has this number of Modbus reads.
     Reads(usize),
     /// The device has this number of accounting registers.
     Registers(usize),
-    /// A read of the device, by function, address and count, gives readings of these accounting
+    /// A Modbus read of the device, by function, address and count, covers these accounting
     /// registers.
     Read(u8, u16, u16, &'static [&'static str]),
-    /// The latest meter at the accounting register `main`: its name, its energy in mWh, and whether
-    /// it was closed.
+    /// The latest meter at the accounting register `main` has this name and this energy in mWh. The
+    /// last value is true if the meter is closed.
     Installed(&'static [u8], u64, bool),
-    /// The meter with this name: its energy in mWh, and whether it was closed.
+    /// The meter with this name has this energy in mWh. The last value is true if the meter is
+    /// closed.
     Meter(&'static [u8], u64, bool),
-    /// This number of meters was installed.
+    /// The store has this number of installed meters.
     Meters(usize),
-    /// An entry of a meter, by its index: the energy in mWh before it, and whether it was voided.
+    /// The meter has an entry with this sequence number, and this energy before the entry in mWh.
+    /// The last value is true if the entry is voided.
     Entry(&'static [u8], u64, u64, bool),
-    /// An entry of a meter that is built from the rows around it: the counter's value before it,
-    /// and the meter's total energy in mWh.
+    /// A lookup with `entry_near` finds the entry with this sequence number. The meter has this
+    /// count before the entry, and this total energy in mWh.
     EntryNear(&'static [u8], u64, u32, u64),
     NoEntry(&'static [u8], u64),
-    /// The times and causes of the rejected readings of a meter in a time span.
+    /// The rejected readings of a meter in a time span have these times and causes.
     Held(&'static [u8], Span, &'static [(u64, Cause)]),
-    /// This number of polls was started.
+    /// The store has this number of started polls.
     Started(u64),
-    /// The poll with this number, and whether it is pending.
+    /// The store has the poll with this number. The last value is true if the poll is pending.
     Waits(u64, bool),
     /// The pending polls have these numbers.
     Pending(&'static [u64]),
-    /// The latest time of all records.
+    /// The latest timestamp of all records in the store.
     Latest(u64),
 }
 
@@ -129,7 +132,7 @@ fn is_entry(found: &Option<EntryPlace>, total: u64, is_voided: bool) -> bool {
     }
 }
 
-// Returns whether the rows around an entry give this entry, with the meter's total energy.
+// Returns true if a lookup with `entry_near` finds this meter entry with the meter's total energy.
 fn is_near<B: Books>(
     books: &mut B,
     meter: &Name,
@@ -175,7 +178,8 @@ fn is_waiting<B: Books>(books: &mut B, number: u64, waits: bool) -> Result<bool,
     }
 }
 
-// Writes the records of a step about the device, or compares a lookup with its answer.
+// Executes a test step about the device. Writes the step's records, or compares a lookup with its
+// expected result.
 fn try_device<B: Books>(
     rt: &impl Abort,
     alloc: Global,
@@ -210,7 +214,7 @@ fn try_device<B: Books>(
     }
 }
 
-/// Writes the records of a step, or compares a lookup with its answer.
+/// Executes a test step. Writes the step's records, or compares a lookup with its expected result.
 pub(crate) fn try_step<B: Books>(
     rt: &impl Abort,
     alloc: Global,

@@ -1,5 +1,5 @@
-//! The trials over an office's store. They are called only here for a store in memory, because each
-//! such call takes seconds to prove.
+//! Runs the tests that are generic over the store. Only this module runs them over a store in
+//! memory, because each such call takes seconds to prove.
 use crate::offices::books_failing_at;
 use crate::rounds::Ends;
 use crate::{
@@ -9,28 +9,29 @@ use office_books::Books;
 use std::alloc::Global;
 use std::process::Abort;
 
-/// A trial: a test that can run over any store.
+/// A test that is generic over the store.
 #[derive(Clone, Copy)]
 pub(crate) enum Trial {
-    /// A script whose lines may fail.
+    /// A script over a store that may fail.
     Script,
-    /// A round whose store refuses a call.
+    /// A polling round of an office over a store that fails at a chosen call.
     RefusedRound,
-    /// A round in which the call of the link with this number fails.
+    /// A polling round in which the call of the link with this number fails.
     Link(u64),
-    /// The round of a case, by its index.
+    /// The polling round of the test case with this index.
     Round(usize),
-    /// A round whose responses arrive in chunks of this number of bytes.
+    /// A polling round whose responses arrive in chunks of this number of bytes.
     Pieces(usize),
-    /// Rounds of devices that do not exist.
+    /// Polling rounds of devices that do not exist or that have no point list.
     NoDevice,
-    /// A round whose writer accepts this number of bytes, and the outcomes of its polls.
+    /// A polling round whose output writer accepts this number of bytes, and the expected outcomes
+    /// of its polls.
     Narrow(usize, Ends),
-    /// A round that never ends.
+    /// A polling round that ends only at its maximum number of reads from the link.
     Takes,
-    /// Steps over a caching store.
+    /// Test steps over a store with a cache.
     Kept,
-    /// A read of accounting registers, by its index.
+    /// A Modbus read of accounting registers, by its index in a list of test cases.
     Read(usize),
     Site,
     Names,
@@ -39,8 +40,8 @@ pub(crate) enum Trial {
     Requests,
 }
 
-/// Runs a trial over a store, and returns what the trial's function returns. The result is 0 if the
-/// function returns nothing.
+/// Runs a test over a store, and returns the number that the test's function returns, or 0 without
+/// such a number.
 fn try_over<B: Books>(rt: &impl Abort, alloc: Global, books: B, trial: Trial) -> u64 {
     match trial {
         Trial::Script => return failures::play(rt, alloc, books),
@@ -62,13 +63,13 @@ fn try_over<B: Books>(rt: &impl Abort, alloc: Global, books: B, trial: Trial) ->
     0
 }
 
-/// Runs a trial over a store in memory that refuses the call with number `failing`. With 0 it
-/// refuses no call.
+/// Runs a test over a store in memory that fails at the call with the number `failing`. If
+/// `failing` is 0, no call fails.
 pub(crate) fn try_failing(rt: &impl Abort, alloc: Global, failing: u64, trial: Trial) -> u64 {
     try_over(rt, alloc, books_failing_at(rt, alloc, failing), trial)
 }
 
-/// Runs a trial over a store in memory that refuses nothing.
+/// Runs a test over a store in memory that does not fail.
 pub(crate) fn try_in_memory(rt: &impl Abort, alloc: Global, trial: Trial) {
     let _returned = try_failing(rt, alloc, 0, trial);
 }

@@ -1,5 +1,4 @@
-//! Tests turns over made-up events. A turn handles one device event, and then the events that the
-//! rounds request.
+//! Tests the processing of a device event, and of the events that polling rounds then request.
 use crate::benches::{Bench, Moment, Step, play};
 use crate::observer::Seen;
 use crate::offices::new_books;
@@ -12,10 +11,10 @@ fn seen(rt: &impl Abort, alloc: Global, moments: &[Moment]) -> Bench<Seen> {
     play(rt, alloc, new_books(rt, alloc), moments, Seen::new(alloc))
 }
 
-// Events, what the observer writes about them, and the bytes of all request frames: 12 for each
-// read.
+// Test cases with events, the expected text of the observer, and the number of bytes of all Modbus
+// request frames. Each read has a frame of 12 bytes.
 static TURNS: [(&[Moment], &str, usize); 7] = [
-    // A device is polled to the end of its round.
+    // A device is polled until the end of its polling round.
     (
         &[
             (1001, Step::Stands(0)),
@@ -25,7 +24,7 @@ static TURNS: [(&[Moment], &str, usize); 7] = [
         "0C 0S 0Ba 0S 0Ba 0G ",
         24,
     ),
-    // Two devices are polled at once.
+    // Two devices are polled at the same time.
     (
         &[
             (1001, Step::Stands(1)),
@@ -38,7 +37,7 @@ static TURNS: [(&[Moment], &str, usize); 7] = [
         "1C 1S 0C 0S 1Ba 1S 0Ba 0S 0Ba 0G 1Ba 1G ",
         48,
     ),
-    // Two polls are pending at once, and one timer event makes both time out.
+    // One timer event makes two pending polls time out.
     (
         &[
             (1001, Step::Stands(0)),
@@ -50,7 +49,7 @@ static TURNS: [(&[Moment], &str, usize); 7] = [
         "0C 0S 1C 1S T Tss 0S 1S Tss 0G 1G ",
         48,
     ),
-    // The end of a connection loses only the polls of its device.
+    // The end of a connection loses only the polls of the connection's device.
     (
         &[
             (1001, Step::Stands(0)),
@@ -62,7 +61,7 @@ static TURNS: [(&[Moment], &str, usize); 7] = [
         "0C 0S 1C 1S 0Fl 1Ba 1S ",
         36,
     ),
-    // A device is connected again after it failed.
+    // A device connects again after its connection failed.
     (
         &[
             (1001, Step::Stands(0)),
@@ -72,7 +71,7 @@ static TURNS: [(&[Moment], &str, usize); 7] = [
         "0C 0S 0Fl 0C 0S ",
         24,
     ),
-    // Events of devices that are not being polled, and of an empty slot.
+    // Events arrive from devices that are not being polled, and from an empty slot.
     (
         &[
             (1001, Step::First(0)),
@@ -82,8 +81,8 @@ static TURNS: [(&[Moment], &str, usize); 7] = [
         "",
         0,
     ),
-    // A time before the latest time breaks the round off. A run never feeds such a time, because
-    // `SteadyClock` prevents it.
+    // An event before the latest time ends the polling round. The command `sunreg run` never causes
+    // such an event, because `SteadyClock` prevents it.
     (
         &[(1001, Step::Stands(0)), (999, Step::First(0))],
         "0C 0S 0B! 0F! ",
@@ -91,7 +90,7 @@ static TURNS: [(&[Moment], &str, usize); 7] = [
     ),
 ];
 
-/// A turn feeds its event to the office, and then the events that the rounds request.
+/// A device event is processed first, and then the events that the polling rounds request.
 #[test]
 fn turns_feed_what_rounds_wish(rt: HostRuntime) {
     for (moments, text, frames) in TURNS {
@@ -101,13 +100,13 @@ fn turns_feed_what_rounds_wish(rt: HostRuntime) {
     }
 }
 
-// Returns the stage of the round of the device in this slot.
+// Returns the stage of the polling round of the device in this slot.
 fn stage(bench: &Bench<Seen>, place: usize) -> Option<Stage> {
     let round = bench.rounds.get(place)?;
     Some(round.stage)
 }
 
-/// A device that connected for the second time waits for responses, as in the fifth case of
+/// A device that connected for the second time waits for responses, as in the fifth test case of
 /// `TURNS`.
 #[test]
 fn a_device_that_came_again_waits(rt: HostRuntime) {

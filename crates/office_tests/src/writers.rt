@@ -1,7 +1,7 @@
-//! Writers for tests that accept only a few bytes.
+//! Writers for tests that accept only a limited number of bytes.
 use std::io::{self, ErrorKind, Write};
 
-/// A writer that fails once it has accepted `room` bytes.
+/// A writer that fails after it has accepted `room` bytes.
 #[derive(Drop)]
 pub(crate) struct Narrow {
     pub(crate) room: usize,

@@ -1,4 +1,4 @@
--- A test of the rows' fields.
+-- Lemmas about a test of the fields of a point list's rows.
 use Rattle.std.proofs.Common.{◌≡◌, Bool, List, [], ◌∷◌, map, refl}
 use Rattle.std.specs.List.{list_any}
 

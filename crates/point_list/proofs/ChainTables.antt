@@ -1,4 +1,4 @@
--- The properties of the model tables that a point list needs.
+-- The properties of the model tables on which point lists of chains depend.
 use Rattle.std.proofs.Common.{◌≡◌, ℕ, Bool, true, false, List, [], ◌∷◌, length, refl}
 use Rattle.std.specs.Prelude.{◌==◌, ◌&&◌, ◌||◌, nat_le, not, if◌then◌else◌}
 use Rattle.std.specs.List.{list_all}
@@ -10,12 +10,12 @@ use Rattle.sun_chain.specs.TableRules.{end_of_row}
 use Rattle.point_list.specs.Names.{is_name_byte}
 use Rattle.point_list.specs.Points.{is_sunssf, takes_scale}
 
--- At most 20 bytes, all allowed in names.
+-- True if the name has at most 20 bytes, all of them allowed in point names.
 abbrev pub is_short : List ℕ → Bool
 is_short name = nat_le (length name) 20 && list_all is_name_byte name
 
--- A scale point belongs to a type that may have a scale, and each point with its name is a sunssf
--- point.
+-- True if the name can be a row's scale point: it has at most 20 bytes, each table row with it is a
+-- sunssf point, and the row's type may have a scale.
 abbrev pub is_scaled_by : List Row → Row → List ℕ → Bool
 is_scaled_by rows row name = is_short name && takes_scale row.ty && list_all (λ other. not (bytes_eq other.name name) || is_sunssf other.ty) rows
 

@@ -1,5 +1,4 @@
--- Worked examples, computed from the definitions: the last valid value and the first invalid value
--- of each limit.
+-- The definitions evaluated at each limit: the last valid value and the first invalid value.
 use Rattle.std.proofs.Common.{◌≡◌, ℕ, pos, negsuc, true, false, List, [], ◌∷◌, replicate, Some, None, refl}
 use Rattle.std.specs.Prelude.{codes}
 use Rattle.mb_wire.specs.declared.span.ReadFunction.TheVariants.{HoldingRegisters}
@@ -13,7 +12,7 @@ use Rattle.point_list.specs.Fields.{fixed_scale_of, function_of, number_within, 
 use Rattle.point_list.specs.Lists.{is_one_group}
 use Rattle.point_list.specs.Names.{is_name}
 
--- Names of 1 to 32 letters.
+-- Point names of 1 to 32 letters are valid.
 
 abbrev letters : ℕ → List ℕ
 letters count = replicate count 65
@@ -33,7 +32,7 @@ name_too_long = refl
 digit_first : is_name (codes "1A") ≡ false
 digit_first = refl
 
--- Fields.
+-- Values of the fields of a row.
 
 last_address : number_within 0 65535 (codes "65535") ≡ Some 65535
 last_address = refl
@@ -77,7 +76,7 @@ function_3 = refl
 function_5 : function_of (codes "5") ≡ None
 function_5 = refl
 
--- A group of 125 registers, and one of 126.
+-- A point and its scale point may span 125 registers, and not 126.
 
 abbrev word_at : ℕ → ListedPoint
 word_at address = record {
@@ -95,7 +94,7 @@ widest_group = refl
 group_too_wide : is_one_group (word_at 0) (word_at 125) ≡ false
 group_too_wide = refl
 
--- 512 points, and one more on row 514. The header is row 1.
+-- A list may have 512 points. One more point is a fault on row 514, because the header is row 1.
 
 abbrev good_row : RowText
 good_row = record {

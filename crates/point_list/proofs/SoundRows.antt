@@ -1,4 +1,4 @@
--- A row without faults spells a point.
+-- Proves that a row without faults encodes a point.
 use Rattle.std.proofs.Common.{◌≡◌, ◌≤◌, ℕ, zero, suc, ℤ, pos, negsuc, Bool, true, false, IsTrue, List, [], ◌∷◌, Some, None, Option, drop, refl, arith, inl, inr, rules}
 use Rattle.std.specs.Prelude.{◌==◌, nat_le, not, if◌then◌else◌, ◌&&◌, ◌||◌, is_none, int_le, codes}
 use Rattle.std.specs.Option.{option_and_then, option_map}
@@ -80,7 +80,7 @@ within-some low high (Some m) n h =
 pub within : (low high : ℕ) (field : List ℕ) (n : ℕ) → number_within low high field ≡ Some n → (low ≤ n) × (n ≤ high)
 within low high field n h = within-some low high (number_of field) n h
 
--- -10 to 10.
+-- The negative of a number up to 10 is from -10 to 10.
 minus-bounds : (n : ℕ) → n ≤ 10 → IsTrue (int_le (negsuc 9) (minus n) && int_le (minus n) (pos 10))
 minus-bounds zero h = search rules
 minus-bounds (suc n) h = search rules
@@ -103,7 +103,7 @@ fixed-bounds (first ∷ rest) exponent h = elim (cases_Bool (first == 45)) [
       rw (← m.2) (pos-bounds m.0 (within 0 10 (first ∷ rest) m.0 m.1).1)
 ]
 
--- The number of registers of a type that a field spells.
+-- A text type in a field has 1 to 125 registers.
 text-sized : (field : List ℕ) (kind : PointType) → text_type_of field ≡ Some kind → (1 ≤ registers_of kind) × (registers_of kind ≤ 125)
 text-sized field shown h = elim (cases_Bool (starts_with (λ a b. a == b) field (codes "string"))) [
   | inl is ↦ text-found (number_within 1 125 (drop 6 field)) shown (λ n. within 1 125 (drop 6 field) n) (rw is at h)

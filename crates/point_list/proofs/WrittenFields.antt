@@ -1,4 +1,4 @@
--- The fields of a written row spell its point.
+-- Proves that reading the written fields of a point gives the same point.
 use Rattle.std.proofs.Common.{◌≡◌, ◌+◌, ◌-◌, ◌*◌, ◌^◌, ◌≤◌, ◌<◌, ℕ, suc, ℤ, pos, negsuc, Bool, true, false, IsTrue, List, [], ◌∷◌, Some, None, length, fold, refl, ap, arith}
 use Rattle.std.specs.Prelude.{◌==◌, nat_le, ◌&&◌, int_le}
 use Rattle.std.specs.Char.{is_ascii_alphabetic, is_ascii_digit}
@@ -51,7 +51,7 @@ number-if field n some few digits value =
     let b : nat_le (length field) 10 ≡ true = grind (arith, few) in
     rw (a, b, digits, value) refl
 
--- A written number is read back.
+-- Reading the decimal text of a 16-bit number gives the number.
 pub number-read : (n : ℕ) → n < 2 ^ 16 → number_of (decimal n) ≡ Some n
 number-read n small =
     let fits : n < 2 ^ 64 = omega (arith, small) in
@@ -79,7 +79,7 @@ type-read kind.Acc32 some few = refl
 type-read kind.Sunssf some few = refl
 type-read (kind.Text registers) some few = rw (within-read 1 125 registers (omega (arith, few)) some few) refl
 
--- The text of a scale is read back, and the scale is allowed for each type that may have one.
+-- Reading the text of the scale gives the scale, for each type that may have a scale.
 pub record ScaleRead (scale : PointScale) : Type 0 where
   pub spelled : scale_spelled (scale_text scale) ≡ Some scale
   pub good : (kind : PointType) → takes_scale kind ≡ true → is_bad_scale (scale_text scale) (Some kind) ≡ false
@@ -89,7 +89,7 @@ fixed-good : (field : List ℕ) (exponent : ℤ) → fixed_scale_of field ≡ So
 fixed-good [] exponent h = absurd (cc h)
 fixed-good (first ∷ rest) exponent h = (rw h refl, λ kind takes. rw (h, takes) refl)
 
--- Digits are no negative number.
+-- A field of digits with a value up to 10 encodes the positive scale of that value.
 from-zero : (field : List ℕ) (n : ℕ) → 0 < length field → list_all is_ascii_digit field ≡ true → number_within 0 10 field ≡ Some n → fixed_scale_of field ≡ Some (pos n)
 from-zero [] n some digits h = absurd (omega (arith, some))
 from-zero (first ∷ rest) n some digits h =
@@ -119,7 +119,7 @@ and-false false = refl
 letter : (byte : ℕ) → is_ascii_alphabetic byte ≡ true → ((byte == 45) ≡ false) × (is_ascii_digit byte ≡ false)
 letter byte h = (grind (arith, h), grind (arith, h))
 
--- A name is no number.
+-- A point name is not a number.
 no-number : (name : List ℕ) → is_name name ≡ true → fixed_scale_of name ≡ None
 no-number [] h = refl
 no-number (first ∷ rest) h =
@@ -134,7 +134,7 @@ named-read (first ∷ rest) h = record {
   good = λ kind takes. rw (no-number (first ∷ rest) h, h, takes) refl;
 }
 
--- A scale that is allowed for its type is read back.
+-- Reading the text of a scale that is valid for its type gives the same scale.
 pub scale-read : (kind : PointType) (scale : PointScale) → Suits kind scale → ((name : List ℕ) → scale ≡ Named name → is_name name ≡ true)
     → (scale_spelled (scale_text scale) ≡ Some scale) × (is_bad_scale (scale_text scale) (Some kind) ≡ false)
 scale-read kind Unscaled suits named = (refl, refl)

@@ -1,4 +1,4 @@
--- The rows of a written text.
+-- Lemmas about the rows of a written CSV text.
 use Rattle.std.proofs.Common.{◌≡◌, ◌∙◌, ℕ, List, [], ◌∷◌, ◌++◌, None, map, refl, sym, ap, append_assoc}
 use Rattle.std.proofs.lemmas.List.{append-nil}
 use Rattle.csv.proofs.RoundTrip.{read-write}
@@ -10,7 +10,7 @@ use Rattle.point_list.specs.Rows.{csv_rows}
 use Rattle.point_list.specs.RowTexts.{header_row, rows_text}
 use Rattle.point_list.proofs.RowFacts.{rows-begin}
 
--- The text of rows grows by the text of the next row.
+-- The text of rows with one more row is the text of the rows followed by that of the new row.
 pub rows_text-push : (xs : List (List (List ℕ))) (y : List (List ℕ)) → rows_text (xs ++ (y ∷ [])) ≡ rows_text xs ++ row_text default_writer y
 unfolding rows_text
 rows_text-push [] y = append-nil (row_text default_writer y)
@@ -18,7 +18,7 @@ rows_text-push (x ∷ xs) y =
     ap (λ (t : List ℕ). row_text default_writer x ++ t) (rows_text-push xs y)
     ∙ sym (append_assoc (row_text default_writer x) (rows_text xs) (row_text default_writer y))
 
--- Written rows are read back, one by one.
+-- Reading the text of rows returns these rows one by one.
 written-reached : (rows : List (List (List ℕ))) → Reached default_config st.StartRecord (rows_text rows) (map read_back rows) st.StartRecord []
 unfolding Reached rows_text
 written-reached [] = (refl, refl)
@@ -28,17 +28,17 @@ at-end : next_record default_config st.StartRecord [] [] [] ≡ None
 unfolding next_record
 at-end = refl
 
--- The records of a written text are its rows.
+-- The records of a written text are the written rows.
 pub written-read : (rows : List (List (List ℕ))) → records default_config (rows_text rows) ≡ map read_back rows
 written-read rows =
     let b = rows-begin st.StartRecord (rows_text rows) [] (map read_back rows) (written-reached rows) in
     b.1 ∙ ap (λ (l : List (List (List ℕ))). map read_back rows ++ l) (b.2 at-end) ∙ append-nil (map read_back rows)
 
--- The header does not begin with a byte order mark.
+-- The text of a header does not begin with a byte order mark.
 no-mark : (rows : List (List (List ℕ))) → strip_bom (rows_text (header_row ∷ rows)) ≡ rows_text (header_row ∷ rows)
 unfolding strip_bom fields_text is_blank rows_text
 no-mark rows = refl
 
--- The rows below a header are read back.
+-- Reading a written text returns the header and the rows below it.
 pub written-rows : (rows : List (List (List ℕ))) → csv_rows (rows_text (header_row ∷ rows)) ≡ header_row ∷ map read_back rows
 written-rows rows = ap (λ (text : List ℕ). records default_config text) (no-mark rows) ∙ written-read (header_row ∷ rows)

@@ -1,4 +1,4 @@
--- The faults of a row.
+-- Defines the faults of a row of a point list.
 use Rattle.std.specs.Prelude.{ℕ, ◌+◌, Bool, false, nat_le, nat_lt, not, ◌||◌, if◌then◌else◌, List, [], ◌∷◌, Some, None, is_none, is_some}
 use Rattle.std.specs.declared.option.Option.{Option}
 use Rattle.std.specs.List.{list_any}
@@ -30,7 +30,7 @@ fault_number NoSuchScale = 10
 fault_number GroupTooWide = 11
 fault_number TooMany = 12
 
--- The six fields of a row, as texts.
+-- The six fields of a row of a point list, as texts.
 pub record RowText : Type 0 where
   pub name : List ℕ
   pub function : List ℕ
@@ -39,32 +39,32 @@ pub record RowText : Type 0 where
   pub kind : List ℕ
   pub scale : List ℕ
 
--- The fields of a row by name, or `None` unless the row has exactly six.
+-- The fields of a row by name, or `None` unless the row has exactly six fields.
 abbrev pub six_fields : List (List ℕ) → Option RowText
 six_fields (a ∷ b ∷ c ∷ d ∷ e ∷ f ∷ []) =
     Some (record { name = a; function = b; area = c; address = d; kind = e; scale = f })
 six_fields _ = None
 
--- The row has six fields, and the first of them is this name.
+-- True if the row has six fields and the first field equals this name.
 abbrev pub has_name : List ℕ → List (List ℕ) → Bool
 has_name name fields = option_map_or (λ row. bytes_eq row.name name) (six_fields fields) false
 
--- The field does not spell a whole number from `low` to `high`.
+-- True if the field is not a whole number between `low` and `high`.
 abbrev pub is_no_number : ℕ → ℕ → List ℕ → Bool
 is_no_number low high field = is_none (number_within low high field)
 
--- A point of this type at this address reaches past address 65535. False if the address or the
--- type is unknown.
+-- True if a point of this type at this address extends past address 65535. False if the address or
+-- the type is unknown.
 abbrev pub reaches_past : Option ℕ → Option PointType → Bool
 reaches_past (Some address) (Some kind) = nat_lt ADDRESSES (address + registers_of kind)
 reaches_past _ _ = false
 
--- The field spells a scale from -10 to 10.
+-- True if the field is a scale from -10 to 10.
 abbrev pub is_fixed_scale : List ℕ → Bool
 is_fixed_scale field = is_some (fixed_scale_of field)
 
--- The scale field is invalid: it is no number from -10 to 10 and no name, or the type is known
--- and has no scale. An empty field is valid.
+-- True if a nonempty scale field is invalid: it is no number from -10 to 10 and no name, or the
+-- type allows no scale. An empty field is valid.
 abbrev pub is_bad_scale : List ℕ → Option PointType → Bool
 is_bad_scale [] kind = false
 is_bad_scale (first ∷ rest) kind =
@@ -76,8 +76,8 @@ abbrev pub first_of : List (RowFault × Bool) → Option RowFault
 first_of [] = None
 first_of (fault ∷ faults) = if fault.1 then Some fault.0 else first_of faults
 
--- Each fault with its condition, for a row of six fields at index `place` below the header.
--- `taken` says that an earlier row has its name.
+-- Each fault with its condition, for a row of six fields at index `place` below the header. `taken`
+-- is true if an earlier row has the same name.
 abbrev pub conditions_where : Bool → ℕ → RowText → List (RowFault × Bool)
 conditions_where taken place row =
     (Name, not (is_name row.name))
@@ -94,17 +94,17 @@ conditions_where taken place row =
     ∷ (TooMany, nat_le POINT_LIMIT place)
     ∷ []
 
--- Each fault with its condition, for a row of six fields below the rows `earlier`.
+-- Each fault with its condition, for a row of six fields after the rows `earlier`.
 abbrev pub conditions : ℕ → List (List (List ℕ)) → RowText → List (RowFault × Bool)
 conditions place earlier row = conditions_where (list_any (has_name row.name) earlier) place row
 
--- The first fault of a row below the rows `earlier`, or `None`. Faults of its scale point are not
--- considered.
+-- The first fault of a row after the rows `earlier`, or `None`. Faults of the row's scale point are
+-- not considered.
 abbrev pub least_fault : ℕ → List (List (List ℕ)) → List (List ℕ) → Option RowFault
 least_fault place earlier fields =
     option_map_or (λ row. first_of (conditions place earlier row)) (six_fields fields) (Some Csv)
 
--- The fields of a row as texts, which the program holds as slices.
+-- The fields of a `RowFields`, as texts.
 abbrev pub seen_row : RowFields → RowText
 seen_row row =
     record {

@@ -1,4 +1,4 @@
--- The values that the fields of a row spell.
+-- Defines the values that the fields of a row encode.
 use Rattle.std.specs.Prelude.{ℕ, zero, suc, ℤ, pos, negsuc, ◌==◌, nat_le, ◌&&◌, if◌then◌else◌, List, [], ◌∷◌, drop, codes, Some, None}
 use Rattle.std.specs.declared.option.Option.{Option}
 use Rattle.std.specs.List.{starts_with}
@@ -11,26 +11,26 @@ use Rattle.mb_wire.specs.declared.limits.TheConstants.{MAX_READ_REGISTERS}
 use Rattle.mb_wire.specs.declared.span.ReadFunction.{ReadFunction}
 use Rattle.mb_wire.specs.declared.span.ReadFunction.TheVariants.{HoldingRegisters, InputRegisters}
 
--- The whole number that a field of one to ten digits spells, or `None`.
+-- The whole number in a field of one to ten digits, or `None` for any other field.
 abbrev pub number_of : List ℕ → Option ℕ
 number_of field = number_of_digits 10 field
 
--- The whole number from `low` to `high` that a field spells, or `None`.
+-- The whole number in a field if it is between `low` and `high`, or `None`.
 abbrev pub number_within : ℕ → ℕ → List ℕ → Option ℕ
 number_within low high field =
     option_and_then (λ n. if nat_le low n && nat_le n high then Some n else None) (number_of field)
 
--- The read function with this code: 3 for holding registers, 4 for input registers. `None` for
--- any other code.
+-- The function with this Modbus code: 3 reads holding registers, 4 reads input registers. `None`
+-- for any other code.
 abbrev pub function_coded : ℕ → Option ReadFunction
 function_coded n =
     if n == 3 then Some HoldingRegisters else if n == 4 then Some InputRegisters else None
 
--- The read function that a field spells, or `None`.
+-- The Modbus function that a field encodes, or `None`.
 abbrev pub function_of : List ℕ → Option ReadFunction
 function_of field = option_and_then function_coded (number_of field)
 
--- The text type that a field spells: `string` and its number of registers, 1 to 125. `None` for
+-- The text type that a field encodes: `string` and a number of registers from 1 to 125. `None` for
 -- any other field.
 abbrev pub text_type_of : List ℕ → Option PointType
 text_type_of field =
@@ -38,7 +38,7 @@ text_type_of field =
     then option_and_then (λ n. Some (kind.Text n))
     (number_within 1 MAX_READ_REGISTERS (drop 6 field)) else None
 
--- The point type that a field spells, or `None`.
+-- The point type that a field encodes, or `None`.
 abbrev pub type_of : List ℕ → Option PointType
 type_of field =
     if bytes_eq field (codes "int16") then Some kind.Int16
@@ -51,13 +51,13 @@ type_of field =
     else if bytes_eq field (codes "sunssf") then Some kind.Sunssf
     else text_type_of field
 
--- The number -n.
+-- The integer -n.
 abbrev pub minus : ℕ → ℤ
 minus zero = pos 0
 minus (suc n) = negsuc n
 
--- The fixed scale that a field spells: -10 to 10, with `-` for a negative number and no other
--- sign. `None` for any other field.
+-- The fixed scale that a field encodes: -10 to 10, with `-` as the only sign. `None` for any other
+-- field.
 abbrev pub fixed_scale_of : List ℕ → Option ℤ
 fixed_scale_of [] = None
 fixed_scale_of (first ∷ rest) =

@@ -1,20 +1,19 @@
--- The effect of writing a list on the sink, and the faults of writing.
+-- Defines the effect of writing a point list on a sink, and the faults of writing.
 use Rattle.std.specs.Prelude.{ℕ, ◌≡◌, List, Ok, Err}
 use Rattle.std.specs.declared.io.Error.{Error}
 use Rattle.std.specs.declared.result.Result.{Result}
 use Rattle.point_list.specs.declared.list_writer.WriteListFault.{WriteListFault}
 use Rattle.point_list.specs.declared.list_writer.WriteListFault.TheVariants.{Write, Memory}
 
--- What `write_list` does to the sink: it hands over the text in one call, and `Write` reports
--- that this call failed. `Memory` reports that memory for the text ran out, and the sink is
--- unchanged.
+-- The effect of `write_list`: the sink receives the text in one call, and `Write` reports that the
+-- call failed. `Memory` reports too little memory for the text, and leaves the sink unchanged.
 abbrev pub HandsOver : {S : Type 0} → (S → List ℕ → Result (Unit {0}) Error → S → Type 0)
     → Result (Unit {0}) WriteListFault → List ℕ → S → S → Type 0
 HandsOver takes (Ok done) text old new = takes old text (Ok done) new
 HandsOver takes (Err Write) text old new = (error : Error) × takes old text (Err error) new
 HandsOver takes (Err Memory) text old new = new ≡ old
 
--- The number of each fault of writing.
+-- The number of each fault of writing a point list.
 abbrev pub write_fault_number : WriteListFault → ℕ
 write_fault_number Write = 1
 write_fault_number Memory = 2

@@ -1,4 +1,4 @@
--- The list that the rows of a text spell, and the faulty rows.
+-- Defines the point list that the rows of a text encode, and the faulty rows of a text.
 use Rattle.std.specs.Prelude.{ℕ, zero, suc, ◌≡◌, ◌≢◌, ◌+◌, Bool, false, ◌==◌, nat_le, ◌&&◌, if◌then◌else◌, List, [], ◌∷◌, ◌++◌, length, map, take, drop, max, min, slice_index_or, codes, Some, None}
 use Rattle.std.specs.declared.option.Option.{Option}
 use Rattle.std.specs.List.{flat_map}
@@ -21,23 +21,23 @@ use Rattle.point_list.specs.Rows.{csv_rows}
 use Rattle.point_list.specs.declared.rows.TheConstants.{ROW_LIMIT}
 use Rattle.mb_wire.specs.declared.limits.TheConstants.{MAX_READ_REGISTERS}
 
--- The scale that names a scale point, or `None` if the field is no name.
+-- The scale that names a scale point, or `None` if the field is not a valid name.
 abbrev pub named_scale : List ℕ → Option PointScale
 named_scale field = if is_name field then Some (Named field) else None
 
--- The scale that a field spells: none, a number from -10 to 10, or the name of a scale point.
+-- The scale that a field encodes: no scale, a number from -10 to 10, or the name of a scale point.
 -- `None` for any other field.
 abbrev pub scale_spelled : List ℕ → Option PointScale
 scale_spelled [] = Some Unscaled
 scale_spelled (first ∷ rest) =
     option_or (option_map Fixed (fixed_scale_of (first ∷ rest))) (named_scale (first ∷ rest))
 
--- The name that a field spells, or `None` if it is no name.
+-- The point name that a field encodes, or `None` if the field is not a valid name.
 abbrev pub name_spelled : List ℕ → Option (List ℕ)
 name_spelled field = if is_name field then Some field else None
 
--- The point with this name and this scale, and with the other four fields of a row. `None` if a
--- field is invalid.
+-- The point with this name, this scale, and the other four fields of a row. `None` if a field is
+-- invalid.
 abbrev pub spelled_with : Option (List ℕ) → Option PointScale → RowText → Option ListedPoint
 spelled_with spelled scaled row =
     option_and_then (λ name.
@@ -57,15 +57,16 @@ spelled_with spelled scaled row =
     scaled) (type_of row.kind)) (number_within 0 65535 row.address)) (number_within 0 255 row.area))
     (function_of row.function)) spelled
 
--- The point that six fields spell, or `None`.
+-- The point that six fields encode, or `None` if a field is invalid.
 abbrev pub point_spelled : RowText → Option ListedPoint
 point_spelled row = spelled_with (name_spelled row.name) (scale_spelled row.scale) row
 
--- The point that a row spells, or `None` if a field is invalid or the row has not six fields.
+-- The point that a row encodes, or `None` if a field is invalid or the row does not have six
+-- fields.
 abbrev pub point_of_row : List (List ℕ) → Option ListedPoint
 point_of_row fields = option_and_then point_spelled (six_fields fields)
 
--- The points that these rows spell, in order. A row that spells no point is skipped.
+-- The points that a list of rows encodes, in order. Rows with an invalid field are skipped.
 abbrev pub points_of : List (List (List ℕ)) → List ListedPoint
 points_of rows = flat_map (λ fields. option_to_list (point_of_row fields)) rows
 
@@ -73,34 +74,35 @@ points_of rows = flat_map (λ fields. option_to_list (point_of_row fields)) rows
 abbrev pub row_fault : List (List (List ℕ)) → ℕ → Option RowFault
 row_fault rows place = least_fault place (take place rows) (slice_index_or rows place [])
 
--- For each of the first `n` rows, its first fault or `None`.
+-- The first fault or `None`, for each of the first `n` rows below the header.
 abbrev pub row_faults : List (List (List ℕ)) → ℕ → List (Option RowFault)
 row_faults rows zero = []
 row_faults rows (suc n) = row_faults rows n ++ (row_fault rows n ∷ [])
 
--- A point and its scale point have the same function and area, and fit in one read.
+-- True if a point and its scale point have the same function and area number, and fit in one Modbus
+-- read.
 abbrev pub is_one_group : ListedPoint → ListedPoint → Bool
 is_one_group point scale =
     (code_of point.function == code_of scale.function) && (point.area == scale.area)
     && nat_le (max (end_of point) (end_of scale))
     (min point.address scale.address + MAX_READ_REGISTERS)
 
--- The fault of a point that names this scale point, or `None`. The scale point itself is `None`
--- if the list has no such point.
+-- The fault of a point with this scale point, or `None`. The scale point is `None` if the list has
+-- no point with its name.
 abbrev pub group_fault : ListedPoint → Option ListedPoint → Option RowFault
 group_fault point None = Some NoSuchScale
 group_fault point (Some scale) = if is_one_group point scale then None else Some GroupTooWide
 
--- The fault of a point's scale, or `None`. Only a named scale can have a fault.
+-- The fault of a point's scale, or `None`. Only a scale given by name can have a fault.
 abbrev pub scale_fault : List ListedPoint → ListedPoint → PointScale → Option RowFault
 scale_fault points point (Named name) = group_fault point (scale_point points name)
 scale_fault points point _ = None
 
--- For each point of `some`, the fault of its scale, or `None`.
+-- The fault of the scale or `None`, for each point of the list `some`.
 abbrev pub scale_faults : List ListedPoint → List ListedPoint → List (Option RowFault)
 scale_faults points some = map (λ point. scale_fault points point point.scale) some
 
--- The rows that have a fault, in order. `row` is the number of the first row.
+-- The rows that have a fault, in order. `row` is the number of the first row in the list.
 abbrev pub faulty_rows : ℕ → List (Option RowFault) → List FaultyRow
 faulty_rows row [] = []
 faulty_rows row (None ∷ faults) = faulty_rows (row + 1) faults
@@ -112,21 +114,21 @@ abbrev pub or_else : List FaultyRow → List FaultyRow → List FaultyRow
 or_else [] others = others
 or_else (row ∷ rows) others = row ∷ rows
 
--- The faulty rows among the first `count` rows below the header. Faults of their scale points are
--- not considered. The header is row 1.
+-- The faulty rows among the first `count` rows below the header, without faults of scale points.
+-- The header is row 1.
 abbrev pub faulty_first : List (List (List ℕ)) → (count : ℕ) → List FaultyRow
 faulty_first rows count = faulty_rows 2 (row_faults rows count)
 
--- The rows whose points have a fault of their scale. The first point is on row 2.
+-- The rows whose scale has a fault. The first point is on row 2.
 abbrev pub faulty_points : List ListedPoint → List FaultyRow
 faulty_points points = faulty_rows 2 (scale_faults points points)
 
--- The faulty rows below the header. Faults of scale points count only if no row has another
+-- The faulty rows below the header. Faults of scale points are reported only if no row has another
 -- fault.
 abbrev pub faults_below : List (List (List ℕ)) → List FaultyRow
 faults_below rows = or_else (faulty_first rows (length rows)) (faulty_points (points_of rows))
 
--- The row's fields are the header `name,function,area,address,type,scale`.
+-- True if the fields are the header `name,function,area,address,type,scale`.
 abbrev pub is_header_text : RowText → Bool
 is_header_text row =
     bytes_eq row.name (codes "name") && bytes_eq row.function (codes "function")
@@ -134,49 +136,49 @@ is_header_text row =
     && bytes_eq row.address (codes "address") && bytes_eq row.kind (codes "type")
     && bytes_eq row.scale (codes "scale")
 
--- The row is the header of a point list.
+-- True if the row is the header of a point list.
 abbrev pub is_header : List (List ℕ) → Bool
 is_header fields = option_map_or is_header_text (six_fields fields) false
 
--- The faulty rows of a text without a valid header: the fault `Header` on row 1.
+-- The faulty rows of a text without a valid header: only row 1, with the fault `Header`.
 abbrev pub no_header : List FaultyRow
 no_header = record { row = 1; fault = Header } ∷ []
 
--- The faulty rows of a list. If the header is wrong, only the header is reported.
+-- The faulty rows of a text. If the header is wrong, only the header is reported.
 abbrev pub list_faults : List (List (List ℕ)) → List FaultyRow
 list_faults [] = no_header
 list_faults (header ∷ rows) = if is_header header then faults_below rows else no_header
 
--- The rows of a text that `read_list` reads: the header, and at most 513 rows below it.
+-- The rows of a text that `read_list` reads: the header, and at most 513 rows below the header.
 abbrev pub rows_read : List ℕ → List (List (List ℕ))
 rows_read text = take ROW_LIMIT (csv_rows text)
 
--- Each row spells the point with the same index.
+-- True if each row encodes the point with the same index.
 abbrev pub SpellEach : List (List (List ℕ)) → List ListedPoint → Type 0
 SpellEach rows points = map point_of_row rows ≡ map (λ point. Some point) points
 
--- Each row below the header spells the point with the same index, and no row is faulty.
+-- True if no row below the header is faulty and each row encodes the point with the same index.
 abbrev pub SpellsBelow : List (List (List ℕ)) → List ListedPoint → Type 0
 SpellsBelow rows points = (faults_below rows ≡ []) × SpellEach rows points
 
--- The text spells this list of points: no row is faulty, and each row below the header spells the
--- point with the same index.
+-- True if the text encodes this point list: no row is faulty, and each row below the header encodes
+-- the point with the same index.
 pub record SpellsList (text : List ℕ) (points : List ListedPoint) : Type 0 where
   pub faultless : list_faults (rows_read text) ≡ []
   pub each : SpellEach (drop 1 (csv_rows text)) points
 
--- The reported faulty rows are all faulty rows of the text, and are at least one.
+-- True if the reported faulty rows are exactly the faulty rows of the text, and at least one.
 abbrev pub AreFaults : List FaultyRow → List FaultyRow → Type 0
 AreFaults faulty told = (told ≡ faulty) × (told ≢ [])
 
--- This fault explains why a text with these faulty rows is no list. Lack of memory can happen
--- with any text.
+-- True if this fault explains why a text with these faulty rows is no point list. Lack of memory
+-- may occur with any text.
 abbrev pub ExplainsList : List FaultyRow → ListFault → Type 0
 ExplainsList faulty Memory = Unit {0}
 ExplainsList faulty (Faults told) = AreFaults faulty told
 
--- The number that the program prints for a fault. Faulty rows have no common number: each is
--- printed with its own.
+-- The number that the program prints for a fault. `Faults` has no number, because each faulty row
+-- is printed with its own number.
 abbrev pub list_fault_number : ListFault → Option ℕ
 list_fault_number Memory = Some 13
 list_fault_number (Faults told) = None

@@ -1,4 +1,4 @@
--- Lists of points, and the rules that a lawful list follows.
+-- Defines the rules of a valid point list.
 use Rattle.std.specs.Prelude.{ℕ, ◌≡◌, ◌≢◌, ◌+◌, ◌≤◌, Bool, true, false, ◌&&◌, List, length, max, min, IsTrue, IsSomeAnd, int_le, pos, negsuc}
 use Rattle.std.specs.declared.option.Option.{Option}
 use Rattle.std.specs.List.{All, AllPairs, find}
@@ -13,12 +13,12 @@ use Rattle.point_list.specs.declared.point.ListedPoint.{ListedPoint}
 use Rattle.point_list.specs.declared.point.PointScale.{PointScale}
 use Rattle.point_list.specs.declared.point.PointScale.TheVariants.{Unscaled, Fixed, Named}
 
--- The type is `sunssf`, which scale points have.
+-- True if the point type is `sunssf`, the type of scale points.
 abbrev pub is_sunssf : PointType → Bool
 is_sunssf kind.Sunssf = true
 is_sunssf _ = false
 
--- A point of this type may have a scale.
+-- True if points of this type may have a scale.
 abbrev pub takes_scale : PointType → Bool
 takes_scale kind.Int16 = true
 takes_scale kind.Uint16 = true
@@ -31,19 +31,20 @@ takes_scale _ = false
 abbrev pub end_of : ListedPoint → ℕ
 end_of point = point.address + registers_of point.kind
 
--- The scale point of the list with this name, or `None`.
+-- The sunssf point of the list with this name, or `None`.
 abbrev pub scale_point : List ListedPoint → List ℕ → Option ListedPoint
 scale_point points name = find (λ point. is_sunssf point.kind && bytes_eq point.name name) points
 
--- A point and its scale point have the same function and area, and fit in one read.
+-- True if a point and its scale point have the same function and area number, and fit in one Modbus
+-- read.
 pub record IsGroup (point scale : ListedPoint) : Type 0 where
   pub function : point.function ≡ scale.function
   pub area : point.area ≡ scale.area
   pub narrow : max (end_of point) (end_of scale)
       ≤ min point.address scale.address + MAX_READ_REGISTERS
 
--- The scale of a point is lawful. Only some types may have a scale. A named scale is a sunssf
--- point of the list, in one group with the point.
+-- True if the scale of a point is valid: its type may have a scale, and a scale given by name is a
+-- sunssf point of the list, close enough for one read.
 abbrev pub HasLawfulScale : List ListedPoint → ListedPoint → PointScale → Type 0
 HasLawfulScale points point Unscaled = Unit {0}
 HasLawfulScale points point (Fixed exponent) =
@@ -52,8 +53,8 @@ HasLawfulScale points point (Fixed exponent) =
 HasLawfulScale points point (Named name) =
     IsTrue (takes_scale point.kind) × IsSomeAnd (scale_point points name) (IsGroup point)
 
--- The points are a lawful list: at most 512, with distinct names. Each has a lawful name, size,
--- address and scale.
+-- True if the points form a valid point list: at most 512 points with distinct names, each with a
+-- valid name, size, address and scale.
 pub record IsPointList (points : List ListedPoint) : Type 0 where
   pub few : length points ≤ POINT_LIMIT
   pub named : All (λ point. IsTrue (is_name point.name)) points

@@ -1,7 +1,7 @@
--- The rows of a point list, as the crate `csv` reads them.
+-- Defines the rows of a point list, as the crate `csv` reads them.
 use Rattle.std.specs.Prelude.{ℕ, List}
 use Rattle.csv.specs.Reading.{default_config, records, strip_bom}
 
--- Every record of a text, after an optional byte order mark. A blank line gives no record.
+-- All records of a text, after an optional byte order mark. A blank line is not a record.
 abbrev pub csv_rows : List ℕ → List (List (List ℕ))
 csv_rows bytes = records default_config (strip_bom bytes)

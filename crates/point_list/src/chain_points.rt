@@ -1,4 +1,4 @@
-//! Makes the point list of a chain of models.
+//! Creates the point list of a device's chain of SunSpec models.
 ghost use Rattle.std.specs.Prelude.{◌≡◌, ◌≤◌, ◌++◌, ◌∷◌, [], Some, IfOk, IfErr, IfSome, IsTrue};
 ghost use Rattle.std.specs.Prelude.{OnOk, map};
 ghost use Rattle.std.specs.List.{All, list_any};
@@ -76,8 +76,8 @@ fn chain_scale(
     }
 }
 
-// Returns the point of a list for a point of a model. Chains are read from holding registers, in
-// area 0.
+// Returns the point list's entry for a point of a model. SunSpec models are read from holding
+// registers, with area number 0.
 fn listed(
     alloc: Global,
     place: usize,
@@ -157,11 +157,11 @@ fn too_many(alloc: Global) -> Result<FaultyRows, AllocError>
     Ok(FaultyRows::new(rows))
 }
 
-/// Returns the list of the points of a chain's models that were read, model by model. The list
-/// includes points without a value (`Absent`).
-/// A point is named `m`, the model's number in the chain from 1, `.` and the point's name in the
-/// model. It is read with function 3, in area 0. Its scale is its scale point, if that was read
-/// too, else empty. More than 512 points are reported as `TooMany` on row 514.
+/// Returns the point list of all points of a chain's models that were read, model by model. The
+/// list includes points without a value (`Absent`). A point is named `m`, the model's number in the
+/// chain from 1, `.` and the point's name in the model. A point is read with function 3 and area
+/// number 0. Its scale is the name of its scale point, or empty if the scale point was not read.
+/// More than 512 points are the fault `TooMany` on row 514.
 pub fn from_chain(alloc: Global, chain: &Chain<'_>) -> Result<PointList, ListFault>
     ensures list { IfOk result (λ list. list ≡ points_of_chain chain.now) }
     ensures faults { IfErr result (ExplainsList (chain_faults (points_of_chain chain.now))) }

@@ -1,4 +1,4 @@
-//! Faults of a row and of a list.
+//! Faults of the rows of a point list.
 ghost use Rattle.std.specs.Prelude.{◌≡◌};
 
 use std::alloc::{AllocError, AllocFailed};
@@ -7,40 +7,41 @@ use std::fmt;
 use std::fmt::{Display, Formatter};
 use std::marker::Model;
 
-/// The reason why a row is invalid, in the order of the checks. `NoSuchScale` and `GroupTooWide`
-/// are checked last, and only if no row has another fault.
+/// The reason why a row of a point list is invalid, in the order of the checks. `NoSuchScale` and
+/// `GroupTooWide` are checked last, and only if no row has another fault.
 #[derive(Clone, Copy, Debug, PartialEq, Eq)]
 pub enum RowFault {
     /// The row does not have six fields.
     Csv,
     /// The header is not `name,function,area,address,type,scale`.
     Header,
-    /// The name is not 1 to 32 letters, digits, `_` and `.`, with a letter first.
+    /// The name is not 1 to 32 letters, digits, `_` and `.` with a letter first.
     Name,
-    /// An earlier row has the name.
+    /// An earlier row has the same name.
     DoubleName,
     /// The function is not 3 or 4.
     Function,
-    /// The area is not 0 to 255.
+    /// The area number is not 0 to 255.
     Area,
-    /// The address is not 0 to 65535, or the point reaches past 65535.
+    /// The address is not 0 to 65535, or the point extends past address 65535.
     Address,
-    /// The type is unknown.
+    /// The type is not a SunSpec point type.
     Type,
-    /// The scale is not empty, -10 to 10 or a name, or the type allows no scale.
+    /// The scale is not empty, -10 to 10 or a name, or the point's type allows no scale.
     Scale,
-    /// No sunssf point has the scale's name.
+    /// The scale is a name, and no sunssf point has that name.
     NoSuchScale,
-    /// The point and its scale point differ in function or area, or span more than 125 registers.
+    /// The point and its scale point differ in function or area number, or span more than 125
+    /// registers.
     GroupTooWide,
-    /// The row is the 513th after the header.
+    /// The list has more than 512 rows after the header.
     TooMany,
 }
 
 impl RowFault {
     ghost use Rattle.point_list.specs.Faults.{fault_number};
 
-    /// Returns the number of the fault, from 1.
+    /// Returns the number of the fault, counted from 1.
     pub fn number(self) -> u8
         ensures { result ≡ fault_number self }
     {
@@ -85,10 +86,10 @@ impl Display for RowFault {
 
 impl Error for RowFault {}
 
-/// A row with a fault.
+/// A row of a point list with a fault.
 #[derive(Clone, Copy, Debug, PartialEq, Eq)]
 pub struct FaultyRow {
-    /// The number of the row. The header is row 1.
+    /// The number of the row in the text. The header is row 1.
     pub row: usize,
     pub fault: RowFault,
 }
@@ -102,7 +103,7 @@ impl Display for FaultyRow {
 
 impl Error for FaultyRow {}
 
-/// The faulty rows of a list. `read_list` returns them in order of row.
+/// The faulty rows of a point list. `read_list` returns them in order of row number.
 #[derive(Debug, Drop)]
 pub struct FaultyRows {
     rows: Vec<FaultyRow>,
@@ -118,7 +119,7 @@ impl Model for FaultyRows {
 }
 
 impl FaultyRows {
-    /// Creates the error that reports these faulty rows.
+    /// Creates an error from faulty rows.
     pub fn new(rows: Vec<FaultyRow>) -> Self
         ensures { result ≡ rows.items }
     {
@@ -141,7 +142,7 @@ impl FaultyRows {
     }
 }
 
-// The text shows the first faulty row and the number of faulty rows.
+// Prints the first faulty row and the number of faulty rows.
 impl Display for FaultyRows {
     fn fmt<W: fmt::Write>(&self, f: &mut Formatter<W>) -> fmt::Result {
         match self.rows.as_slice() {
@@ -154,19 +155,19 @@ impl Display for FaultyRows {
 
 impl Error for FaultyRows {}
 
-/// The reason why a text or a chain gives no list.
+/// The reason why a text or a chain of models is not a point list.
 #[derive(Debug, Drop)]
 pub enum ListFault {
     Memory,
-    /// At least one faulty row, each with its first fault.
+    /// At least one row is faulty. Each faulty row has its first fault.
     Faults(FaultyRows),
 }
 
 impl ListFault {
     ghost use Rattle.point_list.specs.Lists.{list_fault_number};
 
-    /// Returns the number that the program prints for the fault. Faulty rows have no common number:
-    /// each is printed with its own.
+    /// Returns the number that the program prints for the fault. `Faults` has no number, because
+    /// each faulty row is printed with its own number.
     pub fn number(&self) -> Option<u8>
         ensures { result ≡ list_fault_number self.now }
     {

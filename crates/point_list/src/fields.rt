@@ -1,4 +1,4 @@
-//! Parses the fields of a row.
+//! Parses the fields of a row of a point list.
 ghost use Rattle.std.specs.Prelude.{◌≡◌, ◌≤◌, length, pos};
 ghost use Rattle.sun_points.specs.Scale.{scale_of};
 ghost use Rattle.point_list.specs.Fields.{fixed_scale_of, minus, number_of, number_within};
@@ -7,7 +7,7 @@ ghost use Rattle.point_list.specs.Fields.{function_of, text_type_of, type_of};
 use mb_wire::{MAX_READ_REGISTERS, ReadFunction};
 use sun_points::{PointType, Scale, TextLength, number_of_digits};
 
-/// The maximum number of digits of a whole number.
+/// The maximum number of digits of a whole number in a field.
 const MOST_DIGITS: usize = 10;
 
 fn number(field: &[u8]) -> Option<u64>
@@ -16,7 +16,7 @@ fn number(field: &[u8]) -> Option<u64>
     number_of_digits(MOST_DIGITS, field)
 }
 
-/// Parses a whole number from `low` to `high`.
+/// Parses a whole number between `low` and `high`, inclusive.
 pub fn number_in(low: u64, high: u64, field: &[u8]) -> Option<u64>
     ensures { result ≡ number_within low high field.now }
 {
@@ -26,7 +26,7 @@ pub fn number_in(low: u64, high: u64, field: &[u8]) -> Option<u64>
     }
 }
 
-/// Parses a function code, 3 or 4.
+/// Parses a Modbus function code, 3 or 4.
 pub fn function(field: &[u8]) -> Option<ReadFunction>
     ensures { result ≡ function_of field.now }
 {
@@ -37,7 +37,7 @@ pub fn function(field: &[u8]) -> Option<ReadFunction>
     }
 }
 
-// Parses a text type, `string1` to `string125`; returns `None` for any other field.
+// Parses the type of a text point, `string1` to `string125`, or returns `None` for any other field.
 fn text_type(field: &[u8]) -> Option<PointType>
     ensures { result ≡ text_type_of field.now }
 {
@@ -49,7 +49,7 @@ fn text_type(field: &[u8]) -> Option<PointType>
     Some(PointType::Text(length))
 }
 
-/// Parses the type of a point: for example `acc32`, or `string8` for a text of 8 registers.
+/// Parses the type of a point, for example `acc32`, or `string8` for a text of 8 registers.
 pub fn point_type(field: &[u8]) -> Option<PointType>
     ensures { result ≡ type_of field.now }
 {
@@ -74,7 +74,7 @@ pub fn point_type(field: &[u8]) -> Option<PointType>
     }
 }
 
-// Returns the 16-bit two's complement of `-number`.
+// Returns the register value of the negative scale `-number`, as 16-bit two's complement.
 fn scale_word_below(number: u16) -> u16
     requires { number ≤ 10 }
     ensures { scale_of result ≡ Some (minus number) }
@@ -99,7 +99,7 @@ fn scale_to_zero(number: u16) -> Option<Scale>
     Scale::new(scale_word_below(number))
 }
 
-/// Parses a fixed scale, -10 to 10. The only sign is `-`, before a negative number.
+/// Parses a fixed scale, -10 to 10. The sign `-` is allowed, and `+` is not.
 pub fn fixed_scale(field: &[u8]) -> Option<Scale>
     ensures { result ≡ fixed_scale_of field.now }
 {

@@ -1,4 +1,4 @@
-//! Checks whether points are a lawful list.
+//! Checks whether points form a valid point list.
 ghost use Rattle.std.specs.Prelude.{◌≡◌, ◌≢◌, ◌+◌, ◌≤◌, ◌↔◌, IsTrue};
 ghost use Rattle.std.specs.List.{All, AllPairs};
 ghost use Rattle.point_list.specs.Names.{is_name};
@@ -11,10 +11,10 @@ use crate::point::{ListedPoint, PointScale, find_scale};
 use mb_wire::{ADDRESSES, MAX_READ_REGISTERS};
 use sun_points::PointType;
 
-/// The maximum number of points in a list.
+/// The maximum number of points in a point list.
 pub const POINT_LIMIT: usize = 512;
 
-/// Returns whether the type may have a scale.
+/// Returns whether points of this type may have a scale.
 pub fn is_scaled_type(kind: PointType) -> bool
     ensures { result ≡ takes_scale kind }
 {
@@ -35,8 +35,8 @@ fn end(point: &ListedPoint) -> u32
     u32::from(point.address) + u32::from(point.kind.registers())
 }
 
-/// Returns whether a point and its scale point have the same function and area, and lie within 125
-/// registers.
+/// Returns whether a point and its scale point have the same function and area number, and lie
+/// within 125 consecutive registers.
 pub fn is_group(point: &ListedPoint, scale: &ListedPoint) -> bool
     ensures { IsTrue result ↔ IsGroup point.now scale.now }
 {
@@ -123,7 +123,7 @@ fn are_scaled(points: &[ListedPoint]) -> bool
     points.iter().all(|point| has_lawful_scale(points, point))
 }
 
-/// Returns whether points are a lawful list.
+/// Returns whether points form a valid point list.
 pub fn is_lawful(points: &[ListedPoint]) -> bool
     ensures { IsTrue result ↔ IsPointList points.now }
 {

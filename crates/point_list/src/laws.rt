@@ -1,8 +1,8 @@
-//! Theorems on lists and their texts, over all texts.
+//! Theorems about point lists and their texts, for all texts.
 ghost use Rattle.point_list.specs.Laws.{FaultlessTextsSpell, SpelledListIsOne};
 ghost use Rattle.point_list.specs.Laws.{SpelledListsAreLawful};
 
-/// Proves that each text has faulty rows or spells exactly one list, which is lawful.
+/// Theorem: each text either has faulty rows or encodes exactly one point list, which is valid.
 pub fn texts_spell_one_list()
     ensures spelled { FaultlessTextsSpell }
     ensures one { SpelledListIsOne }

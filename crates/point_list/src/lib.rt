@@ -1,4 +1,5 @@
-//! Point lists: the registers of a device that the program reads, as comma-separated values.
+//! Reads and writes point lists: the registers of a device that the program polls, as
+//! comma-separated values.
 #![tactic(auto)]
 
 mod chain_points;

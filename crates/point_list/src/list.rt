@@ -1,4 +1,4 @@
-//! Point lists.
+//! Point lists: the registers of a device that the program polls.
 ghost use Rattle.std.specs.Prelude.{◌≡◌, ◌↔◌, IsOk, IfOk, IfErr};
 
 use crate::lawful::is_lawful;
@@ -6,7 +6,7 @@ use crate::point::ListedPoint;
 use std::marker::Model;
 
 /// A list of at most 512 points with distinct names. The scale point of each point is in the list,
-/// within one read of the point.
+/// close enough for one Modbus read of both.
 #[derive(Debug, Drop)]
 pub struct PointList {
     points: Vec<ListedPoint>,
@@ -28,7 +28,7 @@ impl Model for PointList {
 impl PointList {
     ghost use Rattle.point_list.specs.Points.{IsPointList};
 
-    /// Creates a list from points. Unless they are lawful, returns them as the error.
+    /// Creates a point list. Returns the points as the error if they do not form a valid list.
     pub fn new(points: Vec<ListedPoint>) -> Result<Self, Vec<ListedPoint>>
         ensures lawful { IsOk result ↔ IsPointList points.items }
         ensures list { IfOk result (λ list. list ≡ points.items) }
@@ -41,7 +41,7 @@ impl PointList {
         }
     }
 
-    /// Creates a list from points that the contract guarantees to be lawful.
+    /// Creates a point list from points that the contract guarantees to be valid.
     pub(crate) fn of_lawful(points: Vec<ListedPoint>) -> Self
         requires { IsPointList points.items }
         ensures { result ≡ points.items }
@@ -57,7 +57,7 @@ impl PointList {
         self.points.as_slice()
     }
 
-    /// Returns the points, and consumes the list.
+    /// Consumes the list, and returns its points.
     pub fn into_points(self) -> Vec<ListedPoint>
         ensures points { result.items ≡ self }
         ensures lawful { IsPointList self }

@@ -1,4 +1,4 @@
-//! Reads a point list from text.
+//! Reads a point list from comma-separated values.
 ghost use Rattle.std.specs.Prelude.{◌≡◌, ◌+◌, ◌≤◌, ◌++◌, ◌∷◌, IfOk, IfErr, OnOk, [], length, map};
 ghost use Rattle.csv.specs.Records.{fields_of};
 ghost use Rattle.point_list.specs.Faults.{seen_row};
@@ -50,8 +50,8 @@ fn scale_fault(points: &[ListedPoint], point: &ListedPoint) -> Option<RowFault>
     }
 }
 
-// Adds the fault of a row, if there is one. `place` is the index of the row below the header,
-// from 0. The first of these rows is row 2.
+// Adds the fault of a row to `faulty`, if the row has one. `place` is the row's index below the
+// header, from 0. The header is the text's first line, so index 0 is its second line.
 fn add_fault(
     place: usize,
     fault: Option<RowFault>,
@@ -70,7 +70,7 @@ fn add_fault(
     Ok(())
 }
 
-// Faults of scale points are left to `scale_faults`.
+// Returns the faulty rows, without faults of scale points, which `scale_faults` finds.
 fn faulty_rows(alloc: Global, rows: &[ByteRecord]) -> Result<Vec<FaultyRow>, AllocError>
     requires { length rows.now ≤ 513 }
     ensures { IfOk result
@@ -111,7 +111,7 @@ fn no_header(alloc: Global) -> ListFault
     }
 }
 
-// The points have no faults, except possibly faults of their scale points.
+// Checks the scale points of points that have no other fault, and creates the point list.
 fn list_of_points(alloc: Global, points: Vec<ListedPoint>) -> Result<PointList, ListFault>
     requires few { length points.items ≤ 513 }
     requires lawful { faulty_points points.items ≡ [] → IsPointList points.items }
@@ -140,13 +140,14 @@ fn list_below(alloc: Global, rows: &[ByteRecord]) -> Result<PointList, ListFault
 }
 
 /// Parses a point list from comma-separated values: a header
-/// `name,function,area,address,type,scale`, and a row for each point. An optional byte order mark
-/// and blank lines are skipped. At most 513 rows below the header are read.
+/// `name,function,area,address,type,scale`, and a row for each point. A byte order mark and blank
+/// lines are skipped. At most 513 rows below the header are read.
 ///
-/// - The function is 3 or 4, the area 0 to 255, and the address 0 to 65535.
-/// - The scale is empty, -10 to 10, or the name of a sunssf point of the list.
+/// - The function is 3 or 4, the area number 0 to 255, and the address 0 to 65535.
+/// - The scale is empty, -10 to 10, or the name of a sunssf point in the list.
 ///
-/// An error of the CSV reader is reported as `Memory`, because the complete text is in memory.
+/// An error of the CSV reader is reported as `Memory`. The complete text is in memory, so reading
+/// it cannot fail otherwise.
 pub fn read_list(alloc: Global, text: &[u8]) -> Result<PointList, ListFault>
     ensures list { IfOk result (λ list. SpellsList text.now list) }
     ensures faults { IfErr result (ExplainsList (list_faults (rows_read text.now))) }

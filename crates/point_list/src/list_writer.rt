@@ -1,4 +1,4 @@
-//! Writes a point list as text.
+//! Writes a point list as comma-separated values.
 ghost use Rattle.std.specs.Prelude.{◌≡◌, IfOk, OnOk};
 ghost use Rattle.point_list.specs.Lists.{SpellsList};
 ghost use Rattle.point_list.specs.ListWriter.{HandsOver};
@@ -12,19 +12,19 @@ use std::fmt;
 use std::fmt::{Display, Formatter};
 use sun_points::Sink;
 
-/// The reason why a list was not written.
+/// The reason why a point list was not written.
 #[derive(Clone, Copy, Debug, PartialEq, Eq)]
 pub enum WriteListFault {
-    /// The sink failed to take the text.
+    /// The sink failed to accept the text.
     Write,
-    /// Memory for the text ran out.
+    /// There was not enough memory for the text.
     Memory,
 }
 
 impl WriteListFault {
     ghost use Rattle.point_list.specs.ListWriter.{write_fault_number};
 
-    /// Returns the number of the fault, from 1. The program does not use this number.
+    /// Returns the number of the fault, counted from 1. The program does not print this number.
     pub fn number(self) -> u8
         ensures { result ≡ write_fault_number self }
     {
@@ -54,8 +54,8 @@ fn list_text(alloc: Global, list: &PointList) -> Result<Vec<u8>, AllocError>
     text_of_rows(alloc, &rows)
 }
 
-/// Writes a list as comma-separated values. `read_list` reads the text as the same list. The text
-/// is complete in memory before the first byte is written.
+/// Writes a point list as comma-separated values, which `read_list` reads as the same list. The
+/// complete text is in memory before the first byte is written.
 pub fn write_list<S: Sink>(
     alloc: Global,
     list: &PointList,

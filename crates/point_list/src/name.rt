@@ -1,4 +1,4 @@
-//! Names of points.
+//! Names of the points in a point list.
 ghost use Rattle.std.specs.Prelude.{◌≡◌, ◌↔◌, IsTrue, IsOk, IfOk, IfErr};
 ghost use Rattle.std.specs.List.{list_all};
 ghost use Rattle.point_list.specs.Names.{is_name, is_name_byte};
@@ -34,7 +34,7 @@ fn are_name_rest(bytes: &[u8]) -> bool
     bytes.iter().all(|byte| is_name_rest(*byte))
 }
 
-/// Returns whether the bytes are the name of a point.
+/// Returns whether the bytes are a valid point name.
 pub fn is_point_name(bytes: &[u8]) -> bool
     ensures { result ≡ is_name bytes.now }
 {
@@ -47,7 +47,8 @@ pub fn is_point_name(bytes: &[u8]) -> bool
 }
 
 impl PointName {
-    /// Creates a name from its bytes. Unless they are a name, returns them as the error.
+    /// Creates a point name from its bytes. Returns the bytes as the error if they are not a valid
+    /// name.
     pub fn new(bytes: Vec<u8>) -> Result<Self, Vec<u8>>
         ensures lawful { IsOk result ↔ IsTrue (is_name bytes.items) }
         ensures name { IfOk result (λ name. name ≡ bytes.items) }
@@ -60,7 +61,7 @@ impl PointName {
         }
     }
 
-    /// Creates a name from bytes that the contract guarantees to be a name.
+    /// Creates a point name from bytes that the contract guarantees to be valid.
     pub(crate) fn of_lawful(bytes: Vec<u8>) -> Self
         requires { IsTrue (is_name bytes.items) }
         ensures { result ≡ bytes.items }
@@ -76,7 +77,7 @@ impl PointName {
         self.bytes.as_slice()
     }
 
-    /// Returns the bytes of the name, and consumes it.
+    /// Consumes the name, and returns its bytes.
     pub fn into_bytes(self) -> Vec<u8>
         ensures bytes { result.items ≡ self }
         ensures lawful { IsTrue (is_name self) }

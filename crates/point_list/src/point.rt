@@ -1,4 +1,4 @@
-//! The points of a list.
+//! The points of a point list, and their scales.
 ghost use Rattle.std.specs.Prelude.{◌≡◌};
 ghost use Rattle.std.specs.Option.{option_copied};
 ghost use Rattle.point_list.specs.Points.{is_sunssf, scale_point};
@@ -7,19 +7,19 @@ use crate::name::PointName;
 use mb_wire::ReadFunction;
 use sun_points::{PointType, Scale};
 
-/// The power of ten that multiplies a point's value.
+/// The power of ten that multiplies the value of a point.
 #[derive(Debug, Drop)]
 pub enum PointScale {
-    /// The point has no scale: its value is printed as it is.
+    /// The value has no scale and is printed unchanged.
     Unscaled,
-    /// A power of ten that the list fixes, -10 to 10.
+    /// A fixed power of ten, -10 to 10.
     Fixed(Scale),
-    /// The power of ten in the sunssf point with this name.
+    /// The power of ten in the register of the sunssf point with this name.
     Named(PointName),
 }
 
-/// A point of a list: its registers from `address` on, the function that reads them, and the
-/// number of their area.
+/// A point of a point list: its registers from `address`, the function that reads them, and their
+/// area number.
 #[derive(Debug, Drop)]
 pub struct ListedPoint {
     pub name: PointName,
@@ -30,7 +30,7 @@ pub struct ListedPoint {
     pub scale: PointScale,
 }
 
-/// Returns whether a point of the type is a scale point.
+/// Returns whether points of this type are scale points.
 pub(crate) fn is_scale_type(kind: PointType) -> bool
     ensures { result ≡ is_sunssf kind }
 {

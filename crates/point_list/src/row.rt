@@ -1,4 +1,4 @@
-//! Finds the first fault of a row.
+//! Finds the first fault of a row of a point list.
 ghost use Rattle.std.specs.Prelude.{◌≡◌, map};
 ghost use Rattle.std.specs.List.{list_any};
 ghost use Rattle.std.specs.Option.{option_map};
@@ -15,7 +15,7 @@ use csv::ByteRecord;
 use mb_wire::ADDRESSES;
 use sun_points::PointType;
 
-/// The six fields of a row.
+/// The six fields of a row of a point list.
 #[derive(Clone, Copy)]
 pub struct RowFields<'a> {
     pub name: &'a [u8],
@@ -30,7 +30,7 @@ impl<'a> RowFields<'a> {
     ghost use Rattle.std.specs.Option.{option_map};
     ghost use Rattle.point_list.specs.Faults.{six_fields};
 
-    /// Returns the fields of a row, if the row has six.
+    /// Returns the fields of a row by name, or `None` if the row does not have six fields.
     pub fn of_row(row: &'a ByteRecord) -> Option<RowFields<'a>>
         ensures { option_map seen_row result ≡ six_fields (fields_of row.now) }
     {
@@ -64,8 +64,8 @@ fn is_taken(earlier: &[ByteRecord], name: &[u8]) -> bool
     earlier.iter().any(|row| row_has_name(row, name))
 }
 
-// Returns whether a point of this type reaches past address 65535. An unknown type is reported as
-// `Type`, not as `Address`.
+// Returns whether a point of this type extends past address 65535. Returns `false` for an unknown
+// type, which has its own fault.
 fn is_past_end(address: Option<u64>, kind: Option<PointType>) -> bool
     ensures { result ≡ reaches_past address kind }
 {
@@ -96,8 +96,8 @@ fn is_bad(scale: &[u8], kind: Option<PointType>) -> bool
     }
 }
 
-/// Returns the first fault of the row at index `place` below the header, from 0. Faults of its
-/// scale point are not checked here.
+/// Returns the first fault of the row at index `place` below the header, from 0. Faults of the
+/// row's scale point are not checked.
 pub fn least_row_fault(place: usize, earlier: &[ByteRecord], row: &ByteRecord) -> Option<RowFault>
     ensures { result ≡ least_fault place (map fields_of earlier.now) (fields_of row.now) }
 {

@@ -1,4 +1,4 @@
-//! Makes points from rows.
+//! Creates the points of a point list from its rows.
 ghost use Rattle.std.specs.Prelude.{◌≡◌, IfOk, map};
 ghost use Rattle.csv.specs.Records.{fields_of};
 ghost use Rattle.point_list.specs.Faults.{seen_row};
@@ -40,8 +40,8 @@ fn scale_of(alloc: Global, field: &[u8]) -> Result<Option<PointScale>, AllocErro
     }
 }
 
-// Returns the point with this name, this scale, and the other fields of a row. Name and scale are
-// parsed already, because both need memory.
+// Returns the point with this name, this scale, and the other four fields of a row. The caller
+// parses name and scale, because both need memory.
 fn point_with(
     name: Option<PointName>,
     scale: Option<PointScale>,
@@ -82,7 +82,7 @@ fn point_of_row(alloc: Global, row: &ByteRecord) -> Result<Option<ListedPoint>, 
     }
 }
 
-/// Returns the points that rows spell. Rows that spell no point are skipped.
+/// Returns the points that rows encode. Rows with an invalid field are skipped.
 pub fn points_of_rows(alloc: Global, rows: &[ByteRecord]) -> Result<Vec<ListedPoint>, AllocError>
     ensures { IfOk result (λ points. points.items ≡ points_of (map fields_of rows.now)) }
 {

@@ -1,4 +1,4 @@
-//! The rows of a point list, and their text.
+//! Creates the rows of a point list and their CSV text.
 ghost use Rattle.std.specs.Prelude.{◌≡◌, ◌≤◌, ◌∷◌, IfOk, OnOk, map};
 ghost use Rattle.std.specs.List.{All};
 ghost use Rattle.std.specs.Fmt.{decimal};
@@ -17,8 +17,8 @@ fn number_text(alloc: Global, number: u16) -> Result<String, AllocError>
     format!(in alloc; "{number}")
 }
 
-/// Returns the text of a type in a list: for example `acc32`, or `string8` for a text of 8
-/// registers.
+/// Returns the text of a point type in a point list, for example `acc32`, or `string8` for a text
+/// of 8 registers.
 pub fn type_text(alloc: Global, kind: PointType) -> Result<String, AllocError>
     ensures { IfOk result (λ text. string_bytes text ≡ type_text kind) }
 {
@@ -86,7 +86,7 @@ fn header(alloc: Global) -> Result<ByteRecord, AllocError>
     ByteRecord::from_fields(alloc, &fields)
 }
 
-/// Returns the header and the rows of points.
+/// Returns the header of a point list, followed by a row for each point.
 pub fn point_rows(alloc: Global, points: &[ListedPoint]) -> Result<Vec<ByteRecord>, AllocError>
     ensures rows { IfOk result
         (λ rows. map fields_of rows.items ≡ header_row ∷ map row_of points.now) }
@@ -100,7 +100,7 @@ pub fn point_rows(alloc: Global, points: &[ListedPoint]) -> Result<Vec<ByteRecor
     Ok(rows)
 }
 
-/// Returns the comma-separated text of rows.
+/// Returns the comma-separated text of a list of rows.
 pub fn text_of_rows(alloc: Global, rows: &[ByteRecord]) -> Result<Vec<u8>, AllocError>
     ensures { IfOk result (λ text. text.items ≡ rows_text (map fields_of rows.now)) }
 {

@@ -1,4 +1,4 @@
-//! Reads the rows of a point list with the crate `csv`.
+//! Reads the rows of a point list from CSV text, with the crate `csv`.
 ghost use Rattle.std.specs.Prelude.{◌≡◌, IfOk, map, take};
 ghost use Rattle.csv.specs.Records.{fields_of};
 ghost use Rattle.point_list.specs.Rows.{csv_rows};
@@ -6,10 +6,10 @@ ghost use Rattle.point_list.specs.Rows.{csv_rows};
 use csv::{ByteRecord, ReaderBuilder};
 use std::alloc::{AllocError, Global};
 
-/// The maximum number of rows that are read: the header, 512 points, and one row over the limit.
+/// The maximum number of rows that are read: the header, 512 points, and one row beyond the limit.
 pub const ROW_LIMIT: usize = 514;
 
-/// Returns the first 514 rows of a text, with the header.
+/// Returns the first 514 rows of a CSV text, including the header.
 pub fn first_rows(alloc: Global, text: &[u8]) -> Result<Vec<ByteRecord>, AllocError>
     ensures { IfOk result (λ v. map fields_of v.items ≡ take 514 (csv_rows text.now)) }
 {

@@ -1,4 +1,4 @@
--- Each started poll is settled once, or is pending.
+-- Proves that each started poll is completed once or is pending.
 use Rattle.std.proofs.Common.{◌≡◌, ℕ, zero, suc, ◌<◌, List, [], ◌∷◌, ◌++◌, length, map, refl, sym, ap, subst, arith, Option, Some, None, append_assoc}
 use Rattle.std.specs.List.{All, AllByRecursion, filter_map}
 use Rattle.std.specs.List.Sorted.{IsPermutation}
@@ -32,7 +32,7 @@ each_number t es =
     IsPermutation-trans _ _ _ (same_is _ _ (sym (numbers_started-is t [] es)))
     (IsPermutation-trans _ _ _ (parts rs) (IsPermutation-append _ _ _ _ told (IsPermutation-refl (map number (waiting rs)))))
 
--- The origin of a poll, and its later events.
+-- True if one of the events started the poll, and the later events give the poll's outcome.
 record Comes (t : ℕ) (es : List Event) (r : Poll × Option Settlement) : Type 0 where
   before : List Event
   start : Event

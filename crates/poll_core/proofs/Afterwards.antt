@@ -1,4 +1,4 @@
--- One more event, and a session that is over.
+-- Lemmas about one more event, and about a session that is over.
 use Rattle.std.proofs.Common.{map, ◌≡◌, ℕ, Bool, true, false, not, ◌&&◌, ◌||◌, cond, List, [], ◌∷◌, ◌++◌, refl, sym, ap, ◌∙◌, subst, inl, inr, Option, Some, None, append_assoc}
 use Rattle.std.specs.List.{filter}
 use Rattle.std.specs.Prelude.{IsSome}
@@ -32,7 +32,7 @@ new_is es (Some p) = refl
 pub results_more : (t : ℕ) (es : List Event) (e : Event) → results t [] (es ++ e ∷ []) ≡ map (with_event es e) (results t [] es) ++ new_result (started t es e)
 results_more t es e = results-push t [] es e ∙ ap (λ x. map (extend es e) (results t [] es) ++ x) (new_is (es ++ e ∷ []) (started t es e))
 
--- Without pending polls, nothing settles.
+-- An event completes no poll if none is pending.
 pub nobody_told : (t : ℕ) (es : List Event) (e : Event) → pending t es ≡ [] → outcomes_at t es e ≡ []
 nobody_told t es e none =
     elim (cases_Bool (is_start e)) [
@@ -55,7 +55,7 @@ and_fresh : (g b : Bool) → b ≡ false → (g && not b) ≡ g
 and_fresh true b h = ap not h
 and_fresh false b h = refl
 
--- If a session is over only after an event, that event ended the session.
+-- An event after which the session is over, and before which it was not, ended the session.
 ending_at-over : (es : List Event) (e : Event) → is_over es ≡ false → is_over (es ++ e ∷ []) ≡ true → is_some (ending_at es e) ≡ true
 unfolding is_over ending_at
 ending_at-over es e going over =
@@ -83,7 +83,7 @@ not_some : {X : Type 0} (o : Option X) → o ≡ None → IsSome o → ⊥
 not_some None h g = cc
 not_some (Some x) h g = cc
 
--- If no poll is pending once a session is over, the same is true after one more event.
+-- A session that is over has no pending poll, also after one more event.
 keeps : (t w : ℕ) (es : List Event) (e : Event) → Accepts t w es e → (is_over es ≡ true → pending t es ≡ []) → is_over (es ++ e ∷ []) ≡ true → pending t (es ++ e ∷ []) ≡ []
 keeps t w es (Start m n u s) accepted h over =
     let was : is_over es ≡ true = sym (is_over-same es (Start m n u s) refl ∙ or_false (is_over es)) ∙ over in

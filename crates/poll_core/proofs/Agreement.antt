@@ -1,4 +1,5 @@
--- The outcomes by event are the outcomes by poll, in another order.
+-- Proves that the outcomes listed event by event are a permutation of the outcomes listed poll by
+-- poll.
 use Rattle.std.proofs.Common.{◌≡◌, ℕ, Bool, true, false, cond, not, List, [], ◌∷◌, ◌++◌, map, refl, sym, ap, ◌∙◌, subst, inl, inr, Option, Some, None, append_assoc}
 use Rattle.std.specs.List.{filter, filter_map, find, cons_option}
 use Rattle.std.specs.List.Sorted.{IsPermutation}
@@ -27,12 +28,13 @@ cons_named p o xs = cons_option (named p o) xs
 pub same_is : {X : Type 0} (xs ys : List X) → xs ≡ ys → IsPermutation xs ys
 same_is xs ys e = let P : List _ → Type 0 = λ zs. IsPermutation xs zs in subst P e (IsPermutation-refl xs)
 
--- A list stays a permutation of two parts if one element is added to it and between the parts.
+-- Adding one element to a list and between two parts keeps the list a permutation of the parts.
 pub middle : {X : Type 0} (x : X) (xs ys zs : List X) → IsPermutation xs (ys ++ zs) → IsPermutation (x ∷ xs) (ys ++ x ∷ zs)
 middle x xs ys zs h =
     IsPermutation-trans _ _ _ (IsPermutation-cons x xs (ys ++ zs) h) (IsPermutation-sym _ _ (IsPermutation-middle ys x zs))
 
--- One more poll when outcomes are split by a test, where each poll that passes has an outcome.
+-- If a test splits the outcomes of polls into two lists, both lists together are a permutation of
+-- the outcomes, also after one more poll.
 parted_step : (t : Bool) (f g h : Poll → Option Settlement) (p : Poll) (o : Settlement) (r : Option Settlement) (xs ys : List Poll) (us : List (ℕ × Settlement)) → f p ≡ cond t (Some o) r → g p ≡ Some o → h p ≡ r → IsPermutation us (give g xs ++ give h ys) → IsPermutation (filter_map (λ (q : Poll). named q (f q)) (p ∷ []) ++ us) (give g (cond t (p ∷ xs) xs) ++ give h (cond (not t) (p ∷ ys) ys))
 parted_step true f g h p o r xs ys us fe ge he rest =
     let P : Option Settlement → Option Settlement → Type 0 = λ a b. IsPermutation (cons_named p a [] ++ us) (cons_named p b (give g xs) ++ give h ys) in
@@ -68,7 +70,7 @@ give_lost : (x : Option LostCause) (ps : List Poll) → give (λ p. option_map L
 give_lost None ps = give_none ps
 give_lost (Some c) ps = give_all (λ _. Lost c) ps
 
--- The outcome that these frames and the end of the session give a poll.
+-- The outcome of a poll by these frames and the end of the session.
 abbrev framed : List (List ℕ) → Option LostCause → Poll → Option Settlement
 framed fs x p = option_or (option_map (answer p) (find (is_for p) fs)) (option_map Lost x)
 
@@ -91,7 +93,7 @@ by_frames (f ∷ fs) x ps =
     sym (append_assoc told (by_frame fs others) (losses x (unmatched fs others))) ∙ ap (λ y. (told ++ by_frame fs others) ++ losses x y) (sym (unmatched-cons f fs ps)) in
     IsPermutation-trans _ _ _ first (IsPermutation-trans _ _ _ later (same_is _ _ same))
 
--- Of these polls, the outcomes of those that the event settles.
+-- The numbers and outcomes of the polls in the list that the event completes.
 abbrev newly : List Event → Event → List Poll → List (ℕ × Settlement)
 newly es e ps = give (λ p. settled_by es e p) ps
 
@@ -141,7 +143,7 @@ extended_step : (p : Poll) (o : Option Settlement) (xs ys zs : List (ℕ × Sett
 extended_step p None xs ys zs h = h
 extended_step p (Some o) xs ys zs h = middle (p.number, o) xs ys zs h
 
--- One more event settles pending polls.
+-- One more event adds exactly the outcomes of the pending polls that it completes.
 extended : (es : List Event) (e : Event) (rs : List (Poll × Option Settlement)) → IsPermutation (outcomes_in (map (extend es e) rs)) (outcomes_in rs ++ newly es e (waiting rs))
 extended es e [] = IsPermutation-refl []
 extended es e ((p, Some o) ∷ rs) = IsPermutation-cons (p.number, o) _ _ (extended es e rs)

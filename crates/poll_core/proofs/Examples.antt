@@ -1,4 +1,4 @@
--- The definitions for a few sessions, computed.
+-- The definitions evaluated for a few short sessions.
 use Rattle.std.proofs.Common.{◌≡◌, ℕ, zero, suc, ◌+◌, ◌*◌, List, [], ◌∷◌, ◌++◌, Some, None, refl}
 use Rattle.mb_wire.specs.Frames.{frames, frames_in, rest, rest_in, is_garbled}
 use Rattle.mb_wire.specs.Spans.{Span}
@@ -15,7 +15,7 @@ use Rattle.poll_core.specs.declared.outcome.LostCause.TheVariants as cause
 abbrev registers : ℕ → ℕ → Span
 registers address count = record { function = HoldingRegisters; address = address; count = count }
 
--- A first poll, started at 100 with a timeout of 5 seconds, requests three registers of unit 1.
+-- The first poll, started at 100 with a timeout of 5 seconds, requests three registers of unit 1.
 abbrev one : List Event
 one = Start 100 1 1 (registers 40094 3) ∷ []
 
@@ -26,12 +26,12 @@ answered : outcomes_at 5 one (Piece 104 good) ≡ (1, Answered (0 ∷ 5200 ∷ 0
 unfolding outcomes_at pending frames_at ending_at stream next_id settled_by frames frames_in rest rest_in is_garbled
 answered = refl
 
--- At the deadline the poll times out, and the frame is a stray.
+-- A response that arrives at the deadline does not prevent the timeout of the poll.
 silent : outcomes_at 5 one (Piece 105 good) ≡ (1, Silent) ∷ []
 unfolding outcomes_at pending frames_at ending_at stream next_id settled_by frames frames_in rest rest_in is_garbled
 silent = refl
 
--- A response that arrives twice, in one piece or in two, settles the poll once.
+-- A response that arrives twice, in one chunk or in two, completes the poll once.
 twice : outcomes_at 5 one (Piece 104 (good ++ good)) ≡ (1, Answered (0 ∷ 5200 ∷ 0 ∷ [])) ∷ []
 unfolding outcomes_at pending frames_at ending_at stream next_id settled_by frames frames_in rest rest_in is_garbled
 twice = refl
@@ -56,7 +56,7 @@ garbled : outcomes_at 5 one (Piece 104 (0 ∷ 0 ∷ 0 ∷ 0 ∷ 0 ∷ 1 ∷ []))
 unfolding outcomes_at pending frames_at ending_at stream next_id settled_by frames frames_in rest rest_in is_garbled
 garbled = refl
 
--- Four bytes of a response arrive, and then the connection ends.
+-- A session that receives four bytes of a response before its connection ends.
 abbrev four_bytes : List Event
 four_bytes = one ++ Piece 103 (0 ∷ 0 ∷ 0 ∷ 0 ∷ []) ∷ []
 
@@ -68,7 +68,7 @@ lost_late : outcomes_at 5 four_bytes (Close 105 Gone) ≡ (1, Silent) ∷ []
 unfolding outcomes_at pending frames_at ending_at stream next_id settled_by frames frames_in rest rest_in is_garbled
 lost_late = refl
 
--- Two polls are answered in one piece, the second poll first.
+-- A session with two polls whose responses arrive in one chunk, the second response first.
 abbrev two : List Event
 two = Start 1000 1 1 (registers 0 1) ∷ Start 1000 2 1 (registers 1 1) ∷ []
 
@@ -82,11 +82,12 @@ both_silent = refl
 
 -- ---- limits, as numbers
 
--- 130 years from 1970, 32 of them leap years.
+-- The beginning of 2100 in seconds: 130 years from 1970, 32 of them leap years.
 the_last_moment : LAST_MOMENT ≡ (130 * 365 + 32) * 86400
 the_last_moment = refl
 
--- The longest timeout is 60 seconds: a poll started at 100 is pending at 159, and times out at 160.
+-- With the longest timeout of 60 seconds, a poll started at 100 is pending at 159 and times out at
+-- 160.
 waits_59_seconds : outcomes_at MAX_TIMEOUT one (Tick 159) ≡ []
 unfolding outcomes_at pending frames_at ending_at stream next_id settled_by frames frames_in rest rest_in is_garbled
 waits_59_seconds = refl
@@ -95,7 +96,8 @@ waits_60_seconds : outcomes_at MAX_TIMEOUT one (Tick 160) ≡ (1, Silent) ∷ []
 unfolding outcomes_at pending frames_at ending_at stream next_id settled_by frames frames_in rest rest_in is_garbled
 waits_60_seconds = refl
 
--- The greatest window is 16 polls: with 15 pending another one starts, with 16 none does.
+-- With the greatest window of 16 polls, a start succeeds while 15 are pending and is refused with
+-- 16.
 abbrev starts : ℕ → List Event
 starts zero = []
 starts (suc count) = Start 100 count 1 (registers 0 1) ∷ starts count

@@ -1,4 +1,4 @@
--- Pieces that the session feeds, and the polls that their frames settle.
+-- Lemmas about chunks that a session feeds to its reader, and the polls that their frames complete.
 use Rattle.std.proofs.Common.{◌≡◌, ℕ, suc, ◌+◌, ◌-◌, ◌≤◌, ◌⊎◌, Bool, true, false, not, ◌&&◌, List, [], ◌∷◌, ◌++◌, length, take, drop, map, refl, sym, ap, ◌∙◌, subst, arith, Option, Some, None, inl, inr, append_assoc, length-drop}
 use Rattle.std.specs.List.{filter}
 use Rattle.std.proofs.Math.Seq.{take-add}
@@ -31,7 +31,7 @@ own_id f own p = and_true _ _ (eq-eqb _ _ own)
 foreign_id : (f : List ℕ) → (IsOwn f → ⊥) → (p : Poll) → is_for p f ≡ false
 foreign_id f foreign p = and_false _ _ (ne_eqb _ _ foreign)
 
--- The effect of one frame, by the polls that have its identifier.
+-- The outcomes of one frame are those of the polls with its transaction identifier.
 by_one : (f : List ℕ) (ps : List Poll) → by_frame (f ∷ []) ps ≡ map (λ p. (p.number, answer p f)) (filter (λ p. is_for p f) ps)
 by_one f ps = append-nil _
 
@@ -60,7 +60,7 @@ FindsBy-own f ps qs (Some p) own apart h =
       left_one f ps ∙ filter_agree _ _ (λ q. ap not (own_id f own q)) ps ∙ sym h.1 ∙ none_passes t qs none,
     )
 
--- Two consecutive feeds complete the frames of the first, and then those of the second.
+-- Two consecutive feeds complete the frames of the first, followed by the frames of the second.
 pub FeedsOn-then : (a p b q c : List ℕ) (gs hs : List (List ℕ)) → FeedsOn a p gs b → FeedsOn b q hs c → FeedsOn a (p ++ q) (gs ++ hs) c
 FeedsOn-then a p b q c gs hs first second = λ bytes before h.
     let P : List ℕ → Type 0 = λ y. Reads y (before ++ (gs ++ hs)) c in
@@ -80,7 +80,7 @@ Finds-nothing a buffered ps e =
       others_are = unmatched-nil ps;
     }
 
--- A feed whose frames settle no poll, followed by another feed, is one feed.
+-- A feed whose frames complete no poll, followed by another feed, equals one feed of both chunks.
 pub Finds-then : (a p q : List ℕ) (mid buffered : Buffered) (ps qs : List Poll) (o : Option Poll) → Finds a p ps None mid ps → Finds mid.rest q ps o buffered qs → Finds a (p ++ q) ps o buffered qs
 Finds-then a p q mid buffered ps qs o first second =
     record {
@@ -97,14 +97,14 @@ Finds-then a p q mid buffered ps qs o first second =
 some_inj : {X : Type 0} (a b : X) → Some a ≡ Some b → a ≡ b
 some_inj a b e = cc
 
--- The frame that the reader lends settles the same poll as the frame that it holds.
+-- The frame that the reader returns completes the same poll as its buffered bytes.
 pub FindsBy-lent : (buffered : Option (List ℕ)) (fields : Fields) (ps qs : List Poll) (o : Option Poll) → Some fields ≡ option_map fields_of buffered → AreApart ps → TakesOut (has_id fields.tid) ps o qs → (f : List ℕ) → buffered ≡ Some f → IsOwn f → FindsBy f ps o qs
 FindsBy-lent buffered fields ps qs o lent apart h f e own =
     let same : fields ≡ fields_of f = some_inj _ _ (lent ∙ ap (option_map fields_of) e) in
     let P : ℕ → Type 0 = λ id. TakesOut (has_id id) ps o qs in
     FindsBy-own f ps qs o own apart (subst P (ap (λ (x : Fields). x.tid) same) h)
 
--- The invariant of the loop: the bytes fed so far settled nothing.
+-- The invariant of the feed loop: the bytes fed until now completed no poll.
 pub record Strays (old : List ℕ) (piece : List ℕ) (at : ℕ) (polls : List Poll) (buffered : Buffered) : Type 0 where
   pub within : at ≤ length piece
   pub apart : AreApart polls
@@ -116,7 +116,7 @@ piece-more at n piece = take-add at n piece ∙ ap (λ x. take at piece ++ take 
 abbrev slice_at : ℕ → List ℕ → List ℕ
 slice_at at piece = take (length piece - at) (drop at piece)
 
--- After one more feed, the invariant still holds, or the feed settled a poll.
+-- After one more feed, the loop invariant is true again, or the feed completed a poll.
 goes_on : (old piece : List ℕ) (at n : ℕ) (ps qs : List Poll) (o : Option Poll) (mid buffered : Buffered) → Strays old piece at ps mid → Finds mid.rest (take n (slice_at at piece)) ps o buffered qs → Finds old (take (at + n) piece) ps o buffered qs
 goes_on old piece at n ps qs o mid buffered strays more =
     let P : List ℕ → Type 0 = λ y. Finds old y ps o buffered qs in

@@ -1,4 +1,4 @@
--- If a longer piece settles nothing, the shorter piece that it begins with settles nothing.
+-- Proves that a chunk completes no poll if a longer chunk with the same beginning completes none.
 use Rattle.std.proofs.Common.{◌≡◌, ℕ, Bool, true, false, cond, not, ◌&&◌, List, [], ◌∷◌, ◌++◌, length, drop, refl, sym, ap, ◌∙◌, Option, Some, None, append_assoc}
 use Rattle.mb_wire.specs.Frames.{frames, rest, is_garbled}
 use Rattle.poll_core.specs.declared.outcome.LostCause.{LostCause}
@@ -23,7 +23,7 @@ none_lost : (c : LostCause) (ps : List Poll) → losses (Some c) ps ≡ [] → p
 none_lost c [] h = refl
 none_lost c (p ∷ ps) h = absurd (cc)
 
--- If a piece ends the session, the longer piece does too, and completes the same frames.
+-- A chunk that garbles the stream still garbles it with more bytes, and completes the same frames.
 lost_before : (b : Bool) (c : LostCause) → cond b (Some Garbled) None ≡ Some c → b ≡ true
 lost_before true c h = refl
 lost_before false c h = absurd (cc)

@@ -1,4 +1,4 @@
--- The effect of one more event on the pending polls.
+-- Lemmas about the effect of one more event on the pending polls.
 use Rattle.std.proofs.Common.{◌≡◌, ℕ, Bool, true, false, cond, not, ◌&&◌, List, [], ◌∷◌, ◌++◌, map, refl, sym, ap, ◌∙◌, Option, Some, None, append_assoc}
 use Rattle.std.specs.List.{filter, find}
 use Rattle.std.specs.Option.{is_none, option_or, option_map}
@@ -20,7 +20,7 @@ option_or_none : {X : Type 0} (a : Option X) → option_or a None ≡ a
 option_or_none None = refl
 option_or_none (Some x) = refl
 
--- A last event can only settle what no earlier one settled.
+-- One more event completes a poll only if no earlier event completed it.
 pub outcome-push : (before later : List Event) (e : Event) (p : Poll) → outcome before (later ++ e ∷ []) p ≡ option_or (outcome before later p) (settled_by (before ++ later) e p)
 outcome-push before [] e p =
     option_or_none (settled_by before e p) ∙ ap (λ b. settled_by b e p) (sym (append-nil before))
@@ -82,7 +82,7 @@ pending-push t es e =
     ∙ map-append (λ (r : Poll × Option Settlement). r.0) (filter (λ r. is_none r.1) (map (extend es e) old)) (filter (λ r. is_none r.1) new)
     ∙ ap (λ x. x ++ waiting new) (waiting-extend es e old)
 
--- A start adds its poll at the end.
+-- A start appends its poll to the pending polls.
 pub pending-start : (t : ℕ) (es : List Event) (m n u : ℕ) (s : Span) (p : Poll) → started t es (Start m n u s) ≡ Some p → pending t (es ++ Start m n u s ∷ []) ≡ pending t es ++ p ∷ []
 unfolding settled_by
 pending-start t es m n u s p e =
@@ -124,8 +124,8 @@ not_started t es (Piece m b) h = refl
 not_started t es (Tick m) h = refl
 not_started t es (Close m c) h = refl
 
--- Any other event removes the polls that time out, those whose identifier a frame has, and all at
--- the end.
+-- An event that is no start removes the polls that time out and the polls whose identifier a frame
+-- has. If it ends the session, it removes all polls.
 pub pending-other : (t : ℕ) (es : List Event) (e : Event) → is_start e ≡ false → pending t (es ++ e ∷ []) ≡ if_going (ending_at es e) (unmatched (frames_at es e) (alive (moment_of e) (pending t es)))
 pending-other t es e other =
     pending-push t es e

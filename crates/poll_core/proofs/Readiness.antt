@@ -1,4 +1,4 @@
--- How many starts would succeed.
+-- Proves how many consecutive starts would succeed.
 use Rattle.std.proofs.Common.{◌≡◌, ◌≢◌, ℕ, suc, ◌+◌, ◌-◌, ◌%◌, ◌<◌, ◌≤◌, Bool, ltb, true, false, not, ◌&&◌, ◌||◌, List, [], ◌∷◌, ◌++◌, length, refl, sym, ap, ◌∙◌, arith, inl, inr, Option, Some, None, leb, append_assoc, length-append, cond}
 use Rattle.std.specs.List.{list_any}
 use Rattle.std.specs.Prelude.{IsSome}
@@ -35,8 +35,8 @@ any-push : {X : Type 0} (t : X → Bool) (xs : List X) (x : X) → list_any t (x
 any-push t [] x = or_false (t x)
 any-push t (y ∷ xs) x = ap (λ b. t y || b) (any-push t xs x) ∙ or_assoc (t y) (list_any t xs) (t x)
 
--- After these starts in a row: how many polls are pending, the next identifier, and whether the
--- session is over.
+-- The number of pending polls, the next identifier, and whether the session is over, after
+-- consecutive starts.
 record Started (t : ℕ) (es starts : List Event) : Type 0 where
   count : length (pending t (es ++ starts)) ≡ length (pending t es) + length starts
   next : next_id (es ++ starts) ≡ (next_id es + length starts) % 65536
@@ -81,7 +81,7 @@ starts_add t es (Piece m b ∷ starts) h = absurd (let f : false ≡ true = h.0 
 starts_add t es (Tick m ∷ starts) h = absurd (let f : false ≡ true = h.0 in cc)
 starts_add t es (Close m c ∷ starts) h = absurd (let f : false ≡ true = h.0 in cc)
 
--- A pending poll keeps its identifier after more starts.
+-- A pending poll keeps its transaction identifier after more starts.
 still_busy : (t : ℕ) (es starts : List Event) (id : ℕ) → AreStarts starts → list_any (has_id id) (pending t es) ≡ true → list_any (has_id id) (pending t (es ++ starts)) ≡ true
 still_busy t es [] id h busy = ap (λ xs. list_any (has_id id) (pending t xs)) (append-nil es) ∙ busy
 still_busy t es (Start m n u span ∷ starts) id h busy =
@@ -97,7 +97,7 @@ or_both : (a b : Bool) → a ≡ false → b ≡ false → (a || b) ≡ false
 or_both true b h g = absurd (cc)
 or_both false b h g = g
 
--- An identifier that none of the starts uses stays free.
+-- A transaction identifier that none of the starts uses remains free.
 still_free : (t : ℕ) (es starts : List Event) (id : ℕ) → AreStarts starts → ((j : ℕ) → j < length starts → id ≢ (next_id es + j) % 65536) → list_any (has_id id) (pending t es) ≡ false → list_any (has_id id) (pending t (es ++ starts)) ≡ false
 still_free t es [] id h others free = ap (λ xs. list_any (has_id id) (pending t xs)) (append-nil es) ∙ free
 still_free t es (Start m n u span ∷ starts) id h others free =
@@ -117,11 +117,11 @@ still_free t es (Piece m b ∷ starts) id h others free = absurd (let f : false 
 still_free t es (Tick m ∷ starts) id h others free = absurd (let f : false ≡ true = h.0 in cc)
 still_free t es (Close m c ∷ starts) id h others free = absurd (let f : false ≡ true = h.0 in cc)
 
--- The identifiers of fewer than 65536 starts in a row differ.
+-- The transaction identifiers of fewer than 65536 consecutive starts differ.
 apart_ids : (n j k : ℕ) → j < k → k < 65536 → (n + k) % 65536 ≢ (n + j) % 65536
 apart_ids n j k less few same = omega arith
 
--- A start that fits after the others is not refused.
+-- A start that fits after the earlier starts is not refused.
 fits_after : (t w m : ℕ) (es starts : List Event) → AreStarts starts → length starts < 65536 → start_fits w (pending t es) (next_id es) (is_over es) (length starts) ≡ true → last_moment (es ++ starts) ≤ m → start_fault t w (es ++ starts) m ≡ None
 fits_after t w m es starts h few fits late =
     let k = length starts in
@@ -142,7 +142,7 @@ fits_after t w m es starts h few fits late =
     ∙ cond-false _ _ _ (le-ltb m (last_moment (es ++ starts)) late)
     ∙ cond-false _ _ _ going
 
--- An option is present if the option that replaces it when the test fails is present.
+-- A conditional option is present if its alternative is present.
 some_if : {X : Type 0} (b : Bool) (x : X) (o : Option X) → IsSome o → IsSome (cond b (Some x) o)
 some_if true x o h = refl
 some_if false x o h = h
@@ -183,7 +183,7 @@ ready_is t w es id count next few succeed no_more =
           after_full t w m es starts h e;
     }
 
--- `start_fits` gives the same result for a session's state as for the events that led to it.
+-- `start_fits` has the same result for a session's state as for the events that led to the state.
 fits_is : (s : State) (es : List Event) (k : ℕ) → Stands s es → start_fits s.window s.polls s.next (is_some s.ending) k ≡ start_fits s.window (pending s.timeout es) (next_id es) (is_over es) k
 fits_is s es k h =
     ap (λ ps. start_fits s.window ps s.next (is_some s.ending) k) h.polls

@@ -1,4 +1,4 @@
--- How the steps of a session advance it within an event.
+-- Proves how each step of a session advances the processing of an event.
 use Rattle.std.proofs.Common.{◌≡◌, ℕ, ◌%◌, ◌≤◌, Bool, true, false, cond, not, ◌&&◌, ◌||◌, List, [], ◌∷◌, ◌++◌, length, take, drop, refl, sym, ap, ◌∙◌, subst, arith, Option, Some, None, inl, inr, append_assoc}
 use Rattle.std.specs.List.{filter, find}
 use Rattle.std.specs.Option.{option_or, is_some, is_none}
@@ -25,7 +25,7 @@ use Rattle.poll_core.specs.declared.outcome.Call.{Call}
 use Rattle.poll_core.specs.declared.outcome.Call.TheVariants as call
 use Rattle.poll_core.specs.declared.poll.SettledBy.TheVariants as by
 
--- `Within`, by the fields that it reads of a session.
+-- The relation `Within`, stated over the fields of a session that it depends on.
 pub record Mid (t m n : ℕ) (r : List ℕ) (ps : List Poll) (x : Option LostCause) (es : List Event) (e : Event) (told : List (ℕ × Settlement)) : Type 0 where
   pub last : m ≡ moment_of e
   pub next : n ≡ next_id (es ++ e ∷ [])
@@ -35,7 +35,7 @@ pub record Mid (t m n : ℕ) (r : List ℕ) (ps : List Poll) (x : Option LostCau
   pub none_after : is_closed es ≡ true → pending t es ≡ []
   pub buffered : x ≡ None → r ≡ rest (stream (es ++ e ∷ []))
 
--- The outcomes of an event that is no start: timeouts, answers by frames, and losses.
+-- The outcomes of an event that is no start: timeouts, responses by frame, and losses.
 abbrev pub told_at : ℕ → List Poll → List (List ℕ) → Option LostCause → List (ℕ × Settlement)
 told_at m ps fs x = silences (filter (due m) ps) ++ by_frame fs (alive m ps) ++ losses x (unmatched fs (alive m ps))
 
@@ -47,7 +47,7 @@ losses-none : (x : Option LostCause) → losses x [] ≡ []
 losses-none None = refl
 losses-none (Some c) = refl
 
--- Without pending polls, nothing is reported.
+-- No outcome is reported if no poll is pending.
 pub told_at-none : (m : ℕ) (fs : List (List ℕ)) (x : Option LostCause) → told_at m [] fs x ≡ []
 told_at-none m fs x = ap (λ y. y ++ losses x []) (by_frame-none fs) ∙ losses-none x
 
@@ -78,7 +78,7 @@ last_moment-push [] e = refl
 last_moment-push (f ∷ []) e = refl
 last_moment-push (f ∷ g ∷ es) e = last_moment-push (g ∷ es) e
 
--- A session that reports an outcome that it still had to report remains within its event.
+-- A session that reports an outcome continues to process the same event.
 pub tell : (t m n : ℕ) (r : List ℕ) (ps qs : List Poll) (x : Option LostCause) (es : List Event) (e : Event) (told : List (ℕ × Settlement)) (taken : SettledPoll) (frame : Option (List ℕ)) → Mid t m n r ps x es e told → TellsOwed m x ps (Some taken) qs → Mid t m n r qs x es e (told ++ told_by taken frame ∷ [])
 tell t m n r ps qs x es e told taken frame mid h =
     record {
@@ -99,7 +99,7 @@ pub some_case : (x : Option LostCause) → is_some x ≡ true → (c : LostCause
 some_case None h = absurd (cc)
 some_case (Some c) h = (c, refl)
 
--- If no outcome is left to report, the session has processed the event.
+-- A session without an outcome left to report has processed the event completely.
 pub done : (t m n w : ℕ) (r : Buffered) (ps qs : List Poll) (x : Option LostCause) (es : List Event) (e : Event) (told : List (ℕ × Settlement)) → Mid t m n r.rest ps x es e told → TellsOwed m x ps None qs → Stands (record { timeout = t; window = w; last = m; next = n; reader = r; polls = qs; ending = x; settling = None }) (es ++ e ∷ []) × (told ≡ outcomes_at t es e)
 done t m n w r ps qs x es e told mid h = (
   record {
@@ -124,7 +124,7 @@ pub none_case : (x : Option LostCause) → is_some x ≡ false → x ≡ None
 none_case None h = refl
 none_case (Some c) h = absurd (cc)
 
--- The cause of the end of an idle session after an event without bytes.
+-- A session that is already over has no pending poll, so it loses none at a later event.
 ends_losses : (x y : Option LostCause) (ps : List Poll) → (is_some x ≡ true → ps ≡ []) → losses (option_or x y) ps ≡ losses y ps
 ends_losses None y ps h = refl
 ends_losses (Some c) y ps h = ap (losses (Some c)) (h refl) ∙ sym (ap (losses y) (h refl) ∙ losses-none y)
@@ -147,7 +147,7 @@ is_over-closed : (es : List Event) → is_closed es ≡ true → is_over es ≡ 
 unfolding is_over
 is_over-closed es h = or_right _ _ h
 
--- An idle session, at the beginning of an event that has brought nothing yet.
+-- An idle session before an event without bytes is processing that event, with no outcome reported.
 pub begin : (s : State) (es : List Event) (e : Event) → is_start e ≡ false → bytes_of e ≡ [] → Stands s es → Mid s.timeout (moment_of e) s.next s.reader.rest s.polls (option_or s.ending (closing_of e)) es e []
 begin s es e other none h =
     let m = moment_of e in
@@ -198,7 +198,7 @@ and_true : (b : Bool) → (b && true) ≡ b
 and_true true = refl
 and_true false = refl
 
--- Filters of the polls whose deadline has not come.
+-- If the deadlines of all polls are after a time, no poll is due at that time.
 alive_due : (m : ℕ) (ps : List Poll) → alive m ps ≡ ps → filter (due m) ps ≡ []
 alive_due m ps h =
     ap (filter (due m)) (sym h)
@@ -230,8 +230,7 @@ over_parts es m p =
 fresh_before : (one : OneReading) → (b p : List ℕ) → is_garbled (b ++ p) ≡ false → is_garbled b ≡ false
 fresh_before one b p h = false_from_ne_true _ (λ g. both_ways _ h (is_garbled-append one b p g))
 
--- A session takes more bytes of a piece: their frames settle at most one poll, and the bytes may
--- garble the stream.
+-- Feeding more bytes of a chunk completes at most one poll by a frame, and may garble the stream.
 pub feed : (one : OneReading) → (t m n : ℕ) (r q p : List ℕ) (buffered : Buffered) (ps qs : List Poll) (o : Option Poll) (es : List Event) (told : List (ℕ × Settlement)) (g : Bool) → Mid t m n r ps None es (Piece m p) told → owed_by m None ps ≡ [] → alive m ps ≡ ps → Finds r q ps o buffered qs → is_bad buffered.rest ≡ g → Mid t m n buffered.rest qs (garbled_end g) es (Piece m (p ++ q)) (told ++ told_list o buffered.frame)
 feed one t m n r q p buffered ps qs o es told g mid none all found bad =
     let e = Piece m p in
@@ -296,7 +295,7 @@ ending_at-garbled : (es : List Event) (m : ℕ) (p q : List ℕ) → is_garbled 
 unfolding ending_at
 ending_at-garbled es m p q g h = ap (λ b. cond (b && not (is_garbled (stream es))) (Some Garbled) None) (h ∙ sym g)
 
--- More bytes change nothing after a bad length, or without pending polls.
+-- More bytes in a chunk change no outcome after an invalid length field or a close of the session.
 same_at : (one : OneReading) → (t m : ℕ) (p q : List ℕ) (es : List Event) → (is_closed es ≡ true → pending t es ≡ []) → (is_garbled (stream es ++ p) || is_closed es) ≡ true → (outcomes_at t es (Piece m (p ++ q)) ≡ outcomes_at t es (Piece m p)) × (pending t (es ++ Piece m (p ++ q) ∷ []) ≡ pending t (es ++ Piece m p ∷ [])) × ((is_garbled (stream es ++ (p ++ q)) || is_closed es) ≡ true)
 same_at one t m p q es none over =
     let e = Piece m p in
@@ -322,7 +321,7 @@ same_at one t m p q es none over =
           )
     ]
 
--- A session that is over drops its input.
+-- A session that is over discards further bytes of a chunk.
 pub drop_rest : (one : OneReading) → (t m n : ℕ) (r r' q p : List ℕ) (ps : List Poll) (c : LostCause) (es : List Event) (told : List (ℕ × Settlement)) → Mid t m n r ps (Some c) es (Piece m p) told → Mid t m n r' ps (Some c) es (Piece m (p ++ q)) told
 drop_rest one t m n r r' q p ps c es told mid =
     let e = Piece m p in
@@ -351,7 +350,7 @@ goes_with : (x : Option LostCause) (es : List Event) (e : Event) → is_some x �
 goes_with None es e h = closing_none (is_closed es) (closing_of e) (or_parts _ _ (sym (unfold_over es e) ∙ sym h)).1
 goes_with (Some c) es e h = refl
 
--- A session before a call for an event, which begins or continues, is within the event.
+-- A session before a new or continued call for an event is processing that event.
 pub enter : (s : State) (es : List Event) (e : Event) (told : List (ℕ × Settlement)) → is_start e ≡ false → Before s es e told → Mid s.timeout (moment_of e) s.next s.reader.rest s.polls (option_or s.ending (closing_of e)) es e told
 enter s es e told other (inl (stands, bare, none)) =
     let P : List (ℕ × Settlement) → Type 0 = λ y. Mid s.timeout (moment_of e) s.next s.reader.rest s.polls (option_or s.ending (closing_of e)) es e y in
@@ -370,12 +369,12 @@ enter s es e told other (inr (settling, w)) =
       buffered = w.buffered;
     }
 
--- After a call that reports one more outcome, the session is in a state `After` it.
+-- After a call that reports one more outcome, the session is in a state `After` the call.
 pub told_more : (t m n w : ℕ) (r : Buffered) (ps : List Poll) (x : Option LostCause) (z : Option Call) (es : List Event) (e : Event) (told : List (ℕ × Settlement)) → Mid t m n r.rest ps x es e told → Within (record { timeout = t; window = w; last = m; next = n; reader = r; polls = ps; ending = x; settling = z }) es e told
 told_more t m n w r ps x z es e told mid =
     record { last = mid.last; next = mid.next; whole = mid.whole; polls = mid.polls; over = mid.over; none_after = mid.none_after; buffered = mid.buffered }
 
--- After a call that only reports outcomes that were due, the session is in a state `After` it.
+-- After a call that only reports outcomes already due, the session is in a state `After` the call.
 pub settle : (t m n w : ℕ) (r : Buffered) (ps qs : List Poll) (x : Option LostCause) (call : Call) (taken : Option SettledPoll) (es : List Event) (e : Event) (told : List (ℕ × Settlement)) → call_of e ≡ Some call → Mid t m n r.rest ps x es e told → TellsOwed m x ps taken qs → After (record { timeout = t; window = w; last = m; next = n; reader = r; polls = qs; ending = x; settling = call_if taken call }) es e told (told_of taken r.frame)
 settle t m n w r ps qs x call None es e told by mid h = done t m n w r ps qs x es e told mid h
 settle t m n w r ps qs x call (Some taken) es e told by mid h =
@@ -394,8 +393,8 @@ pub closes : (s : State) (m : ℕ) (c : Closing) (qs : List Poll) (taken : Optio
 closes s m c qs taken h es told b =
     settle s.timeout m s.next s.window s.reader s.polls qs (option_or s.ending (Some (cause_of c))) (call.Close c) taken es (Close m c) told refl (enter s es (Close m c) told refl b) h
 
--- The ways in which a call that brings a piece ends. The call begins with the outcomes that are
--- due.
+-- The possible results of a call that processes a chunk. The call first reports the outcomes that
+-- are already due.
 pub enters : (s : State) (m : ℕ) (p : List ℕ) (es : List Event) (told : List (ℕ × Settlement)) → Before s es (Piece m p) told → Mid s.timeout m s.next s.reader.rest s.polls s.ending es (Piece m p) told
 enters s m p es told b =
     let P : Option LostCause → Type 0 = λ y. Mid s.timeout m s.next s.reader.rest s.polls y es (Piece m p) told in
@@ -406,7 +405,7 @@ piece_owed s m qs taken piece h es p told b =
     let P : List ℕ → Type 0 = λ y. After (record { timeout = s.timeout; window = s.window; last = m; next = s.next; reader = s.reader; polls = qs; ending = s.ending; settling = Some call.Piece }) es (Piece m y) told (told_of (Some taken) s.reader.frame) in
     subst P (sym (append-nil p)) (settle s.timeout m s.next s.window s.reader s.polls qs s.ending call.Piece (Some taken) es (Piece m p) told refl (enters s m p es told b) h)
 
--- A session that is over drops the piece.
+-- A session that is over discards the received chunk.
 pub piece_dropped : (one : OneReading) → (s : State) (m : ℕ) (c : LostCause) (qs : List Poll) (piece : List ℕ) → s.ending ≡ Some c → TellsOwed m s.ending s.polls None qs → (es : List Event) (p : List ℕ) (told : List (ℕ × Settlement)) → Before s es (Piece m p) told → After (record { timeout = s.timeout; window = s.window; last = m; next = s.next; reader = s.reader; polls = qs; ending = s.ending; settling = None }) es (Piece m (p ++ take (length piece) piece)) told None
 piece_dropped one s m c qs piece over h es p told b =
     let q = take (length piece) piece in
@@ -415,7 +414,8 @@ piece_dropped one s m c qs piece over h es p told b =
     let mid = subst Q (sym over) (drop_rest one s.timeout m s.next s.reader.rest s.reader.rest q p s.polls c es told (subst P over (enters s m p es told b))) in
     done s.timeout m s.next s.window s.reader s.polls qs s.ending es (Piece m (p ++ q)) told mid h
 
--- The state after the piece was fed, up to a frame that settles a poll or up to the piece's end.
+-- The state after the reader was fed, up to a frame that completes a poll or to the end of the
+-- chunk.
 abbrev fed_mid : State → ℕ → Buffered → List Poll → Option Poll → Bool → List ℕ → List Event → List ℕ → List (ℕ × Settlement) → Type 0
 fed_mid s m buffered rs o g q es p told = Mid s.timeout m s.next buffered.rest rs (garbled_end g) es (Piece m (p ++ q)) (told ++ told_list o buffered.frame)
 
@@ -434,7 +434,8 @@ piece_framed one s m n piece buffered qs rs poll g going h found bad clean es p 
     let mid' = subst P (ap garbled_end clean ∙ sym going) mid in
     (refl, told_more s.timeout m s.next s.window buffered rs s.ending (Some call.Piece) es (Piece m (p ++ q)) (told ++ told_list (Some poll) buffered.frame) mid')
 
--- If no frame settled a poll, the call reports an outcome that is now due, or the piece is done.
+-- If no frame completed a poll, the call reports an outcome now due, or the chunk is processed
+-- completely.
 pub piece_ended : (one : OneReading) → (s : State) (m n k : ℕ) (piece : List ℕ) (buffered : Buffered) (qs rs us : List Poll) (g : Bool) (x : Option LostCause) (lost : Option SettledPoll) → s.ending ≡ None → TellsOwed m s.ending s.polls None qs → Finds s.reader.rest (take n piece) qs None buffered rs → is_bad buffered.rest ≡ g → x ≡ garbled_end g → TellsOwed m x rs lost us → n ≤ length piece → (g ≡ false → n ≡ length piece) → k ≡ cond (is_some lost) n (length piece) → (es : List Event) (p : List ℕ) (told : List (ℕ × Settlement)) → Before s es (Piece m p) told → After (record { timeout = s.timeout; window = s.window; last = m; next = s.next; reader = buffered; polls = us; ending = x; settling = call_if lost call.Piece }) es (Piece m (p ++ take k piece)) told (told_of lost buffered.frame)
 piece_ended one s m n k piece buffered qs rs us g x (Some taken) going h found bad x_is owes within all k_is es p told b =
     let q = take n piece in

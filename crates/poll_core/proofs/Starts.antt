@@ -1,4 +1,4 @@
--- The effect of a start.
+-- Lemmas about the effect of a start on a session.
 use Rattle.std.proofs.Common.{◌≡◌, ℕ, ◌+◌, ◌%◌, Bool, false, ◌||◌, List, [], ◌∷◌, ◌++◌, length, refl, sym, ap, ◌∙◌, arith, Option, Some, None, inl, inr, length-append}
 use Rattle.std.specs.List.{filter, list_any}
 use Rattle.std.specs.Option.{is_some}
@@ -22,7 +22,7 @@ next_id-start es m n u span =
     let e : length (filter is_start (es ++ Start m n u span ∷ [])) ≡ k + 1 = ap length (filter-append is_start es (Start m n u span ∷ [])) ∙ length-append (filter is_start es) (Start m n u span ∷ []) in
     ap (λ x. x % 65536) e ∙ omega arith
 
--- The session has processed the start.
+-- A session that accepts a start has processed its earlier events and the start.
 pub starts : (s : State) (es : List Event) (m n u : ℕ) (span : Span) (poll : Poll) → Stands s es → s.ending ≡ None → poll ≡ record { number = n; id = s.next; unit = u; span = span; deadline = m + s.timeout } → Stands (record { timeout = s.timeout; window = s.window; last = m; next = (s.next + 1) % 65536; reader = s.reader; polls = s.polls ++ poll ∷ []; ending = s.ending; settling = s.settling }) (es ++ Start m n u span ∷ [])
 starts s es m n u span poll h going poll_is =
     let e = Start m n u span in
@@ -40,7 +40,8 @@ starts s es m n u span poll h going poll_is =
       buffered = λ _. h.buffered going ∙ ap rest (sym (stream-same es e refl));
     }
 
--- `least_fault` of a session's state is the fault of a start after the session's events.
+-- The fault that `least_fault` computes from a session's state is the fault after the session's
+-- events.
 pub refused : (s : State) (es : List Event) (m : ℕ) (fault : Option StartFault) → fault ≡ least_fault s.window s.polls s.next s.last (is_some s.ending) m → Stands s es → fault ≡ start_fault s.timeout s.window es m
 refused s es m fault e h =
     e
@@ -49,7 +50,7 @@ refused s es m fault e h =
     ∙ ap (λ l. least_fault s.window (pending s.timeout es) (next_id es) l (is_some s.ending) m) h.last
     ∙ ap (λ o. least_fault s.window (pending s.timeout es) (next_id es) (last_moment es) o m) h.over
 
--- Polls with different identifiers stay so after one more poll with a free identifier.
+-- Polls with different identifiers still differ after one more poll with a free identifier.
 pub apart_push : (ps : List Poll) (p : Poll) → AreApart ps → filter (has_id p.id) ps ≡ [] → AreApart (ps ++ p ∷ [])
 apart_push ps p h free = λ id.
     let split : filter (has_id id) (ps ++ p ∷ []) ≡ filter (has_id id) ps ++ filter (has_id id) (p ∷ []) = filter-append (has_id id) ps (p ∷ []) in
@@ -71,7 +72,7 @@ any_none t (x ∷ xs) h =
     let both = or_parts _ _ h in
     cond-false _ _ _ both.0 ∙ any_none t xs both.1
 
--- A start settles nothing.
+-- A start completes no poll.
 pub nothing_told : (t : ℕ) (es : List Event) (m n u : ℕ) (span : Span) → [] ≡ outcomes_at t es (Start m n u span)
 unfolding outcomes_at
 nothing_told t es m n u span = refl

@@ -1,4 +1,4 @@
--- Streams that continue.
+-- Lemmas about streams to which further bytes are appended.
 use Rattle.std.proofs.Common.{◌≡◌, ℕ, ◌+◌, ◌≤◌, inl, inr, Bool, true, false, cond, not, ◌&&◌, List, [], ◌∷◌, ◌++◌, length, drop, refl, sym, ap, ◌∙◌, arith, append_assoc, length-append, Some}
 use Rattle.std.specs.List.{flat_map, AllByRecursion}
 use Rattle.std.proofs.lemmas.List.{append-nil, drop-append-le, get_or_append_left}
@@ -8,7 +8,7 @@ use Rattle.mb_wire.specs.Frames.{span_of, IsFrame, IsOpen, IsBad, Reads, frames,
 use Rattle.poll_core.specs.declared.outcome.LostCause.TheVariants.{Garbled}
 use Rattle.poll_core.specs.Settling.{Event, Piece, stream, frames_at, ending_at, bytes_of, closing_of}
 
--- A byte list has exactly one reading.
+-- The statement that each byte list splits into frames and a rest in exactly one way.
 pub record OneReading : Type 0 where
   pub exists : (bytes : List ℕ) → Reads bytes (frames bytes) (rest bytes)
   pub only : (bytes : List ℕ) (others : List (List ℕ)) (unread : List ℕ) → Reads bytes others unread → (frames bytes ≡ others) × (rest bytes ≡ unread)
@@ -55,7 +55,7 @@ bad-append r q (six, ways) =
     let same : span_of (r ++ q) ≡ span_of r = span_of-append r q six in
     (omega arith, elim ways [ inl low ↦ inl (omega arith) | inr high ↦ inr (omega arith) ])
 
--- A garbled stream has no more frames.
+-- More bytes after a garbled stream complete no frame.
 garbled_reads : (one : OneReading) → (b q : List ℕ) → is_garbled b ≡ true → Reads (b ++ q) (frames b) (rest b ++ q)
 unfolding is_garbled
 garbled_reads one b q g =
@@ -76,7 +76,8 @@ is_garbled-append one b q g =
     let bad : IsBad (rest b ++ q) = bad-append (rest b) q (bad_is (rest b) g) in
     ap is_bad (one.only (b ++ q) (frames b) (rest b ++ q) h).1 ∙ is_bad-bad _ bad
 
--- The reading of a stream that is not garbled continues from its rest.
+-- Bytes appended to a stream that is not garbled complete the frames that they complete after its
+-- rest.
 pub reads_on : (one : OneReading) → (b q : List ℕ) (gs : List (List ℕ)) (s : List ℕ) → Reads (rest b ++ q) gs s → Reads (b ++ q) (frames b ++ gs) s
 reads_on one b q gs s g =
     let h = one.exists b in
@@ -107,8 +108,8 @@ pub stream-push : (es : List Event) (e : Event) → stream (es ++ e ∷ []) ≡ 
 unfolding stream
 stream-push es e = flat_map-append bytes_of es (e ∷ []) ∙ ap (λ y. flat_map bytes_of es ++ y) (append-nil (bytes_of e))
 
--- The frames of a longer piece are those of its beginning, and those that the other bytes
--- complete.
+-- The frames of a longer chunk are those of its beginning, followed by those that the remaining
+-- bytes complete.
 pub frames_at-more : (one : OneReading) → (es : List Event) (m : ℕ) (p q : List ℕ) (gs : List (List ℕ)) (r : List ℕ) → Reads ((stream es ++ p) ++ q) (frames (stream es ++ p) ++ gs) r → frames_at es (Piece m (p ++ q)) ≡ frames_at es (Piece m p) ++ gs
 unfolding frames_at
 frames_at-more one es m p q gs r h =
@@ -125,7 +126,7 @@ and_not : (b : Bool) → (b && not b) ≡ false
 and_not true = refl
 and_not false = refl
 
--- A piece without bytes completes no frame, and ends nothing.
+-- An event without bytes completes no frame and does not garble the stream.
 pub frames_at-nil : (es : List Event) (e : Event) → bytes_of e ≡ [] → frames_at es e ≡ []
 unfolding frames_at
 frames_at-nil es e none =

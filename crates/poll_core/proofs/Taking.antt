@@ -1,4 +1,4 @@
--- The removal of a poll from the table.
+-- Lemmas about the removal of a poll from the table of pending polls.
 use Rattle.std.proofs.Common.{◌≡◌, ℕ, suc, ◌+◌, ◌<◌, ◌≤◌, Bool, true, false, cond, not, List, [], ◌∷◌, ◌++◌, length, get_or, refl, sym, ap, ◌∙◌, subst, arith, Option, Some, None}
 use Rattle.std.specs.List.{filter, remove}
 use Rattle.std.proofs.lemmas.Bool.{cond-false}
@@ -27,7 +27,7 @@ apart_out xs ys i e h = λ id.
     let m : length (filter (has_id id) ys) ≡ length (filter (has_id id) (remove xs i)) = ap (λ zs. length (filter (has_id id) zs)) e in
     omega (arith, h id)
 
--- If no element passes a test, the filter by the opposite test keeps them all.
+-- If no element passes a test, the filter by the opposite test drops nothing.
 pub none_passes : {X : Type 0} (t : X → Bool) (xs : List X) → filter t xs ≡ [] → filter (λ x. not (t x)) xs ≡ xs
 none_passes t [] h = refl
 none_passes t (x ∷ xs) h =
@@ -35,17 +35,17 @@ none_passes t (x ∷ xs) h =
     let others : filter t xs ≡ [] = sym (cond-false _ _ _ failing) ∙ h in
     ap (λ b. cond (not b) (x ∷ filter (λ y. not (t y)) xs) (filter (λ y. not (t y)) xs)) failing ∙ ap (λ ys. x ∷ ys) (none_passes t xs others)
 
--- If no deadline has come and the session is not over, no outcome is left to report.
+-- If no poll is due and the session is not over, no outcome is left to report.
 pub tells_none : (m : ℕ) (old new : List Poll) → TakesOut (due m) old None new → TellsOwed m None old None new
 tells_none m old new h = (h.0, ap (λ ps. silences ps ++ []) h.1, none_passes (due m) old h.1, λ e. absurd (let f : false ≡ true = e in cc))
 
--- If no poll is left, no outcome is left to report.
+-- A session without pending polls has no outcome left to report.
 pub tells_end : (m : ℕ) (c : LostCause) (old new : List Poll) → TakesOut (due m) old None new → old ≡ [] → TellsOwed m (Some c) old None new
 tells_end m c old new h none =
     let a : alive m old ≡ old = none_passes (due m) old h.1 in
     (h.0, ap (λ ps. owed_by m (Some c) ps) none, a, λ e. none)
 
--- A poll whose deadline has come times out.
+-- A poll whose deadline has passed is reported as timed out.
 pub tells_due : (m : ℕ) (ending : Option LostCause) (old new : List Poll) (p : Poll) → TakesOut (due m) old (Some p) new → TellsOwed m ending old (Some (record { poll = p; by = by.Silence })) new
 tells_due m ending old new p h = (
   λ frame. ap (λ ps. silences ps ++ losses ending (alive m old)) h.0 ∙ ap (λ ps. silences (p ∷ filter (due m) new) ++ losses ending ps) (sym h.1),
@@ -53,7 +53,7 @@ tells_due m ending old new p h = (
   h.2,
 )
 
--- If no poll has timed out and the session is over, the first poll is lost.
+-- If no poll has timed out and the session is over, the first poll is reported as lost.
 pub tells_lost : (m : ℕ) (c : LostCause) (old mid new : List Poll) (p : Poll) → TakesOut (due m) old None mid → p ≡ get_or mid 0 p → 0 < length mid → new ≡ remove mid 0 → TellsOwed m (Some c) old (Some (record { poll = p; by = by.End c })) new
 tells_lost m c [] mid new p h here some e = absurd (let l : length mid ≡ 0 = ap length h.0 in omega arith)
 tells_lost m c (q ∷ qs) mid new p h here some e =

@@ -1,4 +1,4 @@
--- Theorems on every list of events.
+-- The statements of the theorems about all lists of session events.
 use Rattle.std.specs.Prelude.{◌≡◌, ℕ, ◌≤◌, List, [], ◌∷◌, ◌++◌, filter, is_none, map, true, Some, None}
 use Rattle.std.specs.declared.option.Option.{Option}
 use Rattle.std.specs.Option.{option_map, option_or, option_to_list}
@@ -9,7 +9,7 @@ use Rattle.poll_core.specs.Settling.{Event, Start, Piece, Tick, Close, Settlemen
 use Rattle.poll_core.specs.Standing.{is_over, last_moment}
 use Rattle.poll_core.specs.Starting.{start_fault}
 
--- The number and the outcome of a started poll, or `None` if it has no outcome.
+-- The number and outcome of a started poll, or `None` if the poll has no outcome.
 abbrev pub with_outcome : Poll × Option Settlement → Option (ℕ × Settlement)
 with_outcome result = option_map (λ outcome. (result.0.number, outcome)) result.1
 
@@ -17,14 +17,13 @@ with_outcome result = option_map (λ outcome. (result.0.number, outcome)) result
 abbrev pub outcomes_by_poll : ℕ → List Event → List (ℕ × Settlement)
 outcomes_by_poll timeout events = filter_map with_outcome (results timeout [] events)
 
--- The outcomes that the later events settle, event by event. The first list has the events before
--- them.
+-- The outcomes of the later events, event by event, after the events `before`.
 abbrev pub outcomes_after : ℕ → List Event → List Event → List (ℕ × Settlement)
 outcomes_after timeout before [] = []
 outcomes_after timeout before (event ∷ later) =
     outcomes_at timeout before event ++ outcomes_after timeout (before ++ event ∷ []) later
 
--- The outcomes that the events settle, event by event.
+-- The outcomes of all events, event by event.
 abbrev pub outcomes_by_event : ℕ → List Event → List (ℕ × Settlement)
 outcomes_by_event timeout events = outcomes_after timeout [] events
 
@@ -35,35 +34,35 @@ number_started (Piece moment bytes) = None
 number_started (Tick moment) = None
 number_started (Close moment closing) = None
 
--- The numbers of all polls that the events start.
+-- The numbers of all polls that a list of events starts.
 abbrev pub numbers_started : List Event → List ℕ
 numbers_started events = filter_map number_started events
 
--- The numbers of all polls that the events settle, in the order of their outcomes.
+-- The numbers of all polls that a list of events completes, in the order of their outcomes.
 abbrev pub numbers_settled : ℕ → List Event → List ℕ
 numbers_settled timeout events = map (λ told. told.0) (outcomes_by_event timeout events)
 
--- The numbers of all polls that are pending after the events.
+-- The numbers of all polls that are pending after a list of events.
 abbrev pub numbers_pending : ℕ → List Event → List ℕ
 numbers_pending timeout events = map (λ poll. poll.number) (pending timeout events)
 
--- Of these polls, the numbers of those that the event settles, each with its outcome.
+-- The numbers and outcomes of the polls in `polls` that the event completes.
 abbrev pub settled_among : List Event → Event → List Poll → List (ℕ × Settlement)
 settled_among before event polls =
     filter_map (λ poll.
     option_map (λ outcome. (poll.number, outcome)) (settled_by before event poll))
     polls
 
--- A poll and its outcome after one more event. An earlier outcome stays.
+-- A poll and its outcome after one more event. An earlier outcome is unchanged.
 abbrev pub with_event : List Event → Event → Poll × Option Settlement → Poll × Option Settlement
 with_event before event result = (result.0, option_or result.1 (settled_by before event result.0))
 
--- The poll that an event started, without an outcome; an empty list if it started none.
+-- The poll that an event started, without an outcome, or an empty list if the event started none.
 abbrev pub new_result : Option Poll → List (Poll × Option Settlement)
 new_result None = []
 new_result (Some poll) = (poll, None) ∷ []
 
--- The poll is pending: one of the events started it, and no later one of them settles it.
+-- True if one of the events started the poll and no later event completed it.
 pub record Waits (timeout : ℕ) (events : List Event) (poll : Poll) : Type 0 where
   pub before : List Event
   pub start : Event
@@ -72,8 +71,8 @@ pub record Waits (timeout : ℕ) (events : List Event) (poll : Poll) : Type 0 wh
   pub starts : started timeout before start ≡ Some poll
   pub unsettled : outcome (before ++ start ∷ []) later poll ≡ None
 
--- After the events `before`, a session accepts this event: its time is not before theirs, and a
--- start is not refused.
+-- True if a session that processed the events `before` accepts this event: its time is not earlier,
+-- and a start is not refused.
 abbrev pub Accepts : ℕ → ℕ → List Event → Event → Type 0
 Accepts timeout window before (Start moment poll unit span) =
     start_fault timeout window before moment ≡ None
@@ -81,53 +80,55 @@ Accepts timeout window before (Piece moment bytes) = last_moment before ≤ mome
 Accepts timeout window before (Tick moment) = last_moment before ≤ moment
 Accepts timeout window before (Close moment closing) = last_moment before ≤ moment
 
--- After the events `before`, a session accepts each of these events in order.
+-- True if a session that processed the events `before` accepts each further event in order.
 abbrev pub AcceptsAll : ℕ → ℕ → List Event → List Event → Type 0
 AcceptsAll timeout window before [] = Unit {0}
 AcceptsAll timeout window before (event ∷ later) =
     Accepts timeout window before event × AcceptsAll timeout window (before ++ event ∷ []) later
 
--- The started polls are exactly those that the events settle and those that are pending, each
--- once.
+-- True if each started poll is either completed by the events or pending, exactly once.
 abbrev pub SettledOrPending : ℕ → List Event → Type 0
 SettledOrPending timeout events =
     IsPermutation (numbers_started events)
     (numbers_settled timeout events ++ numbers_pending timeout events)
 
--- The outcomes after one more event are the earlier outcomes, followed by those of the event.
+-- True if the outcomes after one more event are the earlier outcomes followed by the outcomes of
+-- that event.
 abbrev pub AddsOutcomes : ℕ → List Event → Event → Type 0
 AddsOutcomes timeout events event =
     outcomes_by_event timeout (events ++ event ∷ [])
     ≡ outcomes_by_event timeout events ++ outcomes_at timeout events event
 
--- One more event settles pending polls, each independently of the others, and no other polls.
+-- True if one more event completes pending polls independently of each other, and completes no
+-- other poll.
 abbrev pub SettlesPending : ℕ → List Event → Event → Type 0
 SettlesPending timeout events event =
     IsPermutation (settled_among events event (pending timeout events))
     (outcomes_at timeout events event)
 
--- After one more event, the pending polls are those that it does not settle, and the poll that it
--- starts.
+-- True if the polls pending after one more event are those that it does not complete, followed by
+-- the poll that it starts.
 abbrev pub LeavesPending : ℕ → List Event → Event → Type 0
 LeavesPending timeout events event =
     pending timeout (events ++ event ∷ [])
     ≡ filter (λ poll. is_none (settled_by events event poll)) (pending timeout events)
     ++ option_to_list (started timeout events event)
 
--- After one more event, each poll keeps its earlier outcome, or gets the outcome that the event
--- settles. A poll that the event starts has none yet.
+-- True if one more event leaves earlier outcomes unchanged and adds its own. A poll that the event
+-- starts has no outcome yet.
 abbrev pub AddsResults : ℕ → List Event → Event → Type 0
 AddsResults timeout events event =
     results timeout [] (events ++ event ∷ [])
     ≡ map (with_event events event) (results timeout [] events)
     ++ new_result (started timeout events event)
 
--- A session that accepted all these events is over: its stream is garbled, or it was closed.
+-- True if a session that accepted these events is over: its stream is garbled, or it was closed.
 abbrev pub IsOverAfter : (timeout window : ℕ) → List Event → Type 0
 IsOverAfter timeout window events =
     AcceptsAll timeout window [] events × (is_over events ≡ true)
 
--- If a piece settles no poll, a shorter piece with which it begins settles none either.
+-- True if a chunk of bytes completes no poll whenever a longer chunk with the same beginning
+-- completes none.
 abbrev pub SettlesNoLess : ℕ → List Event → (moment : ℕ) → (piece more : List ℕ) → Type 0
 SettlesNoLess timeout events moment piece more =
     outcomes_at timeout events (Piece moment (piece ++ more)) ≡ []

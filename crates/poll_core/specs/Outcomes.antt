@@ -1,4 +1,4 @@
--- The numbers of outcomes and their causes, as texts and tables print them.
+-- The numbers of outcomes and of their causes, as the program prints them.
 use Rattle.std.specs.Prelude.{ℕ}
 use Rattle.mb_wire.specs.declared.replies.ReplyFault.{ReplyFault}
 use Rattle.mb_wire.specs.declared.replies.ReplyFault.TheVariants as fault
@@ -11,7 +11,7 @@ use Rattle.poll_core.specs.declared.outcome.LostCause.TheVariants as cause
 use Rattle.poll_core.specs.declared.outcome.Closing.{Closing}
 use Rattle.poll_core.specs.declared.outcome.Closing.TheVariants as closing
 
--- The number of each malformation.
+-- The number of each kind of malformed response.
 abbrev pub malformation_number : Malformation → ℕ
 malformation_number malformation.WrongFunction = 1
 malformation_number malformation.WrongLength = 2
@@ -34,8 +34,8 @@ outcome_number Silent = 3
 outcome_number (Malformed wrong) = 4
 outcome_number (Lost why) = 5
 
--- The second number of an outcome: its exception code, or the number of its malformation or
--- cause; 0 for other outcomes.
+-- The second number of an outcome: its exception code, or the number of its malformation or cause.
+-- Other outcomes have 0.
 abbrev pub outcome_code : Outcome → ℕ
 outcome_code Answered = 0
 outcome_code (Exception code) = code
@@ -50,7 +50,7 @@ malformation_by fault.WrongLength = malformation.WrongLength
 malformation_by fault.WrongByteCount = malformation.WrongByteCount
 malformation_by fault.WrongEcho = malformation.WrongEcho
 
--- The cause that is reported for polls that a closing of the connection loses.
+-- The cause that is reported for polls lost when the connection closes.
 abbrev pub cause_of : Closing → LostCause
 cause_of closing.Gone = cause.Gone
 cause_of closing.Failed = cause.Failed

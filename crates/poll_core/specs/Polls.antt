@@ -1,9 +1,9 @@
--- The model of a poll, which the contracts use.
+-- The model of a poll, for contracts.
 use Rattle.std.specs.Prelude.{ℕ, Bool, ◌==◌, nat_le}
 use Rattle.mb_wire.specs.Spans.{Span}
 
--- A started poll: its caller's number, its transaction identifier, the unit and the registers it
--- requests, and its deadline.
+-- A started poll: the caller's poll number, the transaction identifier, the requested unit and
+-- registers, and the deadline.
 pub record Poll : Type 0 where
   pub number : ℕ
   pub id : ℕ
@@ -16,10 +16,10 @@ abbrev pub poll_of : (number id unit : ℕ) → Span → (deadline : ℕ) → Po
 poll_of number id unit span deadline =
     record { number = number; id = id; unit = unit; span = span; deadline = deadline }
 
--- The deadline of the poll is at or before this time.
+-- True if the deadline of the poll is at or before the time `moment`.
 abbrev pub due : ℕ → Poll → Bool
 due moment poll = nat_le poll.deadline moment
 
--- The poll has this transaction identifier.
+-- True if the poll has the transaction identifier `id`.
 abbrev pub has_id : ℕ → Poll → Bool
 has_id id poll = id == poll.id

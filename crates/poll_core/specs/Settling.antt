@@ -1,5 +1,5 @@
--- When a poll of a session is settled, and by what (Modbus Messaging on TCP/IP Implementation Guide
--- V1.0b, section 4.4.1).
+-- Defines when a poll of a session is completed, and by which event (Modbus Messaging on TCP/IP
+-- Implementation Guide V1.0b, section 4.4.1).
 use Rattle.std.specs.Prelude.{ℕ, ◌+◌, ◌%◌, Bool, true, false, not, ◌&&◌, ◌==◌, if◌then◌else◌, List, [], ◌∷◌, ◌++◌, map, length, drop, is_none, Some, None, Ok, Err}
 use Rattle.std.specs.declared.option.Option.{Option}
 use Rattle.std.specs.declared.result.Result.{Result}
@@ -18,42 +18,42 @@ use Rattle.poll_core.specs.declared.outcome.LostCause.{LostCause}
 use Rattle.poll_core.specs.declared.outcome.LostCause.TheVariants.{Garbled}
 use Rattle.poll_core.specs.declared.outcome.Closing.{Closing}
 
--- An event of a session, with its time.
+-- An event of a session, with its time in seconds since 1970-01-01 UTC.
 pub data Event : Type 0 where
   Start : (moment poll unit : ℕ) (span : Span) → Event
   Piece : (moment : ℕ) (bytes : List ℕ) → Event
   Tick : (moment : ℕ) → Event
   Close : (moment : ℕ) (closing : Closing) → Event
 
--- The time of an event.
+-- The time of an event, in seconds since 1970-01-01 UTC.
 abbrev pub moment_of : Event → ℕ
 moment_of (Start moment poll unit span) = moment
 moment_of (Piece moment bytes) = moment
 moment_of (Tick moment) = moment
 moment_of (Close moment closing) = moment
 
--- The bytes that arrive with an event: those of a piece, otherwise none.
+-- The bytes that arrive with an event. Only a `Piece` has bytes.
 abbrev pub bytes_of : Event → List ℕ
 bytes_of (Start moment poll unit span) = []
 bytes_of (Piece moment bytes) = bytes
 bytes_of (Tick moment) = []
 bytes_of (Close moment closing) = []
 
--- The cause by which an event closes the session, or `None` if it does not close it.
+-- The cause by which an event closes the session, or `None` if the event does not close it.
 abbrev pub closing_of : Event → Option LostCause
 closing_of (Start moment poll unit span) = None
 closing_of (Piece moment bytes) = None
 closing_of (Tick moment) = None
 closing_of (Close moment closing) = Some (cause_of closing)
 
--- The event starts a poll.
+-- True if the event starts a poll.
 abbrev pub is_start : Event → Bool
 is_start (Start moment poll unit span) = true
 is_start (Piece moment bytes) = false
 is_start (Tick moment) = false
 is_start (Close moment closing) = false
 
--- The stream: the bytes of all pieces in order.
+-- The bytes of all received chunks, in order.
 unfoldable pub stream : List Event → List ℕ
 stream events = flat_map bytes_of events
 
@@ -61,7 +61,7 @@ stream events = flat_map bytes_of events
 unfoldable pub next_id : List Event → ℕ
 next_id events = length (filter is_start events) % 65536
 
--- The outcome of a poll. An answered poll has the registers that the device sent.
+-- The outcome of a poll. A successful outcome has the registers that the device sent.
 pub data Settlement : Type 0 where
   Answered : (words : List ℕ) → Settlement
   Exception : (code : ℕ) → Settlement
@@ -69,18 +69,19 @@ pub data Settlement : Type 0 where
   Malformed : (malformation : Malformation) → Settlement
   Lost : (cause : LostCause) → Settlement
 
--- The registers of a decoded response; none if it is a response of another kind.
+-- The registers of a decoded response. A response of another kind has none.
 abbrev pub words_in : Answer → List ℕ
 words_in (replies.Words words) = words
 words_in _ = []
 
--- The outcome that a decoded response gives, or its fault.
+-- The outcome of a poll for a decoded response, or for the fault of a response that cannot be
+-- decoded.
 abbrev pub by_reply : Result Answer ReplyFault → Settlement
 by_reply (Ok (replies.Exception code)) = Exception code
 by_reply (Ok answer) = Answered (words_in answer)
 by_reply (Err fault) = Malformed (malformation_by fault)
 
--- The outcome that a frame with the poll's transaction identifier gives. The unit is checked
+-- The outcome of a poll for a frame with its transaction identifier. The unit identifier is checked
 -- first.
 abbrev pub answer : Poll → List ℕ → Settlement
 answer poll frame =
@@ -88,26 +89,26 @@ answer poll frame =
     then by_reply (reply_of (request_of poll.span) (pdu_of frame))
     else Malformed WrongUnit
 
--- The frame is of Modbus and has the poll's transaction identifier.
+-- True if the frame has protocol identifier 0 (Modbus) and the poll's transaction identifier.
 abbrev pub is_for : Poll → List ℕ → Bool
 is_for poll frame = (tid_of frame == poll.id) && (protocol_of frame == 0)
 
--- The frames that the bytes of the event complete, if they arrive after those of the events
--- `before`.
+-- The frames that the bytes of the event complete, after the bytes of the events `before`.
 unfoldable pub frames_at : List Event → Event → List (List ℕ)
 frames_at before event =
     drop (length (frames (stream before))) (frames (stream before ++ bytes_of event))
 
--- The cause by which the event ends the session after the events `before`: it garbles the stream,
--- or closes the session. `None` if it does neither.
+-- The cause by which the event ends the session: it garbles the stream or closes the session.
+-- `None` if it does neither.
 unfoldable pub ending_at : List Event → Event → Option LostCause
 ending_at before event =
     if is_garbled (stream before ++ bytes_of event) && not (is_garbled (stream before))
     then Some Garbled
     else closing_of event
 
--- The outcome of a pending poll at an event after the events `before`, if the event settles it:
--- its timeout, else that of the first frame with its transaction identifier, else its loss.
+-- The outcome of a pending poll by an event after the events `before`: timeout first, then the
+-- first frame with its transaction identifier, then loss. `None` if the event does not complete the
+-- poll.
 unfoldable pub settled_by : List Event → Event → Poll → Option Settlement
 settled_by before event poll =
     if is_start event then None
@@ -115,14 +116,14 @@ settled_by before event poll =
     else option_or (option_map (answer poll) (find (is_for poll) (frames_at before event)))
     (option_map Lost (ending_at before event))
 
--- The outcome of a poll by the first of the later events that settles it; `None` if none of them
+-- The outcome of a poll by the first later event that completes it, or `None` if no later event
 -- does.
 abbrev pub outcome : List Event → List Event → Poll → Option Settlement
 outcome before [] poll = None
 outcome before (event ∷ later) poll =
     option_or (settled_by before event poll) (outcome (before ++ event ∷ []) later poll)
 
--- The poll that the event starts after the events `before`, or `None` if it is no start.
+-- The poll that the event starts after the events `before`, or `None` if the event is no start.
 abbrev pub started : ℕ → List Event → Event → Option Poll
 started timeout before (Start moment poll unit span) =
     Some (record {
@@ -136,13 +137,13 @@ started timeout before (Piece moment bytes) = None
 started timeout before (Tick moment) = None
 started timeout before (Close moment closing) = None
 
--- The poll that an event started, with its outcome by the later events; an empty list without a
--- start.
+-- The poll that an event started, with its outcome by the later events. An empty list if the event
+-- started none.
 abbrev pub result_of : List Event → List Event → Option Poll → List (Poll × Option Settlement)
 result_of before later None = []
 result_of before later (Some poll) = (poll, outcome before later poll) ∷ []
 
--- All polls that the later events start, in the order of the starts. Each has its outcome by the
+-- All polls that the later events start, in the order of the starts, each with its outcome by the
 -- events after its start.
 abbrev pub results : ℕ → List Event → List Event → List (Poll × Option Settlement)
 results timeout before [] = []
@@ -150,38 +151,38 @@ results timeout before (event ∷ later) =
     result_of (before ++ event ∷ []) later (started timeout before event)
     ++ results timeout (before ++ event ∷ []) later
 
--- The polls that are pending after the events: started ones without an outcome.
+-- The polls that are pending after the events: started polls without an outcome.
 unfoldable pub pending : ℕ → List Event → List Poll
 pending timeout events =
     map (λ result. result.0) (filter (λ result. is_none result.1) (results timeout [] events))
 
--- The outcomes of these polls if all time out, in the order of their starts.
+-- The outcomes of a list of polls if all of them time out, in the order of their starts.
 abbrev pub silences : List Poll → List (ℕ × Settlement)
 silences polls = map (λ poll. (poll.number, Silent)) polls
 
--- The outcomes of these polls by these frames, in the order of the frames.
+-- The outcomes that a list of frames gives to a list of pending polls, in the order of the frames.
 abbrev pub by_frame : List (List ℕ) → List Poll → List (ℕ × Settlement)
 by_frame [] polls = []
 by_frame (frame ∷ later) polls =
     map (λ poll. (poll.number, answer poll frame)) (filter (λ poll. is_for poll frame) polls)
     ++ by_frame later (filter (λ poll. not (is_for poll frame)) polls)
 
--- Of these polls, those whose transaction identifier none of the frames has.
+-- The polls of the list whose transaction identifier occurs in none of the frames.
 abbrev pub unmatched : List (List ℕ) → List Poll → List Poll
 unmatched frames polls = filter (λ poll. is_none (find (is_for poll) frames)) polls
 
--- The outcomes of these polls if the session ended for a cause, in the order of their starts;
--- none if it did not end.
+-- The outcomes of a list of polls if the session ended for a cause, in the order of their starts.
+-- Empty if the session did not end.
 abbrev pub losses : Option LostCause → List Poll → List (ℕ × Settlement)
 losses None polls = []
 losses (Some cause) polls = map (λ poll. (poll.number, Lost cause)) polls
 
--- Of these polls, those whose deadline is after this time.
+-- The polls of the list whose deadline is after the time `moment`.
 abbrev pub alive : ℕ → List Poll → List Poll
 alive moment polls = filter (λ poll. not (due moment poll)) polls
 
--- The outcomes that one event settles, in order: timeouts by start, then answers frame by frame,
--- then losses by start.
+-- The outcomes of one event, in order: timeouts by start, then responses frame by frame, then
+-- losses by start.
 unfoldable pub outcomes_at : ℕ → List Event → Event → List (ℕ × Settlement)
 outcomes_at timeout before event =
     if is_start event then []

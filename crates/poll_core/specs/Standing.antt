@@ -11,9 +11,9 @@ use Rattle.poll_core.specs.declared.outcome.LostCause.{LostCause}
 use Rattle.poll_core.specs.declared.outcome.Call.{Call}
 use Rattle.poll_core.specs.declared.outcome.Call.TheVariants as call
 
--- The state of a session. It has the terms, the latest time, the next transaction identifier, and
--- the incomplete frame. It also has the pending polls in the order of their starts. If it is over,
--- it has the cause, and during a call that call.
+-- The state of a session: its timeout and window, its latest time, its next transaction identifier,
+-- its incomplete frame, and its pending polls in the order of their starts. Also the cause of its
+-- end and the call in progress, if any.
 pub record State : Type 0 where
   pub timeout : ℕ
   pub window : ℕ
@@ -30,43 +30,43 @@ last_moment [] = 0
 last_moment (event ∷ []) = moment_of event
 last_moment (event ∷ next ∷ events) = last_moment (next ∷ events)
 
--- One of the events closed the session.
+-- True if one of the events closed the session.
 unfoldable pub is_closed : List Event → Bool
 is_closed events = list_any (λ event. is_some (closing_of event)) events
 
--- After the events, the stream is garbled, or the session was closed.
+-- True if the stream of the events is garbled, or one of the events closed the session.
 unfoldable pub is_over : List Event → Bool
 is_over events = is_garbled (stream events) || is_closed events
 
--- The session has processed exactly these events, and has reported all their outcomes.
+-- True if the session has processed exactly these events and has reported all of their outcomes.
 pub record Stands (session : State) (events : List Event) : Type 0 where
   pub told : session.settling ≡ None
   pub last : session.last ≡ last_moment events
   pub next : session.next ≡ next_id events
   pub polls : session.polls ≡ pending session.timeout events
   pub over : is_some session.ending ≡ is_over events
-  -- no start is accepted once the session is over
+  -- No poll is pending once the session is over.
   pub none_after : is_over events ≡ true → pending session.timeout events ≡ []
-  -- until its end, the session has read the stream up to its rest
+  -- Until the session ends, its reader has buffered the incomplete frame at the end of the stream.
   pub buffered : session.ending ≡ None → session.reader.rest ≡ rest (stream events)
 
--- The outcomes that a session still has to report for these polls: the timeouts, and the losses
--- of the other polls if the session ended.
+-- The outcomes that a session must still report for a list of polls: timeouts, and losses of the
+-- other polls if the session ended.
 abbrev pub owed_by : ℕ → Option LostCause → List Poll → List (ℕ × Settlement)
 owed_by moment ending polls =
     silences (filter (due moment) polls) ++ losses ending (alive moment polls)
 
--- The outcomes that a session has yet to report.
+-- The outcomes that a session must still report.
 abbrev pub owed : State → List (ℕ × Settlement)
 owed session = owed_by session.last session.ending session.polls
 
--- Of these polls, those that stay pending: none if the session ended, otherwise all.
+-- The polls that remain pending: none if the session ended, otherwise all.
 abbrev pub if_going : Option LostCause → List Poll → List Poll
 if_going None polls = polls
 if_going (Some cause) polls = []
 
--- The session is processing an event after the earlier events. It has reported the outcomes
--- `told` of this event, and still has to report the others.
+-- True if the session is processing the event after the events `events`. It has reported the
+-- outcomes `told` of the event, and must still report the others.
 pub record Within (session : State) (events : List Event) (event : Event)
     (told : List (ℕ × Settlement)) : Type 0 where
   pub last : session.last ≡ moment_of event
@@ -78,22 +78,22 @@ pub record Within (session : State) (events : List Event) (event : Event)
   pub none_after : is_closed events ≡ true → pending session.timeout events ≡ []
   pub buffered : session.ending ≡ None → session.reader.rest ≡ rest (stream (events ++ event ∷ []))
 
--- The kind of call that brings the event, or `None` for a start.
+-- The kind of call that processes the event, or `None` for a start.
 abbrev pub call_of : Event → Option Call
 call_of (Start moment poll unit span) = None
 call_of (Piece moment bytes) = Some call.Piece
 call_of (Tick moment) = Some call.Tick
 call_of (Close moment closing) = Some (call.Close closing)
 
--- The state before a call for this event: the session has processed nothing of it, or the call
--- continues after the outcomes `told`.
+-- The state of a session before a call for this event: the event is new, or the call continues
+-- after the outcomes `told`.
 abbrev pub Before : State → List Event → Event → List (ℕ × Settlement) → Type 0
 Before session events event told =
     (Stands session events × (bytes_of event ≡ []) × (told ≡ []))
     ⊎ ((session.settling ≡ call_of event) × Within session events event told)
 
--- The state after a call for this event: it reported one more outcome, or all outcomes had been
--- reported.
+-- The state of a session after a call for this event: it reported one more outcome, or all outcomes
+-- had been reported.
 abbrev pub After : State → List Event → Event → List (ℕ × Settlement) → Option (ℕ × Settlement)
     → Type 0
 After session events event told None =
@@ -101,7 +101,7 @@ After session events event told None =
 After session events event told (Some settled) =
     (session.settling ≡ call_of event) × Within session events event (told ++ settled ∷ [])
 
--- After a successful start, the session's state is that of its events followed by the start.
+-- After a successful start, the session has processed its earlier events and the start.
 abbrev pub StartsOn : {X E : Type 0} → Result X E → (old new : State) → Event → Type 0
 StartsOn result old new start =
     (events : List Event) → Stands old events → OnOk result (After new events start [] None)
@@ -112,8 +112,8 @@ StepsOn old new event settled =
     (events : List Event) (told : List (ℕ × Settlement)) →
     Before old events event told → After new events event told settled
 
--- A call that takes more bytes of a piece leads from a state `Before` the call to a state `After`
--- it.
+-- A call that consumes bytes of a received chunk leads from a state `Before` the call to a state
+-- `After` it.
 abbrev pub TakesOn : (old new : State) → (moment : ℕ) → (taken : List ℕ)
     → Option (ℕ × Settlement) → Type 0
 TakesOn old new moment taken settled =

@@ -1,4 +1,4 @@
--- When a start is refused.
+-- Defines when a session refuses to start a poll.
 use Rattle.std.specs.Prelude.{◌≡◌, ℕ, ◌+◌, ◌%◌, ◌≤◌, ◌<◌, Bool, true, false, not, ◌&&◌, is_some, nat_le, nat_lt, if◌then◌else◌, List, ◌++◌, length, take, Some, None, IsSome}
 use Rattle.std.specs.declared.option.Option.{Option}
 use Rattle.std.specs.List.{list_any, AllByRecursion}
@@ -11,15 +11,15 @@ use Rattle.poll_core.specs.Standing.{State, is_over, last_moment}
 use Rattle.poll_core.specs.declared.answers.StartFault.{StartFault}
 use Rattle.poll_core.specs.declared.answers.StartFault.TheVariants.{WindowFull, IdBusy, ClockBack, Closed}
 
--- The number of each fault.
+-- The number of each fault of a start.
 abbrev pub start_fault_number : StartFault → ℕ
 start_fault_number WindowFull = 1
 start_fault_number IdBusy = 2
 start_fault_number ClockBack = 3
 start_fault_number Closed = 4
 
--- The first fault that applies to a start at the time `moment`; `None` if none does. `next` is
--- its identifier, `last` the latest time, and `over` says whether the session is over.
+-- The first fault of a start at the time `moment`, or `None`. `next` is the transaction identifier,
+-- `last` the latest time, and `over` is true if the session is over.
 abbrev pub least_fault : ℕ → List Poll → ℕ → ℕ → Bool → ℕ → Option StartFault
 least_fault window polls next last over moment =
     if nat_le window (length polls) then Some WindowFull
@@ -28,39 +28,40 @@ least_fault window polls next last over moment =
     else if over then Some Closed
     else None
 
--- Why a start at this time after these events is refused, or `None` if it is accepted.
+-- The fault of a start at the time `moment` after these events, or `None` if the session accepts
+-- the start.
 abbrev pub start_fault : ℕ → ℕ → List Event → ℕ → Option StartFault
 start_fault timeout window events moment =
     least_fault window (pending timeout events) (next_id events) (last_moment events)
     (is_over events)
     moment
 
--- The first `n` bytes of the buffer are the frame that requests this span of registers from the
--- unit.
+-- True if the first `n` bytes of the buffer are the frame that requests this span of registers from
+-- the unit.
 abbrev pub AsksFor : (tid unit : ℕ) → Span → (buffer : List ℕ) → ℕ → Type 0
 AsksFor tid unit span buffer n =
     take n buffer ≡ spelling tid unit (request_bytes (request_of span))
 
--- A start is possible after `before` more starts: the session is not over, the window has room,
--- and no pending poll has the identifier of that start.
+-- True if a start would succeed after `before` earlier starts: the session is not over, the window
+-- has room, and no pending poll uses its identifier.
 abbrev pub start_fits : ℕ → List Poll → ℕ → Bool → ℕ → Bool
 start_fits window polls next over before =
     not over && nat_lt (length polls + before) window
     && not (list_any (has_id ((next + before) % 65536)) polls)
 
--- Exactly `count` starts in a row are possible.
+-- True if exactly `count` consecutive starts are possible.
 pub record HasRoom (session : State) (count : ℕ) : Type 0 where
   pub fit : (k : ℕ) → k < count
       → start_fits session.window session.polls session.next (is_some session.ending) k ≡ true
   pub no_more : start_fits session.window session.polls session.next (is_some session.ending) count
       ≡ false
 
--- All of these events are starts.
+-- True if all of these events are starts.
 abbrev pub AreStarts : List Event → Type 0
 AreStarts events = AllByRecursion (λ event. is_start event ≡ true) events
 
--- `id` is the next identifier, and exactly `count` starts in a row succeed. Until then, no start
--- at the latest time or after it is refused. After them, every start is refused.
+-- True if `id` is the next transaction identifier, the next `count` starts at valid times succeed,
+-- and the start after them is refused.
 pub record IsReady (timeout window : ℕ) (events : List Event) (id count : ℕ) : Type 0 where
   pub next : id ≡ next_id events
   pub succeed : (starts : List Event) (moment : ℕ) → AreStarts starts → length starts < count

@@ -1,4 +1,4 @@
--- What a call reports, as its caller sees it.
+-- The effects of a session's public calls, as their caller sees them.
 use Rattle.std.specs.Prelude.{◌≡◌, ℕ, ◌<◌, ◌⊎◌, Bool, true, false, is_some, if◌then◌else◌, List, [], ◌++◌, length, take, Some, None, Result, OnErr, IfOk}
 use Rattle.std.specs.declared.option.Option.{Option}
 use Rattle.std.specs.Option.{option_map}
@@ -14,12 +14,12 @@ use Rattle.poll_core.specs.declared.answers.ClockBack.{ClockBack}
 use Rattle.poll_core.specs.declared.answers.Settled.{Settled}
 use Rattle.poll_core.specs.declared.answers.Turn.{Turn}
 
--- The registers of a `Reply` that the session lends out; none without a reply.
+-- The registers of a `Reply` that the session returns, or an empty list without a reply.
 abbrev pub lent_words : Option Reply → List ℕ
 lent_words None = []
 lent_words (Some reply) = words_in (answer_of reply)
 
--- The outcome that the program reports, together with the registers of its reply.
+-- The outcome that the session returns, together with the registers of its reply.
 abbrev pub outcome_of : plain.Outcome → Option Reply → Settlement
 outcome_of Answered reply = told.Answered (lent_words reply)
 outcome_of (Exception code) reply = told.Exception code
@@ -27,26 +27,26 @@ outcome_of Silent reply = told.Silent
 outcome_of (Malformed malformation) reply = told.Malformed malformation
 outcome_of (Lost cause) reply = told.Lost cause
 
--- The number and the outcome of a settled poll.
+-- The number and the outcome of a completed poll.
 abbrev pub settled_of : Settled → ℕ × Settlement
 settled_of settled = (settled.poll, outcome_of settled.outcome settled.reply)
 
--- The poll was answered with registers.
+-- True if the device answered the poll with registers.
 abbrev pub is_answered : plain.Outcome → Bool
 is_answered Answered = true
 is_answered _ = false
 
--- A reply is present exactly if the poll was answered.
+-- True if a reply is present exactly when the device answered the poll with registers.
 abbrev pub LendsReply : Settled → Type 0
 LendsReply settled = is_some settled.reply ≡ is_answered settled.outcome
 
--- No call is in progress, or the call in progress is of this kind and at this time.
+-- True if no call is in progress, or the call in progress is of this kind and at this time.
 abbrev pub IsCall : Call → State → ℕ → Type 0
 IsCall call session moment =
     (session.settling ≡ None) ⊎ ((session.settling ≡ Some call) × (session.last ≡ moment))
 
--- The effect of a call that brings an event, or more bytes of a piece. `before` and `after` give
--- the event with the bytes so far. If the call reports an outcome, fewer polls are pending.
+-- The effect of a call that processes an event, or more bytes of a chunk. `before` and `after`
+-- build the event from the bytes consumed. If the call reports an outcome, fewer polls are pending.
 pub record TellsOfCall (old new : State) (before after : List ℕ → Event)
     (settled : Option (ℕ × Settlement)) : Type 0 where
   pub timeout : new.timeout ≡ old.timeout
@@ -57,17 +57,16 @@ pub record TellsOfCall (old new : State) (before after : List ℕ → Event)
   pub told : (events : List Event) (bytes : List ℕ) (told : List (ℕ × Settlement))
       → Before old events (before bytes) told → After new events (after bytes) told settled
 
--- The effect of a call that brings a piece at this time, and takes the bytes `taken` of the
--- piece.
+-- The effect of a call of `next` at the time `moment` that consumes the bytes `taken` of a chunk.
 abbrev pub TellsPiece : State → State → ℕ → List ℕ → Option (ℕ × Settlement) → Type 0
 TellsPiece old new moment taken =
     TellsOfCall old new (λ bytes. Piece moment bytes) (λ bytes. Piece moment (bytes ++ taken))
 
--- The effect of a call that brings this event.
+-- The effect of a call that processes this event.
 abbrev pub TellsEvent : State → State → Event → Option (ℕ × Settlement) → Type 0
 TellsEvent old new event = TellsOfCall old new (λ _. event) (λ _. event)
 
--- The call takes bytes of the piece, or is refused with `ClockBack` and changes nothing.
+-- True if the call consumes bytes of the chunk, or returns `ClockBack` and changes nothing.
 abbrev pub TakesPiece : State → (moment : ℕ) → (piece : List ℕ) → Result Turn ClockBack → State
     → Type 0
 TakesPiece old moment piece result new =
@@ -75,7 +74,7 @@ TakesPiece old moment piece result new =
     × IfOk result (λ turn. TellsPiece old new moment (take turn.taken piece)
     (option_map settled_of turn.settled))
 
--- The call brings the event, or is refused with `ClockBack` and changes nothing.
+-- True if the call processes the event, or returns `ClockBack` and changes nothing.
 abbrev pub TakesEvent : State → Event → Result (Option Settled) ClockBack → State → Type 0
 TakesEvent old event result new =
     OnErr result (new ≡ old)

@@ -1,8 +1,8 @@
-//! The results of a session's calls.
+//! The results of the calls of a polling session.
 use crate::outcome::Outcome;
 use mb_wire::Reply;
 
-/// A settled poll, with the number that its caller gave it.
+/// A completed poll, with the poll number that the caller passed to `start`.
 #[derive(Clone, Copy, Debug)]
 pub struct Settled<'a> {
     pub poll: u64,
@@ -11,35 +11,36 @@ pub struct Settled<'a> {
     pub reply: Option<Reply<'a>>,
 }
 
-/// The number of bytes that a call took from its piece, and the poll that they settled, if any.
+/// The result of `next`: the number of bytes that the call consumed, and the completed poll, if
+/// any.
 #[derive(Drop)]
 pub struct Turn<'a> {
     pub taken: usize,
     pub settled: Option<Settled<'a>>,
 }
 
-/// The next transaction identifier, and how many starts in a row would now succeed at a time that
-/// is not before the latest.
+/// The next transaction identifier, and the number of consecutive starts that would succeed, at
+/// times not before the session's latest time.
 #[derive(Clone, Copy, Debug, PartialEq, Eq)]
 pub struct Ready {
     pub id: u16,
     pub count: usize,
 }
 
-/// The time of a call is before the latest time of the session.
+/// The error of a call with a time before the latest time of the session.
 #[derive(Clone, Copy, Debug, PartialEq, Eq)]
 pub struct ClockBack;
 
-/// Why a poll was not started.
+/// The reason why a session refused to start a poll.
 #[derive(Clone, Copy, Debug, PartialEq, Eq)]
 pub enum StartFault {
-    /// The number of pending polls has reached the window.
+    /// The number of pending polls has reached the greatest number allowed (the window).
     WindowFull,
-    /// A pending poll has the next transaction identifier.
+    /// A pending poll uses the next transaction identifier.
     IdBusy,
-    /// The time is before the latest time of the session.
+    /// The time of the call is before the latest time of the session.
     ClockBack,
-    /// The session was closed, or its stream is garbled.
+    /// The session was closed, or an invalid length field garbled its stream.
     Closed,
 }
 
@@ -47,7 +48,7 @@ impl StartFault {
     ghost use Rattle.std.specs.Prelude.{◌≡◌};
     ghost use Rattle.poll_core.specs.Starting.{start_fault_number};
 
-    /// Returns the fault's number, 1 to 4. Of several faults that apply, the one with the least
+    /// Returns the fault's number, 1 to 4. If several faults apply, the fault with the lowest
     /// number is reported.
     pub fn number(self) -> u8
         ensures { result ≡ start_fault_number self }

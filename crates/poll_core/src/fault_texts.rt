@@ -1,4 +1,4 @@
-//! The sentence that describes each fault and each cause of a lost poll.
+//! Writes each fault of a polling session, and each cause of a lost poll, as English text.
 use crate::answers::{ClockBack, StartFault};
 use crate::outcome::{LostCause, Malformation};
 use std::error::Error;

@@ -1,7 +1,7 @@
-//! The fields of a session, and its steps.
+//! The private fields of a polling session, and the steps of the session's calls.
 //!
-//! They are separate from `Session`: its contracts see only its model, and its calls lend out the
-//! reader's frame. The contracts of these steps name the fields, and a step lends nothing.
+//! Contracts of `Session` mention only a model of the session, and its calls return borrowed
+//! frames. Contracts of the steps mention the private fields, and no step returns a borrowed frame.
 ghost use Rattle.std.specs.Prelude.{◌≡◌, ◌+◌, ◌≤◌, ◌<◌, List, length, take, is_some, true, false};
 ghost use Rattle.std.specs.Prelude.{if◌then◌else◌, OnOk, OnErr, IfOk};
 ghost use Rattle.std.specs.Result.{result_err};
@@ -33,15 +33,15 @@ pub struct Inner {
     pub settling: Option<Call>,
 }
 
-/// The result of a step: how many bytes of the piece it took, and the poll that it settled, if
-/// any.
+/// The result of a session's step: the number of bytes that it consumed, and the poll that it
+/// completed, if any.
 #[derive(Drop)]
 pub struct Step {
     pub taken: usize,
     pub settled: Option<SettledPoll>,
 }
 
-// Writes the frame that requests a span of registers, and returns its length in bytes.
+// Writes the frame that requests a span of registers, and returns the frame's length in bytes.
 fn write_request(id: u16, unit: u8, span: ReadSpan, out: &mut [u8; MAX_ADU]) -> usize
     ensures size { result ≡ 12 }
     ensures written { take result out.new
@@ -52,8 +52,8 @@ fn write_request(id: u16, unit: u8, span: ReadSpan, out: &mut [u8; MAX_ADU]) -> 
     write_frame(id, unit, &pdu[..count], out)
 }
 
-// Returns the call that is in progress after it returned this poll. A call that returned none is
-// complete.
+// Returns `call` as the call in progress if it just reported a poll. Returns `None` if it reported
+// none, because the call is then complete.
 fn call_while(taken: &Option<SettledPoll>, call: Call) -> Option<Call>
     ensures { result ≡ call_if taken.now call }
 {
@@ -63,7 +63,7 @@ fn call_while(taken: &Option<SettledPoll>, call: Call) -> Option<Call>
     }
 }
 
-// Returns the cause by which a garbled stream ends the session, or `None` if it is not garbled.
+// Returns `Garbled` as the cause of the session's end if the stream is garbled, otherwise `None`.
 fn ending_if(is_garbled: bool) -> Option<LostCause>
     ensures { result ≡ garbled_end is_garbled }
 {
@@ -74,8 +74,7 @@ fn ending_if(is_garbled: bool) -> Option<LostCause>
     }
 }
 
-// Returns how many bytes of the piece were taken: `taken` if an outcome was reported, otherwise
-// all.
+// Returns the number of bytes consumed: `taken` if an outcome was reported, otherwise `all`.
 fn taken_if(lost: &Option<SettledPoll>, taken: usize, all: usize) -> usize
     ensures { result ≡ (if is_some lost.now then taken else all) }
 {
@@ -127,7 +126,8 @@ impl Inner {
         Ok(size)
     }
 
-    /// Returns how many starts in a row are now possible at a time that is not before the latest.
+    /// Returns the number of consecutive starts that are now possible, at times not before the
+    /// session's latest time.
     pub fn room(&self) -> usize
         requires { IsSound self.now }
         ensures few { result ≤ self.now.window }

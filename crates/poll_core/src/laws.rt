@@ -1,4 +1,4 @@
-//! Theorems on every list of events.
+//! Theorems about all lists of session events.
 ghost use Rattle.std.specs.Prelude.{◌≡◌, ℕ, List, [], length, slice_get};
 ghost use Rattle.std.specs.List.{All};
 ghost use Rattle.std.specs.List.Sorted.{IsPermutation};
@@ -11,16 +11,16 @@ ghost use Rattle.poll_core.specs.Laws.{outcomes_by_event, outcomes_by_poll};
 
 use mb_wire::one_reading;
 
-/// Theorem: each started poll is settled once, or is pending. The outcomes that the events
-/// settle, event by event, are those of the polls.
+/// Theorem: each started poll is completed once or is pending. The outcomes listed event by event
+/// equal the outcomes listed poll by poll.
 pub fn each_once()
     ensures polls { (timeout : ℕ) (events : List Event) → SettledOrPending timeout events }
     ensures outcomes { (timeout : ℕ) (events : List Event) →
         IsPermutation (outcomes_by_poll timeout events) (outcomes_by_event timeout events) }
 {}
 
-/// Theorem: one more event settles pending polls, each independently of the others, and may start a
-/// poll. If no poll is pending, it settles none.
+/// Theorem: each event completes pending polls independently of each other, and may start a poll.
+/// An event completes nothing if no poll is pending.
 pub fn one_event_more()
     ensures outcomes { (timeout : ℕ) (events : List Event) (event : Event) →
         AddsOutcomes timeout events event }
@@ -34,14 +34,14 @@ pub fn one_event_more()
         pending timeout events ≡ [] → outcomes_at timeout events event ≡ [] }
 {}
 
-/// Theorem: a pending poll was started by one of the events, and no later one of them settles it.
+/// Theorem: each pending poll was started by one of the events, and no later event completed it.
 pub fn pending_waits()
     ensures { (timeout : ℕ) (events : List Event)
         → All (Waits timeout events) (pending timeout events) }
 {}
 
 /// Theorem: after its stream is garbled or it is closed, a session has no pending polls, and no
-/// event settles any.
+/// event completes a poll.
 pub fn over_for_good()
     ensures nobody { (timeout window : ℕ) (events : List Event) →
         IsOverAfter timeout window events → pending timeout events ≡ [] }
@@ -49,15 +49,16 @@ pub fn over_for_good()
         IsOverAfter timeout window events → outcomes_at timeout events event ≡ [] }
 {}
 
-/// Theorem: an answer has as many registers as the poll requested. The borrowed response has the
-/// same registers.
+/// Theorem: a successful response has as many registers as the poll requested. The borrowed `Reply`
+/// has the same registers.
 pub fn whole_answers()
     ensures words { (answer : Answer) (i : ℕ) → word_at answer i ≡ slice_get (words_in answer) i }
     ensures count { (poll : Poll) (frame words : List ℕ) → answer poll frame ≡ Answered words
         → length words ≡ poll.span.count }
 {}
 
-/// Theorem: if a piece settles a poll, a longer piece that begins with it settles a poll too.
+/// Theorem: if a received chunk completes a poll, each longer chunk with the same beginning
+/// completes a poll too.
 pub fn longer_pieces_settle()
     ensures { (timeout : ℕ) (events : List Event) (moment : ℕ) (piece more : List ℕ) →
         SettlesNoLess timeout events moment piece more }

@@ -1,4 +1,5 @@
-//! Polls of one device over Modbus TCP. Each started poll has exactly one outcome, or is pending.
+//! Tracks the pending polls of one device over Modbus TCP. Each started poll has exactly one
+//! outcome, or is pending.
 #![tactic(auto)]
 
 mod answers;

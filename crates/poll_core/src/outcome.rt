@@ -1,8 +1,9 @@
-//! The outcomes of a poll.
+//! The outcomes of a poll, and the reasons for them.
 
 use mb_wire::ReplyFault;
 
-/// The kind of call that settles polls, as the session keeps it while the call is in progress.
+/// The kind of call that may report several outcomes. A session stores it while the call is in
+/// progress.
 #[derive(Clone, Copy, Debug, PartialEq, Eq)]
 pub enum Call {
     Piece,
@@ -10,52 +11,53 @@ pub enum Call {
     Close(Closing),
 }
 
-/// How a poll ended.
+/// The outcome of a poll.
 #[derive(Clone, Copy, Debug, PartialEq, Eq)]
 pub enum Outcome {
-    /// The device sent the registers.
+    /// The device sent the requested registers.
     Answered,
     /// The device responded with this exception code (Modbus Application Protocol V1.1b3, section
     /// 7).
     Exception(u8),
     /// The poll timed out: no response arrived before the deadline.
     Silent,
-    /// A frame with the poll's transaction identifier is no response to its request.
+    /// A frame with the poll's transaction identifier is not a valid response to its request.
     Malformed(Malformation),
-    /// The session ended before the poll was settled.
+    /// The session ended before the poll was completed.
     Lost(LostCause),
 }
 
-/// What is wrong with a response.
+/// The reason why a frame is not a valid response to the poll with its transaction identifier.
 #[derive(Clone, Copy, Debug, PartialEq, Eq)]
 pub enum Malformation {
     WrongFunction,
     WrongLength,
     WrongByteCount,
     WrongEcho,
-    /// The frame comes from another unit. The unit is checked before the rest.
+    /// The frame has another unit identifier than the request. The unit identifier is checked
+    /// first.
     WrongUnit,
 }
 
-/// Why a pending poll was lost.
+/// The reason why a pending poll was lost.
 #[derive(Clone, Copy, Debug, PartialEq, Eq)]
 pub enum LostCause {
     /// The device closed the connection.
     Gone,
-    /// A length field of the stream is out of range.
+    /// A length field of the received stream is out of range.
     Garbled,
     /// A read from the connection or a write to it failed.
     Failed,
-    /// The program was restarted. No session returns this cause.
+    /// The program was restarted. A session never returns this cause.
     Restart,
 }
 
-/// How a connection ended.
+/// The way in which a connection ended.
 #[derive(Clone, Copy, Debug, PartialEq, Eq)]
 pub enum Closing {
     /// The device closed the connection.
     Gone,
-    /// A read or a write failed.
+    /// A read from the connection or a write to it failed.
     Failed,
 }
 
@@ -76,8 +78,8 @@ impl Outcome {
         }
     }
 
-    /// Returns the exception code, or the number of the malformation or of the cause. Other kinds
-    /// have code 0.
+    /// Returns the exception code, the number of the malformation, or the number of the loss's
+    /// cause. Returns 0 for other outcomes.
     pub fn code(self) -> u8
         ensures { result ≡ outcome_code self }
     {

@@ -1,9 +1,9 @@
-//! A pending poll.
+//! The pending polls of a session, and their completion.
 use crate::outcome::LostCause;
 use mb_wire::{ReadFunction, ReadSpan, Request};
 use std::marker::Model;
 
-/// A poll that was started and is not settled yet.
+/// A poll that was started and is not completed yet.
 #[derive(Drop)]
 pub struct PendingPoll {
     number: u64,
@@ -52,14 +52,14 @@ impl PendingPoll {
         self.unit
     }
 
-    /// Returns the request of the poll.
+    /// Returns the Modbus request of the poll.
     pub fn request(&self) -> Request
         ensures { result ≡ request_of self.now.span }
     {
         self.span.request()
     }
 
-    /// Returns whether the poll's deadline is at or before this time.
+    /// Returns whether the poll's deadline is at or before the time `moment`.
     pub fn is_due(&self, moment: u64) -> bool
         ensures { result ≡ due moment self.now }
     {
@@ -84,7 +84,7 @@ impl Default for PendingPoll {
     }
 }
 
-/// What settled a poll.
+/// The kind of event that completed a poll: a timeout, a frame, or the end of the session.
 #[derive(Clone, Copy, Debug, PartialEq, Eq)]
 pub enum SettledBy {
     Silence,
@@ -92,7 +92,7 @@ pub enum SettledBy {
     End(LostCause),
 }
 
-/// A settled poll, and what settled it.
+/// A completed poll, and the kind of event that completed it.
 #[derive(Drop)]
 pub struct SettledPoll {
     pub poll: PendingPoll,

@@ -1,4 +1,4 @@
-//! The polling session of one device.
+//! The polling session of one device over one connection.
 ghost use Rattle.std.specs.Prelude.{◌≡◌, ℕ, ◌≤◌, ◌<◌, ◌↔◌, List, [], length};
 ghost use Rattle.std.specs.Prelude.{Some, None, is_some, false, IsErr, OnOk};
 ghost use Rattle.std.specs.Prelude.{OnErr, IfOk, IfSome};
@@ -44,8 +44,8 @@ impl Model for Session {
 }
 
 impl Session {
-    /// Creates a session without events. Its polls time out after `timeout` seconds, and at most
-    /// `window` of them are pending at a time.
+    /// Creates a session without events. Polls time out after `timeout` seconds, and at most
+    /// `window` polls are pending at the same time.
     pub fn new(timeout: u64, window: usize) -> Self
         requires timeout_low { 1 ≤ timeout }
         requires timeout_high { timeout ≤ MAX_TIMEOUT }
@@ -70,16 +70,16 @@ impl Session {
         }
     }
 
-    /// Returns whether a call is in progress: it reported an outcome, and may have more to
-    /// report.
+    /// Returns whether the last call of `next`, `tick` or `close` reported an outcome and must be
+    /// called again.
     pub fn settling(&self) -> bool
         ensures { result ≡ is_some self.now.settling }
     {
         self.inner.settling.is_some()
     }
 
-    /// Returns the next transaction identifier, and how many starts in a row would now succeed at
-    /// times that are not before the latest.
+    /// Returns the next transaction identifier, and the number of consecutive starts that would
+    /// succeed, at times not before the session's latest time.
     pub fn ready(&self) -> Ready
         ensures id { result.id ≡ self.now.next }
         ensures room { HasRoom self.now result.count }
@@ -93,9 +93,9 @@ impl Session {
         }
     }
 
-    /// Starts a poll of a unit's registers. `poll` is the number by which the session reports the
-    /// poll. Writes the frame of the request to the front of `out`, and returns its length. The
-    /// deadline is the time plus the timeout.
+    /// Starts a poll of a unit's registers, to be reported under the number `poll`. Writes the
+    /// frame of the request to the front of `out`, and returns its length in bytes. The deadline is
+    /// the time plus the timeout.
     pub fn start(
         &mut self,
         moment: u64,
@@ -121,8 +121,8 @@ impl Session {
         self.inner.start(moment, poll, unit, span, out)
     }
 
-    /// Processes bytes of the piece, up to the first outcome. Call `next` again with the rest of
-    /// the piece until it returns no settled poll.
+    /// Processes received bytes of `piece`, up to the first outcome. Call `next` again with the
+    /// remaining bytes until it returns no completed poll.
     pub fn next(&mut self, moment: u64, piece: &[u8]) -> Result<Turn<'_>, ClockBack>
         requires limit { moment ≤ LAST_MOMENT }
         requires call { IsCall Call.Piece self.old moment }
@@ -156,8 +156,8 @@ impl Session {
         Ok(self.inner.next(moment, piece))
     }
 
-    /// Processes a timer event: no input arrived before this time. Call `tick` again until it
-    /// returns no settled poll.
+    /// Processes a timer event: no input arrived before the time `moment`. Call `tick` again until
+    /// it returns no completed poll.
     pub fn tick(&mut self, moment: u64) -> Result<Option<Settled<'_>>, ClockBack>
         requires limit { moment ≤ LAST_MOMENT }
         requires call { IsCall Call.Tick self.old moment }
@@ -182,7 +182,8 @@ impl Session {
         Ok(self.inner.tick(moment))
     }
 
-    /// Ends the session. Call `close` again until it returns no settled poll.
+    /// Ends the session because its connection ended. Call `close` again until it returns no
+    /// completed poll.
     pub fn close(&mut self, moment: u64, closing: Closing) -> Result<Option<Settled<'_>>, ClockBack>
         requires limit { moment ≤ LAST_MOMENT }
         requires call { IsCall (Call.Close closing) self.old moment }
@@ -212,7 +213,7 @@ impl Session {
     }
 }
 
-// Returns the settled poll, if there is one, with its reply from the reader's frame.
+// Returns the completed poll, if any, with its response from the frame in the reader.
 fn tell_any(taken: Option<SettledPoll>, reader: &FrameReader) -> Option<Settled<'_>>
     requires { CanTell taken reader.now.frame }
     ensures told { option_map settled_of result ≡ told_of taken reader.now.frame }
@@ -225,7 +226,7 @@ fn tell_any(taken: Option<SettledPoll>, reader: &FrameReader) -> Option<Settled<
     }
 }
 
-// Returns the settled poll, with its reply from the reader's frame.
+// Returns the completed poll with its response from the frame in the reader.
 fn tell(settled: SettledPoll, reader: &FrameReader) -> Settled<'_>
     requires { HasFrame settled.by reader.now.frame }
     ensures told { settled_of result ≡ told_by settled reader.now.frame }
@@ -259,7 +260,8 @@ fn silent<'a>(poll: u64) -> Settled<'a>
     }
 }
 
-// Returns the outcome that the frame with the poll's transaction identifier gives, and its reply.
+// Decodes the frame with the poll's transaction identifier, and returns the poll with its outcome
+// and response.
 fn answered<'a>(poll: &PendingPoll, frame: Frame<'a>) -> Settled<'a>
     ensures told { (bytes : List ℕ) → spelled frame.entry ≡ fields_of bytes
         → settled_of result ≡ (poll.now.number, answer poll.now bytes) }

@@ -1,4 +1,4 @@
-//! The table of pending polls.
+//! The table of a session's pending polls.
 ghost use Rattle.std.specs.Prelude.{◌≡◌, ℕ, ◌+◌, ◌≤◌, ◌<◌, List, length, take, true, false, ◌%◌};
 ghost use Rattle.std.specs.Prelude.{IsSome, Option};
 ghost use Rattle.std.specs.List.{list_any};
@@ -15,7 +15,7 @@ use mb_wire::{FrameReader, Framing};
 
 pub type Table = ArrayVec<PendingPoll, MAX_WINDOW>;
 
-// Returns the index of the first poll whose deadline is at or before this time, or `None`.
+// Returns the index of the first poll whose deadline is at or before the time `moment`, or `None`.
 fn first_due(polls: &[PendingPoll], moment: u64) -> Option<usize>
     ensures { FindsFirst (due moment) polls.now result }
 {
@@ -27,7 +27,7 @@ fn first_due(polls: &[PendingPoll], moment: u64) -> Option<usize>
     None
 }
 
-// Returns the index of the poll with this transaction identifier, or `None`.
+// Returns the index of the poll with the transaction identifier `id`, or `None`.
 fn first_with_id(polls: &[PendingPoll], id: u16) -> Option<usize>
     ensures { FindsFirst (has_id id) polls.now result }
 {
@@ -39,8 +39,8 @@ fn first_with_id(polls: &[PendingPoll], id: u16) -> Option<usize>
     None
 }
 
-/// Returns how many transaction identifiers in a row, from `next`, no poll has. The result is at
-/// most `room`.
+/// Returns the number of consecutive transaction identifiers, from `next`, that no pending poll
+/// uses, at most `room`.
 pub fn free_ids(polls: &[PendingPoll], next: u16, room: usize) -> usize
     requires { room ≤ MAX_WINDOW }
     ensures room { result ≤ room }
@@ -55,14 +55,14 @@ pub fn free_ids(polls: &[PendingPoll], next: u16, room: usize) -> usize
     room
 }
 
-/// Returns whether a poll has this transaction identifier.
+/// Returns whether a pending poll has the transaction identifier `id`.
 pub fn has_poll(polls: &[PendingPoll], id: u16) -> bool
     ensures { result ≡ list_any (has_id id) polls.now }
 {
     polls.iter().any(|poll| poll.has_id(id))
 }
 
-// Removes and returns the first poll whose deadline is at or before this time, if any.
+// Removes and returns the first poll whose deadline is at or before the time `moment`, if any.
 pub fn take_due(polls: &mut Table, moment: u64) -> Option<PendingPoll>
     ensures taken { TakesOut (due moment) polls.old.items result polls.new.items }
     ensures apart { AreApart polls.old.items → AreApart polls.new.items }
@@ -73,7 +73,7 @@ pub fn take_due(polls: &mut Table, moment: u64) -> Option<PendingPoll>
     }
 }
 
-// Removes and returns the poll with this transaction identifier, if any.
+// Removes and returns the poll with the transaction identifier `id`, if any.
 pub fn take_by_id(polls: &mut Table, id: u16) -> Option<PendingPoll>
     ensures taken { TakesOut (has_id id) polls.old.items result polls.new.items }
     ensures apart { AreApart polls.old.items → AreApart polls.new.items }
@@ -84,8 +84,8 @@ pub fn take_by_id(polls: &mut Table, id: u16) -> Option<PendingPoll>
     }
 }
 
-// Removes and returns the first poll that has timed out. If none has and the session ended,
-// removes and returns the first poll as lost.
+// Removes and returns the first poll that has timed out. If no poll has timed out and the session
+// ended, removes and returns the first poll as lost.
 pub fn take_owed(polls: &mut Table, ending: Option<LostCause>, moment: u64) -> Option<SettledPoll>
     ensures told { TellsOwed moment ending polls.old.items result polls.new.items }
     ensures by_itself { (frame : Option (List ℕ)) → CanTell result frame }
@@ -111,7 +111,7 @@ pub fn take_owed(polls: &mut Table, ending: Option<LostCause>, moment: u64) -> O
     }
 }
 
-// Removes and returns the poll that has the transaction identifier of the reader's frame, if any.
+// Removes and returns the poll with the transaction identifier of the frame in the reader, if any.
 fn take_framed(reader: &FrameReader, polls: &mut Table) -> Option<PendingPoll>
     requires buffered { IsSome reader.now.frame }
     requires apart { AreApart polls.old.items }
@@ -126,8 +126,8 @@ fn take_framed(reader: &FrameReader, polls: &mut Table) -> Option<PendingPoll>
     take_by_id(polls, frame.tid)
 }
 
-/// The result of `feed_until`: the bytes that it took, whether the stream is garbled, and the
-/// poll that a frame settled.
+/// The result of `feed_until`: the number of bytes consumed, whether the stream is garbled, and the
+/// poll that a frame completed.
 #[derive(Drop)]
 pub struct Found {
     pub taken: usize,
@@ -135,8 +135,8 @@ pub struct Found {
     pub poll: Option<PendingPoll>,
 }
 
-// Feeds the piece to the reader, up to the first frame that settles a poll, and removes that
-// poll.
+// Feeds `piece` to the reader, up to the first frame that completes a poll, and removes that poll
+// from the table.
 pub fn feed_until(reader: &mut FrameReader, polls: &mut Table, piece: &[u8]) -> Found
     requires { AreApart polls.old.items }
     ensures apart { AreApart polls.new.items }

@@ -1,5 +1,5 @@
--- Worked examples, computed from the definitions: the first and the last number of each kind, and
--- their neighbors.
+-- Examples of `has_number` and `kind_named`: the first and the last number of each kind of printed
+-- numbers, and the numbers just outside each range.
 use Rattle.std.proofs.Common.{◌≡◌, Some, None, true, false, refl, codes}
 use Rattle.printed_numbers.specs.Kinds.{kind_named}
 use Rattle.printed_numbers.specs.Numbers.{has_number}
@@ -47,7 +47,7 @@ malformation_5 = refl
 no_malformation_6 : has_number Malformed 6 ≡ false
 no_malformation_6 = refl
 
--- The standard has no exceptions 7 and 9, and none after 11.
+-- The Modbus standard defines no exception codes 7 and 9, and no exception code above 11.
 
 no_exception_0 : has_number Exception 0 ≡ false
 no_exception_0 = refl
@@ -91,8 +91,8 @@ http_fault_400 = refl
 http_fault_405 : has_number HttpFault 405 ≡ true
 http_fault_405 = refl
 
--- A response with status 422 says what was refused, or the faults of a list, and has no fault of
--- its own.
+-- The body of an HTTP response with status 422 has the number of a refusal, or the faults of a
+-- list. So 422 is no HTTP fault.
 no_http_fault_422 : has_number HttpFault 422 ≡ false
 no_http_fault_422 = refl
 
@@ -120,7 +120,7 @@ status_3 = refl
 no_status_4 : has_number Status 4 ≡ false
 no_status_4 = refl
 
--- Words.
+-- Examples of `kind_named`, which finds the kind of a printed number by the word before the number.
 
 fault_is_first_of_rows : kind_named (codes "fault") ≡ Some RowFault
 fault_is_first_of_rows = refl

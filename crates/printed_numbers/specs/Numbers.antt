@@ -1,25 +1,25 @@
--- Which numbers each kind has.
+-- The numbers that the program prints for each kind of refusal, fault, exception and status.
 use Rattle.std.specs.Prelude.{◌≡◌, ℕ, Bool, ◌==◌, ◌&&◌, ◌||◌, IfSome, Option, is_some, nat_le}
 use Rattle.std.specs.Borrow.{Bor}
 use Rattle.printed_numbers.specs.declared.kind.Kind.{Kind}
 use Rattle.printed_numbers.specs.declared.kind.Kind.TheVariants.{Refused, Held, Lost, Malformed, Exception, RowFault, ChainFault, HttpFault, Status}
 use Rattle.printed_numbers.specs.declared.meaning.Meaning.{Meaning}
 
--- The number is from `first` to `last`, both included.
+-- True if the number is from `first` to `last`, both included.
 abbrev pub is_from : (first last number : ℕ) → Bool
 is_from first last number = nat_le first number && nat_le number last
 
--- The exception codes of the Modbus standard.
+-- True for an exception code that the Modbus standard defines: 1 to 6, 8, 10 and 11.
 abbrev pub is_exception_code : ℕ → Bool
 is_exception_code number = is_from 1 6 number || number == 8 || is_from 10 11 number
 
--- The HTTP statuses of responses with a fault in their body.
+-- True for an HTTP status whose response has the body `{"fault":N}`.
 abbrev pub is_fault_status : ℕ → Bool
 is_fault_status number =
     number == 400 || is_from 403 405 number || number == 411 || number == 413 || number == 421
     || number == 431 || number == 503
 
--- The kind has this number.
+-- True if the program prints the given number for the given kind, as 1 to 17 for `Refused`.
 abbrev pub has_number : Kind → ℕ → Bool
 has_number Refused number = is_from 1 17 number
 has_number Held number = is_from 1 8 number
@@ -31,11 +31,12 @@ has_number ChainFault number = is_from 1 4 number
 has_number HttpFault number = is_fault_status number
 has_number Status number = nat_le number 3
 
--- The meaning belongs to this kind and this number.
+-- States that a meaning explains the given number of the given kind.
 abbrev pub IsMeaningOf : Kind → ℕ → Bor Meaning → Type 0
 IsMeaningOf kind number meaning = (meaning.now.kind ≡ kind) × (meaning.now.number ≡ number)
 
--- The result is the meaning of the number. It exists exactly if the kind has the number.
+-- States that a lookup returns the meaning of the given number if the kind has the number, and
+-- otherwise `None`.
 abbrev pub Answers : Kind → ℕ → Option (Bor Meaning) → Type 0
 Answers kind number result =
     (is_some result ≡ has_number kind number) × IfSome result (IsMeaningOf kind number)

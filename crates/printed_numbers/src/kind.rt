@@ -1,23 +1,23 @@
-//! The kinds of numbers, and the words that precede them.
+//! The kinds of printed numbers, and the word that the program prints before a number of each kind.
 ghost use Rattle.std.specs.Prelude.{◌≡◌};
 ghost use Rattle.printed_numbers.specs.Kinds.{kind_named, kinds};
 
-/// The kind of a printed number.
+/// The kind of a printed number. A number has a different meaning for each kind.
 #[derive(Clone, Copy, Debug, PartialEq, Eq)]
 pub enum Kind {
-    /// `refused 12`: the office refused a line, a request or an event of a device.
+    /// `refused 12`: the program refused a script line, a request or an event of a device.
     Refused,
     /// `held METER RAW cause 6`: a reading was rejected. It is stored, and adds no energy.
     Held,
-    /// `poll 7 lost 1`: the session ended before the poll was settled.
+    /// `poll 7 lost 1`: the session with the device ended before the poll had an outcome.
     Lost,
     /// `poll 7 malformed 5`: the response of a device was malformed.
     Malformed,
     /// `poll 7 exception 2`: the device responded with an exception instead of registers.
     Exception,
-    /// `row 3 fault 7`: a row of a point list describes no valid point.
+    /// `row 3 fault 7`: row 3 of a point list describes no valid point.
     RowFault,
-    /// `fault 2 40070`: a device has no valid chain of SunSpec models.
+    /// `fault 2 40070`: the chain of SunSpec models in a device lacks the word at address 40070.
     ChainFault,
     /// `{"fault":404}`: the server rejected an HTTP request.
     HttpFault,
@@ -37,7 +37,7 @@ static KINDS: [Kind; 9] = [
     Kind::Status,
 ];
 
-/// Returns all kinds, in the order in which they are searched for a word.
+/// Returns all kinds of printed numbers, in the order in which `kind_named` searches them.
 pub fn kinds() -> &'static [Kind]
     ensures { result.now ≡ kinds }
 {
@@ -47,7 +47,8 @@ pub fn kinds() -> &'static [Kind]
 impl Kind {
     ghost use Rattle.printed_numbers.specs.Kinds.{word_of};
 
-    /// Returns the word that precedes a number of this kind.
+    /// Returns the word that the program prints before a number of this kind, as `refused` in
+    /// `refused 12`.
     pub fn word(self) -> &'static str
         ensures { result.now ≡ word_of self }
     {
@@ -63,8 +64,8 @@ impl Kind {
     }
 }
 
-/// Returns the first kind whose word this is. Three kinds have the word `fault`; the first of them
-/// is `RowFault`.
+/// Returns the first kind in `kinds` that has the given word. Three kinds have the word `fault`;
+/// the first of the three is `RowFault`.
 pub fn kind_named(word: &str) -> Option<Kind>
     ensures { result ≡ kind_named word.now }
 {

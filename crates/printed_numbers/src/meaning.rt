@@ -1,4 +1,4 @@
-//! The meaning of a number.
+//! Looks up the meaning of a printed number by its kind.
 ghost use Rattle.std.specs.Prelude.{◌≡◌, IfSome, is_some};
 ghost use Rattle.printed_numbers.specs.Numbers.{IsMeaningOf, has_number};
 
@@ -7,7 +7,7 @@ use crate::tables::{
     chain_fault, exception, exit_status, hold, http_fault, loss, malformation, refusal, row_fault,
 };
 
-/// What a number of a kind means, its usual cause, and what to do. Each text is a sentence that
+/// The meaning of a printed number, its usual cause, and its remedy. Each text is a sentence that
 /// begins with a small letter and has no full stop.
 #[derive(Clone, Copy, Debug, PartialEq, Eq)]
 pub struct Meaning {
@@ -18,7 +18,7 @@ pub struct Meaning {
     pub remedy: &'static str,
 }
 
-/// Returns the meaning of a number, if the kind has the number.
+/// Returns the meaning of a printed number, or `None` if the kind lacks the number.
 pub fn meaning_of(kind: Kind, number: u32) -> Option<&'static Meaning>
     ensures has { is_some result ≡ has_number kind number }
     ensures own { IfSome result (IsMeaningOf kind number) }

@@ -1,4 +1,4 @@
-//! The meanings by kind, in the words of docs/SCRIPT.md.
+//! One table of meanings for each kind of printed numbers, in the words of docs/SCRIPT.md.
 
 mod chain_faults;
 mod exceptions;

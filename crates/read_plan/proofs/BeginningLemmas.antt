@@ -1,4 +1,5 @@
--- The next item in order lies within reach of the last beginning, or is the next beginning.
+-- Lemmas about the items at which reads start. The next item in order is within 125 registers from
+-- the start of the last read, or starts a new read.
 use Rattle.std.proofs.Common.{◌≡◌, ◌∙◌, ℕ, ◌+◌, ◌-◌, ◌<◌, ◌≤◌, ◌⊎◌, List, [], ◌∷◌, ◌++◌, length, get_or, take, sym, refl, ap, arith, inl, inr, subst}
 use Rattle.std.specs.List.{AllPairs, Any, Contains}
 use Rattle.std.proofs.lemmas.Bool.{cases_lt, cases_eq}
@@ -19,7 +20,8 @@ same-function HoldingRegisters InputRegisters e = absurd (omega (arith, e))
 same-function InputRegisters HoldingRegisters e = absurd (omega (arith, e))
 same-function InputRegisters InputRegisters e = refl
 
--- Two runs are in some order, or begin at the same register.
+-- Of two register ranges, one comes before the other, or both begin at the same register of the
+-- same area.
 pub before-or-same : (a b : Run) → ComesBefore a b ⊎ (ComesBefore b a ⊎ (SameArea a b × (a.first ≡ b.first)))
 before-or-same a b = elim (cases_lt (code_of a.function) (code_of b.function)) [
   | inl l ↦ inl (inl l)
@@ -45,7 +47,7 @@ before-or-same a b = elim (cases_lt (code_of a.function) (code_of b.function)) [
   ]
 ]
 
--- A run between two runs of one area is of that area.
+-- A range between two ranges of one area is in that area.
 pub same-between : (a l x : Run) → ComesBefore a l → ¬ ComesBefore x l → SameArea a x → SameArea a l
 same-between a l x (inl f) never s = absurd (never (inl (subst (λ (t : ReadFunction). code_of t < code_of l.function) s.function f)))
 same-between a l x (inr (inl h)) never s = absurd (never (inr (inl (sym s.function ∙ h.0, subst (λ (n : ℕ). n < l.area) s.area h.1))))
@@ -54,7 +56,7 @@ same-between a l x (inr (inr h)) never s = h.0
 pub not-before : (a x : Run) → ¬ ComesBefore x a → SameArea a x → a.first ≤ x.first
 not-before a x never s = elim (cases_lt x.first a.first) [ inl l ↦ absurd (never (inr (inr (same_area-sym a x s, l)))) | inr ge ↦ ge ]
 
--- In an ordered list, the element after a front comes before no element of the front.
+-- In a sorted list, an element comes before none of the elements in front of it.
 pub in-front : (sorted : List Run) (n : ℕ) (x : Run) → n < length sorted → x ≡ get_or sorted n x → AllPairs (λ a b. ¬ ComesBefore b a) sorted
     → (a : Run) → Contains (take n sorted) a → ¬ ComesBefore x a
 in-front sorted n x within is ordered a w less =
@@ -63,8 +65,7 @@ in-front sorted n x within is ordered a w less =
     let same : get_or sorted w.0 x ≡ a = get_or_default sorted w.0 x a (omega (arith, below, within)) ∙ sym (get_or-take n sorted w.0 a below) ∙ w.2 in
     ordered w.0 n x below within (subst (λ (r : Run). ComesBefore r (get_or sorted w.0 x)) is (subst (λ (r : Run). ComesBefore x r) (sym same) less))
 
--- If the next item lies beyond the reach of the last beginning, it lies beyond the reach of each
--- beginning.
+-- An item too far from the start of the last read is too far from the start of each earlier read.
 pub apart-from-each : (sorted found : List Run) (n : ℕ) (x : Run) → n < length sorted → x ≡ get_or sorted n x → AllPairs (λ a b. ¬ ComesBefore b a) sorted
     → IsReadable x → AreBeginnings (take n sorted) found → ((d : Run) → 0 < length found → ¬ LiesWithinReach (get_or found (length found - 1) d) x)
     → (k : ℕ) (d : Run) → k < length found → BeginsApart (get_or found k d) x
@@ -105,7 +106,7 @@ apart-from-each sorted found n x within is ordered readable so_far beyond k d be
     not-lower a l (inr (inl h)) s ge = let e = s.area in let o = h.1 in omega (arith, e, o)
     not-lower a l (inr (inr h)) s ge = let o = h.1 in omega (arith, ge, o)
 
--- The next item becomes a beginning.
+-- An item too far from the start of the last read starts a new read.
 pub beginnings-push : (sorted found : List Run) (n : ℕ) (x : Run) → n < length sorted → x ≡ get_or sorted n x → AllPairs (λ a b. ¬ ComesBefore b a) sorted
     → IsReadable x → AreBeginnings (take n sorted) found → ((d : Run) → 0 < length found → ¬ LiesWithinReach (get_or found (length found - 1) d) x)
     → AreBeginnings (take (n + 1) sorted) (found ++ (x ∷ []))
@@ -126,7 +127,7 @@ beginnings-push sorted found n x within is ordered readable so_far beyond =
     any-append : (P : Run → Type 0) (xs ys : List Run) → Any P xs → Any P (xs ++ ys)
     any-append P xs ys w = let c = Contains-append_left xs ys w.1 (w.0, w.2, w.3) in (c.0, w.1, c.1, c.2, w.4)
 
--- The next item lies within reach of a beginning.
+-- An item within 125 registers from the start of the last read starts no new read.
 pub beginnings-skip : (sorted found : List Run) (n : ℕ) (x : Run) → n < length sorted → x ≡ get_or sorted n x
     → AreBeginnings (take n sorted) found → Any (λ begin. LiesWithinReach begin x) found → AreBeginnings (take (n + 1) sorted) found
 beginnings-skip sorted found n x within is so_far reached =

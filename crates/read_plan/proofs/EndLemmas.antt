@@ -1,4 +1,5 @@
--- A search among items by their ends finds the greatest end within reach.
+-- Proves that a binary search in items sorted by their ends finds the greatest end within 125
+-- registers from the start of a read.
 use Rattle.std.proofs.Common.{◌≡◌, ◌∙◌, ℕ, ◌+◌, ◌-◌, ◌<◌, ◌≤◌, ◌⊎◌, true, false, List, length, get_or, sym, refl, ap, arith, inl, inr, subst, eqb, ltb, leb}
 use Rattle.std.specs.Prelude.{◌&&◌, ◌||◌}
 use Rattle.std.specs.List.{AllPairs, Contains}
@@ -49,7 +50,7 @@ ends_by-true run limit e (inl l) = grind (arith, nat_tests)
 ends_by-true run limit e (inr (inl h)) = let f = ap code_of h.0 in let l = h.1 in grind (arith, nat_tests)
 ends_by-true run limit e (inr (inr h)) = let f = ap code_of h.0.function in let a = h.0.area in let l = h.1 in grind (arith, nat_tests)
 
--- A run that ends before another ends before each run that does not end before the other.
+-- The order of ranges by their ends is transitive, also if two ranges end at the same register.
 pub ends-before-further : (l x y : Run) → EndsBefore l x → ¬ EndsBefore y x → EndsBefore l y
 ends-before-further l x y (inl f) never = inl (elim (cases_lt (code_of y.function) (code_of x.function)) [ inl o ↦ absurd (never (inl o)) | inr ge ↦ omega (arith, f, ge) ])
 ends-before-further l x y (inr (inl h)) never =
@@ -89,7 +90,7 @@ ends-before-further l x y (inr (inr h)) never =
       ]
     ]
 
--- In a list by ends, the runs that end by a limit come first.
+-- In a list sorted by ends, the ranges that end at or before a limit come first.
 pub ends-partitioned : (ended : List Run) (limit : Run) → AllPairs (λ a b. ¬ EndsBefore b a) ended → IsPartitionedBy (λ r. ends_by r limit) ended
 ends-partitioned ended limit ordered i j d below within e = elim (cases_eq i j) [
   | inl same ↦ ap (λ (k : ℕ). ends_by (get_or ended k d) limit) same ∙ e
@@ -102,7 +103,7 @@ ends-partitioned ended limit ordered i j d below within e = elim (cases_eq i j) 
       ]
 ]
 
--- A run between two runs of one area is of that area.
+-- A range whose end is between the ends of two ranges of one area is in that area.
 area-between : (b i l : Run) → SameArea b l → ¬ EndsBefore l i → ¬ EndsBefore i b → SameArea b i
 area-between b i l s after before =
     let f = ap code_of s.function in
@@ -120,7 +121,8 @@ area-between b i l s after before =
       ]
     ]
 
--- The last item that ends by the limit has the greatest end.
+-- The last item that ends at or before the limit has the greatest end within 125 registers from the
+-- start of the read.
 pub greatest-end : (ended : List Run) (begin limit : Run) (count : ℕ) → AllPairs (λ a b. ¬ EndsBefore b a) ended → SameArea begin limit → limit.end ≡ begin.first + 125
     → Contains ended begin → begin.end ≤ begin.first + 125 → count ≤ length ended
     → IsPartitionPoint (λ r. ends_by r limit ≡ true) (λ r. ends_by r limit ≡ false) ended count

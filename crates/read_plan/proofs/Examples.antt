@@ -1,4 +1,4 @@
--- Worked examples, computed from the definitions: both limits of a read, and two plans.
+-- The definitions evaluated for example plans, and at both limits of a read's size.
 use native.Mathlib.Omega.{arith}
 use Rattle.std.proofs.Common.{◌≡◌, ℕ, zero, suc, ◌<◌, ◌≤◌, List, [], ◌∷◌, get_or, take, refl, ap, inl, inr}
 use Rattle.std.specs.List.{All, AllPairs}
@@ -6,14 +6,14 @@ use Rattle.mb_wire.specs.declared.span.ReadFunction.TheVariants.{HoldingRegister
 use Rattle.read_plan.specs.declared.run.Run.{Run}
 use Rattle.read_plan.specs.Plans.{SameArea, Holds, IsContained, IsReadable, LiesWithinReach, ComesBefore, BeginsAtFirstUnheld, EndsAtLastInReach, FollowsRule}
 
--- Registers of area 0.
+-- A range of holding registers with area number 0.
 abbrev run : (first end : ℕ) → Run
 run first end = record { function = HoldingRegisters; area = 0; first = first; end = end }
 
 alike : (a b c d : ℕ) → SameArea (run a b) (run c d)
 alike a b c d = record { function = refl; area = refl }
 
--- A read holds at most 125 registers.
+-- A read has at most 125 registers.
 
 most_registers : IsReadable (run 0 125)
 most_registers = (omega arith, omega arith)
@@ -30,8 +30,8 @@ just_in_reach = record { same_area = alike 0 2 124 125; from_first = omega arith
 just_beyond_reach : LiesWithinReach (run 0 2) (run 124 126) → ⊥
 just_beyond_reach reach = omega (arith, reach.in_reach)
 
--- The items [0, 2), [124, 125) and [125, 126): a read of 125 registers, and a read of the last
--- register.
+-- A plan for the items [0, 2), [124, 125) and [125, 126): one read of 125 registers, and one read
+-- of the last register.
 
 abbrev three : List Run
 three = run 0 2 ∷ run 124 125 ∷ run 125 126 ∷ []
@@ -107,7 +107,7 @@ three_contained (suc (suc (suc k))) d below = absurd (omega (arith, below))
 three_items_two_reads : FollowsRule three three_reads
 three_items_two_reads = record { ordered = three_ordered; begins = three_begins; ends = three_ends; contained = three_contained }
 
--- The items [0, 2) and [124, 126): two reads of two registers.
+-- A plan for the items [0, 2) and [124, 126): two reads of two registers.
 
 abbrev two : List Run
 two = run 0 2 ∷ run 124 126 ∷ []

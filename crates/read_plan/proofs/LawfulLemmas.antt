@@ -1,4 +1,5 @@
--- The rule's reads are lawful if the items are readable and lie in their areas.
+-- Proves that the reads of the planning rule form a valid plan, if each item fits in one read and
+-- lies in its area.
 use Rattle.std.proofs.Common.{◌≤◌, List, get_or, arith}
 use Rattle.std.specs.List.{All, Any}
 use Rattle.read_plan.specs.declared.run.Run.{Run}

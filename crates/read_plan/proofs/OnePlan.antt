@@ -1,4 +1,4 @@
--- A list has exactly one plan: one list of runs gives one list of reads.
+-- Proves that a point list has exactly one plan.
 use Rattle.std.proofs.Common.{◌≡◌, ◌∙◌, ℕ, ◌+◌, ◌≤◌, List, [], ◌∷◌, refl, ap, subst, arith}
 use Rattle.std.proofs.Math.Bridge.{le_prop}
 use Rattle.mb_wire.specs.declared.span.ReadFunction.{ReadFunction}
@@ -19,7 +19,7 @@ one_bound m n p q = le_prop p q
 abbrev span_of : (f : ReadFunction) (a c : ℕ) → 1 ≤ c → c ≤ 125 → a + c ≤ 65536 → ReadSpan
 span_of f a c s w i = record { function = f; address = a; count = c; some = s; few = w; inside = i }
 
--- A span consists of its function, its address and its count.
+-- True if the span has this function, this address and this register count.
 abbrev IsSpan : (x : ReadSpan) (f : ReadFunction) (a c : ℕ) → Type 0
 IsSpan x f a c = (s : 1 ≤ c) (w : c ≤ 125) (i : a + c ≤ 65536) → x ≡ span_of f a c s w i
 

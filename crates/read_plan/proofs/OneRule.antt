@@ -1,4 +1,4 @@
--- The rule gives exactly one list of reads.
+-- Proves that the planning rule gives exactly one list of reads.
 use Rattle.std.proofs.Common.{◌≡◌, ◌∙◌, ℕ, zero, suc, ◌+◌, ◌<◌, ◌≤◌, List, [], ◌∷◌, ◌++◌, length, get_or, take, sym, refl, ap, subst, arith, inl, inr}
 use Rattle.std.specs.List.{All, AllPairs}
 use Rattle.std.proofs.lemmas.Bool.{cases_lt}
@@ -15,7 +15,8 @@ use Rattle.read_plan.proofs.PlanLemmas.{any-take, same_area-sym, same_area-trans
 same_function : (a b : Run) → a.function ≡ b.function → code_of a.function ≡ code_of b.function
 same_function a b same = ap code_of same
 
--- A read that comes after a read at the item's beginning does not hold the item.
+-- A read that comes after the first register of an item, in the order of a plan, does not contain
+-- the item.
 too_late : (x r item : Run) → SameArea x item → item.first ≡ x.first → ComesBefore x r → Holds r item → ⊥
 too_late x r item same first (inl lt) holds =
     omega (arith, same_function x item same.function, same_function r item holds.same_area.function, lt)
@@ -33,7 +34,7 @@ after_both x y r (inr (inr a)) (inl b) = inl (omega (arith, same_function x y a.
 after_both x y r (inr (inr a)) (inr (inl b)) = inr (inl (a.0.function ∙ b.0, omega (arith, a.0.area, b.1)))
 after_both x y r (inr (inr a)) (inr (inr b)) = inr (inr (same_area-trans x y r a.0 b.0, omega (arith, a.1, b.1)))
 
--- A run before a read is before each later read.
+-- In a sorted list, a range before one read is before each later read.
 before_later : (ys : List Run) (x : Run) (k j : ℕ) (d : Run) → AllPairs ComesBefore ys → k ≤ j → j < length ys
     → ComesBefore x (get_or ys k d) → ComesBefore x (get_or ys j d)
 before_later ys x k j d ordered le lt before =
@@ -42,12 +43,13 @@ before_later ys x k j d ordered le lt before =
       | inr ge ↦ subst (λ (n : ℕ). ComesBefore x (get_or ys n d)) (omega (arith, le, ge)) before
     ]
 
--- A property of all items of the list, for one item.
+-- If each item of a list is contained in a read, so is any single item of the list.
 contained_item : (reads items : List Run) (item : Run) (k : ℕ) → All (IsContained reads) items → k < length items → get_or items k item ≡ item
     → IsContained reads item
 contained_item reads items item k all lt is = subst (IsContained reads) is (all k item lt)
 
--- If two lists of the rule agree up to a read, neither list's next read comes before the other's.
+-- If two plans by the rule agree until a read, the next read of one plan does not come before that
+-- of the other.
 not_before : (items xs ys : List Run) (k : ℕ) (d : Run) → FollowsRule items xs → FollowsRule items ys → k < length xs → k < length ys
     → take k xs ≡ take k ys → ComesBefore (get_or xs k d) (get_or ys k d) → ⊥
 not_before items xs ys k d hx hy there here same before =
@@ -115,7 +117,7 @@ same_front items xs ys (suc k) hx hy there here =
     ∙ ap (λ (r : Run). take k ys ++ r ∷ []) (same_read items xs ys k a_run hx hy in_xs in_ys same)
     ∙ sym (take_more ys k a_run in_ys) ∙ ap (λ n. take n ys) next
 
--- No list of the rule continues after another list of the rule ends.
+-- No plan by the rule has fewer reads than another plan by the rule for the same items.
 no_longer : (items xs ys : List Run) → FollowsRule items xs → FollowsRule items ys → length xs < length ys → ⊥
 no_longer items xs ys hx hy less =
     let n : ℕ = length xs in

@@ -1,4 +1,4 @@
--- The result of a sort by function, area number and a register.
+-- Lemmas about lists sorted by function, area number and a register.
 use Rattle.std.proofs.Common.{◌≡◌, ℕ, ◌<◌, ◌⊎◌, true, false, List, length, get_or, sym, refl, arith, inl, inr, Bor, Ordering}
 use Rattle.std.specs.Cmp.{IsTotalOrder, nat_cmp_is}
 use Rattle.std.specs.Fn.{Called, ComputesKey}
@@ -15,7 +15,7 @@ use denote.Param.Members.{Mut}
 abbrev pub Key : Type 0
 Key = ℕ × ℕ × ℕ
 
--- The lexicographic order of three numbers.
+-- The lexicographic comparison of two keys of three numbers.
 abbrev pub key_cmp : Key → Key → Ordering
 key_cmp x y = ordering_then (ordering_then (nat_cmp x.0 y.0) (nat_cmp x.1 y.1)) (nat_cmp x.2 y.2)
 
@@ -26,7 +26,7 @@ key_cmp-total =
 abbrev pub key_of : (Run → ℕ) → Run → Key
 key_of register run = (code_of run.function, run.area, register run)
 
--- In a sorted list, a later run is not less than an earlier run.
+-- In a sorted list, a later range is not less than an earlier range.
 pub sorted-far : (register : Run → ℕ) {F : Type 0} {g : Mut F (Bor Run × Unit {0}) Key} {f : F} (xs : List Run)
     → ((key : Run → Key) → ComputesKey g key f → IsSortedByKey key key_cmp xs)
     → ((a : Bor Run × Unit {0}) (r : Key) (f' : F) → Called g f a r f' → (r ≡ key_of register a.0.now) × (f' ≡ f))
@@ -42,7 +42,7 @@ nat_cmp-less a b l = sym (nat_cmp_is a b Less l)
 nat_cmp-same : (a b : ℕ) → a ≡ b → nat_cmp a b ≡ Equal
 nat_cmp-same a b e = sym (nat_cmp_is a b Equal e)
 
--- A smaller key, component by component.
+-- A key is less than another if its first differing number is less.
 pub key_cmp-less : (a b : Key) → (a.0 < b.0) ⊎ ((a.0 ≡ b.0) × (a.1 < b.1)) ⊎ ((a.0 ≡ b.0) × (a.1 ≡ b.1) × (a.2 < b.2)) → is_lt (key_cmp a b) ≡ true
 key_cmp-less a b (inl l) = rw (nat_cmp-less a.0 b.0 l) refl
 key_cmp-less a b (inr (inl h)) = rw (nat_cmp-same a.0 b.0 h.0, nat_cmp-less a.1 b.1 h.1) refl

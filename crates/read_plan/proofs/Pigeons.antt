@@ -1,11 +1,12 @@
--- If each of n things has an element of a list to itself, the list has at least n elements.
+-- Proves the pigeonhole principle: if each of `n` numbers has its own element of a list, the list
+-- has at least `n` elements.
 use Rattle.std.proofs.Common.{◌≡◌, ◌≢◌, ◌∙◌, ℕ, zero, suc, ◌+◌, ◌-◌, ◌<◌, ◌≤◌, List, length, get_or, sym, ap, arith, inl, inr, subst}
 use Rattle.std.specs.List.{Any, remove}
 use Rattle.std.proofs.lemmas.Bool.{cases_lt}
 use Rattle.std.proofs.lemmas.List.{get_or_default}
 use Rattle.std.proofs.lemmas.List.Edits.{get_or-remove_above, get_or-remove_below, length-remove}
 
--- An element at another index survives a removal.
+-- Removing an element keeps the elements at other indexes.
 any-remove : {Y : Type 0} (P : Y → Type 0) (ys : List Y) (i : ℕ) → i < length ys → (w : Any P ys) → w.0 ≢ i → Any P (remove ys i)
 any-remove P ys i l w ne =
     let one = length-remove ys i l in

@@ -1,4 +1,5 @@
--- A search among reads by their ends finds the first read that holds an item.
+-- Proves that a binary search in reads sorted by their ends finds the first read that contains an
+-- item.
 use Rattle.std.proofs.Common.{◌≡◌, ◌∙◌, ℕ, ◌<◌, ◌≤◌, Bool, true, false, List, length, [], ◌∷◌, get_or, sym, refl, ap, arith, inl, inr, subst, not}
 use Rattle.std.specs.List.{All}
 use Rattle.std.specs.List.Sorted.{IsPartitionedBy, IsPartitionPoint}
@@ -22,7 +23,7 @@ module _ (items runs : List Run) (rule : FollowsRule items runs) (readable : All
   abbrev run_at : ℕ → Run
   run_at k = get_or runs k anything
 
-  -- Of two reads of one area, the later ends later.
+  -- Of two reads in one area, the later read ends at a higher register.
   ends-rise : (i j : ℕ) → i < j → j < length runs → SameArea (run_at i) (run_at j) → (run_at i).end < (run_at j).end
   ends-rise i j below within area =
       let r = run_at i in
@@ -41,7 +42,7 @@ module _ (items runs : List Run) (rule : FollowsRule items runs) (readable : All
             absurd (at.4.2 (any-take (λ read. Holds read b) runs j i anything below (omega (arith, within)) contained))
       ]
 
-  -- A read before a read that ends before an item also ends before the item.
+  -- If a read ends before an item, each earlier read ends before the item too.
   ends-before-back : (i j : ℕ) (x : Run) → i < j → j < length runs → EndsBefore (run_at j) x → EndsBefore (run_at i) x
   ends-before-back i j x below within ends = by (rule.ordered i j anything below within) ends
     where
@@ -59,7 +60,7 @@ module _ (items runs : List Run) (rule : FollowsRule items runs) (readable : All
           let b = e.1 in
           inr (inr (same_area-trans (run_at i) (run_at j) x c.0 e.0, omega (arith, rises, b)))
 
-  -- The search stops at the first read that holds the item.
+  -- The search result is the first read that contains the item.
   first-holding : (x : Run) (count : ℕ) → IsContained runs x → ((k : ℕ) → k < count → k < length runs → EndsBefore (run_at k) x)
       → ((k : ℕ) → count ≤ k → k < length runs → ¬ EndsBefore (run_at k) x) → IsFirstHolding runs x count
   first-holding x count contained before after =
@@ -142,7 +143,7 @@ module _ (items : List Run) (reads : List PlannedRead) (rule : FollowsRule items
           let inside : k < length reads = omega (arith, within, size) in
           ends-not (get_or reads k d) (point.1 k d above inside) (subst (λ (r : Run). EndsBefore r x) (at-run k d inside) ends))
 
--- The result of a search among the reads of a plan.
+-- The properties of the read and the offset that a search finds for a point.
 pub record PlaceFacts (plan : Planned) (point count : ℕ) (x : Run) : Type 0 where
   pub read_within : count < length plan.reads
   pub point_within : point < length plan.starts

@@ -1,4 +1,4 @@
--- The rule's plan has the fewest reads.
+-- Proves that the plan by the rule has the fewest reads.
 use Rattle.std.proofs.Common.{◌≡◌, ◌∙◌, ℕ, ◌<◌, ◌≤◌, List, length, get_or, take, sym, ap, arith, inl, inr, subst}
 use Rattle.std.specs.List.{All, Any, Contains}
 use Rattle.std.proofs.lemmas.List.{get_or-take, get_or_default, length-take-le}
@@ -17,7 +17,8 @@ same_area-sym a b s = record { function = sym s.function; area = sym s.area }
 pub same_area-trans : (a b c : Run) → SameArea a b → SameArea b c → SameArea a c
 same_area-trans a b c s t = record { function = s.function ∙ t.function; area = s.area ∙ t.area }
 
--- A property of an element is a property of some element of each front that reaches it.
+-- If an element of a list has a property, each front part that includes it has an element with the
+-- property.
 pub any-take : {X : Type 0} (P : X → Type 0) (xs : List X) (k j : ℕ) (d : X) → j < k → k ≤ length xs → P (get_or xs j d) → Any P (take k xs)
 any-take {X} P xs k j d below within p =
     let inside : j < length xs = omega (arith, below, within) in (
@@ -28,20 +29,20 @@ any-take {X} P xs k j d below within p =
       p,
     )
 
--- Of two runs of one area, the first has the lower first register.
+-- Of two ranges in one area, the range that comes first begins at the lower register.
 pub first-before : (a b : Run) → ComesBefore a b → SameArea a b → a.first < b.first
 first-before a b (inl f) s = let e = ap code_of s.function in absurd (omega (arith, e, f))
 first-before a b (inr (inl h)) s = let e = s.area in absurd (omega (arith, e, h.1))
 first-before a b (inr (inr h)) s = h.1
 
--- A property of all elements, for an element given by its value.
+-- A property of all elements of a list is a property of each value in the list.
 pub all-at : {X : Type 0} (P : X → Type 0) (xs : List X) → All P xs → (x : X) → Contains xs x → P x
 all-at {X} P xs all x w = subst P w.2 (all w.0 x w.1)
 
 pub contains-any : {X : Type 0} (P : X → Type 0) (xs : List X) → (w : Any P xs) → Contains xs w.1
 contains-any P xs w = (w.0, w.2, w.3)
 
--- The read `y` holds an item at which read `k` begins.
+-- True if the read `y` contains an item that begins at the first register of read `k`.
 pub record HoldsBeginning (items reads : List Run) (k : ℕ) (y : Run) : Type 0 where
   pub item : Run
   pub among : Contains items item

@@ -1,4 +1,5 @@
--- Reads from the beginnings to the greatest ends within reach follow the rule.
+-- Proves that the computed reads follow the planning rule: each ends at the greatest end of the
+-- items within 125 registers from its start.
 use Rattle.std.proofs.Common.{◌≡◌, ◌∙◌, ℕ, ◌+◌, ◌<◌, ◌≤◌, List, length, get_or, take, sym, refl, ap, arith, inl, inr, subst}
 use Rattle.std.specs.List.{All, AllZip, Any, Contains}
 use Rattle.std.specs.List.Sorted.{IsPermutation}
@@ -41,7 +42,8 @@ module _ (items begins reads : List Run) (readable : All IsReadable items) (from
   abbrev read_at : ℕ → Run
   read_at k = get_or reads k anything
 
-  -- An item that begins before a beginning of its area lies within reach of an earlier beginning.
+  -- An item that begins before the start of a read in its area lies within 125 registers from the
+  -- start of an earlier read.
   earlier : (x : Run) (k : ℕ) → k < length begins → SameArea (begin_at k) x → x.first < (begin_at k).first → Any (λ b. LiesWithinReach b x) begins
       → (j : ℕ) × (j < k) × LiesWithinReach (begin_at j) x
   earlier x k within area lower w =
@@ -63,7 +65,7 @@ module _ (items begins reads : List Run) (readable : All IsReadable items) (from
         ]
       ]
 
-  -- A read holds each item within reach of its beginning.
+  -- A read contains each item that lies within 125 registers from the start of the read.
   holds-reach : (x : Run) → Contains items x → (j : ℕ) → j < length begins → LiesWithinReach (begin_at j) x → Holds (read_at j) x
   holds-reach x among j within reach =
       let f = each j within in
@@ -75,7 +77,7 @@ module _ (items begins reads : List Run) (readable : All IsReadable items) (from
         to_end = all-at (λ item. SameArea (begin_at j) item → item.end ≤ (begin_at j).first + 125 → item.end ≤ (read_at j).end) items f.end.last x among reach.same_area reach.in_reach;
       }
 
-  -- No earlier read reaches the end of a beginning.
+  -- An earlier read ends before the end of the item at which a later read in the same area starts.
   unreached : (j k : ℕ) → j < k → k < length begins → SameArea (begin_at j) (begin_at k) → (read_at j).end < (begin_at k).end
   unreached j k below within area =
       let a = (from.apart j k anything below within).1 area in
@@ -171,7 +173,7 @@ module _ (items begins reads : List Run) (readable : All IsReadable items) (from
         );
   }
 
--- The reads follow the rule for items in any order, if each read begins at one of the beginnings.
+-- The reads follow the planning rule, in whatever order the items are listed.
 pub rule-of-sorted : (items sorted ended begins reads : List Run) → IsPermutation items sorted → IsPermutation items ended → All IsReadable items → AreBeginnings sorted begins
     → AllZip (ReadsFrom ended) begins reads → FollowsRule items reads
 rule-of-sorted items sorted ended begins reads same-sorted same-ended readable from zipped =
@@ -182,7 +184,8 @@ rule-of-sorted items sorted ended begins reads same-sorted same-ended readable f
     let f = AllZip-get_or (ReadsFrom ended) begins reads k anything anything zipped within in
     record { same_area = f.same_area; first = f.first; end = greatest-permutation ended items (get_or begins k anything) (get_or reads k anything).end back f.end })
 
--- The beginnings are among the items in any order, so they share the properties of all items.
+-- The items at which reads start are items of the list, so they have all properties that every item
+-- has.
 pub beginnings-among : (items sorted ended begins : List Run) → IsPermutation items sorted → IsPermutation items ended → AreBeginnings sorted begins → All (Contains ended) begins
 beginnings-among items sorted ended begins same-sorted same-ended from =
     All-weaker (Contains sorted) (Contains ended)

@@ -1,4 +1,5 @@
--- The runs of scale points, while points are added before those of the list.
+-- Lemmas about the map from scale points' names to their registers, built from the last point to
+-- the first.
 use Rattle.std.proofs.Common.{◌≡◌, ◌∙◌, ℕ, Bool, true, false, List, [], ◌∷◌, ◌++◌, Bor, ap, cond, map, refl, reverse, subst, sym, Some, None}
 use Rattle.std.specs.Prelude.{◌&&◌}
 use Rattle.std.specs.declared.option.Option.{Option}
@@ -17,7 +18,7 @@ use Rattle.read_plan.specs.declared.run.Run.{Run}
 use Rattle.point_list.specs.declared.point.PointScale.TheVariants.{Named}
 use Rattle.read_plan.specs.Items.{AreScaleRuns, item_of, joined, point_run, run_named, with_scale, with_scale_of}
 
--- The points that were read from the last backwards, in the order of the list.
+-- The points that the loop has visited, in the order of the list.
 abbrev pub points-read : List (Bor ListedPoint) → List ListedPoint
 points-read yielded = reverse (map (λ p. p.now) yielded)
 
@@ -30,7 +31,7 @@ chosen true true p o e = refl
 chosen true false p o e = refl
 chosen false named p o e = absurd (false≢true e)
 
--- The runs, with a run added at a name.
+-- True if `after` is the map `before` with the range `run` stored under the name.
 abbrev pub Puts : BTreeMap (Bor (List ℕ)) Run → BTreeMap (Bor (List ℕ)) Run → List ℕ → Run → Type 0
 Puts before after name run = UpdatesBy (λ x y. slice_cmp nat_cmp x.now y.now) (λ k. slice_cmp nat_cmp name k.now) before after (Some run)
 
@@ -41,7 +42,7 @@ scale-first points before after p scale runs puts name =
     ∙ ap (cond (bytes_eq p.name name) (Some (point_run p))) (runs name)
     ∙ chosen (is_sunssf p.kind) (bytes_eq p.name name) p (scale_point points name) scale
 
--- A scale point before the others takes over its name.
+-- A scale point replaces in the map each later scale point of the list with the same name.
 pub scale-read : (yielded : List (Bor ListedPoint)) (p : Bor ListedPoint) (before after : BTreeMap (Bor (List ℕ)) Run) (name : List ℕ) (run : Run) → is_sunssf p.now.kind ≡ true
     → name ≡ p.now.name → run ≡ point_run p.now
     → AreScaleRuns (points-read yielded) before → Puts before after name run → AreScaleRuns (points-read (yielded ++ p ∷ [])) after
@@ -58,10 +59,10 @@ missing-run run None e = refl
 missing-run run (Some q) e = absurd (none-some (point_run q) (sym e))
 
 module _ (points : List ListedPoint) (runs : BTreeMap (Bor (List ℕ)) Run) (right : AreScaleRuns points runs) (p : ListedPoint) (name : List ℕ) (named : p.scale ≡ Named name) where
-  -- The item of a point whose scale's run was found.
+  -- The item of a point whose scale point is in the map joins both ranges.
   pub item-found : (scale : Run) → run_named runs name ≡ Some scale → item_of points p ≡ joined (point_run p) scale
   item-found scale e = ap (with_scale_of points (point_run p)) named ∙ found-run (point_run p) scale (scale_point points name) (sym (right name) ∙ e)
 
-  -- The item of a point whose scale has no run.
+  -- The item of a point whose scale point is not in the map is the point's own range.
   pub item-missing : run_named runs name ≡ None → item_of points p ≡ point_run p
   item-missing e = ap (with_scale_of points (point_run p)) named ∙ missing-run (point_run p) (scale_point points name) (sym (right name) ∙ e)

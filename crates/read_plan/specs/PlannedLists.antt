@@ -1,4 +1,4 @@
--- Point lists with the reads of their plans.
+-- Defines point lists with the reads that poll their points.
 use Rattle.std.specs.Prelude.{◌≡◌, List}
 use Rattle.point_list.specs.declared.point.ListedPoint.{ListedPoint}
 use Rattle.point_list.specs.Points.{IsPointList}
@@ -12,11 +12,11 @@ pub record Planned : Type 0 where
   pub points : List ListedPoint
   pub reads : List PlannedRead
 
--- The points are a lawful point list, and the reads follow the rule.
+-- True if the points form a valid point list and the reads follow the planning rule.
 pub record IsPlanned (list : Planned) : Type 0 where
   pub points : IsPointList list.points
   pub rule : FollowsRule (items_of list.points) (read_runs list.reads)
 
--- Theorem: each list of points has exactly one plan.
+-- The statement that each list of points has exactly one plan.
 abbrev pub ListsArePlannedOnce : Type 0
 ListsArePlannedOnce = (a b : Planned) → IsPlanned a → IsPlanned b → a.points ≡ b.points → a ≡ b

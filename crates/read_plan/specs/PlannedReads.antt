@@ -1,4 +1,4 @@
--- The content of a plan.
+-- Defines the content of a plan: the reads, and the location of each point in them.
 use Rattle.std.specs.Prelude.{ℕ, ◌≡◌, ◌+◌, ◌<◌, ◌≤◌, List, length, map, slice_index, slice_index_or, take}
 use Rattle.std.specs.List.{All}
 use Rattle.mb_wire.specs.declared.limits.TheConstants.{ADDRESSES}
@@ -6,7 +6,7 @@ use Rattle.read_plan.specs.declared.planned_reads.PlannedRead.{PlannedRead}
 use Rattle.read_plan.specs.declared.run.Run.{Run}
 use Rattle.read_plan.specs.Plans.{FollowsRule, Holds, IsContained, IsReadable}
 
--- The run of registers that a read requests.
+-- The range of registers that a read requests.
 abbrev pub read_run : PlannedRead → Run
 read_run read =
     record {
@@ -16,7 +16,7 @@ read_run read =
       end = read.span.address + read.span.count;
     }
 
--- The runs of these reads, in their order.
+-- The ranges of a list of reads, in order.
 abbrev pub read_runs : List PlannedRead → List Run
 read_runs reads = map read_run reads
 
@@ -26,12 +26,12 @@ pub record Planned : Type 0 where
   pub items : List Run
   pub reads : List PlannedRead
 
--- A point whose first register is `start` begins inside this item.
+-- True if a point whose first register is `start` begins inside this item.
 abbrev pub BeginsInside : Run → ℕ → Type 0
 BeginsInside item start = (item.first ≤ start) × (start < item.end)
 
--- The invariant of every plan: each point begins inside its item, each item fits in one read, and
--- the reads are those of the planning rule.
+-- The invariant of a plan: each point begins inside its item, each item fits in one read, and the
+-- reads follow the planning rule.
 pub record IsPlan (plan : Planned) : Type 0 where
   pub each : length plan.starts ≡ length plan.items
   pub begun : (k : ℕ) (d : Run) → k < length plan.items
@@ -40,13 +40,13 @@ pub record IsPlan (plan : Planned) : Type 0 where
   pub inside : All (λ item. item.end ≤ ADDRESSES) plan.items
   pub rule : FollowsRule plan.items (read_runs plan.reads)
 
--- The point with index `point` begins `offset` registers after the first register of the read
--- with index `read`.
+-- True if point number `point` begins `offset` registers after the first register of read number
+-- `read`. Both numbers count from 0.
 abbrev pub StandsAt : Planned → (point read offset : ℕ) → Type 0
 StandsAt plan point read offset = (d : PlannedRead)
     → (slice_index_or plan.reads read d).span.address + offset ≡ slice_index plan.starts point
 
--- The read with index `place` is the first of these reads that holds the item.
+-- True if `place` is the index of the first of these reads that contains the item.
 pub record IsFirstHolding (reads : List Run) (item : Run) (place : ℕ) : Type 0 where
   pub within : place < length reads
   pub holds : (d : Run) → Holds (slice_index_or reads place d) item

@@ -1,48 +1,48 @@
--- Runs of registers, lawful plans of reads, and the rule that chooses one plan.
+-- Defines register ranges, valid plans of reads, and the planning rule, which gives one plan.
 use Rattle.std.specs.Prelude.{◌≡◌, ℕ, ◌+◌, ◌<◌, ◌≤◌, ◌⊎◌, List, length, take, slice_index_or}
 use Rattle.std.specs.List.{All, AllPairs, Any}
 use Rattle.mb_wire.specs.Spans.{code_of}
 use Rattle.read_plan.specs.declared.run.Run.{Run}
 use Rattle.read_plan.specs.declared.run.TheConstants.{READ_LIMIT}
 
--- Both runs have the same function and area number.
+-- True if both ranges have the same function and area number.
 pub record SameArea (a b : Run) : Type 0 where
   pub function : a.function ≡ b.function
   pub area : a.area ≡ b.area
 
--- A read holds an item if both are in one area and the item lies inside the read.
+-- True if the read and the item are in the same area and the item lies inside the read.
 pub record Holds (read item : Run) : Type 0 where
   pub same_area : SameArea read item
   pub from_first : read.first ≤ item.first
   pub to_end : item.end ≤ read.end
 
--- At least one of the reads holds the item.
+-- True if at least one of the reads contains the item.
 abbrev pub IsContained : List Run → Run → Type 0
 IsContained reads item = Any (λ read. Holds read item) reads
 
--- One read can request the run: it has 1 to 125 registers.
+-- True if one Modbus read can request the range: it has 1 to 125 registers.
 abbrev pub IsReadable : Run → Type 0
 IsReadable run = (run.first < run.end) × (run.end ≤ run.first + READ_LIMIT)
 
--- The run is inside its area, which extends from the first to the last register of the points of
--- its function and area number.
+-- True if the range is inside its area. An area extends from the first to the last register of all
+-- points with its function and area number.
 pub record IsInArea (points : List Run) (run : Run) : Type 0 where
   pub after_first : Any (λ point. SameArea point run × point.first ≤ run.first) points
   pub before_last : Any (λ point. SameArea point run × run.end ≤ point.end) points
 
--- The reads are a lawful plan for the points and their items. Each read has 1 to 125 registers
--- inside its area, and each item lies in one read.
+-- True if the reads form a valid plan for the points and their items. Each read has 1 to 125
+-- registers inside its area, and each item lies in one read.
 pub record IsLawful (points items reads : List Run) : Type 0 where
   pub readable : All IsReadable reads
   pub in_areas : All (IsInArea points) reads
   pub contained : All (IsContained reads) items
 
--- Every lawful plan for these points and items has at least `count` reads.
+-- True if every valid plan for these points and items has at least `count` reads.
 abbrev pub AreFewest : (points items : List Run) → (count : ℕ) → Type 0
 AreFewest points items count =
     (reads : List Run) → IsLawful points items reads → count ≤ length reads
 
--- Run `a` comes before run `b` in the order by function, then by area number, then by first
+-- True if range `a` comes before range `b`, ordered by function, then by area number, then by first
 -- register.
 abbrev pub ComesBefore : Run → Run → Type 0
 ComesBefore a b =
@@ -50,7 +50,7 @@ ComesBefore a b =
     ⊎ ((a.function ≡ b.function) × (a.area < b.area))
     ⊎ (SameArea a b × a.first < b.first)
 
--- Run `a` comes before run `b` in the order by function, then by area number, then by last
+-- True if range `a` comes before range `b`, ordered by function, then by area number, then by last
 -- register.
 abbrev pub EndsBefore : Run → Run → Type 0
 EndsBefore a b =
@@ -58,13 +58,14 @@ EndsBefore a b =
     ⊎ ((a.function ≡ b.function) × (a.area < b.area))
     ⊎ (SameArea a b × a.end < b.end)
 
--- The item lies within the 125 registers from the first register of the read.
+-- True if the item lies within the 125 registers from the first register of the read.
 pub record LiesWithinReach (read item : Run) : Type 0 where
   pub same_area : SameArea read item
   pub from_first : read.first ≤ item.first
   pub in_reach : item.end ≤ read.first + READ_LIMIT
 
--- The read begins at the first register of the first item of its area that no earlier read holds.
+-- True if the read begins at the first register of the first item of its area that no earlier read
+-- contains.
 pub record BeginsAtFirstUnheld (items earlier : List Run) (read : Run) : Type 0 where
   pub at_item : Any (λ item. SameArea read item × (item.first ≡ read.first)
       × ¬ IsContained earlier item)
@@ -72,12 +73,13 @@ pub record BeginsAtFirstUnheld (items earlier : List Run) (read : Run) : Type 0 
   pub first : All (λ item. SameArea read item → item.first < read.first
       → IsContained earlier item) items
 
--- The read ends at the greatest last register of the items within its reach.
+-- True if the read ends at the greatest last register of the items within 125 registers from its
+-- first register.
 pub record EndsAtLastInReach (items : List Run) (read : Run) : Type 0 where
   pub at_item : Any (λ item. LiesWithinReach read item × (item.end ≡ read.end)) items
   pub last : All (λ item. LiesWithinReach read item → item.end ≤ read.end) items
 
--- The reads are those that the planning rule gives for these items, in order.
+-- True if the reads are those that the planning rule gives for these items, in order.
 pub record FollowsRule (items reads : List Run) : Type 0 where
   pub ordered : AllPairs ComesBefore reads
   pub begins : (k : ℕ) (d : Run) → k < length reads

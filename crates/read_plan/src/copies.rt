@@ -1,4 +1,4 @@
-//! Copies points and lists, for `Clone` of a planned list.
+//! Copies points and point lists, for `Clone` of a planned list.
 ghost use Rattle.std.specs.Prelude.{◌≡◌, IfOk};
 
 use point_list::{ListedPoint, PointList, PointName, PointScale};
@@ -26,7 +26,7 @@ fn copy_scale(alloc: Global, scale: &PointScale) -> Result<PointScale, AllocErro
     }
 }
 
-/// Copies a point.
+/// Copies a point of a point list.
 fn copy_point(alloc: Global, point: &ListedPoint) -> Result<ListedPoint, AllocError>
     ensures { IfOk result (λ copy. copy ≡ point.now) }
 {
@@ -40,7 +40,7 @@ fn copy_point(alloc: Global, point: &ListedPoint) -> Result<ListedPoint, AllocEr
     })
 }
 
-/// Copies the points of a list.
+/// Copies the points of a point list.
 fn copy_points(alloc: Global, points: &[ListedPoint]) -> Result<Vec<ListedPoint>, AllocError>
     ensures { IfOk result (λ copies. copies.items ≡ points.now) }
 {
@@ -51,7 +51,7 @@ fn copy_points(alloc: Global, points: &[ListedPoint]) -> Result<Vec<ListedPoint>
     Ok(copies)
 }
 
-/// Copies a list.
+/// Copies a point list.
 pub fn copy_list(alloc: Global, list: &PointList) -> Result<PointList, AllocError>
     ensures { IfOk result (λ copy. copy ≡ list.now) }
 {

@@ -1,4 +1,5 @@
-//! Finds the registers that one read must hold together: a point and its scale point.
+//! Finds the items of a point list: the registers of a point and its scale point, which one read
+//! must contain.
 ghost use Rattle.std.specs.Prelude.{◌≡◌, IfOk, List};
 ghost use Rattle.point_list.specs.Points.{is_sunssf};
 ghost use Rattle.point_list.specs.declared.point.ListedPoint.{ListedPoint};
@@ -24,7 +25,7 @@ fn run_of_point(point: &ListedPoint) -> Run
     }
 }
 
-// Returns the smallest run that holds both runs, which are in one area.
+// Returns the smallest range that contains two ranges of the same area.
 fn join(a: Run, b: Run) -> Run
     ensures { result ≡ joined a b }
 {
@@ -41,8 +42,8 @@ fn is_scale(point: &ListedPoint) -> bool
     matches!(point.kind, PointType::Sunssf)
 }
 
-// Returns the runs of the scale points of a list, by name. If two sunssf points have one name,
-// the map has the first of them.
+// Returns the ranges of the scale points of a list, by name. If two sunssf points have the same
+// name, the map has the first.
 fn scale_runs<'a>(alloc: Global, points: &'a [ListedPoint]) -> Result<ScaleRuns<'a>, AllocError>
     ensures { IfOk result (λ runs. AreScaleRuns points.now runs) }
 {
@@ -55,8 +56,8 @@ fn scale_runs<'a>(alloc: Global, points: &'a [ListedPoint]) -> Result<ScaleRuns<
     Ok(runs)
 }
 
-/// Returns the smallest run that holds a point and its scale point. `runs` has the scale points
-/// of the point's list.
+/// Returns the smallest range that contains a point and its scale point. `runs` has the scale
+/// points of the point's list.
 pub fn item(runs: &ScaleRuns<'_>, point: &ListedPoint) -> Run
     ensures { (points : List ListedPoint) → AreScaleRuns points runs.now
         → result ≡ item_of points point.now }
@@ -71,7 +72,7 @@ pub fn item(runs: &ScaleRuns<'_>, point: &ListedPoint) -> Run
     }
 }
 
-/// Returns the items of the points, in the order of the list.
+/// Returns the items of the points, in the order of the point list.
 pub fn items(alloc: Global, points: &[ListedPoint]) -> Result<Vec<Run>, AllocError>
     ensures { IfOk result (λ v. v.items ≡ items_of points.now) }
 {

@@ -1,16 +1,17 @@
-//! Theorems on plans.
+//! Theorems about plans of reads.
 ghost use Rattle.std.specs.Prelude.{List, ◌≤◌, length};
 ghost use Rattle.read_plan.specs.declared.run.Run.{Run};
 ghost use Rattle.read_plan.specs.PlannedLists.{ListsArePlannedOnce};
 ghost use Rattle.read_plan.specs.Plans.{FollowsRule, IsLawful};
 
-/// Proves that no lawful plan has fewer reads than the rule's plan, for all points and items.
+/// Theorem: no valid plan has fewer reads than the plan of the planning rule, for all points and
+/// items.
 pub fn rule_is_least()
     ensures { (points items reads other : List Run) → FollowsRule items reads
         → IsLawful points items other → length reads ≤ length other }
 {}
 
-/// Proves that each list of points has exactly one plan.
+/// Theorem: each list of points has exactly one plan.
 pub fn lists_are_planned_once()
     ensures { ListsArePlannedOnce }
 {}

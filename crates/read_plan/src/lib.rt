@@ -1,5 +1,5 @@
-//! Plans of reads: the fewest lawful Modbus reads for a point list, and lists with the reads of
-//! their plans.
+//! Plans the fewest Modbus reads for a point list, and stores a point list together with the reads
+//! of its plan.
 #![tactic(auto)]
 
 mod beginnings;

@@ -1,4 +1,4 @@
-//! Plans, and the location of each point in them.
+//! Plans of reads, and the location of each point in the reads.
 ghost use Rattle.std.specs.Prelude.{◌≡◌, ◌<◌, length, slice_index_or};
 
 use crate::beginnings::ends_by_limit;
@@ -6,10 +6,10 @@ use crate::planned_reads::PlannedRead;
 use crate::run::Run;
 use std::marker::Model;
 
-/// Where a plan has a point.
+/// The location of a point in the reads of a plan.
 #[derive(Clone, Copy, Debug, PartialEq, Eq)]
 pub struct Place {
-    /// The index of the read, from 0.
+    /// The index of the read in the plan, from 0.
     pub read: usize,
     /// The number of registers in the read before the point's first register.
     pub offset: u16,
@@ -55,7 +55,7 @@ impl Plan {
         }
     }
 
-    /// Returns the reads, in order of function, area number and address.
+    /// Returns the reads of the plan, in order of function, area number and address.
     pub fn reads(&self) -> &[PlannedRead]
         ensures { result.now ≡ self.now.reads }
     {
@@ -70,7 +70,7 @@ impl Plan {
     }
 
     /// Returns the location of the point at this index of the list, from 0: the first read that
-    /// holds its item, and the offset there.
+    /// contains the point's item, and the point's offset in that read.
     pub fn place(&self, point: usize) -> Place
         requires { point < length self.now.items }
         ensures first { (d : Run) → IsFirstHolding (read_runs self.now.reads)

@@ -28,7 +28,7 @@ impl Model for PlannedList {
 impl PlannedList {
     ghost use Rattle.read_plan.specs.PlannedLists.{IsPlanned};
 
-    /// Plans the reads of a list of points. The only error is out of memory.
+    /// Creates a planned list from a point list. The only error is out of memory.
     pub fn new(alloc: Global, list: PointList) -> Result<PlannedList, AllocError>
         ensures points { IfOk result (λ planned. planned.points ≡ list) }
         ensures planned { IfOk result IsPlanned }

@@ -7,7 +7,7 @@ use crate::run::Run;
 use mb_wire::{ADDRESSES, ReadSpan};
 use std::alloc::{AllocError, Global};
 
-/// One read of a plan, in the registers of an area number.
+/// One read of a plan: a range of registers of one area number.
 #[derive(Clone, Copy, Debug, PartialEq, Eq)]
 pub struct PlannedRead {
     pub area: u8,

@@ -17,10 +17,10 @@ fn starts(alloc: Global, points: &[ListedPoint]) -> Result<Vec<u16>, AllocError>
     points.iter().map(|point| point.address).collect(alloc)
 }
 
-/// Returns the plan of a point list. It has the fewest reads that any lawful plan of the list has.
-/// An item is the smallest run that holds a point and its scale point. In each area a read begins
-/// at the first register of the first item that no earlier read holds. The read ends at the
-/// greatest last register of the items within 125 registers from there.
+/// Returns the plan of a point list with the fewest reads. An item is the smallest range of
+/// registers that contains a point and its scale point. In each area, a read begins at the first
+/// register of the first item that no earlier read contains. The read ends at the greatest last
+/// register of the items within 125 registers from its beginning.
 pub fn plan(alloc: Global, list: &PointList) -> Result<Plan, AllocError>
     ensures starts { IfOk result (λ plan. plan.starts ≡ map (λ point. point.address) list.now) }
     ensures items { IfOk result (λ plan. plan.items ≡ items_of list.now) }

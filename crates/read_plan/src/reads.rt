@@ -1,4 +1,4 @@
-//! Makes the reads that the planning rule gives.
+//! Creates the reads that the planning rule gives for a list of items.
 ghost use Rattle.std.specs.Prelude.{◌<◌, IfOk};
 ghost use Rattle.std.specs.List.{All, AllPairs, AllZip, Contains};
 ghost use Rattle.read_plan.specs.Beginnings.{ReadsFrom};
@@ -10,7 +10,8 @@ use crate::run::Run;
 use mb_wire::ADDRESSES;
 use std::alloc::{AllocError, Global};
 
-// Returns a read from each of the beginnings. The items are in order of their ends.
+// Returns one read for each item of `begins`, at which the read starts. `items` must be in order of
+// their ends.
 fn reads_from(alloc: Global, items: &[Run], begins: &[Run]) -> Result<Vec<Run>, AllocError>
     requires ordered { AllPairs (λ a b. ¬ EndsBefore b a) items.now }
     requires among { All (Contains items.now) begins.now }

@@ -1,11 +1,11 @@
-//! Runs of registers.
+//! Ranges of consecutive registers.
 
 use mb_wire::ReadFunction;
 
 /// The maximum number of registers in one read.
 pub const READ_LIMIT: u32 = 125;
 
-/// A run of registers of one function and area number, from `first` to before `end`.
+/// A range of registers of one function and area number, from `first` to `end` exclusive.
 #[derive(Clone, Copy)]
 pub struct Run {
     pub function: ReadFunction,

@@ -1,4 +1,4 @@
--- Lemmas on what journal lines, steps and records change of a copy of a meter's quarter hours.
+-- Lemmas: later records leave a client's copy of a meter's old quarter hours correct.
 pub mod StayingEntries
 pub mod StayingShares
 pub mod StayingRows

@@ -1,5 +1,5 @@
--- Worked examples: the lines of the meters at a register, their targets and refusals, targets with
--- more segments, and the headers for browsers.
+-- Worked examples, computed from the definitions: the lines of meters, request targets, refusals,
+-- and headers for browsers.
 use Rattle.std.proofs.Common.{◌≡◌, ℕ, List, [], ◌∷◌, Option, Some, None, Err, true, false, refl}
 use Rattle.std.specs.Prelude.{pos, negsuc, codes}
 use Rattle.std.specs.Fmt.{digits}
@@ -16,10 +16,10 @@ use Rattle.run_http.specs.declared.route.RunRoute.{RunRoute}
 use Rattle.run_http.specs.declared.route.RunRoute.TheVariants.{Own, Meters}
 use Rattle.run_http.specs.declared.route.StatusRoute.TheVariants.{Rejected}
 
--- ---- Lines.
+-- ---- The text lines of meters at an accounting register.
 
--- A meter with the shortest name, opened at time 0 at the least scale. Its counter is 0, and it is
--- open.
+-- An open meter with the shortest name and the least numbers: opened at time 0, counter 0, least
+-- scale.
 abbrev least : Installation
 least = record {
   opening = record { meter = codes "a"; register = codes "main"; ceiling = 1; range = 4294967296; at = 0; raw = 7; sf = pos 0 };
@@ -28,7 +28,7 @@ least = record {
   ended = false;
 }
 
--- A closed meter whose name has the greatest length, and whose fields have the greatest numbers.
+-- A closed meter with the longest name and the greatest numbers.
 abbrev greatest : Installation
 greatest = record {
   opening = record {
@@ -58,13 +58,13 @@ the_greatest : meters_text (greatest ∷ [])
 unfolding digits
 the_greatest = refl
 
--- The lines of the meters are in the order of the meters.
+-- Two meters have two lines in the given order, and a last line with their number.
 both : meters_text (greatest ∷ least ∷ [])
     ≡ codes "Z-3456789_123456 18446744073709551614 18446744073709551615 4294967295 10 18446744073709551615 ended\na 0 0 0 -10 0 open\nend 2\n"
 unfolding digits
 both = refl
 
--- ---- Targets.
+-- ---- The routes of request targets.
 
 abbrev asks : List ℕ → Option RunRoute
 asks name = Some (Meters (Some name))
@@ -75,7 +75,7 @@ a_register = refl
 sixteen_bytes : IsRegisterTarget (codes "/registers/a234567890123456/meters") (asks (codes "a234567890123456"))
 sixteen_bytes = refl
 
--- A malformed name is the name of no register.
+-- A name of 17 bytes is invalid, and matches no register.
 seventeen_bytes : IsRegisterTarget (codes "/registers/a2345678901234567/meters") (Some (Meters None))
 seventeen_bytes = refl
 
@@ -85,7 +85,8 @@ no_bytes = refl
 a_digit_first : IsRegisterTarget (codes "/registers/1/meters") (Some (Meters None))
 a_digit_first = refl
 
--- A target that is not exactly a target of the run is left to the office.
+-- The target `/registers/main/meter` lacks one byte of a route's path, so it has no route of
+-- `sunreg run`.
 one_byte_less : IsRegisterTarget (codes "/registers/main/meter") None
 one_byte_less = refl
 
@@ -95,7 +96,7 @@ one_byte_more = refl
 no_register : IsRegisterTarget (codes "/registers/meters") None
 no_register = refl
 
--- ---- Targets with more segments, or with a question mark.
+-- ---- The routes of request targets with more segments, or with a question mark.
 
 past_the_last_day : IsRegisterTarget (codes "/registers/main/days/2026-01-01/2026-01-02/") None
 past_the_last_day = refl
@@ -106,7 +107,8 @@ past_the_last_moment = refl
 past_a_place : meter_target (codes "/meters/m1/entries/0/1") ≡ None
 past_a_place = refl
 
--- An empty last segment is a malformed number. It does not count as one segment too many.
+-- An empty last segment is a malformed number and gives 400. It does not count as one segment too
+-- many.
 no_place : meter_target (codes "/meters/m1/entries/") ≡ Some (Own (Rejected BadRequest))
 no_place = refl
 
@@ -116,7 +118,7 @@ a_question_mark = refl
 a_question_mark_in_a_name : IsTarget (codes "/registers/ma?in/meters") None
 a_question_mark_in_a_name = refl
 
--- ---- Methods.
+-- ---- The routes of requests with a method other than GET.
 
 by_get : IsRouteNamed (codes "GET") (codes "/registers/main/meters") (asks (codes "main"))
 by_get = (asks (codes "main"), refl, refl)
@@ -124,7 +126,7 @@ by_get = (asks (codes "main"), refl, refl)
 by_post : IsRouteNamed (codes "POST") (codes "/registers/main/meters") (Some (Own (Rejected MethodNotAllowed)))
 by_post = (asks (codes "main"), refl, refl)
 
--- ---- Refusals.
+-- ---- Responses that report the program's refusal of a query.
 
 unknown_is_refused : with_rows_reply meters_text (Err refusal.NotFound) []
     ≡ codes "HTTP/1.1 404 Not Found\r\nContent-Type: application/json\r\nContent-Length: 13\r\nConnection: close\r\n\r\n{\"refused\":1}"
@@ -136,7 +138,7 @@ a_stopped_office_refuses : with_rows_reply meters_text (Err refusal.Stopped) []
 unfolding digits
 a_stopped_office_refuses = refl
 
--- ---- Browsers.
+-- ---- Responses with the headers for browsers.
 
 after_the_first_line : with_headers (codes "A: b\r\n") (codes "HTTP/1.1 200 OK\r\nC: d\r\n\r\n\n") ≡ codes "HTTP/1.1 200 OK\r\nA: b\r\nC: d\r\n\r\n\n"
 after_the_first_line = refl

@@ -1,5 +1,5 @@
--- What the server does with the bytes that a client has sent so far. It gives the result of one
--- call of the office's HTTP, over a link that returns these bytes and then ends.
+-- The response to the bytes that a client has sent so far. It is the response of `office_http` over
+-- a link that delivers these bytes and then ends.
 use Rattle.std.specs.Prelude.{◌⊎◌, ℕ, List, [], Option, Some, Result, Ok, Err}
 use Rattle.office_books.specs.Ledgers.{Ledger}
 use Rattle.office_core.specs.declared.office.Office.{Office}
@@ -10,7 +10,8 @@ use Rattle.mb_wire.specs.declared.link.LastTake.{LastTake}
 use Rattle.run_http.specs.declared.answer.PeerReply.{PeerReply}
 use Rattle.run_http.specs.declared.answer.PeerReply.TheVariants.{Open, Replied, Failed}
 
--- The call of the office's HTTP ends with this result, and has written this response.
+-- A call of `handle` in `office_http` over the client's bytes ends with this result, and has
+-- written this response.
 pub record Serves {B : Type 0} (ledger : B → Ledger) (at : ℕ) (old new : Office B)
     (request : List ℕ) (ending : Result (Unit {0}) HandleFault) (reply : List ℕ) : Type 0 where
   pub left : List ℕ
@@ -18,8 +19,9 @@ pub record Serves {B : Type 0} (ledger : B → Ledger) (at : ℕ) (old new : Off
   pub handles : Handles ledger at old new
       (passage (Some request) (Some left) (Some []) (Some reply) last) ending
 
--- The reply to a client's bytes. Open: the bytes hold no complete request. Replied: the response,
--- which is cut off if the store failed. Failed: memory ran out, or there were too many reads.
+-- The result of looking for a request in a client's bytes. Open means that the bytes hold no
+-- complete request. Replied has the response, which is cut off if the store failed. Failed means
+-- that memory ran out, or the request took too many reads.
 abbrev pub Asks : {B : Type 0} → (B → Ledger) → (at : ℕ) → (old new : Office B)
     → (request : List ℕ) → PeerReply → Type 0
 Asks ledger at old new request Open =

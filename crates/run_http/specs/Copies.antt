@@ -1,5 +1,5 @@
--- Which quarter hours of a meter can change through new entries and voids, and which a copy may
--- therefore keep.
+-- Which quarter hours of a meter can change through new entries and voids, so that a client's copy
+-- of the other quarter hours stays correct.
 use Rattle.std.specs.Prelude.{◌≡◌, ℕ, ◌+◌, ◌-◌, ◌%◌, ◌≤◌, nat_lt, List, ◌++◌, length, All, Option, Some, None}
 use Rattle.std.specs.List.{filter}
 use Rattle.energy_core.specs.declared.limits.TheConstants.{INTERVAL_SECONDS}
@@ -17,11 +17,11 @@ use Rattle.office_rules.specs.Intervals.{rows_of_meter}
 use Rattle.office_rules.specs.Lawful.{AreLawful}
 use Rattle.office_rules.specs.Meters.{opened, rows_of, installation_of}
 
--- The rows of the quarter hours that start before `moment`.
+-- The interval rows of quarter hours that start before the time `moment`.
 abbrev pub rows_before : (moment : ℕ) → List Share → List Share
 rows_before moment rows = filter (λ row. nat_lt row.start moment) rows
 
--- The entries with a sequence number below `place`, voided ones included.
+-- The meter entries with a sequence number below `place`, including voided entries.
 abbrev pub entries_before : (place : ℕ) → List EntryRow → List EntryRow
 entries_before place entries = filter (λ entry. nat_lt entry.place place) entries
 
@@ -29,35 +29,37 @@ entries_before place entries = filter (λ entry. nat_lt entry.place place) entri
 abbrev pub next_place : List Fact → Opening → ℕ
 next_place facts opening = length (rows_of facts opening) + 2
 
--- The start of the quarter hour that contains `moment`.
+-- The start of the quarter hour that contains the time `moment`.
 abbrev pub quarter_of : (moment : ℕ) → ℕ
 quarter_of moment = moment - moment % INTERVAL_SECONDS
 
--- The time of the last entry before `place` that is not voided. The opening entry is never voided.
+-- The time of the last valid meter entry before the sequence number `place`. The opening entry is
+-- always valid.
 abbrev pub stood_at : List Fact → Opening → (place : ℕ) → ℕ
 stood_at facts opening place =
     let entries = entries_in (entries_before place (rows_of facts opening)) in
     (last_of (opened opening) entries).at
 
--- The time from which quarter hours can change, for a meter with this opening entry; 0 without one.
+-- The time from which quarter hours can change, for a meter with this opening entry; 0 for a meter
+-- without one.
 abbrev pub changes_of : List Fact → (place : ℕ) → Option Opening → ℕ
 changes_of facts place None = 0
 changes_of facts place (Some opening) = quarter_of (stood_at facts opening place)
 
 -- The time from which a new entry or a void can change quarter hours of the meter. It is the start
--- of the quarter hour of the last entry before `place` that is not voided.
+-- of the quarter hour of the last valid entry before the sequence number `place`.
 abbrev pub changes_from : List Fact → (meter : List ℕ) → (place : ℕ) → ℕ
 changes_from facts meter place = changes_of facts place (opening_of facts meter)
 
--- If the record voids an entry of the meter, that entry has sequence number `place` or higher.
+-- If the record voids an entry of the meter, the entry's sequence number is at least `place`.
 abbrev pub VoidsFrom : (meter : List ℕ) → (place : ℕ) → Fact → Type 0
 VoidsFrom meter place (fact.Void voided) = voided.meter ≡ meter → place ≤ voided.place
 VoidsFrom meter place _ = Unit {0}
 
--- What later records leave unchanged, if they void no entry of the meter before `place`. `place` is
--- at most the sequence number of the next entry. The earlier entries stay, and the time from which
--- quarter hours can change. Quarter hours before that time, or before any earlier one, stay. So a
--- copy of them is complete with the office's rows from there on.
+-- States what later records leave unchanged, if they void no entry of the meter before the sequence
+-- number `place`. `place` is at most the next unused number. Unchanged are the entries before
+-- `place`, the time from which quarter hours can change, and the quarter hours before that time. A
+-- copy of these quarter hours and the store's rows from that time on are complete.
 pub record StaysBefore (further facts : List Fact) (meter : List ℕ) (opening : Opening)
     (place : ℕ) : Type 0 where
   pub entries : entries_before place (rows_of (further ++ facts) opening)
@@ -71,15 +73,16 @@ pub record StaysBefore (further facts : List Fact) (meter : List ℕ) (opening :
       ≡ rows_before from (rows_of_meter facts meter)
       ++ rows_within (Between from till) (rows_of_meter (further ++ facts) meter)
 
--- For all records that the rules accept, what `StaysBefore` says holds.
+-- If accepted later records void no entry of the meter before the sequence number `place`, then
+-- they satisfy `StaysBefore`.
 abbrev pub RowsBeforeStay : Type 0
 RowsBeforeStay = (further facts : List Fact) (meter : List ℕ) (opening : Opening) (place : ℕ)
     → AreLawful (further ++ facts) → opening_of facts meter ≡ Some opening
     → place ≤ next_place facts opening → All (VoidsFrom meter place) further
     → StaysBefore further facts meter opening place
 
--- If nothing is voided, only quarter hours from that of the meter's last entry on can change. The
--- program reports the time of that entry with the energy.
+-- If no entry is voided, then only the quarter hour of a meter's last entry and later quarter hours
+-- can change. The program reports the time of the last entry with the energy.
 abbrev pub EntriesComeAfter : Type 0
 EntriesComeAfter = (facts : List Fact) (meter : List ℕ) (opening : Opening) → AreLawful facts
     → opening_of facts meter ≡ Some opening

@@ -1,5 +1,5 @@
--- The responses to queries for rows of a meter, or for the meters at a register, by the office's
--- answers.
+-- The responses to queries for rows of a meter or for the meters at an accounting register, given
+-- the program's answers.
 use Rattle.std.specs.Prelude.{◌≡◌, ℕ, true, List, [], ◌∷◌, ◌++◌, Option, Result, Ok, Err, IfOk, OnOk, codes}
 use Rattle.std.specs.declared.alloc.Global.{Global}
 use Rattle.std.specs.declared.vec.Vec.{Vec}
@@ -15,13 +15,14 @@ use Rattle.run_http.specs.SiteReply.{with_refusal}
 use Rattle.run_http.specs.StatusRoute.{with_reply}
 use Rattle.run_http.specs.declared.kept_rows.KeptRows.{KeptRows}
 
--- The row is appended to the kept rows. If memory ran out for any row, `is_whole` is false.
+-- The row is appended to the collected rows. If memory ran out for any row, then `is_whole` is
+-- false.
 abbrev pub KeepsRow : KeptRows → Share → KeptRows → Type 0
 KeepsRow old row new = new.is_whole ≡ true
     → (old.is_whole ≡ true) × (new.rows.items ≡ old.rows.items ++ row ∷ [])
 
--- The office answers the query for rows from the records of its accepted events. Memory may run out
--- for the rows.
+-- The program answers the query for rows from the records of its accepted events. The call fails if
+-- memory for the rows runs out.
 pub record AsksRows {B T : Type 0} (ledger : B → Ledger) (old new : Office B)
     (says : List Fact → Option (List T)) {E : Type 0}
     (result : Result (Result (Vec T Global) Refusal) E) : Type 0 where
@@ -30,14 +31,15 @@ pub record AsksRows {B T : Type 0} (ledger : B → Ledger) (old new : Office B)
   pub gives : IfOk result (λ told. told ≡ answer)
   pub lists : OnOk result (ListsAccepted ledger old new answer says)
 
--- The response to a query for rows: the text of the rows, or the refusal.
+-- The response to a query for rows: the text of the rows, or the program's refusal.
 abbrev pub with_rows_reply : {T : Type 0} → (text : List T → List ℕ)
     → Result (Vec T Global) Refusal → List ℕ → List ℕ
 with_rows_reply text (Ok rows) before =
     with_reply Fine (codes "text/plain") (text rows.items) before
 with_rows_reply text (Err why) before = with_refusal why before
 
--- The office is queried once, and its rows or its refusal are the response, unless memory runs out.
+-- The call queries the store once, and appends the response with the rows or the refusal, unless
+-- memory runs out.
 pub record RepliesRows {B T : Type 0} (ledger : B → Ledger) (old new : Office B)
     (says : List Fact → Option (List T)) (text : List T → List ℕ) (from to : List ℕ) {E : Type 0}
     (result : Result (Unit {0}) E) : Type 0 where

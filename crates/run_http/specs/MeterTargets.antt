@@ -1,6 +1,6 @@
--- The targets for rows of a meter: `/meters/NAME/intervals/FROM/TILL` has the quarter hours that
--- start at FROM or later, and before TILL. `/meters/NAME/entries/PLACE` has the entries from PLACE
--- on. `/meters/NAME/voids` has the voided entries.
+-- The request targets for rows of a meter. `/meters/NAME/intervals/FROM/TILL` returns the quarter
+-- hours that start at FROM or later and before TILL. `/meters/NAME/entries/PLACE` returns the
+-- entries from the sequence number PLACE on. `/meters/NAME/voids` returns the voided entries.
 use Rattle.std.specs.Prelude.{ℕ, ◌+◌, ◌==◌, List, length, take, drop, position, bytes_eq, is_some, if◌then◌else◌, Option, Some, None, codes}
 use Rattle.http_request.specs.Values.{digits_in}
 use Rattle.http_request.specs.declared.status.Status.TheVariants.{BadRequest}
@@ -11,7 +11,7 @@ use Rattle.run_http.specs.declared.route.RunRoute.{RunRoute}
 use Rattle.run_http.specs.declared.route.RunRoute.TheVariants.{Own, Intervals, Entries, Voids}
 use Rattle.run_http.specs.declared.route.StatusRoute.TheVariants.{Rejected}
 
--- The rest of the text after `word`, if the text begins with it.
+-- The text after the prefix `word`, or none if the text has another beginning.
 abbrev pub after : (word text : List ℕ) → Option (List ℕ)
 after word text =
     if bytes_eq (take (length word) text) word then Some (drop (length word) text) else None
@@ -20,62 +20,63 @@ after word text =
 abbrev pub slash_in : List ℕ → Option ℕ
 slash_in text = position (λ byte. byte == 47) text
 
--- The span from one timestamp until another, if both exist.
+-- The time span between two optional timestamps, if neither timestamp is missing.
 abbrev pub span_till : (from till : Option ℕ) → Option Span
 span_till None till = None
 span_till (Some from) None = None
 span_till (Some from) (Some till) = Some (Between from till)
 
--- The span between two texts, if each is a timestamp of one to nineteen digits.
+-- The time span between two texts, if each text is a timestamp of one to nineteen digits.
 abbrev pub span_of : (from till : List ℕ) → Option Span
 span_of from till = span_till (digits_in from) (digits_in till)
 
--- The route to the quarter hours of a meter in a span. Without a span it is 400, and a malformed
--- name is the name of no meter.
+-- The route to the quarter hours of a meter in a time span, or 400 without a span. An invalid name
+-- matches no meter.
 abbrev pub intervals_asked : (name : List ℕ) → Option Span → RunRoute
 intervals_asked name None = Own (Rejected BadRequest)
 intervals_asked name (Some span) = Intervals (named name) span
 
--- The route to quarter hours for two timestamps. If the second has a slash, the target has too many
--- segments and no route.
+-- The route to quarter hours between two timestamps. If the second text has a slash, the target has
+-- too many segments, and no route.
 abbrev pub intervals_till : (name from till : List ℕ) → Option RunRoute
 intervals_till name from till =
     if is_some (slash_in till) then None else Some (intervals_asked name (span_of from till))
 
--- The route to quarter hours for the text after `intervals`, cut at its first slash.
+-- The route to quarter hours for the text after `intervals/`, split at its first slash.
 abbrev pub intervals_cut : (name text : List ℕ) → Option ℕ → Option RunRoute
 intervals_cut name text None = None
 intervals_cut name text (Some at) = intervals_till name (take at text) (drop (at + 1) text)
 
--- The route for the text after the segment `intervals`.
+-- The route to quarter hours for the text after `intervals/`.
 abbrev pub intervals_in : (name text : List ℕ) → Option RunRoute
 intervals_in name text = intervals_cut name text (slash_in text)
 
--- The route to the entries of a meter from a sequence number on. Without a number it is 400.
+-- The route to the entries of a meter from a sequence number on, or 400 without a number.
 abbrev pub entries_asked : (name : List ℕ) → (place : Option ℕ) → RunRoute
 entries_asked name None = Own (Rejected BadRequest)
 entries_asked name (Some place) = Entries (named name) place
 
--- The route for the text after the segment `entries`. With a further slash there is none.
+-- The route to entries for the text after `entries/`. A text with a slash has no route.
 abbrev pub entries_at : (name place : List ℕ) → Option RunRoute
 entries_at name place =
     if is_some (slash_in place) then None else Some (entries_asked name (digits_in place))
 
--- The route for what follows the meter's name: the segment `intervals` or `entries` with its text,
--- or neither.
+-- The route for a target that continues with `intervals/` or `entries/` after the meter's name, or
+-- none for any other target.
 abbrev pub rows_asked : (name : List ℕ) → (intervals entries : Option (List ℕ))
     → Option RunRoute
 rows_asked name None None = None
 rows_asked name None (Some text) = entries_at name text
 rows_asked name (Some text) entries = intervals_in name text
 
--- The route for the text after the meter's name and a slash.
+-- The route for the text after `/meters/NAME/`.
 abbrev pub rows_in : (name text : List ℕ) → Option RunRoute
 rows_in name text =
     if bytes_eq text (codes "voids") then Some (Voids (named name))
     else rows_asked name (after (codes "intervals/") text) (after (codes "entries/") text)
 
--- The route for the text after `/meters/`, cut at its first slash. Without a slash there is none.
+-- The route for the text after `/meters/`, split at its first slash. A text without a slash has no
+-- route.
 abbrev pub meter_cut : (text : List ℕ) → Option ℕ → Option RunRoute
 meter_cut text None = None
 meter_cut text (Some at) = rows_in (take at text) (drop (at + 1) text)
@@ -84,11 +85,11 @@ meter_cut text (Some at) = rows_in (take at text) (drop (at + 1) text)
 abbrev pub meter_in : List ℕ → Option RunRoute
 meter_in text = meter_cut text (slash_in text)
 
--- The route of a target that begins with `/meters/`. Any other target has none here.
+-- The route of a target that begins with `/meters/`. Other targets have no route of this kind.
 abbrev pub meter_asked : Option (List ℕ) → Option RunRoute
 meter_asked None = None
 meter_asked (Some text) = meter_in text
 
--- The route of a target that asks for rows of a meter, if it is such a target.
+-- The route of a request target for rows of a meter. Other targets have no route of this kind.
 abbrev pub meter_target : (target : List ℕ) → Option RunRoute
 meter_target target = meter_asked (after (codes "/meters/") target)

@@ -1,6 +1,6 @@
 -- Responses with quarter hours of a meter that are streamed in chunks, so that no complete response
--- is in memory. What is left of a response after each chunk, and why it does not change while the
--- response is sent.
+-- is in memory. Defines the remaining part of a response after each chunk, and states that later
+-- records do not change it.
 use Rattle.std.specs.Prelude.{◌≡◌, ℕ, ◌+◌, ◌-◌, ◌<◌, ◌≤◌, min, max, List, [], ◌∷◌, ◌++◌, length, All, flat_map, codes, nat_lt, Bool, true, Option, Some, None, Result, Ok, Err}
 use Rattle.std.specs.Option.{option_and_then}
 use Rattle.std.specs.declared.alloc.Global.{Global}
@@ -35,36 +35,36 @@ use Rattle.run_http.specs.declared.row_sizes.Sizes.{Sizes}
 abbrev pub rows_between : List Fact → (meter : Option (List ℕ)) → (from till : ℕ) → List Share
 rows_between facts meter from till = rows_in (intervals_within facts meter (Between from till))
 
--- The rows that are still to be written: first those that are not yet queried, and then those that
--- were kept.
+-- The rows that are still to be written: the rows not yet queried, followed by the stored last
+-- rows.
 abbrev pub rows_left : List Fact → RowsLeft → List Share
 rows_left facts left = rows_between facts left.meter left.from left.till ++ left.last.items
 
--- The text that is still to be written: the lines of the remaining rows, and the number of all
--- rows.
+-- The text that is still to be written: the lines of the remaining rows, and the line with the
+-- number of all rows.
 abbrev pub text_left : List Fact → RowsLeft → List ℕ
 text_left facts left =
     flat_map share_line (rows_left facts left)
     ++ end_line (left.told + length (rows_left facts left))
 
--- Some rows of the response are still to be queried.
+-- True if some rows of the response are still to be queried.
 abbrev pub has_more : RowsLeft → Bool
 has_more left = nat_lt left.from left.till
 
--- The start of the quarter hour of the meter's last entry; 0 without a meter.
+-- The start of the quarter hour of the meter's last entry; 0 if there is no meter.
 abbrev pub last_quarter : Option Installation → ℕ
 last_quarter None = 0
 last_quarter (Some it) = quarter_of it.last.at
 
--- The rows to query start before the quarter hour of the meter's last entry, so new entries change
--- none of them.
+-- The rows still to be queried start before the quarter hour of the meter's last entry, so that new
+-- entries change none of them.
 abbrev pub IsSettled : List Fact → RowsLeft → Type 0
 IsSettled facts left =
     left.from < left.till
     → left.till ≤ last_quarter (option_and_then (meter_of facts) left.meter)
 
--- If later records void no entry that the meter has now, the text that is still to be written stays
--- as it is. So all chunks belong to the time at which the response began.
+-- If later records void no entry that the meter has now, they do not change the text still to be
+-- written. All chunks then belong to the time at which the response began.
 abbrev pub TextStays : Type 0
 TextStays = (further facts : List Fact) (meter : List ℕ) (opening : Opening) (left : RowsLeft)
     → AreLawful (further ++ facts) → opening_of facts meter ≡ Some opening
@@ -72,31 +72,31 @@ TextStays = (further facts : List Fact) (meter : List ℕ) (opening : Opening) (
     → All (VoidsFrom meter (next_place facts opening)) further
     → text_left (further ++ facts) left ≡ text_left facts left
 
--- ---- The beginning of a response.
+-- ---- The beginning of a streamed response.
 
--- The start of the rows to query: `from`, or the quarter hour of the opening entry if that is
--- later.
+-- The start of the rows to query: `from`, or the quarter hour of the meter's opening entry if that
+-- is later.
 abbrev pub first_asked : Installation → (from : ℕ) → ℕ
 first_asked it from = max from (quarter_of it.opening.at)
 
--- The end of the rows to query later. They end before the quarter hour of the meter's last entry,
--- because new entries change no row before it.
+-- The end of the rows that are queried chunk by chunk: `till`, or the quarter hour of the meter's
+-- last entry if that is earlier. New entries change no row before that quarter hour.
 abbrev pub asked_till : Installation → (from till : ℕ) → ℕ
 asked_till it from till = max (first_asked it from) (min till (quarter_of it.last.at))
 
--- The rows to query later span more than `seconds` seconds.
+-- True if the rows that are queried chunk by chunk span more than `seconds` seconds.
 abbrev pub are_many : Installation → (from till seconds : ℕ) → Bool
 are_many it from till seconds = nat_lt seconds (asked_till it from till - first_asked it from)
 
--- The bytes that were written and the text that is left together are the response with all
--- requested rows. The text that is left does not change.
+-- The written bytes, followed by the remaining text, are the response with all requested rows.
+-- Later entries do not change the remaining text.
 pub record IsBegun (facts : List Fact) (meter : List ℕ) (from till : ℕ)
     (reply : List Share → List ℕ) (put : List ℕ) (left : RowsLeft) : Type 0 where
   pub tells : put ++ text_left facts left ≡ reply (rows_between facts (Some meter) from till)
   pub settled : IsSettled facts left
 
--- If `it` is the meter's current row, the response has begun as `IsBegun` says, or the store
--- failed. Memory may also have run out.
+-- If `it` is the meter as the program reports it now, the response has begun as in `IsBegun`, or
+-- the store failed. Memory may also have run out.
 abbrev pub AreBegun : {B E : Type 0} → (B → Ledger) → (old new : Office B) → Installation
     → (from till : ℕ) → (reply : List Share → List ℕ) → (put : List ℕ)
     → (answer : Result (Unit {0}) Refusal) → Result (Result RowsLeft Refusal) E → Type 0
@@ -110,7 +110,7 @@ AreBegun ledger old new it from till reply put answer (Ok (Err why)) =
     → IsOutside ⊥ (failures_of ledger old) (failures_of ledger new) why)
 AreBegun ledger old new it from till reply put answer (Err fault) = Unit {0}
 
--- The office is queried, which changes nothing, and the response begins as `AreBegun` says.
+-- The call queries the store, which changes no record, and begins the response as in `AreBegun`.
 pub record BeginsReply {B : Type 0} (ledger : B → Ledger) (old new : Office B) (it : Installation)
     (from till : ℕ) (reply : List Share → List ℕ) (put : List ℕ) {E : Type 0}
     (result : Result (Result RowsLeft Refusal) E) : Type 0 where
@@ -118,30 +118,31 @@ pub record BeginsReply {B : Type 0} (ledger : B → Ledger) (old new : Office B)
   pub asks : OnlyAsks ledger old new answer
   pub begins : AreBegun ledger old new it from till reply put answer result
 
--- A complete response with rows whose head has the size of its body.
+-- A complete response with rows, whose head contains the size of its body.
 abbrev pub with_rows : List ℕ → List Share → List ℕ
 with_rows text rows = with_reply Fine (codes "text/plain") (intervals_text rows) text
 
--- The office's own response, which ends with the number of rows. All rows start at 0 or later, and
--- before 2^64 - 1 (`RowsBeforeStay`).
+-- The response with all quarter hours of a meter, without Content-Length. The rows start at 0 or
+-- later and before 2^64 - 1 (`RowsBeforeStay`).
 abbrev pub with_all_rows : List ℕ → List Share → List ℕ
 with_all_rows text rows = text ++ reply_bytes (lines_reply intervals_text (Ok rows))
 
--- ---- The size of a response.
+-- ---- The size of a streamed response.
 
--- The sizes are those of these rows: the bytes of their lines, and their number.
+-- The sizes equal the number of bytes in the rows' lines, and the number of rows.
 abbrev pub AreSizes : Sizes → List Share → Type 0
 AreSizes sizes rows =
     (sizes.bytes ≡ length (flat_map share_line rows)) × (sizes.count ≡ length rows)
 
--- The size of the row's line is added, and the row is counted, unless memory runs out.
+-- The number of rows rises by one, and the size of the row's line is added to the total size,
+-- unless memory runs out.
 abbrev pub SizesRow : RowSizes → Share → RowSizes → Type 0
 SizesRow old row new = new.is_whole ≡ true
     → (old.is_whole ≡ true) × (new.sizes.bytes ≡ old.sizes.bytes + length (share_line row))
     × (new.sizes.count ≡ old.sizes.count + 1)
 
--- These are the sizes of the rows that are still to be queried, unless the store fails or memory
--- runs out.
+-- The result has the sizes of the rows that are still to be queried, unless the store failed or
+-- memory ran out.
 abbrev pub AreSized : {B E : Type 0} → (B → Ledger) → (old new : Office B) → RowsLeft
     → (answer : Result (Unit {0}) Refusal) → Result (Result Sizes Refusal) E → Type 0
 AreSized ledger old new left answer (Ok (Ok sizes)) =
@@ -154,29 +155,30 @@ AreSized ledger old new left answer (Ok (Err why)) =
     (failures_of ledger old) (failures_of ledger new) answer)
 AreSized ledger old new left answer (Err fault) = Unit {0}
 
--- The size in bytes of the body of a response, from the sizes of its rows that are still to be
--- queried.
+-- The size in bytes of a response's body, given the sizes of its rows that are still to be queried.
 abbrev pub body_size : RowsLeft → Sizes → ℕ
 body_size left sizes =
     sizes.bytes
     + length (flat_map share_line left.last.items
     ++ end_line (left.told + sizes.count + length left.last.items))
 
--- The head of a text response with a body of `size` bytes.
+-- The head of a plain-text response with a body of `size` bytes.
 abbrev pub with_head : (size : ℕ) → List ℕ → List ℕ
 with_head size text = with_start_of Fine (codes "text/plain") size text ++ codes "\r\n\r\n"
 
--- The office is queried for the sizes of the rows that are still to be queried.
+-- The call queries the store for the rows that are still to be written. Its result is the sizes of
+-- these rows.
 pub record SizesRows {B : Type 0} (ledger : B → Ledger) (old new : Office B) (left : RowsLeft)
     {E : Type 0} (result : Result (Result Sizes Refusal) E) : Type 0 where
   pub answer : Result (Unit {0}) Refusal
   pub asks : OnlyAsks ledger old new answer
   pub sizes : AreSized ledger old new left answer result
 
--- ---- The chunks of a response.
+-- ---- The chunks of a streamed response.
 
--- A chunk was written, with rows that start within `seconds`. If rows were still to be queried, the
--- chunk covers a part of their span. The remaining state is unchanged.
+-- A chunk was written to the response, with rows that start within `seconds` seconds. If rows were
+-- still to be queried before the chunk, then fewer rows are after it. The meter and the end of the
+-- rows are unchanged.
 pub record MovesOn (left later : RowsLeft) (seconds : ℕ) : Type 0 where
   pub meter : later.meter ≡ left.meter
   pub till : later.till ≡ left.till
@@ -184,8 +186,8 @@ pub record MovesOn (left later : RowsLeft) (seconds : ℕ) : Type 0 where
   pub none : left.till ≤ left.from → later.till ≤ later.from
   pub few : later.from ≤ left.from + seconds
 
--- The written bytes and the text that is left together are unchanged by the chunk. Otherwise the
--- store failed or memory ran out.
+-- The written bytes and the remaining text together are the same before and after the chunk, unless
+-- the store failed or memory ran out.
 abbrev pub HasTold : {B E : Type 0} → (B → Ledger) → (old new : Office B)
     → (answer : Result (Vec Share Global) Refusal) → (left later : RowsLeft) → (seconds : ℕ)
     → (from to : List ℕ) → Result (Result (Unit {0}) Refusal) E → Type 0
@@ -196,7 +198,8 @@ HasTold ledger old new answer left later seconds from to (Ok (Ok done)) =
 HasTold ledger old new answer left later seconds from to (Ok (Err why)) = answer ≡ Err why
 HasTold ledger old new answer left later seconds from to (Err fault) = Unit {0}
 
--- The rows of a chunk are queried and written.
+-- The call queries the store for the rows of one chunk, and writes the lines of these rows to the
+-- response.
 pub record TellsOn {B : Type 0} (ledger : B → Ledger) (old new : Office B) (left later : RowsLeft)
     (seconds : ℕ) (from to : List ℕ) {E : Type 0} (result : Result (Result (Unit {0}) Refusal) E)
     : Type 0 where
@@ -204,32 +207,32 @@ pub record TellsOn {B : Type 0} (ledger : B → Ledger) (old new : Office B) (le
   pub asks : OnlyAsks ledger old new answer
   pub tells : HasTold ledger old new answer left later seconds from to result
 
--- If no rows are still to be queried, the rest of the response is written.
+-- If no rows are still to be queried, then the call writes the remaining text of the response.
 abbrev pub TellsRest : RowsLeft → (from to : List ℕ) → Type 0
 TellsRest left from to =
     (facts : List Fact) → left.till ≤ left.from → to ≡ from ++ text_left facts left
 
--- ---- The complete response.
+-- ---- The complete streamed response.
 
--- A chunk: the records that were added before it, the state after it, and the text that was written
--- so far.
+-- A chunk of a response: all records added since the response began, the state after the chunk, and
+-- the text written so far.
 pub record Piece : Type 0 where
   pub further : List Fact
   pub later : RowsLeft
   pub text : List ℕ
 
--- The state of a response after some chunks, the latest chunk first.
+-- The state of a streamed response after some chunks, the latest chunk first.
 abbrev pub left_after : RowsLeft → List Piece → RowsLeft
 left_after left [] = left
 left_after left (piece ∷ earlier) = piece.later
 
--- The text of a response that some chunks have written, the latest chunk first.
+-- The text of a streamed response after some chunks, the latest chunk first.
 abbrev pub text_after : List ℕ → List Piece → List ℕ
 text_after text [] = text
 text_after text (piece ∷ earlier) = piece.text
 
--- The chunk continues the response as `HasTold` says. The records that were added before it void no
--- entry that the meter had when the response began.
+-- True if a chunk has the next rows of a response that is sent in chunks. The records added since
+-- the response began void no meter entry that was recorded by then.
 pub record IsPiece (facts : List Fact) (meter : List ℕ) (opening : Opening) (left : RowsLeft)
     (text : List ℕ) (piece : Piece) : Type 0 where
   pub lawful : AreLawful (piece.further ++ facts)
@@ -239,7 +242,8 @@ pub record IsPiece (facts : List Fact) (meter : List ℕ) (opening : Opening) (l
   pub tells : piece.text ++ text_left (piece.further ++ facts) piece.later
       ≡ text ++ text_left (piece.further ++ facts) left
 
--- Each of these chunks, the latest first, continues the response after the earlier chunks.
+-- Each chunk in the list continues the response after the chunks before it. The latest chunk comes
+-- first.
 abbrev pub ArePieces : List Fact → (meter : List ℕ) → Opening → RowsLeft → (text : List ℕ)
     → List Piece → Type 0
 ArePieces facts meter opening left text [] = Unit {0}
@@ -247,9 +251,9 @@ ArePieces facts meter opening left text (piece ∷ earlier) =
     IsPiece facts meter opening (left_after left earlier) (text_after text earlier) piece
     × ArePieces facts meter opening left text earlier
 
--- A response that is written in chunks is complete, even if records are added between them. The
--- condition is that these void no entry that the meter had at the beginning. Then the written text
--- and the text that is left are the response at the time when it began.
+-- If no record added between chunks voids an entry that the meter had at the beginning, then the
+-- chunks together are complete. The written text and the remaining text are then the response as of
+-- its beginning.
 abbrev pub PiecesAreWhole : Type 0
 PiecesAreWhole = (facts : List Fact) (meter : List ℕ) (opening : Opening) (left : RowsLeft)
     (text : List ℕ) (pieces : List Piece) → opening_of facts meter ≡ Some opening

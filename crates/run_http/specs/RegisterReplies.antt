@@ -1,4 +1,4 @@
--- The responses to queries for the energy of an accounting register, by the office's answers.
+-- The responses to queries for the energy of an accounting register, given the program's answers.
 use Rattle.std.specs.Prelude.{◌≡◌, ℕ, false, List, map, Option, Some, Result, Ok, Err, IfOk, OnOk, codes}
 use Rattle.std.specs.Option.{option_and_then}
 use Rattle.std.specs.Io.KnownBytes.{Appends}
@@ -23,14 +23,14 @@ use Rattle.office_core.specs.declared.office.Office.{Office}
 use Rattle.run_http.specs.SiteReply.{with_refusal}
 use Rattle.run_http.specs.StatusRoute.{with_reply}
 
--- The remaining text of a report is written, unless memory runs out.
+-- The call writes the remaining text of an energy report, unless memory runs out.
 pub record PutsLast {W E : Type 0} (contents : W → Option (List ℕ))
     (result : Result (Result (Unit {0}) Refusal) E) (old new : ReportRows W) : Type 0 where
   pub finishes : Finishes contents old new
   pub whole : OnOk result (new.failed ≡ false)
 
--- This is the report on the register's days within the range of the form, in the office's time
--- zone.
+-- `Is` accepts the report on the register's daily energy within the range of the form, in the
+-- configured time zone.
 abbrev pub IsReport : Zone → History → (register : Option (List ℕ)) → ReportForm
     → (Is : List ℕ → Type 0) → Type 0
 IsReport zone past register form Is =
@@ -38,9 +38,10 @@ IsReport zone past register form Is =
     × AreDaysWithin zone (facts_of past) register form.range (map account_of days)
     × Is (report_text form days)
 
--- The report is written, or the answer says why there is none. Either no register has the name, or
--- the store or memory failed, or the office had stopped. The office allocates only for the days of
--- a register that exists.
+-- Either the call writes the energy report, or its answer is a refusal. A refusal means that no
+-- accounting register has the name, or the store or memory failed, or an earlier failure makes the
+-- program refuse all events. The program allocates memory only for the days of a register that
+-- exists.
 pub record ReportsDays (zone : Zone) (past : History) (register : Option (List ℕ))
     (form : ReportForm) (before after : Failures) (answer : Result (Unit {0}) Refusal)
     (Is : List ℕ → Type 0) : Type 0 where
@@ -48,7 +49,8 @@ pub record ReportsDays (zone : Zone) (past : History) (register : Option (List �
       IsFound (there ≡ Some tt) there before after answer
   pub report : OnOk answer (IsReport zone past register form Is)
 
--- For every history that the office matched, `ReportsDays` describes the report.
+-- For every history of accepted events that matches the program's state, `ReportsDays` describes
+-- the report.
 abbrev pub TellsDaysReport : {B : Type 0} → (B → Ledger) → (old new : Office B)
     → (register : Option (List ℕ)) → ReportForm → Result (Unit {0}) Refusal → (Is : List ℕ → Type 0)
     → Type 0
@@ -56,7 +58,8 @@ TellsDaysReport ledger old new register form answer Is = After ledger old new
     (λ past. ReportsDays (ledger (books_in old)).zone past register form
     (failures_of ledger old) (failures_of ledger new) answer Is)
 
--- The office is queried once, and the report is written, unless memory runs out for it.
+-- The call queries the store once and writes the energy report, unless memory for the report runs
+-- out.
 pub record AsksEnergy {B : Type 0} (ledger : B → Ledger) (old new : Office B)
     (register : Option (List ℕ)) (form : ReportForm) (had holds : Option (List ℕ)) {E : Type 0}
     (result : Result (Result (Unit {0}) Refusal) E) : Type 0 where
@@ -65,12 +68,13 @@ pub record AsksEnergy {B : Type 0} (ledger : B → Ledger) (old new : Office B)
   pub gives : IfOk result (λ told. told ≡ answer)
   pub tells : OnOk result (TellsDaysReport ledger old new register form answer (Appends had holds))
 
--- The response with the report, or with the refusal.
+-- The response with the energy report, or with the program's refusal.
 abbrev pub with_energy_reply : Result (Unit {0}) Refusal → (report : List ℕ) → List ℕ → List ℕ
 with_energy_reply (Ok done) report text = with_reply Fine (codes "text/plain") report text
 with_energy_reply (Err why) report text = with_refusal why text
 
--- The office is queried once, and its report or refusal is the response, unless memory runs out.
+-- The call queries the store once, and appends the response with the report or the refusal, unless
+-- memory runs out.
 pub record RepliesEnergy {B : Type 0} (ledger : B → Ledger) (old new : Office B)
     (register : Option (List ℕ)) (form : ReportForm) (from to : List ℕ) {E : Type 0}
     (result : Result (Unit {0}) E) : Type 0 where

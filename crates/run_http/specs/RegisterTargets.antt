@@ -1,6 +1,6 @@
--- The targets for a register: `/registers/NAME/days/FROM/TILL` has its energy on the days from FROM
--- on, and before TILL. `/registers/NAME/months` has the energy of all days by month.
--- `/registers/NAME/meters` has the present and earlier meters.
+-- The request targets for an accounting register. `/registers/NAME/days/FROM/TILL` returns its
+-- energy on the days from FROM on and before TILL. `/registers/NAME/months` returns the energy of
+-- all days by month. `/registers/NAME/meters` returns the present and earlier meters.
 use Rattle.std.specs.Prelude.{◌≡◌, ◌⊎◌, ℕ, ◌+◌, Bool, true, false, List, take, drop, bytes_eq, is_some, Option, Some, None, codes}
 use Rattle.jiff_core.specs.declared.civil.date.Date.{Date}
 use Rattle.energy_report.specs.Days.{IsReadAs, Spells}
@@ -18,87 +18,90 @@ use Rattle.run_http.specs.declared.route.RunRoute.{RunRoute}
 use Rattle.run_http.specs.declared.route.RunRoute.TheVariants.{Own, Energy, Meters}
 use Rattle.run_http.specs.declared.route.StatusRoute.TheVariants.{Rejected}
 
--- ---- Ranges of days.
+-- ---- Ranges of days in request targets.
 
--- The range of days from `first` until before `last`.
+-- The range of days from `first` on and before `last`.
 abbrev pub from_till : (first last : Date) → DayRange
 from_till first last = record { from = Some first; till = Some last }
 
--- The texts spell the two days of the range. `backward` says whether the second day is before the
--- first.
+-- The two texts are the days at the ends of the range. `backward` says whether the second day is
+-- before the first.
 abbrev pub SpellRange : (from till : List ℕ) → DayRange → (backward : Bool) → Type 0
 SpellRange from till range backward =
     (first last : Date) × Spells from first × Spells till last × (range ≡ from_till first last)
     × (is_backward range ≡ backward)
 
--- The two texts spell this range. None if a text is no day, or if the range ends before it begins.
+-- The two texts are the ends of this range. None if a text is no day, or if the second day is
+-- before the first.
 abbrev pub IsRangeOf : (from till : List ℕ) → Option DayRange → Type 0
 IsRangeOf from till (Some range) = SpellRange from till range false
 IsRangeOf from till None =
     IsReadAs from None ⊎ IsReadAs till None
     ⊎ ((range : DayRange) × SpellRange from till range true)
 
--- ---- Targets.
+-- ---- Request targets for an accounting register.
 
--- The form of a report with one line for each period, in mWh.
+-- The form of a report with one plain-text line for each period, in mWh.
 abbrev pub lines_of : DayRange → Period → ReportForm
 lines_of range period =
     record { range = range; period = period; unit = MilliwattHours; format = Text }
 
--- The route to the energy on the days of a range. Without a range it is 400, and a malformed name
--- is the name of no register.
+-- The route to the daily energy in a range of days, or 400 without a range. An invalid name matches
+-- no register.
 abbrev pub days_asked : (name : List ℕ) → Option DayRange → RunRoute
 days_asked name None = Own (Rejected BadRequest)
 days_asked name (Some range) = Energy (named name) (lines_of range period.Day)
 
--- The route to the energy of a register by month, over all its days.
+-- The route to the energy of an accounting register by month, over all its days.
 abbrev pub months_asked : (name : List ℕ) → RunRoute
 months_asked name = Energy (named name) (lines_of all_days period.Month)
 
--- The route for two days, unless `goes_on`: then the target has too many segments and no route.
+-- The route to daily energy between two days. If `goes_on` is true, the target has too many
+-- segments and no route.
 abbrev pub IsDaysUnless : (goes_on : Bool) → (name from till : List ℕ) → Option RunRoute → Type 0
 IsDaysUnless true name from till route = route ≡ None
 IsDaysUnless false name from till route =
     (range : Option DayRange) × IsRangeOf from till range × (route ≡ Some (days_asked name range))
 
--- The route for two days, if the second one ends the target.
+-- The route to daily energy between two days. If the second text has a slash, there is no route.
 abbrev pub IsDaysTill : (name from till : List ℕ) → Option RunRoute → Type 0
 IsDaysTill name from till route = IsDaysUnless (is_some (slash_in till)) name from till route
 
--- The route for the text after the segment `days`, cut at its first slash into two days.
+-- The route for the text after `days/`, split at its first slash into two days.
 abbrev pub IsDaysCut : (name text : List ℕ) → (at : Option ℕ) → Option RunRoute → Type 0
 IsDaysCut name text None route = route ≡ None
 IsDaysCut name text (Some at) route = IsDaysTill name (take at text) (drop (at + 1) text) route
 
--- The route for the text after the segment `days`.
+-- The route for the text after `days/`.
 abbrev pub IsDaysIn : (name text : List ℕ) → Option RunRoute → Type 0
 IsDaysIn name text route = IsDaysCut name text (slash_in text) route
 
--- The route for the text after `days/`. Without that segment there is none.
+-- The route for the text after `days/`, or none if the target has no such segment.
 abbrev pub IsDaysAsked : (name : List ℕ) → (days : Option (List ℕ)) → Option RunRoute → Type 0
 IsDaysAsked name None route = route ≡ None
 IsDaysAsked name (Some text) route = IsDaysIn name text route
 
--- The route to the energy by month, if `is_months`, otherwise to the energy by day.
+-- The route to the energy by month if `is_months` is true, otherwise to the energy by day.
 abbrev pub IsEnergyAsked : (is_months : Bool) → (name text : List ℕ) → Option RunRoute → Type 0
 IsEnergyAsked true name text route = route ≡ Some (months_asked name)
 IsEnergyAsked false name text route = IsDaysAsked name (after (codes "days/") text) route
 
--- The route to the energy of a register, for the text after the register's name and a slash.
+-- The route to the energy of an accounting register, for the text after `/registers/NAME/`.
 abbrev pub IsEnergyIn : (name text : List ℕ) → Option RunRoute → Type 0
 IsEnergyIn name text route = IsEnergyAsked (bytes_eq text (codes "months")) name text route
 
--- The route to the meters of a register, if `is_meters`, otherwise to its energy.
+-- The route to the meters of an accounting register if `is_meters` is true, otherwise to its
+-- energy.
 abbrev pub IsRowsAsked : (is_meters : Bool) → (name text : List ℕ) → Option RunRoute → Type 0
 IsRowsAsked true name text route = route ≡ Some (Meters (named name))
 IsRowsAsked false name text route = IsEnergyIn name text route
 
--- The route for the text after the register's name and a slash.
+-- The route for the text after `/registers/NAME/`.
 abbrev pub IsRowsIn : (name text : List ℕ) → Option RunRoute → Type 0
 IsRowsIn name text route = IsRowsAsked (bytes_eq text (codes "meters")) name text route
 
--- The route for the text after `/registers/`, cut at its first slash. Without a slash there is
--- none.
+-- The route for the text after `/registers/`, split at its first slash. A text without a slash has
+-- no route.
 abbrev pub IsRegisterCut : (text : List ℕ) → (at : Option ℕ) → Option RunRoute → Type 0
 IsRegisterCut text None route = route ≡ None
 IsRegisterCut text (Some at) route = IsRowsIn (take at text) (drop (at + 1) text) route
@@ -107,11 +110,12 @@ IsRegisterCut text (Some at) route = IsRowsIn (take at text) (drop (at + 1) text
 abbrev pub IsRegisterIn : (text : List ℕ) → Option RunRoute → Type 0
 IsRegisterIn text route = IsRegisterCut text (slash_in text) route
 
--- The route of a target that begins with `/registers/`. Any other target has none here.
+-- The route of a target that begins with `/registers/`. Other targets have no route of this kind.
 abbrev pub IsRegisterAsked : Option (List ℕ) → Option RunRoute → Type 0
 IsRegisterAsked None route = route ≡ None
 IsRegisterAsked (Some text) route = IsRegisterIn text route
 
--- The route of a target for an accounting register.
+-- The route of a request target for an accounting register. Other targets have no route of this
+-- kind.
 abbrev pub IsRegisterTarget : (target : List ℕ) → Option RunRoute → Type 0
 IsRegisterTarget target route = IsRegisterAsked (after (codes "/registers/") target) route

@@ -1,4 +1,4 @@
--- The response to a query for the registers and meters of the site.
+-- The response to a query for `/site`: the accounting registers and their meters.
 use Rattle.std.specs.Prelude.{◌≡◌, ℕ, List, [], Result, Ok, Err, OnOk, codes}
 use Rattle.std.specs.declared.alloc.Global.{Global}
 use Rattle.std.specs.declared.vec.Vec.{Vec}
@@ -16,19 +16,20 @@ use Rattle.run_http.specs.StatusRoute.{with_reply}
 use Rattle.run_http.specs.Texts.SiteText.{with_site}
 use Rattle.run_http.specs.declared.texts.site.SiteLine.{SiteLine}
 
--- The response that reports a refusal, with the same status and number as for any other query.
+-- The response that reports the program's refusal of a query, with its status and number.
 abbrev pub with_refusal : Refusal → List ℕ → List ℕ
 with_refusal why text =
     with_reply (status_of why) (codes "application/json") (refused_text (refusal_number why)) text
 
--- The response with the registers and their meters as JSON, or with the refusal of the query.
+-- The response with the accounting registers and their meters as JSON, or with the program's
+-- refusal of the query.
 abbrev pub with_site_reply : (at : ℕ) → Result (Vec SiteLine Global) Refusal → List ℕ → List ℕ
 with_site_reply at (Ok lines) text =
     with_reply Fine (codes "application/json") (with_site [] at lines.items) text
 with_site_reply at (Err why) text = with_refusal why text
 
--- The office is queried once for its registers and meters. Its answer or refusal is the response,
--- unless memory runs out.
+-- The call queries the store once for its accounting registers and meters. It appends the response
+-- with these registers and meters, or with the refusal, unless memory runs out.
 pub record RepliesSite {B : Type 0} (ledger : B → Ledger) (old new : Office B)
     (reply : Result (Vec SiteRow Global) Refusal → List ℕ → List ℕ) (from to : List ℕ)
     {E : Type 0} (result : Result (Unit {0}) E) : Type 0 where

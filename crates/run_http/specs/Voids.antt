@@ -7,16 +7,16 @@ use Rattle.office_books.specs.declared.entries.MeterEntry.{MeterEntry}
 use Rattle.office_books.specs.declared.entries.MeterEntry.TheVariants.{Opening, Later}
 use Rattle.office_books.specs.Entries.{entries_at}
 
--- The entry is voided. The opening entry never is.
+-- True if the meter entry is voided. The opening entry cannot be voided.
 abbrev pub is_voided : MeterEntry → Bool
 is_voided (Opening last) = false
 is_voided (Later row sf) = not row.stands
 
--- The entries among these that are voided, in order.
+-- The voided meter entries in a list of meter entries, in order.
 abbrev pub voided_in : List MeterEntry → List MeterEntry
 voided_in entries = filter is_voided entries
 
--- The voided entries of the meter with this name. None without such a meter.
+-- The voided entries of the meter with this name. None if no meter has the name.
 abbrev pub voids_of : List Fact → (meter : Option (List ℕ)) → Option (List MeterEntry)
 voids_of facts meter =
     option_map (λ opening. voided_in (entries_at facts (Some opening)))

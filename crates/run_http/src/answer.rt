@@ -1,4 +1,4 @@
-//! The office's reply to the bytes that a client has sent so far.
+//! Answers the HTTP request in the bytes that a client has sent so far.
 ghost use Rattle.office_http.specs.Serving.{Lasts};
 ghost use Rattle.run_http.specs.Answer.{Asks};
 
@@ -8,21 +8,21 @@ use office_core::Office;
 use office_http::{HandleFault, handle};
 use std::alloc::Global;
 
-/// What the server does with the bytes that a client has sent so far.
+/// The result of looking for a request in the bytes that a client has sent so far.
 #[derive(Drop)]
 pub enum PeerReply {
-    /// The bytes hold no complete request. The office was not asked.
+    /// The bytes hold no complete request, and nothing was executed.
     Open,
-    /// The response. It is cut off if the store failed while its rows were written.
+    /// The bytes of the response. It is cut off if the store failed while rows were written.
     Replied(Vec<u8>),
-    /// There was no memory for the response, or the request took too many reads.
+    /// Memory for the response ran out, or the request took too many reads.
     Failed,
 }
 
-/// Lets the office answer the request that the bytes of a client hold. `moment` is in seconds since
-/// 1970-01-01 UTC.
+/// Executes the request in the bytes of a client, and returns the response. `moment` is in seconds
+/// since 1970-01-01 UTC.
 ///
-/// If the bytes hold no complete request, call it again with more bytes.
+/// If the result is `Open`, the caller should try again with more bytes of the client.
 pub fn ask<B: Books>(
     alloc: Global,
     request: &[u8],

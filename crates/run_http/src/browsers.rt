@@ -1,4 +1,4 @@
-//! The headers for browsers in each response of a run.
+//! Adds the response headers that protect users of browsers.
 ghost use Rattle.std.specs.Prelude.{◌≡◌, IfOk};
 ghost use Rattle.http_request.specs.Hosts.{texts};
 ghost use Rattle.run_http.specs.Browsers as browsers;
@@ -29,14 +29,14 @@ fn headers_for(is_page: bool) -> &'static [u8]
     if is_page { OF_PAGE } else { OF_OTHERS }
 }
 
-// Returns the index of the line feed that ends the first line of a response.
+// Returns the index of the line feed at the end of a response's status line.
 fn first_line_end(reply: &[u8]) -> Option<usize>
     ensures { result ≡ browsers.first_line_end reply.now }
 {
     reply.iter().position(|byte| *byte == b'\n')
 }
 
-// Inserts headers after the first line of a response.
+// Inserts headers after the status line of a response.
 fn with_headers(alloc: Global, more: &[u8], reply: &[u8]) -> Result<Vec<u8>, AllocError>
     ensures { IfOk result (λ told. told.items ≡ browsers.with_headers more.now reply.now) }
 {
@@ -49,11 +49,11 @@ fn with_headers(alloc: Global, more: &[u8], reply: &[u8]) -> Result<Vec<u8>, All
     Ok(told)
 }
 
-/// Adds the headers for browsers to the response to a request.
+/// Adds to a response the headers that protect users of browsers.
 ///
-/// With these headers a browser takes the body for what `Content-Type` says, and shares it with no
-/// page of another site. Only parts of the page may be cached. `names` are the host names of the
-/// run. Fails if memory runs out.
+/// With these headers, a browser does not guess the type of the body, and other sites cannot use
+/// the body. Only parts of the web page may be cached. `names` are the server's host names. Fails
+/// if memory runs out.
 pub fn for_browsers(
     alloc: Global,
     names: &[&str],

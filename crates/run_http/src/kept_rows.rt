@@ -1,9 +1,9 @@
-//! A row sink that keeps all rows.
+//! A row visitor that collects all interval rows in memory.
 use interval_core::Share;
 use office_books::RowSink;
 use std::alloc::{AllocError, Global};
 
-/// The rows that the sink has received. `is_whole` is false once memory ran out for a row.
+/// The interval rows received so far. `is_whole` is false after memory ran out for a row.
 #[derive(Drop)]
 pub struct KeptRows {
     rows: Vec<Share>,
@@ -13,7 +13,7 @@ pub struct KeptRows {
 impl KeptRows {
     ghost use Rattle.std.specs.Prelude.{◌≡◌, [], true, IfOk};
 
-    /// Makes an empty sink.
+    /// Makes a row visitor without rows.
     pub fn new(alloc: Global) -> KeptRows
         ensures none { result.rows.items ≡ [] }
         ensures whole { result.is_whole ≡ true }
@@ -24,7 +24,7 @@ impl KeptRows {
         }
     }
 
-    /// Returns all rows. Fails if memory ran out for one of them.
+    /// Returns all rows. Fails if memory ran out for any of the rows.
     pub fn into_rows(self) -> Result<Vec<Share>, AllocError>
         ensures whole { IfOk result (λ rows. self.is_whole ≡ true) }
         ensures rows { IfOk result (λ rows. rows ≡ self.rows) }

@@ -1,5 +1,5 @@
-//! Routes the requests of a run's clients, and builds the responses: from the office over a link in
-//! memory, from counts, or from the page.
+//! Routes the requests of HTTP clients, and builds the responses from the store, from counts, or
+//! from the files of the web page.
 #![tactic(auto)]
 
 mod answer;

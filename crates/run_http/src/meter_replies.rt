@@ -1,4 +1,4 @@
-//! The responses to queries for rows of a meter.
+//! The responses to queries for the quarter hours or the entries of a meter.
 ghost use Rattle.std.specs.Prelude.{◌≡◌, OnOk};
 ghost use Rattle.interval_core.specs.Lines.{intervals_text};
 ghost use Rattle.office_core.specs.Parts.{entries_within, intervals_within};
@@ -16,10 +16,10 @@ use office_core::Office;
 use office_events::{Name, Refusal};
 use std::alloc::{AllocError, Global};
 
-/// The most entries that one response has.
+/// The most meter entries in one response.
 pub const MOST_ENTRIES: u32 = 4096;
 
-/// Queries the quarter hours of a meter.
+/// Queries the quarter hours of a meter from the store.
 pub(crate) fn ask_intervals<B: Books>(
     alloc: Global,
     office: &mut Office<B>,
@@ -38,7 +38,7 @@ pub(crate) fn ask_intervals<B: Books>(
     }
 }
 
-// Appends the response with the quarter hours that the office answered.
+// Appends the response with the quarter hours of a meter, or with the program's refusal.
 fn put_intervals_told(
     alloc: Global,
     text: &mut Vec<u8>,
@@ -57,8 +57,8 @@ fn put_intervals_told(
     }
 }
 
-/// Queries the quarter hours of a meter, and appends the response. If memory runs out, a part of it
-/// remains.
+/// Queries the quarter hours of a meter, and appends the response. If memory runs out, a part of
+/// the response remains.
 pub fn reply_intervals<B: Books>(
     alloc: Global,
     text: &mut Vec<u8>,
@@ -74,7 +74,7 @@ pub fn reply_intervals<B: Books>(
     put_intervals_told(alloc, text, &answer)
 }
 
-// Appends the response with the entries that the office answered.
+// Appends the response with the entries of a meter, or with the program's refusal.
 fn put_entries_told(
     alloc: Global,
     text: &mut Vec<u8>,
@@ -93,8 +93,8 @@ fn put_entries_told(
     }
 }
 
-/// Queries the entries of a meter from a sequence number on, at most 4,096, and appends the
-/// response. If memory runs out, a part of it remains.
+/// Queries at most 4,096 entries of a meter, beginning at a sequence number, and appends the
+/// response. If memory runs out, a part of the response remains.
 pub fn reply_entries<B: Books>(
     alloc: Global,
     text: &mut Vec<u8>,

@@ -1,4 +1,4 @@
-//! The targets for rows of a meter.
+//! Parses the request targets for quarter hours, entries and voids of a meter.
 ghost use Rattle.std.specs.Prelude.{◌≡◌, option_map};
 ghost use Rattle.run_http.specs.MeterTargets as targets;
 
@@ -7,14 +7,14 @@ use http_request::{Status, digits};
 use office_books::Span;
 use office_events::Name;
 
-/// Returns the rest of a text after `word`, if the text begins with it.
+/// Returns the text after the prefix `word`, or `None` if the text has another beginning.
 pub(crate) fn after<'t>(word: &[u8], text: &'t [u8]) -> Option<&'t [u8]>
     ensures { option_map (λ rest. rest.now) result ≡ targets.after word.now text.now }
 {
     text.strip_prefix(word)
 }
 
-/// Returns the index of the first slash of a text.
+/// Returns the index of the first slash in a text.
 pub(crate) fn slash_in(text: &[u8]) -> Option<usize>
     ensures { result ≡ targets.slash_in text.now }
 {
@@ -29,7 +29,7 @@ fn span_of(from: &[u8], till: &[u8]) -> Option<Span>
     Some(Span::Between { from, till })
 }
 
-// Returns the route to the quarter hours of a span, or 400 without a span.
+// Returns the route to the quarter hours of a meter in a time span, or 400 without a span.
 fn intervals_asked(name: &[u8], span: Option<Span>) -> RunRoute
     ensures { result ≡ targets.intervals_asked name.now span }
 {
@@ -42,7 +42,8 @@ fn intervals_asked(name: &[u8], span: Option<Span>) -> RunRoute
     }
 }
 
-// Parses the two timestamps of a target. The second one must end the target.
+// Parses the two timestamps of a target for quarter hours. A target with a further segment has no
+// route.
 fn intervals_till(name: &[u8], from: &[u8], till: &[u8]) -> Option<RunRoute>
     ensures { result ≡ targets.intervals_till name.now from.now till.now }
 {
@@ -52,7 +53,7 @@ fn intervals_till(name: &[u8], from: &[u8], till: &[u8]) -> Option<RunRoute>
     Some(intervals_asked(name, span_of(from, till)))
 }
 
-// Parses the text after the segment `intervals`.
+// Parses the part of a target after `/meters/NAME/intervals/`.
 fn intervals_in(name: &[u8], text: &[u8]) -> Option<RunRoute>
     ensures { result ≡ targets.intervals_in name.now text.now }
 {
@@ -60,7 +61,7 @@ fn intervals_in(name: &[u8], text: &[u8]) -> Option<RunRoute>
     intervals_till(name, &text[..at], &text[at + 1..])
 }
 
-// Returns the route to the entries from a sequence number on, or 400 without a number.
+// Returns the route to the entries of a meter from a sequence number on, or 400 without a number.
 fn entries_asked(name: &[u8], place: Option<u64>) -> RunRoute
     ensures { result ≡ targets.entries_asked name.now place }
 {
@@ -73,7 +74,7 @@ fn entries_asked(name: &[u8], place: Option<u64>) -> RunRoute
     }
 }
 
-// Parses the sequence number, which must end the target.
+// Parses the sequence number in a target for entries. A target with a further segment has no route.
 fn entries_at(name: &[u8], place: &[u8]) -> Option<RunRoute>
     ensures { result ≡ targets.entries_at name.now place.now }
 {
@@ -107,7 +108,7 @@ fn meter_in(text: &[u8]) -> Option<RunRoute>
     rows_in(&text[..at], &text[at + 1..])
 }
 
-/// Parses a target for rows of a meter.
+/// Parses a request target for quarter hours, entries or voids of a meter.
 pub(crate) fn meter_target(target: &[u8]) -> Option<RunRoute>
     ensures { result ≡ targets.meter_target target.now }
 {

@@ -1,4 +1,4 @@
-//! The response to a query for metrics.
+//! The response to a query for `/metrics`.
 ghost use Rattle.std.specs.Prelude.{◌≡◌, OnOk};
 ghost use Rattle.run_http.specs.MetricsReply.{with_metrics_reply};
 ghost use Rattle.run_http.specs.SiteReply.{RepliesSite};
@@ -13,7 +13,7 @@ use office_events::Refusal;
 use run_status::{Counts, DeviceState};
 use std::alloc::{AllocError, Global};
 
-// Appends the response with what the office answered.
+// Appends the response with the metrics, or with the program's refusal.
 fn put_answer(
     alloc: Global,
     text: &mut Vec<u8>,
@@ -35,7 +35,7 @@ fn put_answer(
 }
 
 /// Queries the open meters, and appends the response with their energy and the counts. If memory
-/// runs out, a part of it remains.
+/// runs out, a part of the response remains.
 pub fn reply_metrics<B: Books>(
     alloc: Global,
     text: &mut Vec<u8>,

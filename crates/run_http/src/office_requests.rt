@@ -1,4 +1,4 @@
-//! Which requests to the office ask for all quarter hours of a meter, and which may void an entry.
+//! Recognizes requests for all quarter hours of a meter, and requests that may void an entry.
 ghost use Rattle.std.specs.Prelude.{◌≡◌, IfSome};
 ghost use Rattle.http_request.specs.Head.Heads.{Looks};
 ghost use Rattle.http_request.specs.declared.head.head.HeadState.TheVariants.{Whole};
@@ -11,7 +11,7 @@ use http_request::{Ask, Head, HeadState, Route, ask_of, parse_head};
 use matchit::Router;
 use office_events::Name;
 
-// Returns the meter whose quarter hours a complete head asks for, if it does.
+// Returns the meter if the complete head requests all quarter hours of a meter.
 fn meter_asked(
     router: &Router<Route>,
     request: &[u8],
@@ -34,8 +34,8 @@ fn meter_asked(
     }
 }
 
-/// Returns the meter all of whose quarter hours a request asks the office for, by the office's
-/// routes. `Some(None)` is a name that no meter can have.
+/// Returns the meter if a request asks for all quarter hours of a meter. `Some(None)` means an
+/// invalid meter name.
 pub fn all_rows_asked(router: &Router<Route>, request: &[u8]) -> Option<Option<Name>>
     ensures { IfSome result (AsksAllRows router.now request.now) }
 {
@@ -52,7 +52,7 @@ fn may_void_by(method: &[u8], target: &[u8]) -> bool
     method == b"POST".as_slice() && after(b"/meters/", target).is_some()
 }
 
-/// Returns whether a request may make the office void an entry.
+/// Returns whether a request may void an entry of a meter.
 pub fn may_void(request: &[u8]) -> bool
     ensures { MayVoid request.now result }
 {

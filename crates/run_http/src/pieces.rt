@@ -1,4 +1,4 @@
-//! Streams the quarter hours of a meter in chunks.
+//! Streams the quarter hours of a meter in chunks, so that no complete response is in memory.
 ghost use Rattle.std.specs.Prelude.{◌≡◌, ◌+◌, ◌<◌, ◌≤◌, [], ◌++◌, length, flat_map, IfOk, IfSome, OnOk};
 ghost use Rattle.http_answer.specs.Sending.Replies.{text_head};
 ghost use Rattle.interval_core.specs.Lines.{intervals_text, share_line};
@@ -21,17 +21,17 @@ use office_rules::facts_are_lawful;
 use run_status::{put, put_number, put_word};
 use std::alloc::{AllocError, Global};
 
-/// What is left of a response with quarter hours of a meter.
+/// The remaining part of a streamed response with quarter hours of a meter.
 #[derive(Drop)]
 pub struct RowsLeft {
     meter: Option<Name>,
-    /// Rows that start at `from` or later, and before `till`, are still to be queried.
+    /// Rows that start at `from` or later and before `till` are still to be queried.
     from: u64,
     till: u64,
-    /// The last rows of the response. New entries may change these rows, so the response keeps
-    /// them.
+    /// The last rows of the response. They are copied when the response begins, because new entries
+    /// may change these rows in the store.
     last: Vec<Share>,
-    /// The number of rows that were written.
+    /// The number of rows of the response that were already written.
     told: usize,
 }
 
@@ -41,29 +41,32 @@ fn quarter_of(moment: u64) -> u64
     moment - moment % INTERVAL_SECONDS
 }
 
-// Returns the start of the rows to query.
+// Returns the start of the first row to query: `from`, or the meter's first quarter hour if that is
+// later.
 fn first_asked(it: &Installation, from: u64) -> u64
     ensures { result ≡ pieces.first_asked it.now from }
 {
     from.max(quarter_of(it.opening.at))
 }
 
-// Returns the end of the rows to query later.
+// Returns the end of the rows that are queried chunk by chunk: `till`, or the quarter hour of the
+// meter's last entry if that is earlier.
 fn asked_till(it: &Installation, from: u64, till: u64) -> u64
     ensures { result ≡ pieces.asked_till it.now from till }
 {
     first_asked(it, from).max(till.min(quarter_of(it.last.at)))
 }
 
-/// Returns whether the rows that are queried later span more than `seconds`, in a response with the
-/// quarter hours from `from` on and before `till`.
+/// Returns whether the rows that are queried chunk by chunk span more than `seconds` seconds. The
+/// response has the quarter hours between `from` and `till`.
 pub fn are_many(it: &Installation, from: u64, till: u64, seconds: u64) -> bool
     ensures { result ≡ pieces.are_many it.now from till seconds }
 {
     asked_till(it, from, till).saturating_sub(first_asked(it, from)) > seconds
 }
 
-// Queries the rows that new entries may change, and keeps them. The other rows are queried later.
+// Queries and stores the rows that new entries may change. All other rows are queried later, chunk
+// by chunk.
 fn begin_rows<B: Books>(
     alloc: Global,
     office: &mut Office<B>,
@@ -91,7 +94,7 @@ fn begin_rows<B: Books>(
     }
 }
 
-// Queries the rows that are still to be queried, and only measures them.
+// Queries the rows that are still to be written, and measures the size of their lines.
 fn ask_sizes<B: Books>(
     alloc: Global,
     office: &mut Office<B>,
@@ -112,15 +115,15 @@ fn ask_sizes<B: Books>(
     }
 }
 
-// Adds three numbers, unless the sum overflows.
+// Adds three numbers. Returns `None` if the sum overflows.
 fn sum_of(a: usize, b: usize, c: usize) -> Option<usize>
     ensures { IfSome result (λ sum. sum ≡ a + b + c) }
 {
     a.checked_add(b)?.checked_add(c)
 }
 
-// Returns the size in bytes of the body of a response, by the sizes of the rows that are still to
-// be queried.
+// Returns the size in bytes of a response's body, given the sizes of the rows that are still to be
+// queried.
 fn body_size(alloc: Global, left: &RowsLeft, sizes: Sizes) -> Result<usize, AllocError>
     ensures { IfOk result (λ size. size ≡ pieces.body_size left.now sizes) }
 {
@@ -136,7 +139,7 @@ fn body_size(alloc: Global, left: &RowsLeft, sizes: Sizes) -> Result<usize, Allo
     }
 }
 
-// Appends the head of a response with a body of `size` bytes.
+// Appends the head of a plain-text response with a body of `size` bytes.
 fn put_head(text: &mut Vec<u8>, size: usize) -> Result<(), AllocError>
     ensures { OnOk result (text.new.items ≡ pieces.with_head size text.old.items) }
 {
@@ -144,11 +147,11 @@ fn put_head(text: &mut Vec<u8>, size: usize) -> Result<(), AllocError>
     put(text, b"\r\n\r\n")
 }
 
-/// Begins a response with the quarter hours of a meter that start at `from` or later, and before
-/// `till`.
+/// Begins a streamed response with the quarter hours of a meter that start at `from` or later and
+/// before `till`.
 ///
-/// `it` is the meter's current row. The function appends the head, which has the size of the body.
-/// If memory runs out, a part of the head remains.
+/// `it` is the meter as the program reports it now. The function appends the head, which contains
+/// the size of the body. If memory runs out, a part of the head remains.
 pub fn begin_intervals<B: Books>(
     alloc: Global,
     text: &mut Vec<u8>,
@@ -173,7 +176,7 @@ pub fn begin_intervals<B: Books>(
     Ok(Ok(left))
 }
 
-// Appends the head of the office's own responses with rows.
+// Appends the head of a plain-text response without `Content-Length`.
 fn put_text_head(text: &mut Vec<u8>) -> Result<(), AllocError>
     ensures { OnOk result (text.new.items ≡ text.old.items ++ text_head) }
 {
@@ -185,8 +188,8 @@ fn put_text_head(text: &mut Vec<u8>) -> Result<(), AllocError>
     )
 }
 
-/// Begins the office's own response with all quarter hours of a meter, which does not report its
-/// size.
+/// Begins a streamed response with all quarter hours of a meter. The response has no
+/// `Content-Length`.
 pub fn begin_all_intervals<B: Books>(
     alloc: Global,
     text: &mut Vec<u8>,
@@ -206,7 +209,7 @@ pub fn begin_all_intervals<B: Books>(
     }
 }
 
-// Returns the end of a chunk of `seconds` seconds.
+// Returns the end of a chunk: `from` plus `seconds`, at most `till`.
 fn piece_end(from: u64, till: u64, seconds: u64) -> u64
     ensures low { from ≤ till → from ≤ result }
     ensures high { result ≤ till }
@@ -221,7 +224,7 @@ fn piece_end(from: u64, till: u64, seconds: u64) -> u64
     }
 }
 
-// Appends the lines of the rows of a chunk, which ends at `till`.
+// Appends the lines of a chunk's rows, and records that the chunk ends at `till`.
 fn put_piece(
     text: &mut Vec<u8>,
     left: &mut RowsLeft,
@@ -241,15 +244,15 @@ fn put_piece(
     Ok(())
 }
 
-/// Returns whether rows are still to be queried.
+/// Returns whether some rows of the response are still to be queried.
 pub fn has_more(left: &RowsLeft) -> bool
     ensures { result ≡ pieces.has_more left.now }
 {
     left.from < left.till
 }
 
-/// Queries the next rows of a response, those that start within `seconds`, and appends their lines.
-/// If memory runs out, a part of them remains.
+/// Queries the next rows of a response, which start within `seconds` seconds, and appends their
+/// lines. If memory runs out, a part of the lines remains.
 pub fn tell_rows<B: Books>(
     alloc: Global,
     text: &mut Vec<u8>,
@@ -277,15 +280,16 @@ pub fn tell_rows<B: Books>(
     }
 }
 
-// Returns the number of rows of a response that writes its last rows now.
+// Returns the number of rows in the complete response, when only the stored last rows are left to
+// write.
 fn count_of(left: &RowsLeft) -> Option<usize>
     ensures { IfSome result (λ count. count ≡ left.now.told + length left.now.last.items) }
 {
     left.told.checked_add(left.last.len())
 }
 
-/// Appends the last rows of a response, and the number of all its rows. Call it when no rows are
-/// still to be queried. If memory runs out, a part remains.
+/// Appends the stored last rows of a response, and the line with the number of all its rows. All
+/// other rows must already be written. If memory runs out, a part of the text remains.
 pub fn end_rows(text: &mut Vec<u8>, left: &RowsLeft) -> Result<(), AllocError>
     ensures { OnOk result (TellsRest left.now text.old.items text.new.items) }
 {
@@ -296,15 +300,15 @@ pub fn end_rows(text: &mut Vec<u8>, left: &RowsLeft) -> Result<(), AllocError>
     put_end(text, count)
 }
 
-/// Theorem: the rest of a response stays the same, unless a void names an entry that the meter had
-/// when the response began.
+/// Theorem: later records do not change the text of a response that is still to be written. The
+/// exception is a void of an entry that the meter had when the response began.
 pub fn text_stays()
     ensures { TextStays }
 {
     shares_add_up();
 }
 
-/// Theorem: the chunks of a response together are the response of the time at which it began.
+/// Theorem: the chunks of a response together are the response as of the time at which it began.
 pub fn pieces_are_whole()
     ensures { PiecesAreWhole }
 {

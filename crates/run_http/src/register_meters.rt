@@ -1,4 +1,4 @@
-//! The response to a query for the meters at a register.
+//! The response to a query for all meters at an accounting register.
 ghost use Rattle.std.specs.Prelude.{◌≡◌, OnOk};
 ghost use Rattle.office_core.specs.Parts.{meters_named};
 ghost use Rattle.run_http.specs.MeterReplies.{RepliesRows, with_rows_reply};
@@ -13,7 +13,7 @@ use office_core::Office;
 use office_events::{Installation, Name, Refusal};
 use std::alloc::{AllocError, Global};
 
-// Appends the response with the meters that the office answered.
+// Appends the response with the meters at an accounting register, or with the program's refusal.
 fn put_meters_told(
     alloc: Global,
     text: &mut Vec<u8>,
@@ -32,8 +32,8 @@ fn put_meters_told(
     }
 }
 
-/// Queries the meters at a register, closed ones too, in the order of their installation, and
-/// appends the response. If memory runs out, a part of it remains.
+/// Queries all meters at an accounting register, open and closed, in the order of their
+/// installation, and appends the response. If memory runs out, a part of the response remains.
 pub fn reply_meters<B: Books>(
     alloc: Global,
     text: &mut Vec<u8>,

@@ -1,4 +1,4 @@
-//! The response to a query for the energy of a register.
+//! The response to a query for the energy of an accounting register.
 ghost use Rattle.std.specs.Prelude.{◌≡◌, IfOk, OnOk};
 ghost use Rattle.run_http.specs.RegisterReplies.{AsksEnergy, PutsLast, RepliesEnergy};
 ghost use Rattle.run_http.specs.RegisterReplies.{with_energy_reply};
@@ -13,8 +13,8 @@ use office_events::{Name, Refusal};
 use std::alloc::{AllocError, Global};
 use std::io::Write;
 
-// Writes the rest of a report, unless the query was refused. A failed write means that memory ran
-// out.
+// Writes the rest of an energy report, unless the program refused the query. A failed write means
+// that memory ran out.
 fn put_rest<W: Write>(
     told: Result<(), Refusal>,
     rows: &mut ReportRows<'_, W>,
@@ -36,7 +36,7 @@ fn put_rest<W: Write>(
     }
 }
 
-// Queries the days of a register, and writes the report on them.
+// Queries the daily energy of an accounting register, and writes the report.
 fn put_energy<B: Books, W: Write>(
     office: &mut Office<B>,
     register: &Option<Name>,
@@ -51,8 +51,8 @@ fn put_energy<B: Books, W: Write>(
     put_rest(told, &mut rows)
 }
 
-/// Appends the response to a query for the energy of a register: the report, or the refusal. If
-/// memory runs out, a part of it remains.
+/// Appends the response to a query for the energy of an accounting register: the report, or the
+/// refusal. If memory runs out, a part of the response remains.
 pub fn put_energy_reply(
     text: &mut Vec<u8>,
     answer: &Result<(), Refusal>,
@@ -67,10 +67,10 @@ pub fn put_energy_reply(
     }
 }
 
-/// Queries the days of a register, and appends the response with the report on them.
+/// Queries the daily energy of an accounting register, and appends the response with the report.
 ///
-/// If the form's range has both ends, only the quarter hours of its days and of two days on each
-/// side are read. If memory runs out, a part of the response remains.
+/// If the report's range has both ends, the store reads only the quarter hours of the range and of
+/// two days on each side. If memory runs out, a part of the response remains.
 pub fn reply_energy<B: Books>(
     alloc: Global,
     text: &mut Vec<u8>,

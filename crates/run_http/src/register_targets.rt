@@ -1,4 +1,5 @@
-//! The targets for a register: its energy, or its present and earlier meters.
+//! Parses the request targets for an accounting register: its energy, or its present and earlier
+//! meters.
 ghost use Rattle.std.specs.Prelude.{◌≡◌};
 ghost use Rattle.energy_report.specs.Days.{IsReadAs};
 ghost use Rattle.run_http.specs.RegisterTargets as targets;
@@ -41,7 +42,7 @@ fn range_of(from: &[u8], till: &[u8]) -> Option<DayRange>
     Some(range)
 }
 
-// Returns the form of a report as lines in mWh.
+// Returns the form of a report with one plain-text line for each period, in mWh.
 fn lines_of(range: DayRange, period: Period) -> ReportForm
     ensures { result ≡ targets.lines_of range period }
 {
@@ -53,7 +54,7 @@ fn lines_of(range: DayRange, period: Period) -> ReportForm
     }
 }
 
-// Returns the route to the days of a range, or 400 without a range.
+// Returns the route to the daily energy in a range of days, or 400 without a range.
 fn days_asked(name: &[u8], range: Option<DayRange>) -> RunRoute
     ensures { result ≡ targets.days_asked name.now range }
 {
@@ -66,7 +67,7 @@ fn days_asked(name: &[u8], range: Option<DayRange>) -> RunRoute
     }
 }
 
-// Returns the route to the months of all days.
+// Returns the route to the energy of an accounting register by month, over all days.
 fn months_asked(name: &[u8]) -> RunRoute
     ensures { result ≡ targets.months_asked name.now }
 {
@@ -76,7 +77,7 @@ fn months_asked(name: &[u8]) -> RunRoute
     }
 }
 
-// Parses the two days of a target. The second one must end the target.
+// Parses the two days of a target for daily energy. A target with a further segment has no route.
 fn days_till(name: &[u8], from: &[u8], till: &[u8]) -> Option<RunRoute>
     ensures { targets.IsDaysTill name.now from.now till.now result }
 {
@@ -86,7 +87,7 @@ fn days_till(name: &[u8], from: &[u8], till: &[u8]) -> Option<RunRoute>
     Some(days_asked(name, range_of(from, till)))
 }
 
-// Parses the text after the segment `days`.
+// Parses the part of a target after `/registers/NAME/days/`.
 fn days_in(name: &[u8], text: &[u8]) -> Option<RunRoute>
     ensures { targets.IsDaysIn name.now text.now result }
 {
@@ -96,7 +97,7 @@ fn days_in(name: &[u8], text: &[u8]) -> Option<RunRoute>
     }
 }
 
-// Parses the text after the name of a register as a target for energy.
+// Parses the part of a target after `/registers/NAME/` as a query for energy.
 fn energy_in(name: &[u8], text: &[u8]) -> Option<RunRoute>
     ensures { targets.IsEnergyIn name.now text.now result }
 {
@@ -129,7 +130,7 @@ fn register_in(text: &[u8]) -> Option<RunRoute>
     }
 }
 
-/// Parses a target for the energy or the meters of a register.
+/// Parses a request target for the energy or the meters of an accounting register.
 pub(crate) fn register_target(target: &[u8]) -> Option<RunRoute>
     ensures { targets.IsRegisterTarget target.now result }
 {

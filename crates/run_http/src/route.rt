@@ -1,5 +1,5 @@
-//! The routes of a run itself: the status, metrics, the site, rows of a meter, the energy and
-//! meters of a register, and the page.
+//! The routes of `sunreg run`: the status, metrics, the site, rows of a meter, the energy and
+//! meters of a register, and the web page.
 ghost use Rattle.std.specs.Prelude.{◌≡◌, IfOk, OnOk};
 ghost use Rattle.http_request.specs.Head.Heads.{Looks};
 ghost use Rattle.http_answer.specs.Sending.Bodies.{fault_text};
@@ -16,48 +16,48 @@ use run_status::{Counts, DeviceLack, DeviceState, put, put_number, put_status, p
 use std::alloc::{AllocError, Global};
 use web_page::{PagePart, part_of};
 
-/// A route that is answered without asking the office.
+/// A route whose response needs no data of the store.
 #[derive(Clone, Copy, Debug, PartialEq, Eq)]
 pub enum StatusRoute {
-    /// The counts, the devices, and what the devices lack, as JSON.
+    /// The counts, the device states, and what the devices lack, as JSON (`/status`).
     Status,
-    /// A part of the page.
+    /// A part of the web page.
     Page(PagePart),
-    /// The status that rejects a request. A host that fails the test gets 421, and a page of
-    /// another site 403. A method other than GET gets 405, and a malformed part of the target 400.
+    /// An error response with this status. A rejected host gets 421, a page of another site 403, a
+    /// method other than GET 405, and a malformed target 400.
     Rejected(Status),
 }
 
-/// A route of the run itself.
+/// A route that `sunreg run` adds to the routes of `office_http`.
 #[derive(Clone, Copy, Debug, PartialEq, Eq)]
 pub enum RunRoute {
-    /// A route that is answered without asking the office.
+    /// A route whose response needs no data of the store.
     Own(StatusRoute),
-    /// The counts and the energy of the open meters, in Prometheus's text format.
+    /// The counts and the energy of the open meters, in Prometheus's text format (`/metrics`).
     Metrics,
-    /// The registers and their meters, as JSON.
+    /// The accounting registers and their meters, as JSON (`/site`).
     Site,
-    /// The quarter hours of a meter, as text. `None` is a name that no meter can have.
+    /// The quarter hours of a meter, as plain text. `None` means an invalid meter name.
     Intervals {
         meter: Option<Name>,
         span: Span,
     },
-    /// The entries of a meter from a sequence number on, as text, with voided entries among them.
+    /// The entries of a meter from a sequence number on, including voided entries, as plain text.
     Entries {
         meter: Option<Name>,
         from: u64,
     },
-    /// The voided entries of a meter, as text.
+    /// The voided entries of a meter, as plain text.
     Voids {
         meter: Option<Name>,
     },
-    /// The energy of a register in the form of a report, as text. `None` is a name that no register
-    /// can have.
+    /// The energy of an accounting register in the form of a report, as plain text. `None` means an
+    /// invalid register name.
     Energy {
         register: Option<Name>,
         form: ReportForm,
     },
-    /// The meters at a register, closed ones too, as text.
+    /// The meters at an accounting register, open and closed, as plain text.
     Meters {
         register: Option<Name>,
     },
@@ -77,7 +77,7 @@ fn path_named(target: &[u8]) -> Option<RunRoute>
     }
 }
 
-// Finds the route of a fixed path, or of rows of a meter.
+// Finds the route of a fixed path, or of a target for rows of a meter.
 fn plain_target(target: &[u8]) -> Option<RunRoute>
     ensures { result ≡ texts.plain_target target.now }
 {
@@ -87,7 +87,7 @@ fn plain_target(target: &[u8]) -> Option<RunRoute>
     }
 }
 
-// Finds the route of a target without a question mark.
+// Finds the route of a request target without a question mark.
 fn whole_target(target: &[u8]) -> Option<RunRoute>
     ensures { texts.IsWholeTarget target.now result }
 {
@@ -107,7 +107,7 @@ fn target_named(target: &[u8]) -> Option<RunRoute>
     }
 }
 
-// Finds the route of a target, and rejects methods other than GET.
+// Finds the route of a request target, and rejects methods other than GET with 405.
 fn route_named(method: &[u8], target: &[u8]) -> Option<RunRoute>
     ensures { texts.IsRouteNamed method.now target.now result }
 {
@@ -123,7 +123,7 @@ fn route_named(method: &[u8], target: &[u8]) -> Option<RunRoute>
     }
 }
 
-// Finds the route of a complete head within its limits.
+// Finds the route of a request if its head is complete and within the limits.
 fn route_in(request: &[u8], head_state: &HeadState) -> Option<RunRoute>
     requires { Looks request.now head_state.now }
     ensures { texts.IsRouteIn request.now head_state.now result }
@@ -150,8 +150,8 @@ fn asks_for_page(request: &[u8], head_state: &HeadState) -> bool
     }
 }
 
-// Returns whether a page of another site sent the request, and it is not for the page itself. Such
-// a page may link to the page.
+// Returns whether a page of another site sent the request. A request for the web page itself is
+// exempt, because pages of other sites may link to it.
 fn is_forbidden(request: &[u8], head_state: &HeadState) -> bool
     requires { Looks request.now head_state.now }
     ensures { result ≡ texts.is_forbidden request.now head_state.now }
@@ -159,7 +159,8 @@ fn is_forbidden(request: &[u8], head_state: &HeadState) -> bool
     is_cross_site(request, head_state) && !asks_for_page(request, head_state)
 }
 
-// Finds the route of a request that passed the host test; 403 if a page of another site sent it.
+// Finds the route of a request whose host was accepted, or 403 if a page of another site sent the
+// request.
 fn permitted_route(request: &[u8], head_state: &HeadState) -> Option<RunRoute>
     requires { Looks request.now head_state.now }
     ensures { texts.IsPermitted request.now head_state.now result }
@@ -171,11 +172,11 @@ fn permitted_route(request: &[u8], head_state: &HeadState) -> Option<RunRoute>
     }
 }
 
-/// Finds the route of a request among the run's own routes, once its head is complete and within
-/// its limits.
+/// Finds the route of a request among the routes of `sunreg run`, if the head is complete and
+/// within its limits.
 ///
-/// The route is 421 if the host is not among `names` or those of this machine, and 403 for a page
-/// of another site. `None` leaves the request to the office.
+/// The route is 421 for a host that is neither in `names` nor a name of this machine. It is 403 for
+/// a request from a page of another site. `None` means that the routes of `office_http` apply.
 pub fn run_route(names: &[&str], request: &[u8]) -> Option<RunRoute>
     ensures { texts.IsFor (hosts.texts names.now) request.now result }
 {
@@ -187,7 +188,7 @@ pub fn run_route(names: &[&str], request: &[u8]) -> Option<RunRoute>
     }
 }
 
-/// Returns whether [`run_route`] finds the energy of a register.
+/// Returns whether [`run_route`] finds a route to the energy of an accounting register.
 pub fn asks_energy(names: &[&str], request: &[u8]) -> bool
     ensures { texts.AsksEnergy (hosts.texts names.now) request.now result }
 {
@@ -197,7 +198,7 @@ pub fn asks_energy(names: &[&str], request: &[u8]) -> bool
     }
 }
 
-/// Appends the status line and the headers for a body of this type and size.
+/// Appends the status line and the headers of a response, for a body with this type and size.
 pub(crate) fn put_start_of(
     text: &mut Vec<u8>,
     status: Status,
@@ -221,7 +222,7 @@ fn put_start(text: &mut Vec<u8>, status: Status, kind: &[u8], body: &[u8]) -> Re
     put_start_of(text, status, kind, body.len())
 }
 
-/// Appends a response with a body of this type.
+/// Appends a complete response with a body of this content type.
 pub(crate) fn put_reply(
     text: &mut Vec<u8>,
     status: Status,
@@ -235,7 +236,7 @@ pub(crate) fn put_reply(
     put_word(text, b"\r\n\r\n", body)
 }
 
-// Appends the headers of a part of the page for browsers.
+// Appends the response headers for a part of the web page.
 fn put_page_headers(text: &mut Vec<u8>) -> Result<(), AllocError>
     ensures { OnOk result (text.new.items ≡ texts.with_page_headers text.old.items) }
 {
@@ -263,7 +264,7 @@ fn fault_body(alloc: Global, status: Status) -> Result<Vec<u8>, AllocError>
     Ok(body)
 }
 
-/// Appends the response of a route that is answered without asking the office.
+/// Appends the response of a route that needs no data of the store.
 pub fn reply_status(
     alloc: Global,
     text: &mut Vec<u8>,

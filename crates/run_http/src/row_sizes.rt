@@ -1,17 +1,17 @@
-//! A row sink that measures the lines of rows, and keeps no row.
+//! A row visitor that measures the lines of interval rows without storing the rows.
 use crate::texts::put_share;
 use interval_core::Share;
 use office_books::RowSink;
 use std::alloc::{AllocError, Global};
 
-/// The size of the lines of some rows in bytes, and the number of rows.
+/// The number of some interval rows, and the size of their lines in bytes.
 #[derive(Clone, Copy, Debug, PartialEq, Eq)]
 pub struct Sizes {
     pub bytes: usize,
     pub count: usize,
 }
 
-/// The sizes so far, unless memory ran out.
+/// The sizes of the rows so far. `is_whole` is false after memory ran out.
 #[derive(Drop)]
 pub struct RowSizes {
     line: Vec<u8>,
@@ -23,7 +23,7 @@ impl RowSizes {
     ghost use Rattle.std.specs.Prelude.{◌≡◌, ◌+◌, length, true, IfOk, IfSome, OnOk};
     ghost use Rattle.interval_core.specs.Lines.{share_line};
 
-    /// Makes a sink that measured no row.
+    /// Makes a row visitor that has measured no rows.
     pub fn new(alloc: Global) -> RowSizes
         ensures sizes { result.sizes ≡ record { bytes = 0; count = 0 } }
         ensures whole { result.is_whole ≡ true }
@@ -35,7 +35,8 @@ impl RowSizes {
         }
     }
 
-    // Adds a row with a line of this size.
+    // Returns the sizes after another row, whose line has `bytes` bytes. Returns `None` if a size
+    // overflows.
     fn with_line(&self, bytes: usize) -> Option<Sizes>
         ensures bytes { IfSome result (λ sizes. sizes.bytes ≡ self.now.sizes.bytes + bytes) }
         ensures count { IfSome result (λ sizes. sizes.count ≡ self.now.sizes.count + 1) }
@@ -45,7 +46,7 @@ impl RowSizes {
         Some(Sizes { bytes, count })
     }
 
-    // Measures a row.
+    // Measures one interval row and adds it to the sizes.
     fn count_in(&mut self, row: &Share) -> Result<(), AllocError>
         ensures bytes { OnOk result (self.new.sizes.bytes
             ≡ self.old.sizes.bytes + length (share_line row.now)) }
@@ -63,7 +64,7 @@ impl RowSizes {
         }
     }
 
-    /// Returns the sizes of all rows. Fails if memory ran out for a line.
+    /// Returns the sizes of all rows. Fails if memory ran out for any line.
     pub fn whole(&self) -> Result<Sizes, AllocError>
         ensures whole { IfOk result (λ sizes. self.now.is_whole ≡ true) }
         ensures sizes { IfOk result (λ sizes. sizes ≡ self.now.sizes) }

@@ -1,4 +1,4 @@
-//! The response to a query for the registers and meters of the site.
+//! The response to a query for `/site`: the accounting registers and their meters.
 ghost use Rattle.std.specs.Prelude.{◌≡◌, OnOk};
 ghost use Rattle.run_http.specs.SiteReply.{with_refusal, with_site_reply};
 
@@ -9,7 +9,7 @@ use http_request::Status;
 use office_events::Refusal;
 use std::alloc::{AllocError, Global};
 
-/// Appends the response that reports a refusal.
+/// Appends the response that reports the program's refusal of a query.
 pub(crate) fn put_refusal(text: &mut Vec<u8>, why: Refusal) -> Result<(), AllocError>
     ensures { OnOk result (text.new.items ≡ with_refusal why text.old.items) }
 {
@@ -17,8 +17,8 @@ pub(crate) fn put_refusal(text: &mut Vec<u8>, why: Refusal) -> Result<(), AllocE
     put_reply(text, status_of(why), b"application/json", body.bytes())
 }
 
-/// Appends the response to a query for the registers and meters: their lines, or the refusal.
-/// `moment` is in seconds since 1970-01-01 UTC. If memory runs out, a part of it remains.
+/// Appends the response to a query for `/site`: the registers and meters, or the refusal. `moment`
+/// is in seconds since 1970-01-01 UTC. If memory runs out, a part of the response remains.
 pub fn put_site_reply(
     alloc: Global,
     text: &mut Vec<u8>,

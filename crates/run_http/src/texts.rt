@@ -1,4 +1,4 @@
-//! The bodies of responses: the site, metrics, rows of a meter, and the meters at a register.
+//! The bodies of responses: `/site`, `/metrics`, rows of a meter, and the meters at a register.
 
 mod energy_lines;
 mod families;

@@ -14,8 +14,8 @@ use office_core::Office;
 use office_events::{Name, Refusal};
 use std::alloc::{AllocError, Global};
 
-// The most entries that one query returns, and the most queries. Together they cover all sequence
-// numbers of 64 bits.
+// The most entries that one query returns, and the most queries for one response: nearly 2^64
+// entries in all.
 const PIECE: u32 = 65536;
 
 const MOST_PIECES: u64 = 281_474_976_710_655;
@@ -39,7 +39,7 @@ fn keep_if_voided(kept: &mut Vec<MeterEntry>, entry: &MeterEntry) -> Result<(), 
     Ok(())
 }
 
-// Keeps the voided entries of a chunk.
+// Appends the voided entries among `piece` to the list.
 fn keep_voided(kept: &mut Vec<MeterEntry>, piece: &[MeterEntry]) -> Result<(), AllocError>
     ensures { OnOk result (kept.new.items ≡ kept.old.items ++ voids.voided_in piece.now) }
 {
@@ -49,7 +49,7 @@ fn keep_voided(kept: &mut Vec<MeterEntry>, piece: &[MeterEntry]) -> Result<(), A
     Ok(())
 }
 
-// Queries all entries of a meter in chunks, and keeps the voided ones.
+// Queries all entries of a meter in chunks, and collects the voided entries.
 fn ask_voids<B: Books>(
     alloc: Global,
     office: &mut Office<B>,
@@ -72,7 +72,7 @@ fn ask_voids<B: Books>(
     Err(AllocError)
 }
 
-// Appends the response with the voided entries.
+// Appends the response with the voided entries of a meter, or with the program's refusal.
 fn put_voids_told(
     alloc: Global,
     text: &mut Vec<u8>,
@@ -91,8 +91,8 @@ fn put_voids_told(
     }
 }
 
-/// Queries the voided entries of a meter, and appends the response. It queries 65,536 entries at a
-/// time. If memory runs out, a part of the response remains.
+/// Queries the voided entries of a meter, and appends the response. Each query returns up to 65,536
+/// entries. If memory runs out, a part of the response remains.
 pub fn reply_voids<B: Books>(
     alloc: Global,
     text: &mut Vec<u8>,

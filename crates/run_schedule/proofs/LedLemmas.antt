@@ -1,4 +1,4 @@
--- Lemmas on which file is the active one, found name by name.
+-- Lemmas on the search for the current file of the store, name by name.
 use Rattle.std.proofs.Common.{◌≡◌, ◌⊎◌, inl, inr, ℕ, ◌+◌, ◌<◌, ◌≤◌, nat_lt, Bool, true, false, List, [], ◌∷◌, ◌++◌, Some, None, refl, sym, ap, ◌∙◌, subst, arith}
 use Rattle.std.specs.Prelude.{Option, codes, Contains, ◌||◌}
 use Rattle.std.specs.Borrow.{Bor}
@@ -22,7 +22,8 @@ or_left : (a b : Bool) → a ≡ true → (a || b) ≡ true
 or_left true b is = refl
 or_left false b is = absurd (cc)
 
--- A file name whose period does not have the run's own length.
+-- If a file name has no period of the configured length, only the alternative length remains to be
+-- tested.
 pub told_by_other : (file : List ℕ) (length : Period) (name : List ℕ) (r : Option (Bor (List ℕ))) → IsPeriodIn file length name None
     → IsPeriodIn file (other_length length) name r → IsToldBy file length name r
 told_by_other file length name (Some text) own is = record {
@@ -35,7 +36,7 @@ told_by_other file length name None own other = λ text is.
       | inr spelled ↦ other text (record { spelled = spelled; named = is.named })
     ]
 
--- The files of two different periods have different names.
+-- Equal file names contain equal periods.
 same_text : (file text other : List ℕ) → file_of file text ≡ file_of file other → text ≡ other
 same_text file text other both =
     let fronts : stem_of file ++ codes "-" ++ text ≡ stem_of file ++ codes "-" ++ other = append_cancel_right _ _ (suffix_of file) both in

@@ -1,4 +1,4 @@
--- Lemmas on the part of a file name between its beginning and its end.
+-- Lemmas on the part of a file name between its stem and its extension.
 use Rattle.std.proofs.Common.{◌≡◌, ◌≢◌, List, ℕ, ◌++◌, Some, None, sym, ◌∙◌, ap, append_assoc}
 use Rattle.std.specs.Prelude.{Option, codes, false, true}
 use Rattle.std.specs.Borrow.{Bor}
@@ -34,7 +34,7 @@ ends_so name stem suffix rest more None front hyphen none = λ text is. none tex
 ends_so name stem suffix rest more (Some text) front hyphen is =
     grouped stem text.now suffix ∙ sym (front ∙ ap (λ l. stem ++ l) (hyphen ∙ ap (λ l. codes "-" ++ l) is))
 
--- ---- Names of files.
+-- ---- The periods in file names.
 
 pub no_name : (file name : List ℕ) (period : Period) → ((text : List ℕ) → stem_of file ++ codes "-" ++ text ++ suffix_of file ≢ name)
     → IsPeriodIn file period name None

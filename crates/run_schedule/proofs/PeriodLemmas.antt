@@ -1,4 +1,4 @@
--- Lemmas on the clocks of time zones.
+-- Lemmas on the latest and earliest times at which a day begins in any time zone.
 use Rattle.std.proofs.Common.{◌≡◌, ◌∙◌, ℕ, true, false, refl, sym, ap, subst, arith, to_z, of_z, to_z-of_z, w64}
 use Rattle.std.specs.Prelude.{ℤ, pos, negsuc, neg_ℤ, ◌+ℤ◌, ◌*ℤ◌, ◌≤ℤ◌, ◌<ℤ◌, unsigned_abs}
 use Rattle.std.specs.Cmp.{int_ranks}
@@ -17,7 +17,7 @@ use Rattle.jiff.specs.Words.{plain_zone}
 use Rattle.interval_core.specs.Zone.{day_at, offset_of, rule_of}
 use Rattle.interval_core.specs.declared.zone.Zone.{Zone}
 
--- The offset of a time zone from UTC is at most 25:59:59, ahead or back.
+-- The UTC offset of a time zone is at most 25:59:59, east or west.
 in_range : (zone : TimeZone) (n : ℤ) → IsOffsetSeconds (offset_at zone n)
 unfolding offset_at
 in_range UTC n = zero_in_range
@@ -29,19 +29,21 @@ in_range (Tzif z) n = (Table.offset_at z.now n).in_range
 offset_range : (zone : Zone) (moment : ℕ) → IsOffsetSeconds (offset_of zone moment)
 offset_range zone moment = in_range (plain_zone (rule_of zone)) (pos moment *ℤ pos 1_000_000_000)
 
--- At such a time, the next day has not begun in any time zone.
+-- If the UTC midnight at which the day after `last` begins is more than 25:59:59 later, then that
+-- day has begun in no time zone.
 pub not_past : (zone : Zone) (last : ℤ) (at : ℕ) → (pos at +ℤ pos 93_599) <ℤ ((last +ℤ pos 1) *ℤ pos 86_400) → day_at zone at ≤ℤ last
 not_past zone last at early =
     let bound = offset_range zone at in
     omega (arith, signed_arith, bound.1, early)
 
--- ---- Numbers.
+-- ---- The values of integers that were converted to 64-bit numbers.
 
 natural : (z : ℤ) → FitsUnsignedBits 64 z → z ≡ pos (unsigned_abs z)
 natural (pos n) fits = refl
 natural (negsuc n) fits = absurd fits
 
--- An integer in this range that fits an unsigned number of 64 bits is that number.
+-- If an integer is within 10^12 of zero and fits 64 unsigned bits, then the integer equals its
+-- unsigned 64-bit value.
 pub as_natural : (z : ℤ) (n : ℕ) → IsBetween (neg_ℤ (pos 1_000_000_000_000)) (pos 1_000_000_000_000) z
     → FitsUnsignedBits 64 (to_z w64 (of_z w64 z)) → n ≡ unsigned_abs (to_z w64 (of_z w64 z)) → z ≡ pos n
 as_natural z n bound fits is =
@@ -51,7 +53,7 @@ as_natural z n bound fits is =
     let here : FitsUnsignedBits 64 z = subst (FitsUnsignedBits 64) back fits in
     natural z here ∙ ap pos (sym (is ∙ ap unsigned_abs back))
 
--- ---- Comparisons.
+-- ---- The order of two integers, from the result of comparing them.
 
 pub earlier : (x y : ℤ) → is_lt (int_cmp x y) ≡ true → x <ℤ y
 earlier x y test =

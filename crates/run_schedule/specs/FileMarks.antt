@@ -1,25 +1,25 @@
--- Whether the file at a path is still the open one, by marks: device, inode and size.
+-- Compares the file at a path with the open file by their marks: device, inode and size.
 use Rattle.std.specs.Prelude.{◌≡◌, ◌≤◌, ◌==◌, ◌&&◌, ℕ, nat_lt, if◌then◌else◌, Bool, Option, None, Some}
 use Rattle.run_schedule.specs.declared.file_marks.FileMark.{FileMark}
 use Rattle.run_schedule.specs.declared.file_marks.FileLoss.{FileLoss}
 use Rattle.run_schedule.specs.declared.file_marks.FileLoss.TheVariants.{Missing, Replaced, Shortened}
 
--- Both marks have the same device and inode, so they are marks of one file.
+-- True if the two marks have equal device and inode numbers, and so belong to one file.
 abbrev pub is_same_file : (known found : FileMark) → Bool
 is_same_file known found = (known.device == found.device) && (known.inode == found.inode)
 
--- The loss of a file by its size: `Shortened` if it has become shorter.
+-- The loss of a file by its size: `Shortened` if the file is shorter than before.
 abbrev pub loss_of_size : (known found : FileMark) → Option FileLoss
 loss_of_size known found = if nat_lt found.size known.size then Some Shortened else None
 
--- How the file that was found at the path differs from the open one. None if it is the open file,
--- and not shorter.
+-- The difference between the open file and the file at its path. None if the path leads to the open
+-- file, and the file is no shorter than before.
 abbrev pub file_loss : (known : FileMark) → (found : Option FileMark) → Option FileLoss
 file_loss known None = Some Missing
 file_loss known (Some found) =
     if is_same_file known found then loss_of_size known found else Some Replaced
 
--- The path leads to the open file, and the file has not become shorter.
+-- The path leads to the open file, and the file is no shorter than before.
 abbrev pub IsStill : (known : FileMark) → (found : Option FileMark) → Type 0
 IsStill known None = ⊥
 IsStill known (Some found) =

@@ -1,26 +1,26 @@
-//! Whether the file at a path is still the office's open file.
+//! Detects that the path of the store's open file leads to no file, another file or a shorter file.
 ghost use Rattle.std.specs.Prelude.{◌≡◌};
 ghost use Rattle.run_schedule.specs.FileMarks as marks;
 ghost use Rattle.run_schedule.specs.FileMarks.{IsStill};
 
-/// What the system reports of a file. The number of links is not compared, because a further link
-/// does the file no harm.
+/// The identity and size of a file, as the operating system reports them. The number of hard links
+/// is left out, because another link does not change the file.
 #[derive(Clone, Copy, Debug, PartialEq, Eq)]
 pub struct FileMark {
     pub device: u64,
     pub inode: u64,
-    /// The size in bytes.
+    /// The size of the file in bytes.
     pub size: u64,
 }
 
-/// How the file at a path differs from the open one.
+/// The difference between the open file and the file that its path leads to now.
 #[derive(Clone, Copy, Debug, PartialEq, Eq)]
 pub enum FileLoss {
     /// The path leads to no file.
     Missing,
-    /// The path leads to another file.
+    /// The path leads to another file, by device or inode number.
     Replaced,
-    /// The file is shorter than it was.
+    /// The path leads to the open file, which is shorter than before.
     Shortened,
 }
 
@@ -30,11 +30,11 @@ fn is_same_file(known: FileMark, found: FileMark) -> bool
     known.device == found.device && known.inode == found.inode
 }
 
-/// Returns how the file at a path differs from the open one, by the last known mark of the open
-/// one.
+/// Compares the file at a path with the open file. `known` is the last known mark of the open file,
+/// `found` the mark of the file at the path.
 ///
-/// While the office runs, it makes a file longer and never shorter, so a longer file is no loss.
-/// The marks do not show bytes that were overwritten in place.
+/// A longer file is no loss, because the program only appends to its file. Marks do not show bytes
+/// that another program overwrote in place.
 pub fn file_loss(known: FileMark, found: Option<FileMark>) -> Option<FileLoss>
     ensures loss { result ≡ marks.file_loss known found }
     ensures still { result ≡ None → IsStill known found }

@@ -1,4 +1,4 @@
-//! The slots of the connections that are served at the same time.
+//! The slots of the HTTP connections that the server has open at the same time.
 
 mod choice;
 mod clients;

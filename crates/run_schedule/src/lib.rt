@@ -1,5 +1,5 @@
-//! Decides when devices are polled, which clients are served, in which file energy is recorded, and
-//! whether the open file is still there. All decisions are over times, numbers and names.
+//! Decides when to poll each device, which HTTP clients to serve, in which file to record energy,
+//! and whether that file still exists. All decisions depend on times, numbers and names only.
 #![tactic(auto)]
 
 mod file_marks;

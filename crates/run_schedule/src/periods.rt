@@ -1,5 +1,5 @@
-//! Periods of the calendar: when a period ends, how its file is named, and in which file energy is
-//! recorded.
+//! Calendar periods (days, months, years): when a period ends, the file name of a period, and the
+//! file in which energy is recorded.
 
 mod ends;
 mod led;

@@ -1,5 +1,5 @@
-//! When devices are due, how long operations may take, and which timestamp an event gets. Times are
-//! whole seconds of the run's time, which begins as the clock does, or durations in seconds.
+//! Decides when devices are due, how long operations may take, and which timestamp an event gets.
+//! Times are whole seconds since 1970-01-01 UTC, and durations are seconds.
 
 mod grid;
 mod limits;

@@ -1,4 +1,4 @@
-//! Messages for people: what the numbers mean that a run prints, and what its devices lack.
+//! Messages for operators: what a printed number means, and what a device lacks in the store.
 
 mod lacks;
 mod sentences;

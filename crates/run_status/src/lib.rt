@@ -1,5 +1,5 @@
-//! Builds the texts that a run reports: its status, the lines that it prints, and its messages for
-//! people.
+//! Builds the texts that the program reports while it polls: the JSON of `/status`, log lines, and
+//! messages for operators.
 #![tactic(auto)]
 
 mod advice;

@@ -1,5 +1,5 @@
-//! The observer of a run's events: counts, the state of each device, the frames to send to each,
-//! and the lines to print.
+//! Observes the program's events. Keeps counts, the state of each device and the frames to send,
+//! and formats log lines.
 
 mod device_state;
 mod line_queue;

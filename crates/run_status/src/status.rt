@@ -1,4 +1,5 @@
-//! The counts of an office that polls, since it was opened, and their text.
+//! Counts events since the program started, and formats the counts and device states as the JSON of
+//! `/status`.
 
 mod counts;
 mod lacking;

@@ -1,6 +1,6 @@
-//! The kinds of golden tests.
+//! The kinds of golden tests, by the extension of their files.
 
-/// The command that reads the text of a golden test.
+/// The command of the program that a golden test runs.
 #[derive(Clone, Copy, PartialEq, Eq)]
 pub(crate) enum Command {
     Replay,
@@ -9,7 +9,8 @@ pub(crate) enum Command {
     Plan,
 }
 
-/// The command that reads a golden test, and whether it reads each line as a separate text.
+/// The command that a golden test runs, and whether the command reads each line as a separate
+/// input.
 #[derive(Clone, Copy)]
 pub(crate) struct Kind {
     pub(crate) command: Command,
@@ -30,7 +31,7 @@ fn by_lines(command: Command) -> Option<Kind> {
     })
 }
 
-/// Returns the kind of a golden test, by the extension of its file.
+/// Returns the kind of a golden test from its file extension, or `None` for any other file.
 pub(crate) fn kind_of(ending: &str) -> Option<Kind> {
     match ending {
         "script" => whole(Command::Replay),

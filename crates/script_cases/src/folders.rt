@@ -1,8 +1,8 @@
-//! The names in folders of golden tests.
+//! Lists the folders and files of the golden tests.
 use std::alloc::Global;
 use std::{fs, io};
 
-/// Returns the names in a folder, sorted.
+/// Returns the names of the files and subfolders in a folder, sorted.
 pub(crate) fn names_in(rt: &HostRuntime, folder: &str) -> io::Result<Vec<String>> {
     let mut names = Vec::new(rt.alloc());
     for entry in fs::read_dir(rt, folder)? {

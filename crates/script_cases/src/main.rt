@@ -1,6 +1,6 @@
-//! Runs the golden tests below the folder that the first argument names, by default the working
-//! directory. Each golden test is a text that a command reads, and the output that the command must
-//! print. The program reports each test that differs, and at the end how many agree.
+//! Runs the golden tests in the folder that the first argument names, by default the working
+//! directory. A golden test is an input of a command and the expected output. The program reports
+//! each test that differs, and at the end how many agree.
 #![tactic(auto)]
 
 mod case_kind;
@@ -14,7 +14,7 @@ use script_run::Loopback;
 use std::process::ExitCode;
 use std::{env, fs, io};
 
-/// How many golden tests agree, and how many differ.
+/// The number of golden tests that passed, and the number that differ from the expected output.
 #[derive(Clone, Copy)]
 struct Tally {
     agree: u64,
@@ -71,7 +71,8 @@ fn play_subject<'r>(
     Ok(())
 }
 
-// Runs the golden test in a file. If its output differs from the expected one, reports where.
+// Runs the golden test in a file, and reports the first line in which its output differs from the
+// expected output.
 fn play_case<'r>(
     rt: &'r HostRuntime,
     loopback: &mut Loopback<'r, HostRuntime>,

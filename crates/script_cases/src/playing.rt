@@ -1,4 +1,4 @@
-//! Runs a golden test.
+//! Runs a golden test, and compares texts.
 use crate::case_kind::{Command, Kind};
 use command_io::ExitStatus;
 use interval_core::Zone;
@@ -6,8 +6,8 @@ use script_run::{Loopback, loop_text, replay};
 use std::io::{self, ErrorKind, Write};
 use sunspec_text::{chain_text, plan_text};
 
-/// Returns the output of a golden test: that of its text, or that of each line after the first one.
-/// For `plan` the first line is not part of the text.
+/// Returns the output of a golden test, for the complete file or for each line after the first as
+/// an input. For `plan`, the first line is not part of the input.
 pub(crate) fn play<'r>(
     rt: &'r HostRuntime,
     loopback: &mut Loopback<'r, HostRuntime>,
@@ -35,7 +35,8 @@ pub(crate) fn play<'r>(
     Ok(printed)
 }
 
-// Runs a text, and appends its output. The exit status must follow from the output.
+// Runs the command on an input, and appends its output. If the exit status disagrees with the
+// output, appends a line that says so.
 fn play_text<'r>(
     rt: &'r HostRuntime,
     loopback: &mut Loopback<'r, HostRuntime>,
@@ -93,7 +94,7 @@ fn read_zone(text: &str) -> io::Result<Zone> {
     }
 }
 
-// Returns the time zone that the second line of a text names, as `# zone TEXT`.
+// Returns the time zone in the second line of a golden test, of the form `# zone TEXT`.
 fn zone_of(text: &[u8]) -> &str {
     let second = after_first(text).split(|byte| *byte == b'\n').next();
     match second.and_then(|line| line.strip_prefix(b"# zone ".as_slice())) {
@@ -102,7 +103,7 @@ fn zone_of(text: &[u8]) -> &str {
     }
 }
 
-// Returns the rest of a text after its first line.
+// Returns the text after its first line.
 fn after_first(text: &[u8]) -> &[u8] {
     match text.iter().position(|byte| *byte == b'\n') {
         Some(at) => text.get(at + 1..).unwrap_or(b""),
@@ -110,8 +111,8 @@ fn after_first(text: &[u8]) -> &[u8] {
     }
 }
 
-// Returns whether the last line of the output refuses the input: `bad line N`, `too long`, `fault
-// ..` or `row R fault N`.
+// Returns whether the last line of the output reports a refused input: `bad line N`, `too long`,
+// `fault ..` or `row R fault N`.
 fn is_refused(printed: &[u8]) -> bool {
     let ended = printed.strip_suffix(b"\n".as_slice()).unwrap_or(printed);
     let last = ended.rsplit(|byte| *byte == b'\n').next().unwrap_or(ended);

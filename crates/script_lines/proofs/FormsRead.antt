@@ -1,4 +1,4 @@
--- A line is parsed exactly if its words have a form.
+-- Proofs that the parser returns a script line if and only if the words spell that line.
 use Rattle.std.proofs.Common.{◌≡◌, ℕ, List, [], ◌∷◌, Some, None, Option, refl, sym, ◌∙◌, subst}
 use Rattle.std.specs.Prelude.{codes}
 use Rattle.office_events.specs.declared.commands.Command.TheVariants as command
@@ -71,7 +71,7 @@ question_known question.Intervals = refl
 question_known question.Days = refl
 question_known question.Poll = refl
 
--- The verb of a query is no number.
+-- No verb of a query parses as a number, so the parser never takes a query's verb for a timestamp.
 not_number : (q : Question) → number_of (question_text q) ≡ None
 not_number question.Meter = refl
 not_number question.Intervals = refl
@@ -81,7 +81,8 @@ not_number question.Poll = refl
 question_word : (word : List ℕ) (q : Question) → question_of word ≡ Some q → word ≡ question_text q
 question_word word q h = meant (λ q w. w ≡ question_text q) questions word q (refl, (refl, (refl, (refl, tt)))) h
 
--- The words of an event or a command are its timestamp, the verb and its values.
+-- The form of an event or a command is its timestamp, its verb and the fields of its values, in
+-- this order.
 
 verb_form : (v : Verb) (at : ℕ) (values : Values (kinds_of v)) → form_of (line_of v at values) ≡ Some (Of Number at ∷ Word (verb_text v) ∷ fields (kinds_of v) values)
 verb_form verb.Device at values = refl
@@ -133,7 +134,7 @@ asked_made question.Intervals words = refl
 asked_made question.Days words = refl
 asked_made question.Poll words = refl
 
--- Words that are parsed have a form.
+-- If the parser returns a script line, then the words spell the fields of that script line.
 
 timed_form : (words : List (List ℕ)) (first : List ℕ) (at : ℕ) (said : ScriptLine) → number_of first ≡ Some at → timed_said at words ≡ Some said
     → IsLine (first ∷ words) said
@@ -160,7 +161,7 @@ pub read_form : (words : List (List ℕ)) (said : ScriptLine) → line_said word
 read_form [] said h = cc h
 read_form (first ∷ words) said h = from_form (number_of first) first words said refl h
 
--- Words that have a form are parsed.
+-- If the words spell the fields of a script line, then the parser returns that script line.
 
 timed_read : (v : Verb) (at : ℕ) (values : Values (kinds_of v)) (words : List (List ℕ))
     → Spell words (Of Number at ∷ Word (verb_text v) ∷ fields (kinds_of v) values) → line_said words ≡ Some (line_of v at values)
@@ -199,7 +200,8 @@ form_read words (line.Event at (event.Command (command.Close c))) h = timed_read
 form_read words (line.Event at (event.Command (command.Void c))) h = timed_read verb.Void at (c.meter, (c.place, tt)) words h
 form_read words (line.Event at (event.Command (command.StartRound c))) h = timed_read verb.Round at (c.device, (c.from, tt)) words h
 
--- The forms of a parsed line.
+-- If the parser returns a script line, then the words spell that script line and no other script
+-- line.
 
 pub is_line : (words : List (List ℕ)) (said : ScriptLine) → line_said words ≡ Some said → IsOnly words said
 is_line words said h = record {

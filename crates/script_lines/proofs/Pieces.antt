@@ -1,4 +1,4 @@
--- Lemmas on words that spell a device and bytes.
+-- Lemmas on words that spell the name of a device and bytes in hexadecimal.
 use Rattle.std.proofs.Common.{◌≡◌, inl, inr, ℕ, ◌<◌, ◌&&◌, true, List, [], ◌∷◌, Some, None, Option, refl, sym, ap, ◌∙◌, arith}
 use Rattle.std.specs.Prelude.{nat_le, length, IsSome, Result, Ok, Err}
 use Rattle.std.specs.Result.{result_ok}
@@ -11,7 +11,8 @@ use Rattle.script_lines.specs.LineWords.Values.{bytes_of}
 use Rattle.script_lines.proofs.Chosen.{chosen, same}
 use Rattle.script_lines.proofs.Made.{made_again, spelled_made}
 
--- At least one hexadecimal digit spells at least one byte.
+-- If decoding a hexadecimal word succeeds with some bytes, then the decoder's result is `Ok` with
+-- the same bytes.
 decoded : (r : Result (List ℕ) FromHexError) (bytes : List ℕ) → result_ok r ≡ Some bytes → r ≡ Ok bytes
 decoded (Ok read) bytes h = ap Ok (same read bytes h)
 decoded (Err e) bytes h = cc h

@@ -1,4 +1,5 @@
--- The form of each line of a script: a list of fields, which the words of the line spell in order.
+-- Defines the form of each script line, which is a list of fields. The words of the line spell
+-- these fields in order.
 use Rattle.std.specs.Prelude.{ℕ, List, [], ◌∷◌, Option, Some, None, codes, option_map}
 use Rattle.office_events.specs.declared.commands.Command.{Command}
 use Rattle.office_events.specs.declared.commands.Command.TheVariants as command
@@ -10,13 +11,14 @@ use Rattle.script_lines.specs.LineWords.Fields.{Field, Word, Of, AnyName, Number
 use Rattle.script_lines.specs.declared.script.ScriptLine.{ScriptLine}
 use Rattle.script_lines.specs.declared.script.ScriptLine.TheVariants as line
 
--- The word for how a connection ended: the device closed it, or a read or a write failed.
+-- The verb of an event that ends a device's connection. The verb is `gone` if the device closed the
+-- connection, and `failed` if a read or a write failed.
 abbrev pub closing_word : Closing → List ℕ
 closing_word closing.Gone = codes "gone"
 closing_word closing.Failed = codes "failed"
 
--- The fields of a command after its timestamp. A point list and a start of a read are lines of
--- their own, because their contents may be invalid.
+-- The fields of a command's script line after the timestamp. `None` for a point list or the start
+-- of a read, which have their own types of script lines.
 abbrev pub command_form : Command → Option (List Field)
 command_form (command.AddDevice c) =
     Some (Word (codes "device") ∷ Of AnyName c.name ∷ Of Number c.unit ∷ Of Number c.timeout
@@ -49,8 +51,8 @@ command_form (command.StartRound c) =
 command_form (command.PutList c) = None
 command_form (command.StartPoll c) = None
 
--- The fields of an event after its timestamp. None for an event with an idempotency key, which no
--- line can have.
+-- The fields of an event's script line after the timestamp. `None` for an event with an idempotency
+-- key, which no script line can express.
 abbrev pub event_form : Event → Option (List Field)
 event_form (event.Connected device) = Some (Word (codes "connect") ∷ Of AnyName device ∷ [])
 event_form (event.Bytes device piece) =
@@ -60,7 +62,7 @@ event_form (event.Gone device closing) = Some (Word (closing_word closing) ∷ O
 event_form (event.Command c) = command_form c
 event_form (event.Asked asked) = None
 
--- The fields of a line. None for an event or a command that no line can have.
+-- The fields of a script line. `None` for an event or a command that no script line can express.
 abbrev pub form_of : ScriptLine → Option (List Field)
 form_of (line.Event at event) = option_map (λ form. Of Number at ∷ form) (event_form event)
 form_of (line.List at list) =
@@ -73,11 +75,12 @@ form_of (line.Intervals name) = Some (Word (codes "intervals") ∷ Of AnyName na
 form_of (line.Days name) = Some (Word (codes "days") ∷ Of AnyName name ∷ [])
 form_of (line.Poll number) = Some (Word (codes "poll") ∷ Of Number number ∷ [])
 
--- The words spell these fields. Without fields the line cannot be spelled.
+-- States that the words spell the given fields. False if there are no fields, because no words
+-- spell such a line.
 abbrev pub HasForm : List (List ℕ) → Option (List Field) → Type 0
 HasForm words None = ⊥
 HasForm words (Some form) = Spell words form
 
--- The words spell this line.
+-- States that the words spell the given script line.
 abbrev pub IsLine : List (List ℕ) → ScriptLine → Type 0
 IsLine words line = HasForm words (form_of line)

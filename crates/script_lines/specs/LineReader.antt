@@ -1,5 +1,5 @@
--- The results of the private functions that parse a line word by word. `Forms` defines the lines
--- themselves.
+-- Defines the results of the private functions that parse a script line word by word. The file
+-- `Forms` defines which words spell a script line.
 use Rattle.std.specs.Prelude.{◌≡◌, ◌<◌, ℕ, List, [], ◌∷◌, Option, Some, None, codes, length}
 use Rattle.office_events.specs.declared.commands.Command.TheVariants as command
 use Rattle.office_events.specs.declared.events.Event.TheVariants as event
@@ -15,23 +15,23 @@ use Rattle.script_lines.specs.declared.verbs.Question.TheVariants as question
 use Rattle.script_lines.specs.declared.script.ScriptLine.{ScriptLine}
 use Rattle.script_lines.specs.declared.script.ScriptLine.TheVariants as line
 
--- One value for each of the kinds.
+-- A tuple with one value for each of the given kinds.
 abbrev pub Values : List Kind → Type 0
 Values [] = Unit {0}
 Values (kind ∷ kinds) = Value kind × Values kinds
 
--- The line if no word is left after it, otherwise None.
+-- The given script line if no word of the line is left to parse, otherwise `None`.
 abbrev pub said_last : ScriptLine → List (List ℕ) → Option ScriptLine
 said_last line words = nothing_more words >>= λ none. Some line
 
--- Parses each word as a value of its kind, and applies `make` to the values. None if a word does
--- not fit, or if words are left.
+-- Parses each word as a value of its expected kind, and applies `make` to the values. `None` if a
+-- word has another kind, or if words are left over.
 abbrev pub made : {X : Type 0} (kinds : List Kind) → (Values kinds → X) → List (List ℕ) → Option X
 made [] make words = nothing_more words >>= λ none. Some (make none)
 made (kind ∷ kinds) make words =
     first_value kind words >>= λ first. made kinds (λ values. make (first.0, values)) first.1
 
--- The kinds of the words that follow a verb.
+-- The kinds of the words that follow the verb of an event or a command.
 abbrev pub kinds_of : Verb → List Kind
 kinds_of verb.Device = AnyName ∷ Number ∷ Number ∷ Number ∷ []
 kinds_of verb.List = AnyName ∷ Hex ∷ []
@@ -51,7 +51,7 @@ kinds_of verb.Tick = []
 kinds_of verb.Gone = AnyName ∷ []
 kinds_of verb.Failed = AnyName ∷ []
 
--- The line with this verb, timestamp and values.
+-- The script line with the given verb, timestamp and values.
 abbrev pub line_of : (verb : Verb) → (at : ℕ) → Values (kinds_of verb) → ScriptLine
 line_of verb.Device at v =
     line.Event at
@@ -118,7 +118,8 @@ line_of verb.Tick at v = line.Event at event.Tick
 line_of verb.Gone at v = line.Event at (event.Gone v.0 closing.Gone)
 line_of verb.Failed at v = line.Event at (event.Gone v.0 closing.Failed)
 
--- The line with this verb and timestamp, if the words after the verb have the right kinds.
+-- The script line with the given verb and timestamp. `None` unless the words after the verb have
+-- the kinds that the verb requires.
 abbrev pub said_by : Verb → (at : ℕ) → List (List ℕ) → Option ScriptLine
 said_by verb.Device at words = made (kinds_of verb.Device) (line_of verb.Device at) words
 said_by verb.List at words = made (kinds_of verb.List) (line_of verb.List at) words
@@ -145,14 +146,15 @@ kinds_asked question.Intervals = AnyName ∷ []
 kinds_asked question.Days = AnyName ∷ []
 kinds_asked question.Poll = Number ∷ []
 
--- The query with this verb and these values.
+-- The script line of a query with the given verb and values.
 abbrev pub line_asked : (question : Question) → Values (kinds_asked question) → ScriptLine
 line_asked question.Meter v = line.Meter v.0
 line_asked question.Intervals v = line.Intervals v.0
 line_asked question.Days v = line.Days v.0
 line_asked question.Poll v = line.Poll v.0
 
--- The query with this verb, if the words after the verb have the right kinds.
+-- The script line of a query with the given verb. `None` unless the words after the verb have the
+-- kinds that the verb requires.
 abbrev pub asked_by : Question → List (List ℕ) → Option ScriptLine
 asked_by question.Meter words = made (kinds_asked question.Meter) (line_asked question.Meter) words
 asked_by question.Intervals words =
@@ -160,7 +162,7 @@ asked_by question.Intervals words =
 asked_by question.Days words = made (kinds_asked question.Days) (line_asked question.Days) words
 asked_by question.Poll words = made (kinds_asked question.Poll) (line_asked question.Poll) words
 
--- The verbs of events and commands, by name.
+-- The table of the verbs of events and commands, by name.
 abbrev pub verbs : List (List ℕ × Verb)
 verbs =
     (codes "device", verb.Device)
@@ -182,11 +184,11 @@ verbs =
     ∷ (codes "failed", verb.Failed)
     ∷ []
 
--- The verb of an event or a command with this name.
+-- The verb of an event or a command with the given name, or `None` if no verb has the name.
 abbrev pub verb_of : List ℕ → Option Verb
 verb_of word = meaning_in verbs word
 
--- The verbs of queries, by name.
+-- The table of the verbs of queries, by name.
 abbrev pub questions : List (List ℕ × Question)
 questions =
     (codes "meter", question.Meter)
@@ -195,36 +197,37 @@ questions =
     ∷ (codes "poll", question.Poll)
     ∷ []
 
--- The verb of a query with this name.
+-- The verb of a query with the given name, or `None` if no query has the name.
 abbrev pub question_of : List ℕ → Option Question
 question_of word = meaning_in questions word
 
--- The line whose timestamp is `at`, from the words after the timestamp.
+-- The script line with timestamp `at` that the words after the timestamp spell.
 abbrev pub timed_said : ℕ → List (List ℕ) → Option ScriptLine
 timed_said at [] = None
 timed_said at (word ∷ words) = verb_of word >>= λ verb. said_by verb at words
 
--- The line whose first word is `word`. If `word` is a number, it is the timestamp; otherwise it
--- must be the verb of a query.
+-- The script line whose first word is `word`. A number as first word is a timestamp, and any other
+-- first word must be the verb of a query.
 abbrev pub said_from : Option ℕ → List ℕ → List (List ℕ) → Option ScriptLine
 said_from None word words = question_of word >>= λ question. asked_by question words
 said_from (Some at) word words = timed_said at words
 
--- The line that the words spell, if they spell one.
+-- The script line that the words spell, or `None` if they spell no line.
 abbrev pub line_said : List (List ℕ) → Option ScriptLine
 line_said [] = None
 line_said (word ∷ words) = said_from (number_of word) word words
 
--- The name of a device, and bytes in hexadecimal. The bytes may be missing.
+-- The name of a device and the bytes that the words of a script line spell. If the hexadecimal word
+-- is missing, the list of bytes is empty.
 abbrev pub device_bytes_said : List (List ℕ) → Option (Option (List ℕ) × List ℕ)
 device_bytes_said words = made (AnyName ∷ Hex ∷ []) (λ values. (values.0, values.1.0)) words
 
--- The result is a device with at least one byte.
+-- States that parsing a device's name and bytes returned at least one byte.
 abbrev pub SaysPiece : Option (Option (List ℕ) × List ℕ) → Type 0
 SaysPiece found =
     (device : Option (List ℕ)) × (piece : List ℕ) × (found ≡ Some (device, piece))
     × (0 < length piece)
 
--- The result is a line with at least one byte.
+-- States that parsing returned a script line that carries at least one byte.
 abbrev pub SaysBytes : Option ScriptLine → Type 0
 SaysBytes found = (said : ScriptLine) × (found ≡ Some said) × (0 < length (bytes_in said))

@@ -1,4 +1,4 @@
-//! Parses the words of commands after their verb.
+//! Parses the words that follow the verb in a command's script line.
 ghost use Rattle.std.specs.Prelude.{◌≡◌};
 ghost use Rattle.script_lines.specs.LineReader.{said_by, said_last};
 ghost use Rattle.office_events.specs.declared.events.Event.TheVariants as event;
@@ -15,14 +15,15 @@ use office_events::{
     StartRound, VoidEntry,
 };
 
-// Returns the line of a command, if no word is left.
+// Returns the script line of a command, or `None` if words of the line are left to parse.
 fn command_line(at: u64, command: Command, words: &mut Words<'_>) -> Option<ScriptLine>
     ensures { result ≡ said_last (line.Event at (event.Command command)) words.old }
 {
     event_line(at, Event::Command(command), words)
 }
 
-// Parses `NAME UNIT TIMEOUT WINDOW`: a new device.
+// Parses `NAME UNIT TIMEOUT WINDOW`, the words after `device` in a line. They describe a new Modbus
+// device.
 pub(crate) fn device(at: u64, words: &mut Words<'_>) -> Option<ScriptLine>
     ensures { result ≡ said_by verb.Device at words.old }
 {
@@ -35,7 +36,8 @@ pub(crate) fn device(at: u64, words: &mut Words<'_>) -> Option<ScriptLine>
     command_line(at, command, words)
 }
 
-// Parses `NAME DEVICE FUNCTION ADDRESS SCALE`: a new accounting register.
+// Parses `NAME DEVICE FUNCTION ADDRESS SCALE`, the words after `register` in a line. They describe
+// a new accounting register.
 pub(crate) fn register(at: u64, words: &mut Words<'_>) -> Option<ScriptLine>
     ensures { result ≡ said_by verb.Register at words.old }
 {
@@ -49,7 +51,8 @@ pub(crate) fn register(at: u64, words: &mut Words<'_>) -> Option<ScriptLine>
     command_line(at, command, words)
 }
 
-// Parses `REGISTER METER RAW SF CEILING [RANGE]`: a meter is installed.
+// Parses `REGISTER METER RAW SF CEILING [RANGE]`, the words after `install` in a line. They
+// describe the installation of a meter.
 pub(crate) fn install(at: u64, words: &mut Words<'_>) -> Option<ScriptLine>
     ensures { result ≡ said_by verb.Install at words.old }
 {
@@ -64,7 +67,8 @@ pub(crate) fn install(at: u64, words: &mut Words<'_>) -> Option<ScriptLine>
     command_line(at, command, words)
 }
 
-// Parses `REGISTER LAST ROLLS METER RAW SF CEILING [RANGE]`: a meter is exchanged for another.
+// Parses `REGISTER LAST ROLLS METER RAW SF CEILING [RANGE]`, the words after `exchange` in a line.
+// They describe the exchange of a meter for another meter.
 pub(crate) fn exchange(at: u64, words: &mut Words<'_>) -> Option<ScriptLine>
     ensures { result ≡ said_by verb.Exchange at words.old }
 {
@@ -81,7 +85,8 @@ pub(crate) fn exchange(at: u64, words: &mut Words<'_>) -> Option<ScriptLine>
     command_line(at, command, words)
 }
 
-// Parses `REGISTER BEFORE AFTER`: a counter is reset.
+// Parses `REGISTER BEFORE AFTER`, the words after `reset` in a line. They describe the reset of a
+// meter's counter.
 pub(crate) fn reset(at: u64, words: &mut Words<'_>) -> Option<ScriptLine>
     ensures { result ≡ said_by verb.Reset at words.old }
 {
@@ -93,7 +98,8 @@ pub(crate) fn reset(at: u64, words: &mut Words<'_>) -> Option<ScriptLine>
     command_line(at, command, words)
 }
 
-// Parses `REGISTER BEFORE AFTER SF`: a counter is set to another value and scale.
+// Parses `REGISTER BEFORE AFTER SF`, the words after `rescale` in a script line. The line reports
+// that a meter's counter gets a new count and a new scale factor.
 pub(crate) fn rescale(at: u64, words: &mut Words<'_>) -> Option<ScriptLine>
     ensures { result ≡ said_by verb.Rescale at words.old }
 {
@@ -106,7 +112,8 @@ pub(crate) fn rescale(at: u64, words: &mut Words<'_>) -> Option<ScriptLine>
     command_line(at, command, words)
 }
 
-// Parses `REGISTER RAW ROLLS [AT]`: a reading by hand.
+// Parses `REGISTER RAW ROLLS [AT]`, the words after `manual` in a line. They describe a reading
+// entered by hand.
 pub(crate) fn manual(at: u64, words: &mut Words<'_>) -> Option<ScriptLine>
     ensures { result ≡ said_by verb.Manual at words.old }
 {
@@ -119,7 +126,8 @@ pub(crate) fn manual(at: u64, words: &mut Words<'_>) -> Option<ScriptLine>
     command_line(at, command, words)
 }
 
-// Parses `REGISTER RAW ROLLS`: a meter is closed.
+// Parses `REGISTER RAW ROLLS`, the words after `close` in a line. They describe the closing of a
+// meter with its last count.
 pub(crate) fn close(at: u64, words: &mut Words<'_>) -> Option<ScriptLine>
     ensures { result ≡ said_by verb.Close at words.old }
 {
@@ -131,7 +139,8 @@ pub(crate) fn close(at: u64, words: &mut Words<'_>) -> Option<ScriptLine>
     command_line(at, command, words)
 }
 
-// Parses `METER PLACE`: an entry is voided.
+// Parses `METER PLACE`, the words after `void` in a line. They describe the voiding of the meter
+// entry with index PLACE.
 pub(crate) fn void_entry(at: u64, words: &mut Words<'_>) -> Option<ScriptLine>
     ensures { result ≡ said_by verb.Void at words.old }
 {
@@ -142,7 +151,8 @@ pub(crate) fn void_entry(at: u64, words: &mut Words<'_>) -> Option<ScriptLine>
     command_line(at, command, words)
 }
 
-// Parses `DEVICE FROM`: a round is started.
+// Parses `DEVICE FROM`, the words after `round` in a line. They describe the start of a round of
+// polls.
 pub(crate) fn round(at: u64, words: &mut Words<'_>) -> Option<ScriptLine>
     ensures { result ≡ said_by verb.Round at words.old }
 {

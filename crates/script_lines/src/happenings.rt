@@ -1,4 +1,4 @@
-//! Parses the words of events and queries after their verb.
+//! Parses the words that follow the verb in the script line of an event or a query.
 ghost use Rattle.std.specs.Prelude.{◌≡◌};
 ghost use Rattle.script_lines.specs.LineReader.{asked_by, said_by, said_last};
 ghost use Rattle.script_lines.specs.declared.script.ScriptLine.TheVariants as line;
@@ -10,7 +10,7 @@ use crate::verbs::Question;
 use office_events::Event;
 use poll_core::Closing;
 
-/// Returns the line of an event, if no word is left.
+/// Returns the script line of an event, or `None` if words of the line are left to parse.
 pub(crate) fn event_line(at: u64, event: Event, words: &mut Words<'_>) -> Option<ScriptLine>
     ensures { result ≡ said_last (line.Event at event) words.old }
 {
@@ -18,7 +18,8 @@ pub(crate) fn event_line(at: u64, event: Event, words: &mut Words<'_>) -> Option
     Some(ScriptLine::Event { at, event })
 }
 
-// Parses `DEVICE FUNCTION ADDRESS COUNT`: a read is started.
+// Parses `DEVICE FUNCTION ADDRESS COUNT`, the words after `start` in a line. They describe the
+// start of a Modbus read.
 pub(crate) fn start(at: u64, words: &mut Words<'_>) -> Option<ScriptLine>
     ensures { result ≡ said_by verb.Start at words.old }
 {
@@ -32,7 +33,8 @@ pub(crate) fn start(at: u64, words: &mut Words<'_>) -> Option<ScriptLine>
     Some(ScriptLine::Start { at, start })
 }
 
-// Parses `DEVICE`: the device was connected.
+// Parses `DEVICE`, the word after `connect` in a script line. The line reports that the device was
+// connected.
 pub(crate) fn connect(at: u64, words: &mut Words<'_>) -> Option<ScriptLine>
     ensures { result ≡ said_by verb.Connect at words.old }
 {
@@ -46,7 +48,8 @@ pub(crate) fn tick(at: u64, words: &mut Words<'_>) -> Option<ScriptLine>
     event_line(at, Event::Tick, words)
 }
 
-// Parses `DEVICE`: the device closed its connection.
+// Parses `DEVICE`, the word after `gone` in a script line. The line reports that the device closed
+// its connection.
 pub(crate) fn gone(at: u64, words: &mut Words<'_>) -> Option<ScriptLine>
     ensures { result ≡ said_by verb.Gone at words.old }
 {
@@ -54,7 +57,8 @@ pub(crate) fn gone(at: u64, words: &mut Words<'_>) -> Option<ScriptLine>
     event_line(at, event, words)
 }
 
-// Parses `DEVICE`: a read or a write of the connection failed.
+// Parses `DEVICE`, the word after `failed` in a script line. The line reports that a read or a
+// write on the device's connection failed.
 pub(crate) fn failed(at: u64, words: &mut Words<'_>) -> Option<ScriptLine>
     ensures { result ≡ said_by verb.Failed at words.old }
 {
@@ -62,7 +66,8 @@ pub(crate) fn failed(at: u64, words: &mut Words<'_>) -> Option<ScriptLine>
     event_line(at, event, words)
 }
 
-/// Parses the argument of a query: `NAME`, or the number of a poll.
+/// Parses the argument of a query: the name of a meter or an accounting register, or the number of
+/// a poll.
 pub(crate) fn asked(question: Question, words: &mut Words<'_>) -> Option<ScriptLine>
     ensures { result ≡ asked_by question words.old }
 {

@@ -1,4 +1,4 @@
-//! What is wrong with a line.
+//! The faults that parsing or executing a script line can have.
 ghost use Rattle.std.specs.Prelude.{◌≡◌};
 ghost use Rattle.script_lines.specs.LineFaults.{line_fault_number};
 
@@ -6,16 +6,16 @@ use std::error::Error;
 use std::fmt;
 use std::fmt::{Display, Formatter};
 
-/// Why a line was not read or executed.
+/// The reason why a script line was not parsed or executed.
 #[derive(Clone, Copy, Debug, PartialEq, Eq)]
 pub enum LineFault {
-    /// The line has none of the forms.
+    /// The line has none of the forms of a script line.
     Bad,
     Memory,
 }
 
 impl LineFault {
-    /// Returns the number of the fault: 1 or 2.
+    /// Returns the number of the fault: 1 for a malformed line, 2 for out of memory.
     pub fn number(self) -> u8
         ensures { result ≡ line_fault_number self }
     {

@@ -1,4 +1,4 @@
-//! Parses a line of a script.
+//! Parses a line of a script into an event, a command or a query.
 ghost use Rattle.std.specs.Prelude.{◌≡◌, ◌∷◌, IfOk, IsErr, None};
 ghost use Rattle.script_lines.specs.LineReader.{SaysBytes, SaysPiece, device_bytes_said, line_said, said_by, said_from, timed_said};
 ghost use Rattle.script_lines.specs.LineWords.Words.{words_of};
@@ -18,7 +18,7 @@ use std::alloc::{AllocError, Global};
 impl ScriptLine {
     ghost use Rattle.script_lines.specs.Seen.{Reads};
 
-    /// Parses a line of a script. Only a line with bytes can fail with `Memory`.
+    /// Parses a line of a script. Parsing can fail with `Memory` only if the line contains bytes.
     pub fn read(alloc: Global, line: &[u8]) -> Result<ScriptLine, LineFault>
         ensures { Reads (words_of line.now) result }
     {
@@ -43,7 +43,8 @@ fn line_in(alloc: Global, line: &[u8]) -> Result<Option<ScriptLine>, AllocError>
     }
 }
 
-// Parses a line by its first word.
+// Parses a script line, given its first word. The first word is a timestamp, or the verb of a
+// query.
 fn line_from(
     alloc: Global,
     first: &[u8],
@@ -111,7 +112,8 @@ fn line_by(
     }
 }
 
-// Parses `DEVICE HEX`: a point list, as the bytes of its CSV.
+// Parses `DEVICE HEX`, the words after `list` in a line. They describe a point list as the bytes of
+// its CSV text.
 fn list_line(
     alloc: Global,
     at: u64,
@@ -129,7 +131,7 @@ fn list_line(
     }
 }
 
-// Parses `DEVICE HEX`: bytes that a device sent.
+// Parses `DEVICE HEX`, the words after `bytes` in a line. They describe bytes that a device sent.
 fn bytes_line(
     alloc: Global,
     at: u64,
@@ -147,8 +149,8 @@ fn bytes_line(
     }
 }
 
-// Parses the name of a device, and bytes in hexadecimal. If the last word is missing, there are no
-// bytes.
+// Parses a device's name and bytes in hexadecimal. If the hexadecimal word is missing, the list of
+// bytes is empty.
 fn device_bytes(
     alloc: Global,
     words: &mut Words<'_>,

@@ -1,4 +1,4 @@
-//! The words of a line, and their values.
+//! Splits a script line into words, and parses the values that the words spell.
 
 mod fields;
 mod meanings;

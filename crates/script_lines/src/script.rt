@@ -1,13 +1,14 @@
-//! The lines of a script.
+//! The types of a script's lines: events, commands and queries.
 ghost use Rattle.std.specs.Prelude.{◌≡◌, ◌↔◌, IfSome, IsSome};
 
 use mb_wire::ReadSpan;
 use office_events::{Event, Name, Piece};
 
-/// The start of a read, with its numbers as the line has them.
+/// The script line that starts a Modbus read. Its numbers are as written in the line, and may be
+/// out of range.
 #[derive(Clone, Copy, Debug, PartialEq, Eq)]
 pub struct GivenStart {
-    /// `None` if the text is no name.
+    /// The name of the device, or `None` if the word is not a valid name.
     pub device: Option<Name>,
     pub function: u64,
     pub address: u64,
@@ -17,7 +18,7 @@ pub struct GivenStart {
 impl GivenStart {
     ghost use Rattle.mb_wire.specs.Spans.{IsSpan, code_of};
 
-    /// Returns the Modbus registers to read, if one read can cover them.
+    /// Returns the Modbus registers to read, or `None` if one read request cannot cover them.
     pub fn span(&self) -> Option<ReadSpan>
         ensures lawful { IsSome result ↔ IsSpan self.now.function self.now.address self.now.count }
         ensures function { IfSome result (λ span. code_of span.function ≡ self.now.function) }
@@ -31,29 +32,30 @@ impl GivenStart {
     }
 }
 
-/// The point list of a device as CSV. Its faults appear when the list is parsed.
+/// The script line with a device's point list as CSV text. The text is not checked when the line is
+/// parsed.
 #[derive(Drop)]
 pub struct GivenList {
-    /// `None` if the text is no name.
+    /// The name of the device, or `None` if the word is not a valid name.
     pub device: Option<Name>,
     pub text: Piece,
 }
 
-/// A line of a script. Timestamps are seconds since 1970-01-01 UTC. Numbers are as written, and a
-/// name is `None` if its text is no name.
+/// A line of a script. Timestamps are seconds since 1970-01-01 UTC. Numbers may be out of range,
+/// and a name is `None` if the word is not a valid name.
 #[derive(Drop)]
 pub enum ScriptLine {
-    /// An event or a command.
+    /// An event or a command, with its timestamp.
     Event { at: u64, event: Event },
     /// A command that stores a new point list for a device.
     List { at: u64, list: GivenList },
     /// A command that starts a read.
     Start { at: u64, start: GivenStart },
-    /// A query for the row of a meter.
+    /// A query for the last count and the total energy of a meter.
     Meter { name: Option<Name> },
     /// A query for the energy of a meter in each quarter hour.
     Intervals { name: Option<Name> },
-    /// A query for the energy of a register on each day.
+    /// A query for the energy of an accounting register on each day.
     Days { name: Option<Name> },
     /// A query for the outcome of a poll.
     Poll { number: u64 },

@@ -1,10 +1,10 @@
-//! The verbs of lines.
+//! The verbs of script lines, and the tables that map words to verbs.
 ghost use Rattle.std.specs.Prelude.{◌≡◌};
 ghost use Rattle.script_lines.specs.LineReader.{question_of, verb_of};
 
 use crate::line_words::meaning_in;
 
-/// The verb of an event or a command, which has a timestamp.
+/// The verb of an event or a command, whose line begins with a timestamp.
 #[derive(Clone, Copy)]
 pub(crate) enum Verb {
     Device,
@@ -26,7 +26,7 @@ pub(crate) enum Verb {
     Failed,
 }
 
-/// The verb of a query.
+/// The verb of a query, whose line has no timestamp.
 #[derive(Clone, Copy)]
 pub(crate) enum Question {
     Meter,

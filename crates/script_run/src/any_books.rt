@@ -14,7 +14,7 @@ use script_text::{
 use std::alloc::Global;
 use std::io::{self, ErrorKind, Read, Write};
 
-// Gives an event to the office, and writes the office's answer.
+// Passes an event to the office, and writes the office's reply.
 fn feed_event<B: Books, W: Write>(
     office: &mut Office<B>,
     at: u64,
@@ -27,7 +27,7 @@ fn feed_event<B: Books, W: Write>(
     }
 }
 
-// Stores a point list in the office, or writes the list's faulty rows.
+// Stores a point list of a device, or writes the list's faulty rows.
 fn feed_rows<B: Books, W: Write>(
     alloc: Global,
     office: &mut Office<B>,
@@ -53,7 +53,8 @@ fn feed_rows<B: Books, W: Write>(
     feed_event(office, at, &Event::Command(Command::PutList(put)), output)
 }
 
-// Writes the number of rows, or the refusal that ended the query.
+// Writes the last line of a query: `end N` with the number of rows, or the refusal that ended the
+// query.
 fn write_count<W: Write>(
     answered: Result<(), Refusal>,
     failed: bool,
@@ -67,7 +68,7 @@ fn write_count<W: Write>(
     }
 }
 
-// Executes a line, and writes its answer.
+// Executes a script line over any store, and writes its output.
 fn play_line<B: Books, W: Write>(
     alloc: Global,
     office: &mut Office<B>,
@@ -111,7 +112,7 @@ fn play_line<B: Books, W: Write>(
     }
 }
 
-// Executes the lines of a text in order, up to the first line that cannot be parsed.
+// Executes the lines of a script in order, up to the first line that cannot be parsed.
 fn play_text<B: Books, W: Write>(
     alloc: Global,
     office: &mut Office<B>,
@@ -119,7 +120,7 @@ fn play_text<B: Books, W: Write>(
     output: &mut W,
 ) -> Result<ExitStatus, io::Error> {
     let mut lines = InputLines::of(text);
-    // (A text has fewer lines.)
+    // A script has fewer than 2^64 - 1 lines, so the bound of the loop is never reached.
     for _ in 0..u64::MAX {
         let Some(line) = lines.next_line() else {
             break;
@@ -136,7 +137,7 @@ fn play_text<B: Books, W: Write>(
     Ok(ExitStatus::Fine)
 }
 
-// Opens an office over the store, at the latest timestamp in the store.
+// Opens an office over a store, at the latest timestamp in the store.
 fn open_office<B: Books>(alloc: Global, books: B) -> Result<Office<B>, Refusal> {
     let mut books = books;
     let moment = match books.latest() {
@@ -149,7 +150,7 @@ fn open_office<B: Books>(alloc: Global, books: B) -> Result<Office<B>, Refusal> 
     }
 }
 
-// Opens an office over the store, and executes the lines of a text.
+// Opens an office over a store, and executes the lines of a script.
 fn play_books<B: Books, W: Write>(
     alloc: Global,
     books: B,
@@ -170,8 +171,8 @@ fn play_books<B: Books, W: Write>(
 
 /// Runs a script as [`replay`](crate::replay) does, over any store.
 ///
-/// The office is opened at the latest timestamp of the store, which is 0 in a new one. Days are
-/// those of the store's zone.
+/// The office is opened at the latest timestamp of the store, which is 0 in a new store. Days are
+/// civil days in the store's time zone.
 pub fn replay_books<B: Books, R: Read, W: Write>(
     alloc: Global,
     books: B,

@@ -1,4 +1,4 @@
-//! Runs scripts over an office in memory or in any store, and over simulated devices.
+//! Runs scripts over a store in memory, over any other store, and over simulated devices.
 #![tactic(auto)]
 
 mod any_books;

@@ -1,4 +1,4 @@
-//! Runs scripts over an office in memory.
+//! Runs scripts over a store in memory.
 
 mod events;
 mod lines;

@@ -1,5 +1,5 @@
-//! Writing answers to a writer of which one call fails, each in turn. Golden tests show what is
-//! written.
+//! Tests that write answers and notifications to a writer that fails. In each attempt, a later call
+//! of the writer fails.
 use crate::streams::Kept;
 use energy_core::Cause;
 use office_events::{Answer, Name, Note};
@@ -14,7 +14,7 @@ const STARTED: Answer = Answer::Started {
     of: 2,
 };
 
-// Returns the notifications of a poll's outcome, of its accepted reading, and of a rejected one.
+// Returns three notifications: the outcome of a poll, an accepted reading, and a rejected reading.
 fn notes(rt: &impl Abort) -> [Note; 3] {
     let meter = Name::new(b"m1").expect(rt, "no name");
     let answered = Note::Outcome {
@@ -41,8 +41,8 @@ const WHOLE: &str = "\
     held m1 4294967295 cause 6\n\
     started 1 1 2 00ff\n";
 
-// Makes each write fail in turn, until none fails. A write has at most `most` bytes. Returns how
-// many writes there are.
+// Repeats the output while write 1, 2, 3 and so on fails, until no write fails. Each write accepts
+// at most `most` bytes. Returns the number of writes in the complete output.
 fn assert_failing_writes(
     rt: &impl Abort,
     alloc: Global,
@@ -63,15 +63,15 @@ fn assert_failing_writes(
     panic!(rt; "a write fails each time")
 }
 
-/// Request frames, the printed line that has them, and the number of writes of at most 50 bytes for
-/// the line.
+/// A test case: request frames, the line that prints these frames in hex, and the number of writes
+/// for this line if each write accepts at most 50 bytes.
 struct Case {
     frames: &'static [u8],
     line: &'static str,
     calls: usize,
 }
 
-// Frames that need several writes: digits are written in pieces of 64.
+// Frames whose hex text needs several writes of at most 64 digits.
 static CASES: [Case; 5] = [
     Case {
         frames: b"\x00\x00\x00\x00\x00\x06\x01\x03\x9c\x9e\x00\x03",
@@ -106,7 +106,8 @@ static CASES: [Case; 5] = [
     },
 ];
 
-// Notifications are written before the answer. If any write fails, the failure is reported.
+// Every failed write of the notifications or of the answer is reported, and the notifications are
+// written before the answer.
 #[test]
 fn each_failing_write_is_told(rt: HostRuntime) {
     let notes = notes(&rt);

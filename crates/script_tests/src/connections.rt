@@ -1,10 +1,10 @@
-//! A simulated device over a link that fails.
+//! Tests of a simulated Modbus device over a link that fails.
 use mb_device::{Area, Bank, Kind, ServeFault, Trick, answer_one};
 use mb_wire::MemoryLink;
 use std::alloc::Global;
 use std::process::Abort;
 
-// A read of holding register 0 by unit 1.
+// The Modbus TCP request that reads holding register 0 of unit 1.
 const READ: &[u8] = &[0, 7, 0, 0, 0, 6, 1, 3, 0, 0, 0, 1];
 
 static AREA: [Area; 1] = [Area {
@@ -19,8 +19,8 @@ fn bank_with_nine(rt: &impl Abort, alloc: Global) -> Bank {
     bank
 }
 
-// The call of the link that fails, if any, the result of a read with an injected fault, and the
-// written bytes.
+// Each case has the number of the link call that fails, if any. The case also has the result of
+// serving a read with an injected fault, and the bytes that were written.
 static ANSWERS: [(Option<u64>, Result<u64, ServeFault>, &[u8]); 2] = [
     (None, Ok(1), &[0, 7, 0, 0]),
     (Some(1), Err(ServeFault::Read), &[]),

@@ -1,4 +1,4 @@
-//! The texts of faults of inputs, of script lines and of the program's arguments.
+//! Tests of the messages for faults of inputs, of script lines and of the program's arguments.
 use command_io::ReadFault;
 use command_words::{DeviceFault, ListFault, WordsFault};
 use script_lines::LineFault;
@@ -6,7 +6,7 @@ use std::alloc::Global;
 use std::fmt::Display;
 use std::process::Abort;
 
-// Asserts that each fault has the text beside it, without a full stop.
+// Asserts that each fault prints the expected message, which has no full stop.
 fn assert_texts<F: Display>(rt: &impl Abort, alloc: Global, texts: &[(F, &str)]) {
     for (fault, text) in texts {
         let said = format!(in alloc; "{fault}").expect(rt, "no memory");

@@ -1,11 +1,11 @@
-//! Inputs of megabytes, and the pieces in which many lines are written.
+//! Tests of inputs with megabytes of text, and of the sizes of the writes for many lines.
 use crate::replays::run;
 use crate::streams::{Kept, Slow};
 use command_io::{ExitStatus, MOST_BYTES, ReadFault, read_whole};
 use std::alloc::Global;
 use std::process::Abort;
 
-// Returns this text, repeated `count` times.
+// Returns the given text, repeated `count` times.
 fn repeated(rt: &impl Abort, alloc: Global, count: usize, text: &str) -> String {
     let mut all = String::new(alloc);
     for _line in 0..count {
@@ -24,8 +24,8 @@ fn no_more_reads_are_made_than_bytes_fit(rt: HostRuntime) {
     assert!(rt; slow.calls == 4_194_305);
 }
 
-// 2,000 answers of 10 bytes are written in few pieces. Each piece except the last ends with a
-// complete line.
+// The text of 2,000 answers of 10 bytes is written in few calls. Each call except the last ends
+// with a complete line.
 #[test]
 fn whole_lines_are_given_out(rt: HostRuntime) {
     let text = repeated(&rt, rt.alloc(), 2000, "poll 1\n");

@@ -1,5 +1,5 @@
-//! Tests of scripts and arguments: streams that fail, inputs of megabytes, what no script prints,
-//! and the values of arguments. `script_cases` holds the golden tests of scripts, and
+//! Tests that golden tests cannot express. They cover failing streams, inputs of megabytes, values
+//! that no script prints, and the values of arguments. `golden_cases` runs the golden tests, and
 //! `tests/arguments.py` tests help and wrong arguments.
 #![tactic(auto)]
 

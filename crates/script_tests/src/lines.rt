@@ -1,12 +1,12 @@
-//! Lines that no script can have, because a script skips empty lines and drops a carriage return.
-//! Also lines of the greatest length.
+//! Tests of lines that no script can have, because a script skips empty lines and drops carriage
+//! returns. Also tests lines of the maximum length.
 use script_lines::{BankLine, LineFault, ScriptLine};
 use std::alloc::Global;
 use std::process::Abort;
 
 static BAD: [&[u8]; 4] = [b"", b" ", b"1903 tick\r", b"# a comment"];
 
-// An empty line, a carriage return and a comment are not accepted as script lines.
+// The parser of script lines rejects an empty line, a carriage return and a comment.
 #[test]
 fn reads_no_other_lines(rt: HostRuntime) {
     for text in &BAD {
@@ -19,7 +19,7 @@ fn reads_no_other_lines(rt: HostRuntime) {
     assert!(rt; BankLine::read(b"area coil 0 1\r").is_none());
 }
 
-// Returns a script line with a list of `count` bytes that are 0.
+// Returns the script line of a point list whose text is `count` zero bytes.
 fn zeros_listed(rt: &impl Abort, alloc: Global, count: usize) -> Vec<u8> {
     let mut text = b"1900 list inv ".to_vec(alloc).expect(rt, "no memory");
     text.resize(14 + 2 * count.min(70_000), b'0')
@@ -29,7 +29,7 @@ fn zeros_listed(rt: &impl Abort, alloc: Global, count: usize) -> Vec<u8> {
 
 static ZEROS: [u8; 65_536] = [0; 65_536];
 
-// A list of bytes in a script line may have at most 65,536 bytes.
+// The parser accepts 65,536 bytes in hex in a script line, and rejects more.
 #[test]
 fn pieces_have_at_most_65536_bytes(rt: HostRuntime) {
     let most = zeros_listed(&rt, rt.alloc(), 65_536);

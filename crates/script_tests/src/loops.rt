@@ -1,4 +1,4 @@
-//! Loops of the program whose writer fails, or whose connections can't be made.
+//! Tests of scripts over a simulated device whose output fails, or whose connection cannot be made.
 use crate::replays::zone;
 use crate::streams::Kept;
 use command_io::ExitStatus;
@@ -36,8 +36,8 @@ const PRINTED: &str = "\
     ok\n\
     bad line 6\n";
 
-// The number of bytes that are written before a write fails, and the exit status: up to the end of
-// each line, and all bytes.
+// Each case has the number of bytes that the writer accepts before it fails, and the exit status.
+// The numbers are at ends of lines, and at the end of the complete output.
 static ENDS: [(usize, ExitStatus); 9] = [
     (0, ExitStatus::Failed),
     (3, ExitStatus::Failed),
@@ -50,7 +50,7 @@ static ENDS: [(usize, ExitStatus); 9] = [
     (89, ExitStatus::Refused),
 ];
 
-// If the writer fails, the loop ends at once.
+// A failed write ends the run of a script over a simulated device at once.
 #[test]
 fn a_writer_that_fails_ends_the_run(rt: HostRuntime) {
     let mut loopback = Loopback::new(&rt).expect(&rt, "no loopback");
@@ -65,7 +65,7 @@ fn a_writer_that_fails_ends_the_run(rt: HostRuntime) {
     }
 }
 
-// If a connection can't be made, the loop ends at once.
+// A failed connection ends the run of a script over a simulated device at once.
 #[test]
 fn a_connection_that_cannot_be_made_ends_the_run(rt: HostRuntime) {
     let mut printed = Vec::new(rt.alloc());

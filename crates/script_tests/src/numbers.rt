@@ -1,5 +1,5 @@
-//! The words for the kinds of numbers that the program prints. `tests/words.py` explains each
-//! number.
+//! Tests of the words that name the kinds of printed numbers, such as `fault`. `tests/words.py`
+//! tests the explanation of each number.
 use printed_numbers::{Kind, kind_named, kinds};
 
 #[test]

@@ -1,4 +1,4 @@
-//! Runs scripts from a reader to a writer.
+//! Helpers that run a script from a reader to a writer.
 use crate::streams::{Kept, Slow};
 use interval_core::Zone;
 use script_run::{Replayed, replay};
@@ -10,7 +10,8 @@ pub(crate) fn zone(rt: &impl Abort) -> Zone {
     Zone::read("UTC0").ok().expect(rt, "no zone")
 }
 
-/// Runs a script. This is the one call of `replay`, which is generic over its streams.
+/// Runs a script with `replay`. All tests share this call, because `replay` is generic over its
+/// streams.
 pub(crate) fn run(
     rt: &impl Abort,
     alloc: Global,

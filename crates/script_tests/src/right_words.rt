@@ -1,9 +1,9 @@
-//! Tests which command the program's arguments give: options in any order, defaults, and numbers at
-//! their limits.
+//! Tests how command lines are parsed: options in any order, defaults, and numbers at their limits.
 use crate::spelled_words::assert_spelled;
 use command_words::{CommandLine, command_of};
 
-/// Each command line with the command that it gives.
+/// Each case has a command line, with `|` between its arguments, and the text of the parsed
+/// command.
 static RIGHT: [(&str, &str); 60] = [
     ("replay", r#"Replay { zone: "UTC0" }"#),
     ("replay|--zone|CET-1", r#"Replay { zone: "CET-1" }"#),
@@ -14,7 +14,7 @@ static RIGHT: [(&str, &str); 60] = [
     ),
     ("plan", "Plan"),
     ("chain", "Chain"),
-    // Options may be in any order.
+    // The options of a command may come in any order.
     (
         "create|--db|a b.db|--zone|UTC0",
         r#"Create { db: "a b.db", zone: "UTC0" }"#,
@@ -27,18 +27,19 @@ static RIGHT: [(&str, &str); 60] = [
         "round|--db=o.db|--device=inv|--host=meter.lan|--port=502",
         r#"Round { db: "o.db", device: "inv", host: "meter.lan", port: 502 }"#,
     ),
-    // Without a host, this machine is used.
+    // Without `--host`, a command uses the local machine, 127.0.0.1.
     (
         "round|--db|o.db|--device|\u{e4} b|--port|502",
         "Round { db: \"o.db\", device: \"\u{e4} b\", host: \"127.0.0.1\", port: 502 }",
     ),
-    // A name is passed on unchanged.
+    // The name of an accounting register may contain any characters, and parsing leaves the name
+    // unchanged.
     (
         "report|--db|o.db|--register|Main,=1 \u{3bc}",
         "Report { db: \"o.db\", register: \"Main,=1 \u{3bc}\", form: FormWords { from: None, \
          till: None, period: None, unit: None, format: None, statement: false } }",
     ),
-    // The text of a day is not checked at this point.
+    // Parsing the arguments does not check that the date after `--from` exists.
     (
         "report|--db|o.db|--register|main|--from|2024-02-30|--till=|--by|year|--unit|kwh\
          |--format|json",
@@ -46,7 +47,7 @@ static RIGHT: [(&str, &str); 60] = [
          from: Some(\"2024-02-30\"), till: Some(\"\"), period: Some(Year), \
          unit: Some(KilowattHours), format: Some(Json), statement: false } }",
     ),
-    // The other words for the form of a report.
+    // The report's units, periods and formats that the cases above do not use.
     (
         "report|--db|o.db|--register|main|--by|day|--unit|mwh|--format|text",
         "Report { db: \"o.db\", register: \"main\", form: FormWords { from: None, till: None, \
@@ -57,19 +58,19 @@ static RIGHT: [(&str, &str); 60] = [
         "Report { db: \"o.db\", register: \"main\", form: FormWords { from: None, till: None, \
          period: Some(Month), unit: None, format: Some(Csv), statement: false } }",
     ),
-    // A statement has no option for periods.
+    // A statement (`report --statement`) has no option for periods.
     (
         "report|--db|o.db|--register|main|--statement|--unit|kwh",
         "Report { db: \"o.db\", register: \"main\", form: FormWords { from: None, till: None, \
          period: None, unit: Some(KilowattHours), format: None, statement: true } }",
     ),
-    // Several files keep their order.
+    // The files of a report over several files keep the order of the arguments.
     (
         "report|--db=2026.db|--register|main|--db|o.db|--statement|--",
         "ReportFiles { files: [\"2026.db\", \"o.db\"], register: \"main\", form: FormWords { \
          from: None, till: None, period: None, unit: None, format: None, statement: true } }",
     ),
-    // The defaults are unit 1 and five seconds.
+    // The defaults of `scan` are unit identifier 1 and a timeout of five seconds.
     (
         "scan|--port|502",
         "Scan { host: \"127.0.0.1\", port: 502, unit: 1, timeout: 5, list: false, setup: None }",
@@ -88,7 +89,7 @@ static RIGHT: [(&str, &str); 60] = [
         "stand-in|--host|::1|--port|1502|--connections|10",
         r#"StandIn { host: "::1", port: 1502, connections: 10 }"#,
     ),
-    // Without a host, this machine is used.
+    // Without `--host`, a command uses the local machine, 127.0.0.1.
     (
         "stand-in|--port|1502|--connections|10",
         r#"StandIn { host: "127.0.0.1", port: 1502, connections: 10 }"#,
@@ -105,7 +106,7 @@ static RIGHT: [(&str, &str); 60] = [
         "carry|--until|4294967295|--to|n.db|--from|o.db",
         r#"Carry { from: "o.db", to: "n.db", until: Some(4294967295) }"#,
     ),
-    // The command `explain` itself reports that a word is no number.
+    // Parsing the arguments of `explain` does not check that the last argument is a number.
     (
         "explain|refused|12",
         r#"Explain { what: "refused", number: "12" }"#,
@@ -131,7 +132,7 @@ static RIGHT: [(&str, &str); 60] = [
         "audit|--db=old.db|--db|o.db",
         r#"Audit { dbs: ["old.db", "o.db"], seal: Nothing }"#,
     ),
-    // Without a device, no counter is read.
+    // Without `--device`, the command `enter` reads no counter.
     (
         "enter|--db|o.db|--caller|site",
         r#"Enter { db: "o.db", caller: "site", devices: [], only_read: false }"#,
@@ -146,7 +147,7 @@ static RIGHT: [(&str, &str); 60] = [
          host: \"meter.lan\", port: 502 }, Device { name: \"b\", host: \"[::1]\", port: 1 }], \
          only_read: false }",
     ),
-    // Without host names, `serve` accepts the names of this machine.
+    // Without host names, `serve` accepts only requests to the names of the local machine.
     (
         "serve|--db|o.db|--port|8080|--connections|7",
         r#"Serve { db: "o.db", port: 8080, connections: 7, host_names: [] }"#,
@@ -156,7 +157,8 @@ static RIGHT: [(&str, &str); 60] = [
         "Serve { db: \"o.db\", port: 8080, connections: 7, \
          host_names: [\"a.example\", \"b.example\"] }",
     ),
-    // Without these options, `run` has no end, begins no new files, and has no limit.
+    // Without optional arguments, the command `run` has no end time, begins no new files, and has
+    // no limit for stored requests.
     (
         "run|--db|o.db|--listen|8080|--every|60|--devices|inv=192.0.2.7:502",
         "Run { dbs: [\"o.db\"], listen: 8080, every: 60, devices: [Device { name: \"inv\", \
@@ -185,7 +187,7 @@ static RIGHT: [(&str, &str); 60] = [
          name: \"inv\", host: \"192.0.2.7\", port: 502 }], lasts: None, carry: Some(Month), \
          earlier: None, host_names: [], most_kept: None, verbose: false }",
     ),
-    // Numbers at their limits, and lists of devices, which have at most 64.
+    // Numbers at their limits, and device lists of up to 64 devices.
     (
         "serve|--db|x|--connections|1|--port|1",
         "Serve { db: \"x\", port: 1, connections: 1, host_names: [] }",

@@ -1,8 +1,9 @@
-//! Rows that no script can print: the greatest numbers, and days long before 1970.
+//! Tests of report lines that no script can print. These lines have the greatest numbers, or days
+//! long before 1970.
 use interval_core::{Day, DayTotal, Share};
 use script_text::{Line, write_day, write_end, write_interval};
 
-/// A day, the number of its quarter hours, and its energy in mWh.
+/// Each case has a day, the number of the day's quarter hours, and the day's energy in mWh.
 static DAYS: [(i16, i8, i8, u32, u128); 2] = [(33, 12, 9, 1, 7), (-1, 1, 1, 1000, u128::MAX)];
 
 static WRITTEN: &str = "\
@@ -11,7 +12,7 @@ static WRITTEN: &str = "\
     0033-12-09   1                        7\n\
     -000001-01-01 1000 340282366920938463463374607431768211455\n";
 
-// The greatest numbers, and days of any year, are written in full.
+// Report lines print the greatest numbers and days of any year in full.
 #[test]
 fn the_greatest_numbers_and_days_of_any_year_are_written(rt: HostRuntime) {
     let share = Share {
@@ -33,7 +34,8 @@ fn the_greatest_numbers_and_days_of_any_year_are_written(rt: HostRuntime) {
     assert!(rt; told.as_slice() == WRITTEN.as_bytes());
 }
 
-// A line is built from texts and numbers, and its clone is equal to it.
+// A `Line` that is built from texts and numbers has the bytes of these texts and numbers, and a
+// clone of the `Line` has the same bytes.
 #[test]
 fn a_line_is_built_up(rt: HostRuntime) {
     let mut line = Line::new();

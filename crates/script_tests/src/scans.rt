@@ -1,4 +1,5 @@
-//! A scan of a simulated device over a link that fails. `tests/stand_in.py` scans simulators.
+//! Tests of a scan of a simulated device over a link that fails. `tests/stand_in.py` scans
+//! simulators over sockets.
 use device_scan::{ScanFault, ScanObserver};
 use mb_wire::MemoryLink;
 use sun_chain::Model;
@@ -12,8 +13,9 @@ impl ScanObserver for Nobody {
     fn reads(&mut self, _model: Model) {}
 }
 
-// The responses of a device to the four reads of a scan. They are the SunSpec mark, a model 103
-// with 50 registers whose counter WH shows 5000 at scale factor 0, and the end model.
+// The responses of a device to the four reads of a scan. They have the SunSpec mark, the end model,
+// and a model 103 with 50 Modbus registers. The counter WH of this model shows 5000 at scale factor
+// 0.
 const REPLIES: &[u8] = &[
     0, 1, 0, 0, 0, 7, 1, 3, 4, 83, 117, 110, 83, 0, 2, 0, 0, 0, 7, 1, 3, 4, 0, 103, 0, 50, 0, 3, 0,
     0, 0, 103, 1, 3, 100, 0, 0, 0, 0, 0, 0, 0, 0, 0, 0, 0, 0, 0, 0, 0, 0, 0, 0, 0, 0, 0, 0, 0, 0,
@@ -22,8 +24,8 @@ const REPLIES: &[u8] = &[
     0, 0, 0, 0, 0, 0, 0, 0, 0, 0, 0, 0, 0, 0, 4, 0, 0, 0, 7, 1, 3, 4, 255, 255, 0, 0,
 ];
 
-// The calls of the link that fail, each in turn: the first write, the first read, and a write of
-// the last request.
+// The number of the link call that fails in each test. The calls are the first write, the first
+// read, and a write of the last request.
 static CALLS: [u64; 3] = [1, 13, 180];
 
 #[test]

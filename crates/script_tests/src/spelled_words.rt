@@ -1,10 +1,10 @@
-//! Formats what the program's arguments give: a command, the text of a fault, the help or the
-//! version.
+//! Formats the result of parsing the program's arguments as text. The result is a command, a
+//! fault's message, the help or the version.
 use command_words::{WordsFault, command_of};
 use std::alloc::Global;
 use std::process::Abort;
 
-/// Returns what a command line gives, as a text. Bars separate the arguments in the line.
+/// Returns the result of parsing a command line, as text. Bars separate the arguments in the line.
 fn spelled(rt: &impl Abort, alloc: Global, line: &str) -> String {
     let words: Vec<&str> = line.split('|').collect(alloc).expect(rt, "no memory");
     let text = match command_of(alloc, &words) {
@@ -16,7 +16,7 @@ fn spelled(rt: &impl Abort, alloc: Global, line: &str) -> String {
     text.expect(rt, "no memory")
 }
 
-/// Asserts what each command line gives.
+/// Asserts that each command line parses to the expected text.
 pub(crate) fn assert_spelled(rt: &impl Abort, alloc: Global, lines: &[(&str, &str)]) {
     for (line, text) in lines {
         let found = spelled(rt, alloc, line);

@@ -1,9 +1,9 @@
-//! Readers and writers with one failing call.
+//! Readers and writers that fail at one chosen call.
 use std::alloc::Global;
 use std::io::{self, ErrorKind, Read, Write};
 use std::process::Abort;
 
-/// A reader that returns its text one byte at a time. One call of `read` fails.
+/// A reader that returns its text one byte at a time, and fails at one chosen call of `read`.
 #[derive(Drop)]
 pub(crate) struct Slow<'a> {
     text: &'a [u8],
@@ -46,7 +46,8 @@ impl Read for Slow<'_> {
     }
 }
 
-/// A writer that keeps what is written, at most `most` bytes in a call. One call of `write` fails.
+/// A writer that collects its bytes, at most `most` in one call, and fails at one chosen call of
+/// `write`.
 #[derive(Drop)]
 pub(crate) struct Kept {
     pub(crate) got: Vec<u8>,
@@ -70,8 +71,8 @@ impl Kept {
         Kept::new(alloc, usize::MAX, 8192)
     }
 
-    /// Asserts that a prefix of the text was written, or all of it if no call failed. Also asserts
-    /// that no call followed a failed one. Returns whether no call failed.
+    /// Asserts that the writer received a prefix of the output, or all of it if no call failed.
+    /// Also asserts that no call followed a failed call. Returns true if no call failed.
     pub(crate) fn assert_written(&self, rt: &impl Abort, output: &str) -> bool {
         let whole = self.calls < self.failing;
         assert!(rt; self.calls <= self.failing);

@@ -1,4 +1,4 @@
--- The hex text of bytes, piece by piece.
+-- Lemmas on writing the hex text of bytes in pieces of a few bytes each.
 use Rattle.std.proofs.Common.{◌≡◌, ◌/◌, ◌%◌, ℕ, List, [], ◌∷◌, ◌++◌, Option, take, drop, refl, sym, ap, ◌∙◌, append_assoc, append-nil, take-append-drop}
 use Rattle.std.specs.Prelude.{slice_index, IsErr, IsOk, OnOk, Ok, Err}
 use Rattle.std.specs.declared.result.Result.{Result}
@@ -8,31 +8,32 @@ use Rattle.hex.specs.Hex.{encode_lower, encode_with, lower_digits}
 use Rattle.sun_points.specs.Writing.{GotPart, GotText}
 use Rattle.script_text.proofs.Got.{appends_both, appends_this, got_first, part_after}
 
--- The hex text of two byte strings is the texts of both, one after the other.
+-- The hex text of two concatenated byte strings is the concatenation of their hex texts.
 pub encode_lower-append : (xs ys : List ℕ) → encode_lower (xs ++ ys) ≡ encode_lower xs ++ encode_lower ys
 unfolding encode_with
 encode_lower-append [] ys = refl
 encode_lower-append (x ∷ xs) ys =
     ap (λ (more : List ℕ). slice_index lower_digits (x / 16) ∷ slice_index lower_digits (x % 16) ∷ more) (encode_lower-append xs ys)
 
--- Before the first piece, the writer received no bytes.
+-- A writer that received no bytes received the hex text of zero bytes.
 pub none_got : (a : Option (List ℕ)) → Appends a a (encode_lower [])
 unfolding encode_with
 none_got a = Appends-nil a
 
--- A piece is removed from the rest.
+-- Moving the first `n` bytes of the rest after the bytes already written keeps the bytes in order.
 pub cut_off : (bytes done rest piece after : List ℕ) (n : ℕ) → bytes ≡ done ++ rest → piece ≡ take n rest → after ≡ drop n rest → bytes ≡ (done ++ piece) ++ after
 cut_off bytes done rest piece after n split front back =
     split ∙ ap (λ (l : List ℕ). done ++ l) (sym (take-append-drop n rest)) ∙ ap (λ (l : List ℕ). done ++ (l ++ drop n rest)) (sym front)
     ∙ ap (λ (l : List ℕ). done ++ (piece ++ l)) (sym back) ∙ sym (append_assoc done piece after)
 
--- The writer received a piece after the others.
+-- If a writer received the hex text of some bytes and then of the next piece, it received the hex
+-- text of both.
 pub piece_got : (a b c : Option (List ℕ)) (done piece : List ℕ) → Appends a b (encode_lower done) → Appends b c (encode_lower piece)
     → Appends a c (encode_lower (done ++ piece))
 piece_got a b c done piece first second =
     appends_both a b c (encode_lower done) (encode_lower piece) (encode_lower (done ++ piece)) first second (sym (encode_lower-append done piece))
 
--- The writer received a part of the piece.
+-- If the write of a piece failed, the writer received a part of the complete hex text.
 pub piece_failed : {X E : Type 0} (result : Result X E) (a b c : Option (List ℕ)) (bytes done piece after : List ℕ) → IsErr result → bytes ≡ (done ++ piece) ++ after
     → Appends a b (encode_lower done) → GotPart (encode_lower piece) b c → GotText result (encode_lower bytes) a c
 piece_failed result a b c bytes done piece after failed is first second =
@@ -41,13 +42,13 @@ piece_failed result a b c bytes done piece after failed is first second =
     (ap (λ (front : List ℕ). front ++ encode_lower after) (sym (encode_lower-append done piece)) ∙ sym (encode_lower-append (done ++ piece) after)
     ∙ ap encode_lower (sym is))
 
--- If no bytes are left, the writer received the hex text of all bytes.
+-- If no bytes are left to write, the writer received the hex text of all bytes.
 pub all_got : (a b : Option (List ℕ)) (bytes done rest : List ℕ) → bytes ≡ done ++ rest → rest ≡ [] → Appends a b (encode_lower done) → Appends a b (encode_lower bytes)
 all_got a b bytes done rest split none got =
     appends_this a b (encode_lower done) (encode_lower bytes)
     (ap encode_lower (sym (append-nil done)) ∙ ap (λ (l : List ℕ). encode_lower (done ++ l)) (sym none) ∙ ap encode_lower (sym split)) got
 
--- The contract of a call, after a success.
+-- After a successful call, the condition that its contract states for success is true.
 pub filled : {X E : Type 0} (result : Result X E) (P : Type 0) → IsOk result → OnOk result P → P
 filled (Ok done) P ok so = so
 filled (Err error) P ok so = cc ok

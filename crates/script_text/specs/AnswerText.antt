@@ -1,5 +1,5 @@
--- The lines that a script prints for the answers and notifications of the office, the program's
--- state over one store.
+-- The lines that a run of a script prints for answers, notifications, refusals, meters, polls and
+-- faults.
 use Rattle.std.specs.Prelude.{ℕ, Bool, true, false, List, ◌++◌, flat_map, Some, None, codes}
 use Rattle.std.specs.declared.option.Option.{Option}
 use Rattle.std.specs.Fmt.{decimal, signed_decimal}
@@ -21,7 +21,7 @@ use Rattle.poll_core.specs.Outcomes.{cause_number as loss_number, malformation_n
 use Rattle.poll_core.specs.declared.outcome.Outcome.{Outcome}
 use Rattle.poll_core.specs.declared.outcome.Outcome.TheVariants.{Answered, Exception, Silent, Malformed, Lost}
 
--- The words for the outcome of a poll.
+-- The text for the outcome of a poll, as `answered` or `exception 2`.
 abbrev pub outcome_text : Outcome → List ℕ
 outcome_text Answered = codes "answered"
 outcome_text (Exception code) = codes "exception " ++ decimal code
@@ -29,42 +29,44 @@ outcome_text Silent = codes "silent"
 outcome_text (Malformed wrong) = codes "malformed " ++ decimal (malformation_number wrong)
 outcome_text (Lost cause) = codes "lost " ++ decimal (loss_number cause)
 
--- The words for the state of a poll: its outcome, or `pending` while it has none.
+-- The text for the state of a poll: its outcome, or `pending` before it has an outcome.
 abbrev pub ending_text : Option EndedPoll → List ℕ
 ending_text None = codes "pending"
 ending_text (Some ended) = outcome_text ended.outcome
 
--- The line for the outcome of the poll with this number.
+-- The line `poll N OUTCOME` for the outcome of the poll with number N.
 abbrev pub outcome_line : ℕ → Outcome → List ℕ
 outcome_line poll outcome =
     codes "poll " ++ decimal poll ++ codes " " ++ outcome_text outcome ++ codes "\n"
 
--- The rest of the line of an accepted reading: the meter's count, its rollovers, and the energy
--- of the step in mWh.
+-- The part of an accepted reading's line after the meter's name: the meter's count, its number of
+-- rollovers, and the energy since the entry before, in mWh.
 abbrev pub reading_text : ℕ → ℕ → ℕ → List ℕ
 reading_text raw rolls step =
     codes " " ++ decimal raw ++ codes " rolls " ++ decimal rolls ++ codes " step " ++ decimal step
     ++ codes "\n"
 
--- The rest of the line of a rejected reading: the meter's count, and the number of the cause.
+-- The part of a rejected reading's line after the meter's name: the meter's count, and the number
+-- of the cause.
 abbrev pub held_text : ℕ → ℕ → List ℕ
 held_text raw cause = codes " " ++ decimal raw ++ codes " cause " ++ decimal cause ++ codes "\n"
 
--- The line for a notification.
+-- The line for a notification: the outcome of a poll, an accepted reading or a rejected reading.
 abbrev pub note_line : Note → List ℕ
 note_line (note.Outcome poll outcome) = outcome_line poll outcome
 note_line (note.Reading meter raw rolls step) =
     codes "reading " ++ meter ++ reading_text raw rolls step
 note_line (note.Held meter raw cause) = codes "held " ++ meter ++ held_text raw (cause_number cause)
 
--- The rest of the line of a start: the number of the first poll, the number of polls that were
--- started, and the number of reads in the plan.
+-- The beginning of the line for started polls: the number of the first poll, the number of started
+-- polls, and the number of reads in the plan.
 abbrev pub counts_text : ℕ → ℕ → ℕ → List ℕ
 counts_text first count of =
     codes "started " ++ decimal first ++ codes " " ++ decimal count ++ codes " " ++ decimal of
     ++ codes " "
 
--- The line for an answer. The line for a start also has the frames to send, in hex.
+-- The line for the answer to an event: `ok`, or for a start the polls and the frames to send, in
+-- hex.
 abbrev pub answer_line : Answer → List ℕ → List ℕ
 answer_line Noted frames = codes "ok\n"
 answer_line (Done kind) frames = codes "ok\n"
@@ -72,42 +74,42 @@ answer_line (Again kind) frames = codes "ok\n"
 answer_line (Started first count of) frames =
     counts_text first count of ++ encode_lower frames ++ codes "\n"
 
--- The lines for an accepted event: its notifications, and then its answer.
+-- The lines for an accepted event: one for each notification, then one for the answer.
 abbrev pub accepted_text : Answer → List Note → List ℕ → List ℕ
 accepted_text answer notes frames = flat_map note_line notes ++ answer_line answer frames
 
--- The line for a refusal, with its number.
+-- The line `refused N`, where N is the number of the refusal.
 abbrev pub refused_line : Refusal → List ℕ
 refused_line refusal = codes "refused " ++ decimal (refusal_number refusal) ++ codes "\n"
 
--- The last word of a meter's line: `open`, or `ended` for a closed meter.
+-- The last word of a meter's line: `open`, or `ended` for a meter that was closed.
 abbrev pub end_word : Bool → List ℕ
 end_word true = codes " ended\n"
 end_word false = codes " open\n"
 
--- The rest of a meter's line: its counter's state, its total energy in mWh, and whether it was
--- closed.
+-- The part of a meter's line after the meter's name: the last count and its scale, the total energy
+-- in mWh, and `open` or `ended`.
 abbrev pub standing_text : Last → ℕ → Bool → List ℕ
 standing_text last total ended =
     codes " last " ++ decimal last.raw ++ codes " sf " ++ signed_decimal last.sf ++ codes " at "
     ++ decimal last.at
     ++ codes " total " ++ decimal total ++ end_word ended
 
--- The line for a meter.
+-- The line `meter NAME last RAW ..` for a meter, with its total energy in mWh.
 abbrev pub meter_line : Installation → List ℕ
 meter_line row = codes "meter " ++ row.opening.meter ++ standing_text row.last row.total row.ended
 
--- The line for a poll.
+-- The line `poll N STATE` for a poll, where STATE is its outcome or `pending`.
 abbrev pub poll_line : PollRow → List ℕ
 poll_line row =
     codes "poll " ++ decimal row.poll.number ++ codes " " ++ ending_text row.ended ++ codes "\n"
 
--- The line for an invalid row of a point list. The header is row 1.
+-- The line `row R fault N` for an invalid row of a point list. The header is row 1.
 abbrev pub fault_line : FaultyRow → List ℕ
 fault_line faulty =
     codes "row " ++ decimal faulty.row ++ codes " fault " ++ decimal (fault_number faulty.fault)
     ++ codes "\n"
 
--- The line that reports an input line without a valid form. Input lines are numbered from 1.
+-- The line `bad line N` for input line N, which has no valid form. Input lines are numbered from 1.
 abbrev pub bad_line : ℕ → List ℕ
 bad_line number = codes "bad line " ++ decimal number ++ codes "\n"

@@ -1,4 +1,4 @@
-//! Writes the lines for an accepted event.
+//! Writes the lines for an accepted event: its notifications and its answer.
 ghost use Rattle.std.specs.Prelude.{◌≡◌, ◌++◌, codes, flat_map};
 ghost use Rattle.hex.specs.Hex.{encode_lower};
 ghost use Rattle.sun_points.specs.Writing.{GotText};
@@ -10,8 +10,8 @@ use crate::row_lines::Line;
 use office_events::{Answer, Note};
 use std::io::{self, Write};
 
-/// Writes a line for each notification of an accepted event, and then a line for its answer.
-/// `frames` are the bytes to send.
+/// Writes a line for each notification of an accepted event, and then a line for the answer.
+/// `frames` are the Modbus frames to send.
 pub fn write_accepted<W: Write>(
     answer: &Answer,
     notes: &[Note],
@@ -25,7 +25,7 @@ pub fn write_accepted<W: Write>(
     write_answer(answer, frames, output)
 }
 
-/// Writes a line for each notification.
+/// Writes one line for each notification, in order.
 pub fn write_notes<W: Write>(notes: &[Note], output: &mut W) -> io::Result<()>
     ensures { GotText result (flat_map text.note_line notes.now)
         (W.contents output.old) (W.contents output.new) }
@@ -36,8 +36,8 @@ pub fn write_notes<W: Write>(notes: &[Note], output: &mut W) -> io::Result<()>
     Ok(())
 }
 
-/// Writes the line `ok`, or for a start the line `started FIRST COUNT OF HEX`. HEX are the frames
-/// to send.
+/// Writes the line `ok`, or for started polls the line `started FIRST COUNT OF HEX`. HEX are the
+/// Modbus frames to send.
 pub fn write_answer<W: Write>(answer: &Answer, frames: &[u8], output: &mut W) -> io::Result<()>
     ensures { GotText result (text.answer_line answer.now frames.now)
         (W.contents output.old) (W.contents output.new) }

@@ -1,5 +1,5 @@
-//! The texts that a script prints. If the writer fails, a call has written a beginning of its text.
-//! No call allocates memory.
+//! Writes the texts that a run of a script prints. After a failed write, the writer has received a
+//! beginning of the text. No function allocates memory.
 #![tactic(auto)]
 
 mod accepted_events;

@@ -1,4 +1,5 @@
-//! Writes the lines for a refusal, a meter, a poll, and faults of input.
+//! Writes the lines for a refusal, a meter, a poll, a faulty row of a point list, and a malformed
+//! input line.
 ghost use Rattle.std.specs.Prelude.{◌≡◌, ◌≤◌, ◌+◌, ◌++◌, flat_map, length};
 ghost use Rattle.sun_points.specs.Writing.{GotText};
 ghost use Rattle.script_text.specs.AnswerText as text;
@@ -28,8 +29,8 @@ fn refused_line(refusal: Refusal) -> Line
     line
 }
 
-/// Writes `meter NAME last RAW sf SF at MOMENT total MWH open`. The last word is `ended` for a
-/// closed meter.
+/// Writes the line `meter NAME last RAW sf SF at MOMENT total MWH open`. The last word is `ended`
+/// for a closed meter.
 pub fn write_meter<W: Write>(row: &Installation, output: &mut W) -> io::Result<()>
     ensures { GotText result (text.meter_line row.now)
         (W.contents output.old) (W.contents output.new) }
@@ -120,7 +121,7 @@ fn fault_line(faulty: &FaultyRow) -> Line
     line
 }
 
-/// Writes the line `bad line N`, for the input line N without a valid form.
+/// Writes the line `bad line N`, which reports that input line N has no valid form.
 pub fn write_bad_line<W: Write>(number: u64, output: &mut W) -> io::Result<()>
     ensures { GotText result (text.bad_line number)
         (W.contents output.old) (W.contents output.new) }

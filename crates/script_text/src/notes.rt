@@ -52,7 +52,7 @@ fn outcome_line(poll: u64, outcome: Outcome) -> Line
     line
 }
 
-/// Appends the words for the outcome of a poll.
+/// Appends the text for the outcome of a poll, as `answered` or `exception 2`.
 pub(crate) fn push_outcome(line: &mut Line, outcome: Outcome)
     requires { length line.old ≤ 64 }
     ensures bytes { line.new ≡ line.old ++ text.outcome_text outcome }

@@ -1,4 +1,4 @@
-//! Writes the parts of a line one after another.
+//! Writes text, names and hex digits, the parts of a line.
 ghost use Rattle.std.specs.Prelude.{◌≡◌, ◌++◌, ◌*◌, ◌≤◌, length};
 ghost use Rattle.hex.specs.Hex.{encode_lower};
 ghost use Rattle.sun_points.specs.Writing.{GotText};
@@ -6,13 +6,13 @@ ghost use Rattle.sun_points.specs.Writing.{GotText};
 use std::io::{self, Write};
 use sun_points::Sink;
 
-/// The maximum number of bytes that one write shows in hex.
+/// The maximum number of bytes that one write prints in hex.
 const PIECE: usize = 32;
 
-/// The number of hex digits of a piece.
+/// The maximum number of hex digits in one write.
 const DIGITS: usize = 2 * PIECE;
 
-/// Writes a text.
+/// Writes the complete text, or fails after a beginning of it.
 pub(crate) fn write_text<W: Write>(text: &[u8], output: &mut W) -> io::Result<()>
     ensures { GotText result text.now (W.contents output.old) (W.contents output.new) }
 {
@@ -27,7 +27,7 @@ fn write_both<W: Write>(first: &[u8], second: &[u8], output: &mut W) -> io::Resu
     write_text(second, output)
 }
 
-/// Writes a keyword, a name and the rest of a line.
+/// Writes a keyword, a name and the rest of a line, in this order.
 pub(crate) fn write_named<W: Write>(
     word: &[u8],
     name: &[u8],
@@ -41,7 +41,7 @@ pub(crate) fn write_named<W: Write>(
     write_both(name, rest, output)
 }
 
-/// Writes bytes in lower-case hex, piece by piece.
+/// Writes bytes in lower-case hex, at most `PIECE` bytes in one write.
 pub(crate) fn write_hex<W: Write>(bytes: &[u8], output: &mut W) -> io::Result<()>
     ensures { GotText result (encode_lower bytes.now)
         (W.contents output.old) (W.contents output.new) }
@@ -66,11 +66,12 @@ fn write_piece<W: Write>(bytes: &[u8], output: &mut W) -> io::Result<()>
     write_text(text, output)
 }
 
-/// Writes the bytes in hex to `text`, which has two digits for each byte.
+/// Encodes bytes in lower-case hex into `text`, which has two digits for each byte.
 fn put_digits(bytes: &[u8], text: &mut [u8])
     requires { length text.old ≡ 2 * length bytes.now }
     ensures { text.new ≡ encode_lower bytes.now }
 {
-    // A text of any other length is the only error, and the contract excludes it.
+    // Encoding fails only if `text` has another length than two digits a byte, which the contract
+    // excludes.
     let _ = hex::encode_to_slice(bytes, text);
 }

@@ -1,4 +1,4 @@
-//! Writes the lines for interval rows and for days. No call allocates memory.
+//! Writes the lines for quarter hours and for days, without allocating memory.
 
 mod line;
 mod rows;

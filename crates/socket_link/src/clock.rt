@@ -1,12 +1,12 @@
-//! Clocks.
+//! Clocks that return the current time or a fixed list of times.
 use std::time::{SystemTime, UNIX_EPOCH};
 
-/// A clock, in whole seconds since 1970-01-01 UTC.
+/// A clock that returns whole seconds since 1970-01-01 UTC.
 pub trait Clock {
     ghost use Rattle.std.specs.Prelude.{ℕ, List, Option, None};
     ghost use Rattle.socket_link.specs.Clocks.{TellsMoment};
 
-    // The times that the clock will return, if they are known.
+    // The times that the clock will return, or `None` if they are not known in advance.
     ghost moments: { Self → Option (List ℕ) } = { λ _. None };
 
     /// Returns the current time, or 0 if the clock cannot be read.
@@ -14,7 +14,7 @@ pub trait Clock {
         ensures { TellsMoment (moments self.old) (moments self.new) result };
 }
 
-/// The system's clock. A person or the system may set it back.
+/// The operating system's clock. Its time may be set back while the program runs.
 #[derive(Drop)]
 pub struct SystemClock<R: std::rt::Clock + Drop> {
     rt: R,
@@ -38,8 +38,8 @@ impl<R: std::rt::Clock + Drop> Clock for SystemClock<R> {
     }
 }
 
-/// A clock that returns the times of a list in order, and then its last time again and again. If
-/// the list is empty, it returns 0.
+/// A clock that returns the times of a list in order and then repeats the last time. If the list is
+/// empty, it returns 0.
 #[derive(Drop)]
 pub struct FixedClock<'a> {
     moments: &'a [u64],

@@ -1,12 +1,12 @@
-//! The counts that a link keeps of its calls.
+//! Counts the calls of a link: failures, reads and ends of the input.
 ghost use Rattle.std.specs.Prelude.{◌≡◌, is_err, true, Some};
 ghost use Rattle.mb_wire.specs.Links.{is_end, is_failed_give, risen};
 ghost use Rattle.socket_link.specs.Beginnings.{CountsNothing};
 
 use mb_wire::{LastTake, LinkFailed, Took};
 
-/// The counts of a link's calls: failed calls, reads, and reads that found the end of the input.
-/// `last` is the last read. The numbers saturate at 2^64 - 1.
+/// The numbers of failed calls, of reads, and of reads that found the end of the input. `last` is
+/// the last read. The numbers saturate at 2^64 - 1.
 #[derive(Drop)]
 pub struct Counts {
     pub failures: u64,
@@ -27,7 +27,7 @@ impl Counts {
         }
     }
 
-    /// Counts a read into a buffer of `room` bytes with this result.
+    /// Counts a read from the link into a buffer of `room` bytes with the result `answer`.
     pub fn take(&mut self, room: usize, answer: Result<Took, LinkFailed>)
         ensures failures { self.new.failures ≡ risen (is_err answer) self.old.failures }
         ensures takes { self.new.takes ≡ risen true self.old.takes }
@@ -43,7 +43,7 @@ impl Counts {
         self.last = Some(LastTake { room, answer });
     }
 
-    /// Counts a write of these bytes with this result.
+    /// Counts a write of `bytes` to the link with the result `answer`.
     pub fn give(&mut self, bytes: &[u8], answer: Result<usize, LinkFailed>)
         ensures failures { self.new.failures ≡
             risen (is_failed_give answer bytes.now) self.old.failures }

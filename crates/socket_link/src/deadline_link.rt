@@ -1,10 +1,10 @@
-//! A link with a deadline.
+//! A link whose calls fail after a deadline.
 use crate::clock::Clock;
 use crate::counts::Counts;
 use mb_wire::{LastTake, Link, LinkFailed, Took};
 
-/// A link whose calls fail after a given time. A test shows that each call reads the clock; no
-/// proof does.
+/// A link whose calls fail after a given time. Each call reads the clock, which is tested and not
+/// proved.
 #[derive(Drop)]
 pub struct DeadlineLink<'l, L: Link, C: Clock> {
     link: &'l mut L,
@@ -18,7 +18,7 @@ impl<'l, L: Link, C: Clock> DeadlineLink<'l, L, C> {
     ghost use Rattle.socket_link.specs.Beginnings.{IsFreshHaste, until_of};
     ghost use Rattle.socket_link.specs.Clocks.{TellsLate};
 
-    /// Creates a link that works until the clock passes `until`, in the clock's seconds.
+    /// Creates a link that works until the clock's time is after `until`, in seconds.
     pub fn new(link: &'l mut L, clock: &'l mut C, until: u64) -> DeadlineLink<'l, L, C>
         ensures until { until_of result ≡ until }
         ensures fresh { IsFreshHaste result }
@@ -31,7 +31,7 @@ impl<'l, L: Link, C: Clock> DeadlineLink<'l, L, C> {
         }
     }
 
-    // Returns whether the clock's time is after the deadline.
+    // Returns whether the clock's current time is after the deadline.
     fn is_late(&mut self) -> bool
         ensures late { IfSome (C.moments self.old.clock.now) (TellsLate self.old.until result) }
         ensures link { self.new.link.now ≡ self.old.link.now }

@@ -1,4 +1,5 @@
-//! Links over sockets, links with a deadline, and clocks.
+//! Connects the program to sockets and clocks: links over sockets, links with a deadline, and
+//! clocks.
 #![tactic(auto)]
 
 mod clock;

@@ -1,4 +1,4 @@
-//! A link over a socket.
+//! A `Link` over a connected socket.
 ghost use Rattle.std.specs.Prelude.{◌≡◌};
 
 use crate::counts::Counts;
@@ -7,10 +7,11 @@ use std::io::{self, ErrorKind, Read, Write};
 use std::net::{OpenStream, Shutdown};
 use std::time::Duration;
 
-/// A link over a socket. `new` sets a timeout of one second, `waiting` sets the caller's.
+/// A link over a connected socket. `new` sets a timeout of one second, and `waiting` sets the
+/// caller's timeout.
 ///
-/// A read that times out returns `Took::Idle`. A write that times out fails, as does any call
-/// that a signal interrupts.
+/// A read that times out returns `Took::Idle`. A write that times out fails. Any call that a signal
+/// interrupts fails too.
 #[derive(Drop)]
 pub struct SocketLink<S: Drop> {
     stream: S,
@@ -42,11 +43,11 @@ impl<S: Read + Write + OpenStream + Drop> SocketLink<S> {
         })
     }
 
-    /// Closes a connection on which the peer may still send bytes that nobody reads.
+    /// Closes a connection on which the peer may still send bytes.
     ///
-    /// Shuts down the sending side, and then discards input until it ends, a read times out, or
-    /// ten reads were made. Closing a socket with unread bytes would reset the connection, and
-    /// the peer might lose what was sent to it.
+    /// Shuts down the sending side, and then discards input until the input ends, a read times out,
+    /// or ten reads were made. Closing a socket with unread input would reset the connection, and
+    /// the peer might lose the last response.
     pub fn end(mut self) {
         if self.stream.shutdown(Shutdown::Write).is_err() {
             return;
@@ -64,7 +65,7 @@ impl<S: Read + Write + OpenStream + Drop> SocketLink<S> {
 impl<S: Read + Write + Drop> SocketLink<S> {
     ghost use Rattle.mb_wire.specs.Links.{TakesAtMost};
 
-    // Reads once. A read of 0 bytes means the end of the input.
+    // Reads from the socket once. A read of 0 bytes means the end of the input.
     fn read(&mut self, piece: &mut [u8]) -> Result<Took, LinkFailed>
         ensures bound { TakesAtMost result piece.new }
         ensures counts { self.new.counts ≡ self.old.counts }

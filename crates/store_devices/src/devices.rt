@@ -1,4 +1,5 @@
-//! The devices in the tables of the store: devices, the points of their lists, and registers.
+//! Statements on the tables `devices`, `points` and `registers`: devices, point lists and
+//! accounting registers.
 
 mod columns;
 mod devices;

@@ -1,5 +1,5 @@
-//! The rows of devices and polls in the store: point lists, accounting registers, outcomes,
-//! rejected readings and kept requests.
+//! Reads and writes the rows of devices, point lists, accounting registers, polls, outcomes,
+//! rejected readings and stored requests in the store.
 #![tactic(auto)]
 
 mod devices;

@@ -1,5 +1,5 @@
-//! The polls in the tables of the store: polls, their outcomes, rejected readings, and kept
-//! requests.
+//! Statements on the tables `polls`, `outcomes`, `holds` (rejected readings) and `replies` (stored
+//! requests).
 
 mod columns;
 mod holds;

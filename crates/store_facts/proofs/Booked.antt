@@ -1,4 +1,4 @@
--- Shares of a meter that are added to its interval rows.
+-- Proofs about adding a meter's energy in single quarter hours to its rows of `intervals`.
 use Rattle.std.proofs.Common.{◌≡◌, ℕ, ◌+◌, ◌==◌, ◌&&◌, ◌||◌, Bool, true, false, cond, inl, inr, List, [], ◌∷◌, ◌++◌, map, filter, refl, sym, ap, ap₂, subst, ◌∙◌, bytes_eq, IsPermutation, arith}
 use Rattle.std.specs.List.{list_any}
 use Rattle.std.proofs.lemmas.Bool.{cases_Bool, cond-true, cond-false}
@@ -15,12 +15,12 @@ use Rattle.store_facts.specs.Intervals.StepShares.{raised, with_share, with_shar
 use Rattle.store_facts.specs.Rows.{interval_of}
 use Rattle.store_facts.proofs.Passing.{map_agree, any_agree, filter_edited, filter_spared, any_filter, any_permutation, any_map}
 
--- ---- the rows of one meter, as the journal has them
+-- ---- adding energy to the quarter hours of a meter's journal
 
 abbrev pub has_start : ℕ → Share → Bool
 has_start start row = row.start == start
 
--- No two rows have the same start.
+-- True if no two quarter hours in a list have equal starts.
 abbrev pub AreApart : List Share → Type 0
 AreApart [] = Unit {0}
 AreApart (row ∷ rows) = (list_any (has_start row.start) rows ≡ false) × AreApart rows
@@ -41,7 +41,8 @@ untouched share [] h = refl
 untouched share (row ∷ rows) h =
     let parts = neither _ _ h in ap₂ ◌∷◌ (cond-false _ _ _ parts.0) (untouched share rows parts.1)
 
--- If a row with this start exists, its energy grows by the share.
+-- If a quarter hour already has a row, adding a share of energy in this quarter hour increases the
+-- row's energy.
 joined_there : (share : Share) (rows : List Share) → AreApart rows → list_any (has_start share.start) rows ≡ true → journal.with_share share rows ≡ map (grown share) rows
 joined_there share [] apart h = absurd (cc)
 joined_there share (row ∷ rows) apart h =
@@ -55,7 +56,7 @@ joined_there share (row ∷ rows) apart h =
           cond-false _ _ _ off ∙ ap₂ ◌∷◌ (sym (cond-false _ _ _ off)) (joined_there share rows apart.1 more)
     ]
 
--- If no row has this start, the share becomes a new row after the others.
+-- If a quarter hour has no row, adding a share of energy in this quarter hour appends a new row.
 stands_after : (share : Share) (rows : List Share) → list_any (has_start share.start) rows ≡ false → journal.with_share share rows ≡ rows ++ share ∷ []
 stands_after share [] h = refl
 stands_after share (row ∷ rows) h =
@@ -90,12 +91,13 @@ apart_with share rows h =
       | inr none ↦ subst AreApart (sym (stands_after share rows none)) (apart_after share rows h none)
     ]
 
--- ---- the rows of the table
+-- ---- adding energy to a meter's rows of the table `intervals`
 
 pub itself : (meter : List ℕ) → bytes_eq meter meter ≡ true
 itself meter = (bytes_eq-Decides meter meter).1 refl
 
--- The interval rows of a meter are those that its journal gives.
+-- True if a meter's rows of `intervals` have the quarter hours and the energy that its journal
+-- lists.
 abbrev pub AreRowsOf : (meter : List ℕ) → List Interval → List Share → Type 0
 AreRowsOf meter rows shares = IsPermutation (filter (is_of meter) rows) (map (interval_of meter) shares)
 
@@ -114,8 +116,8 @@ any_there meter start rows shares are =
     ∙ any_map (is_at meter start) (interval_of meter) shares
     ∙ any_agree (λ share. is_at meter start (interval_of meter share)) (has_start start) (at_start meter start) shares
 
--- An edit of the interval rows keeps the meters of all rows, and edits only the shares of one
--- meter.
+-- If a meter's rows of `intervals` agree with its journal, they still agree after corresponding
+-- edits of the rows and the journal.
 edited : (meter : List ℕ) (f : Interval → Interval) (h : Share → Share) (rows : List Interval) (shares : List Share)
     → ((i : Interval) → (f i).meter ≡ i.meter) → ((share : Share) → f (interval_of meter share) ≡ interval_of meter (h share))
     → AreRowsOf meter rows shares → AreRowsOf meter (map f rows) (map h shares)
@@ -140,7 +142,8 @@ raise_meter : (b : Bool) (share : Share) (i : Interval) → (let made : Interval
 raise_meter true share i = refl
 raise_meter false share i = refl
 
--- One share is added.
+-- If the energy of one quarter hour is added to `intervals` and to the meter's journal, the meter's
+-- rows still agree with the journal.
 pub booked_one : (meter : List ℕ) (share : Share) (rows : List Interval) (shares : List Share) → AreApart shares → AreRowsOf meter rows shares
     → AreRowsOf meter (with_share meter share rows) (journal.with_share share shares)
 booked_one meter share rows shares apart are =
@@ -175,7 +178,7 @@ booked meter [] rows shares apart are = are
 booked meter (share ∷ adds) rows shares apart are =
     booked meter adds (with_share meter share rows) (journal.with_share share shares) (apart_with share shares apart) (booked_one meter share rows shares apart are)
 
--- ---- the rows of the other meters
+-- ---- rows of `intervals` for all other meters, which stay unchanged
 
 not_other : (a b : Bool) → (a ≡ true → b ≡ true → ⊥) → a ≡ true → b ≡ false
 not_other a true h e = absurd (h e refl)

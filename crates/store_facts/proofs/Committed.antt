@@ -1,4 +1,5 @@
--- What a connection holds, and what a crash leaves, after one transaction stored records.
+-- Proofs about the stored records after one transaction: which records a connection reads, and
+-- which records a crash leaves.
 use Rattle.std.proofs.Common.{◌≡◌, ◌≢◌, ℕ, inl, inr, List, [], ◌∷◌, ◌++◌, Ok, Err, Result, IsTrue, OnOk, OnErr, refl, sym, ap, subst, ◌∙◌, arith}
 use Rattle.std.specs.Prelude.{reverse}
 use Rattle.sqlite.specs.Store.{Ghosts}
@@ -31,7 +32,7 @@ by_err : {X E Q : Type 0} (r : Result X E) → ((e : E) → r ≡ Err e → Q) �
 by_err (Ok x) f = tt
 by_err (Err e) f = f e refl
 
--- After a call that commits nothing, a crash leaves what it could leave before.
+-- If a call commits nothing, a later crash leaves only records that an earlier crash could leave.
 pub quiet_leaves : {S : Type 0} (g : Ghosts S) (zone : List ℕ) (old new : Held S) (left : List (List Fact)) → Survives (state g old) (state g new) (λ _. ⊥) → LeavesFacts g zone old left → LeavesFacts g zone new left
 unfolding LeavesFacts
 quiet_leaves g zone old new left quiet leaves clean trees it = elim (quiet.crash clean trees it) [
@@ -45,7 +46,7 @@ more_leaves g zone h left more leaves clean trees it =
     let one = leaves clean trees it in
     record { facts = one.facts; one = one_more left more one.facts one.one; db = one.db; has = one.has; same = one.same }
 
--- After a call that keeps the last commit, the connection holds the same records.
+-- If a call keeps the last commit, the connection has the same records before and after the call.
 pub kept_holds : {S : Type 0} (g : Ghosts S) (zone : List ℕ) (old new : Held S) (facts : List Fact) → (HasCleanDisk (state g new) → HasCleanDisk (state g old)) → (HasCleanDisk (state g new) → KeepsCommit (state g old) (state g new))
     → HoldsFacts g zone old facts → HoldsFacts g zone new facts
 unfolding HoldsFacts
@@ -62,7 +63,8 @@ module _ {S X E : Type 0} (g : Ghosts S) (zone : List ℕ) (old mid new : Held S
   first : HasCleanDisk (state g new) → HasCleanDisk (state g old)
   first clean = omega (arith, does.survives.clean, quiet.clean)
 
-  -- The tables before the transaction.
+  -- If the connection has the records `facts`, the tables encode `facts` when the transaction
+  -- begins.
   found : (facts : List Fact) → HoldsFacts g zone old facts → HasCleanDisk (state g new) → HasFacts zone facts (state g mid).now
   unfolding HoldsFacts
   found facts holds clean =
@@ -70,7 +72,7 @@ module _ {S X E : Type 0} (g : Ghosts S) (zone : List ℕ) (old mid new : Held S
       let k = kept (early clean) in
       subst (HasFacts zone facts) (sym (o.1 ∙ k.committed o.0)) (holds (first clean) (k.was_open o.0))
 
-  -- The tables after the transaction.
+  -- The tables encode the old and the new records after the transaction.
   made : (facts : List Fact) (content : Content) (db : Database) → AreOf zone facts content → AreLawful (reverse fs ++ facts) → HasMade (RecordsAll fs) content db → HasFacts zone (reverse fs ++ facts) db
   made facts content db are lawful it = record { content = it.0; tables = it.2; are = it.1 zone facts are lawful }
 
@@ -93,7 +95,7 @@ module _ {S X E : Type 0} (g : Ghosts S) (zone : List ℕ) (old mid new : Held S
       let m = kept (early clean) in
       subst (HasFacts zone facts) (sym (k.committed still ∙ m.committed (k.was_open still))) (holds (first clean) (m.was_open (k.was_open still))))
 
-  -- While the store is open, a crash leaves the last commit.
+  -- If a crash occurs while the store is open, the store has the last commit.
   settled : ((trees : Trees) → IsTrue (state g new).is_open → (state g new).may_leave trees → trees ≡ (state g new).committed.trees)
       → (facts : List Fact) → HoldsFacts g zone old facts → AreLawful (reverse fs ++ facts) → OnOk r (LeavesFacts g zone new ((reverse fs ++ facts) ∷ []))
   unfolding LeavesFacts
@@ -126,7 +128,7 @@ module _ {S X E : Type 0} (g : Ghosts S) (zone : List ℕ) (old mid new : Held S
     nothing = λ none. absurd (some none);
   }
 
--- A transaction that failed before its first write leaves the known records.
+-- If a transaction fails before its first write, the stored records stay unchanged.
 pub untouched : {S X E : Type 0} (g : Ghosts S) (zone : List ℕ) (old new : Held S) (fs : List Fact) (e : E) → (fs ≢ []) → (HasCleanDisk (state g new) → KeepsCommit (state g old) (state g new))
     → Survives (state g old) (state g new) (λ _. ⊥) → BooksFacts g zone {X = X} fs old new (Err e)
 untouched g zone old new fs e some kept quiet = record {
@@ -138,7 +140,7 @@ untouched g zone old new fs e some kept quiet = record {
   nothing = λ none. absurd (some none);
 }
 
--- Without records, no call is made.
+-- If the list of records to store is empty, no SQLite call runs, and nothing changes.
 pub no_facts : {S X E : Type 0} (g : Ghosts S) (zone : List ℕ) (h : Held S) (fs : List Fact) (x : X) → fs ≡ [] → BooksFacts g zone {E = E} fs h h (Ok x)
 no_facts g zone h fs x none = record {
   clean = λ clean. clean;

@@ -1,4 +1,5 @@
--- The interval rows of lawful records have distinct starts, and their energy is within its limit.
+-- Proofs about the rows of `intervals` for valid records. A meter's rows have distinct starts, and
+-- no row has more energy than the greatest total of a meter.
 use Rattle.std.proofs.Common.{◌≡◌, ℕ, ◌+◌, ◌*◌, ◌^◌, ◌<◌, ◌≤◌, ◌==◌, ◌||◌, Bool, true, false, cond, inl, inr, List, [], ◌∷◌, map, filter, Option, Some, None, bytes_eq, refl, sym, ap, ap₂, subst, ◌∙◌, IsPermutation, arith}
 use Rattle.std.specs.Prelude.{sum_by}
 use Rattle.std.specs.List.{list_any, AllByRecursion, find, Contains}
@@ -42,7 +43,7 @@ within_sum n (row ∷ rows) h =
     let parts = sum_by-cons (λ (row : Share). row.mwh) row rows in
     (omega (arith, h, parts), within_sum n rows (omega (arith, h, parts)))
 
--- A record that is found was recorded.
+-- If a search finds an element in a list, the list contains the element.
 pub found_recorded : {X : Type 0} (p : X → Bool) (xs : List X) (x : X) → find p xs ≡ Some x → Contains xs x
 found_recorded p [] x h = absurd (cc)
 found_recorded p (y ∷ ys) x h =
@@ -79,7 +80,8 @@ module _ (kept : MetersAreKept) (ranges : InstallationsAreInRange) where
       recursion_from_All _ _ (All-permutation (λ (i : Interval). i.share.mwh ≤ greatest_total) _ _ (IsPermutation-sym _ _ are)
       (All-from_recursion _ _ (all_mapped meter (rows_of_meter facts meter) (installed_small facts meter (opening_of facts meter) lawful refl))))
 
-  -- The rows of all meters are within the limit if those of each meter are.
+  -- If each meter's rows of `intervals` have at most the greatest energy, then all rows of
+  -- `intervals` do.
   all_of_each : (rows : List Interval) → ((meter : List ℕ) → AllByRecursion (λ (i : Interval). i.share.mwh ≤ greatest_total) (filter (is_of meter) rows)) → AreSmall rows
   all_of_each [] each = tt
   all_of_each (i ∷ rows) each =

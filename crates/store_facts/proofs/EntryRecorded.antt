@@ -1,4 +1,4 @@
--- The record of an entry, in the tables.
+-- Proof that the tables encode the records after a meter entry was recorded.
 use Rattle.std.proofs.Common.{◌≡◌, ◌≢◌, ℕ, Bool, false, ◌+◌, ◌≤◌, List, [], ◌∷◌, map, filter, length, Option, Some, None, refl, sym, ap, subst, ◌∙◌, IsPermutation, arith}
 use Rattle.std.specs.List.{AllByRecursion}
 use Rattle.std.proofs.lemmas.Bool.{cond-false}
@@ -36,7 +36,7 @@ use Rattle.store_facts.proofs.Placed.{greatest}
 use Rattle.store_facts.proofs.Recorded.{stay, points_stay, entries_stay, intervals_stay}
 use Rattle.store_facts.proofs.Entered.{entry_added, energy_added, installations_changed}
 
--- ---- the indices of a meter's entries
+-- ---- the index of a meter's next entry
 
 few_entered : (o : Opening) (rows : List journal.EntryRow) (n : ℕ) → AreNumbered rows → length rows + 1 ≤ n
     → AllByRecursion (λ e. entry_place e ≤ n) (entered_rows o rows)
@@ -44,7 +44,7 @@ few_entered o [] n numbered h = (h, tt)
 few_entered o (row ∷ rows) n numbered h =
     let place = numbered.0 in (omega (arith, h, place), few_entered o rows n numbered.1 (omega (arith, h)))
 
--- The index after the last entry is the index of a new row.
+-- The index after a meter's last entry is the index of the meter's next row in `entries`.
 pub entries_count : (o : Opening) (rows : List journal.EntryRow) (passes : Entered → Bool) (entered_all : List Entered) (last : Option ℕ) → AreNumbered rows
     → IsPermutation (filter passes entered_all) (entered_rows o rows)
     → IsLast passes (λ e n. n ≡ entry_place e) entry_place entered_all last → next_place last ≡ length rows + 2
@@ -55,9 +55,10 @@ entries_count o (row ∷ rows) passes all last numbered are h =
     (few_entered o rows row.place numbered.1 (omega (arith, place))) h in
     omega (arith, following, place)
 
--- ---- the tables
+-- ---- the tables after a meter entry was recorded
 
--- An entry of a meter: its row, the energy of its step, and the new state of the meter.
+-- If the row of a meter entry, its energy and the meter's new state are written, the tables encode
+-- the records with the entry.
 pub entry_recorded : EntriesMoveOn → OtherMetersStay → MetersAreKept → InstallationsAreInRange
     → (booked : BookedEntry) (zone : List ℕ) (facts : List Fact) (o : Opening) (change : Installed → Installed) (content one two after : Content)
     → AreOf zone facts content → AreLawful (fact.Entry booked ∷ facts) → opening_of facts booked.meter ≡ Some o

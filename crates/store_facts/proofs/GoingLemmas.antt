@@ -1,4 +1,4 @@
--- Calls inside a transaction, one after another, and the transaction.
+-- Proofs about calls in sequence inside a transaction, and about the complete transaction.
 use Rattle.std.proofs.Common.{◌≡◌, true, false, [], inl, inr, ℕ, List, Ok, Err, Result, IsTrue, OnOk, OnErr, IfOk, IfErr, refl, sym, subst, ◌∙◌, arith}
 use Rattle.sqlite.specs.declared.error.Error.{Error}
 use Rattle.sqlite.specs.Order.{Row}
@@ -19,7 +19,7 @@ both_ok : {X E : Type 0} {P Q R : Type 0} (r : Result X E) → (P → Q → R) �
 both_ok (Ok x) f p q = f p q
 both_ok (Err e) f p q = tt
 
--- One statement.
+-- If an SQL statement satisfies the contract `Steps`, it also satisfies the contract `Goes`.
 pub of_steps : {X E : Type 0} (old new : State) (r : Result X E) (Makes : Content → Content → Type 0) → StepsTo old new r (Turns Makes) → Goes old new r Makes
 of_steps old new r Makes one = record {
   kept = λ clean inside content has. one.kept clean inside;
@@ -27,7 +27,8 @@ of_steps old new r Makes one = record {
   survives = one.survives;
 }
 
--- One query inside a transaction.
+-- If a query inside a transaction is Ok, the tables stay unchanged, and the answer follows from one
+-- table.
 pub of_answer : {S A D E X : Type 0} (g : Ghosts S) (old new : Held S) (tree : ℕ) (columns : X → Row) (Answers : List X → A → Type 0) (a : A)
     → AsksInside {X = A} {E = D} g old new (Ok a) → TellsAnswer g old new tree columns (Ok a) Answers
     → Goes {X = A} {E = E} (state g old) (state g new) (Ok a) (Told tree columns Answers a)
@@ -51,7 +52,7 @@ more_ok : {X E : Type 0} {P Q : Type 0} (r : Result X E) → (P → Q) → OnOk 
 more_ok (Ok x) f h = f h
 more_ok (Err e) f h = tt
 
--- Two calls, the first of them Ok.
+-- If a call is Ok, this call and the next call together satisfy the contract `Goes` of one call.
 pub goes_then : {X Y D E : Type 0} (a b c : State) (x : X) (r : Result Y E) (P Q R : Content → Content → Type 0) → Goes {X = X} {E = D} a b (Ok x) P → Goes b c r Q
     → ((before mid after : Content) → P before mid → Q mid after → R before after) → Goes a c r R
 goes_then a b c x r P Q R one two goes = record {
@@ -67,7 +68,8 @@ goes_then a b c x r P Q R one two goes = record {
   survives = survives_then a b c (λ _. ⊥) (λ _. ⊥) (λ _. ⊥) (λ _ db none. none) (λ _ db none. none) one.survives two.survives;
 }
 
--- If the second of two calls failed, the two calls together failed.
+-- If a call is Ok and the next call fails, both calls together satisfy the contract `Goes` of one
+-- failed call.
 pub then_failed : {X Y Z D E F : Type 0} (a b c : State) (x : X) (e : E) (f : F) (P Q R : Content → Content → Type 0) → Goes {X = X} {E = D} a b (Ok x) P → Goes {X = Y} b c (Err e) Q
     → Goes {X = Z} a c (Err f) R
 then_failed a b c x e f P Q R one two = record {
@@ -79,14 +81,16 @@ then_failed a b c x e f P Q R one two = record {
   survives = survives_then a b c (λ _. ⊥) (λ _. ⊥) (λ _. ⊥) (λ _ db none. none) (λ _ db none. none) one.survives two.survives;
 }
 
--- A failed call has any postcondition. A call that was Ok may be refused afterwards.
+-- If a call fails, it satisfies `Goes` with any postcondition, because postconditions are only
+-- about Ok. A caller may also turn an Ok into an error.
 pub failed : {X Y D E : Type 0} (a b : State) (e : D) (d : E) (P Q : Content → Content → Type 0) → Goes {X = X} a b (Err e) P → Goes {X = Y} a b (Err d) Q
 failed a b e d P Q one = record { kept = one.kept; makes = λ clean inside content has. tt; survives = one.survives }
 
 pub then_refused : {X Y D E : Type 0} (a b : State) (x : X) (d : E) (P Q : Content → Content → Type 0) → Goes {X = X} {E = D} a b (Ok x) P → Goes {X = Y} a b (Err d) Q
 then_refused a b x d P Q one = record { kept = one.kept; makes = λ clean inside content has. tt; survives = one.survives }
 
--- What `Goes` states is also true with a weaker postcondition, and with another value in Ok.
+-- If a call satisfies `Goes`, it also satisfies `Goes` with a weaker postcondition, and with any
+-- other Ok value.
 pub told_less : {X Y D E : Type 0} (a b : State) (x : X) (y : Y) (P Q : Content → Content → Type 0) → ((content after : Content) → P content after → Q content after)
     → Goes {X = X} {E = D} a b (Ok x) P → Goes {X = Y} {E = E} a b (Ok y) Q
 told_less a b x y P Q tells one = record {
@@ -95,7 +99,7 @@ told_less a b x y P Q tells one = record {
   survives = one.survives;
 }
 
--- No call.
+-- If no call is made, the states that a crash can leave stay the same.
 still_there : (a : State) → Survives a a (λ _. ⊥)
 still_there a = record { clean = omega arith; shield = λ is. is; counts = omega arith; limit = refl; closes = λ clean is. inl is; crash = λ clean db left. inl left }
 
@@ -121,7 +125,7 @@ module _ {S : Type 0} (g : Ghosts S) (old : Held S) (mid end : State) (Makes : C
   kept_begun : (new : State) → KeepsCommit (state g (record old { in_transaction = true })) new → KeepsCommit (state g old) new
   kept_begun new k = record { was_open = k.was_open; committed = k.committed }
 
-  -- A transaction whose calls before the commit succeeded.
+  -- If all calls before COMMIT succeeded, the result of the transaction is the result of COMMIT.
   pub committed : {D : Type 0} (r : Result (Unit {0}) Error) → Goes {X = Unit {0}} {E = D} (state g (record old { in_transaction = true })) mid (Ok tt) Makes
       → (HasCleanDisk end → OnOk r (IsTrue mid.in_transaction × Shows mid end mid.now mid.now false × KeepsCounts mid end × (end.marks ≡ []))) → (HasCleanDisk end → IfErr r (FailsToCommit mid end))
       → Survives mid end (λ db. db ≡ mid.now.trees) → Commits (state g old) end r Makes
@@ -138,7 +142,7 @@ module _ {S : Type 0} (g : Ghosts S) (old : Held S) (mid end : State) (Makes : C
             (λ _ db none. absurd none) (λ clean db is. record { db = mid.now; made = made clean; same = is }) done.survives crash);
       }
 
-  -- A transaction that was rolled back leaves the last commit.
+  -- If a transaction is rolled back after an error, the tables have the last committed rows.
   pub given_up : {X Y D E : Type 0} (e : D) (d : E) → Goes {X = X} (state g (record old { in_transaction = true })) mid (Err e) Makes → (HasCleanDisk end → IsRolledBack mid end) → Survives mid end (λ _. ⊥)
       → Commits {X = Y} (state g old) end (Err d) Makes
   given_up e d done undone crash =

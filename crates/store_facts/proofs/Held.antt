@@ -1,4 +1,4 @@
--- A rejected reading, in the tables.
+-- Proofs about the tables after a rejected reading was recorded.
 use Rattle.std.proofs.Common.{◌≡◌, ℕ, ◌+◌, List, [], ◌∷◌, map, length, Option, Some, None, refl, sym, ap, subst, ◌∙◌, IsPermutation, arith}
 use Rattle.office_events.specs.declared.facts.Opening.{Opening}
 use Rattle.office_events.specs.declared.facts.HeldReading.{HeldReading}
@@ -24,7 +24,7 @@ use Rattle.store_facts.specs.Recording.{Records, IsAfter}
 use Rattle.store_facts.proofs.Placed.{last_counts}
 use Rattle.store_facts.proofs.Recorded.{stay, points_stay, entries_stay, intervals_stay}
 
--- Every meter is unchanged.
+-- If a rejected reading is recorded, every meter stays unchanged.
 module _ (f : Fact) (facts : List Fact) (stays : (o : Opening) → Stays f facts o) where
   entries_same : (found : Option Opening) → entries_at (f ∷ facts) found ≡ entries_at facts found
   entries_same None = refl
@@ -37,7 +37,8 @@ module _ (f : Fact) (facts : List Fact) (stays : (o : Opening) → Stays f facts
   installed_same : (openings : List Opening) → placed (installed_row (f ∷ facts)) openings ≡ placed (installed_row facts) openings
   installed_same openings = λ i. placed (λ place o. installed_as place ((stays o).installation i)) openings
 
--- A rejected reading, at the index after the last.
+-- If the row of a new rejected reading has the index after the last row of `holds`, the tables
+-- encode the reading.
 pub hold_recorded : HoldsChangeNothing → (reading : HeldReading) (place : ℕ) (content after : Content) → IsAfter poll_tree.holds hold_columns every hold_place place content
     → Edits poll_tree.holds hold_columns (with_row (held_row place reading)) content after → Records (fact.Hold reading) content after
 hold_recorded law reading place content after following e zone facts a lawful =

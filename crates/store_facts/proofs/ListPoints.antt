@@ -1,4 +1,5 @@
--- The points of a list, one after another.
+-- Proofs about inserting the points of a device's point list into the table `points`, one after
+-- another.
 use Rattle.std.proofs.Common.{◌≡◌, ℕ, ◌+◌, ◌<◌, List, [], ◌∷◌, ◌++◌, map, take, length, get_or, refl, sym, ap, ap₂, ◌∙◌, arith}
 use Rattle.std.proofs.lemmas.List.{map-append, take_more, length-take}
 use Rattle.point_list.specs.declared.point.ListedPoint.{ListedPoint}
@@ -6,7 +7,8 @@ use Rattle.store_devices.specs.declared.devices.rows.Point.{Point}
 use Rattle.store_devices.specs.Devices.Rows.{Listed, listed_at}
 use Rattle.store_facts.specs.Rows.{placed_on, listed}
 
--- A further point at the end.
+-- If an element is appended to a list, its numbered rows get one row with the next index, and the
+-- other rows stay unchanged.
 pub placed_last : {X Y : Type 0} (row : ℕ → X → Y) (before : ℕ) (xs : List X) (x : X) → placed_on row before (xs ++ x ∷ []) ≡ placed_on row before xs ++ row (before + length xs + 1) x ∷ []
 placed_last row before [] x = ap (λ n. row n x ∷ []) (omega arith)
 placed_last row before (y ∷ xs) x =

@@ -1,4 +1,4 @@
--- The list of a device, in the tables.
+-- Proofs about the tables after a device's point list was recorded.
 use Rattle.std.proofs.Common.{◌≡◌, ◌≢◌, ℕ, ◌+◌, Bool, true, false, not, cond, inl, inr, List, [], ◌∷◌, ◌++◌, map, filter, Option, Some, None, bytes_eq, refl, sym, ap, ap₂, subst, ◌∙◌, IsPermutation, arith}
 use Rattle.std.specs.List.{find, AllByRecursion}
 use Rattle.std.proofs.lemmas.Bool.{cases_Bool, cond-true, cond-false}
@@ -25,7 +25,7 @@ use Rattle.store_facts.specs.Tables.{meta_tree, meta_columns, ArePoints}
 use Rattle.store_facts.specs.Recording.{Records}
 use Rattle.store_facts.proofs.Recorded.{stay, entries_stay, intervals_stay}
 
--- All of them are points of the device.
+-- Every row that encodes a point of a device's point list belongs to this device.
 own_points : (device : List ℕ) (ps : List Point) → AllByRecursion (λ (p : Listed). is_point_of device p ≡ true) (map (listed_at device) ps)
 own_points device [] = tt
 own_points device (p ∷ ps) = (same_itself device, own_points device ps)
@@ -39,7 +39,7 @@ without_step : (b : Bool) (p : Listed) (rest : List Listed) (passes : Listed →
 without_step true p rest passes is more = more
 without_step false p rest passes is more = cond-false _ _ _ is ∙ more
 
--- No point of the device is left.
+-- After the points of a device are deleted, `points` has no point of this device.
 none_left : (device : List ℕ) (rows : List Listed) → filter (is_point_of device) (without_where (is_point_of device) rows) ≡ []
 none_left device [] = refl
 none_left device (p ∷ rows) = without_step (is_point_of device p) p (without_where (is_point_of device) rows) (is_point_of device) refl (none_left device rows)
@@ -50,7 +50,7 @@ spared_step true c p rest rows passes is off more = more ∙ sym (cond-false _ _
 spared_step false true p rest rows passes is off more = cond-true _ _ _ is ∙ ap (λ l. p ∷ l) more
 spared_step false false p rest rows passes is off more = cond-false _ _ _ is ∙ more
 
--- The points of another device stay.
+-- After the points of one device are deleted, `points` still has all points of every other device.
 others_left : (device other : List ℕ) (rows : List Listed) → same device other ≡ false
     → filter (is_point_of other) (without_where (is_point_of device) rows) ≡ filter (is_point_of other) rows
 others_left device other [] off = refl
@@ -58,7 +58,8 @@ others_left device other (p ∷ rows) off =
     spared_step (is_point_of device p) (is_point_of other p) p (without_where (is_point_of device) rows) rows (is_point_of other) refl
     (λ here. ap (λ t. same t other) (same_text p.device device here) ∙ off) (others_left device other rows off)
 
--- A new list replaces the previous list of its device.
+-- After a device gets a new point list, the records have the points of the new list instead of the
+-- previous list.
 pub list_put : (put : DeviceList) (facts : List Fact) (ps : List Point) (content after : Content) → map (listed_at put.device) ps ≡ placed_on (listed put.device) 0 put.list.points
     → Edits list_tree.points point_columns (with_list put.device ps) content after → ArePoints facts content → ArePoints (fact.List put ∷ facts) after
 list_put put facts ps content after are e a = record {
@@ -92,7 +93,8 @@ list_put put facts ps content after are e a = record {
         filter-append (is_point_of device) news rest
         ∙ ap₂ ◌++◌ (filter_none (is_point_of device) news (other_points put.device device ps off)) (others_left put.device device a.rows off)
 
--- The record of a device's list.
+-- After a device's new point list replaces the previous list in `points`, the tables encode the
+-- record of the new list.
 pub list_recorded : (put : DeviceList) (ps : List Point) (content after : Content)
     → map (listed_at put.device) ps ≡ placed_on (listed put.device) 0 put.list.points
     → Edits list_tree.points point_columns (with_list put.device ps) content after → Records (fact.List put) content after

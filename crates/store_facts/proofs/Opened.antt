@@ -1,4 +1,4 @@
--- A meter that is installed, in the tables.
+-- Proofs about the tables after a meter was installed.
 use Rattle.std.proofs.Common.{◌≡◌, ◌≢◌, ℕ, ◌+◌, true, false, inl, inr, List, [], ◌∷◌, map, filter, length, Option, Some, None, bytes_eq, refl, sym, ap, subst, ◌∙◌, IsPermutation, arith}
 use Rattle.std.proofs.lemmas.Bool.{cases_Bool, cond-true, cond-false}
 use Rattle.std.proofs.lemmas.List.Sorted.{IsPermutation-cons}
@@ -70,7 +70,8 @@ module _ (facts : List Fact) (o : Opening) (begins : Begins facts o) (new : open
       still None = refl
       still (Some x) = refl
 
--- An installation, at the index after the last, with its range and its opening.
+-- After the rows of a meter's installation, its counter's range and its opening are inserted, the
+-- tables encode the new meter.
 pub opening_recorded : OpeningsBegin → (o : Opening) (place : ℕ) (zone : List ℕ) (facts : List Fact) (content one two after : Content)
     → AreOf zone facts content → AreLawful (fact.Opening o ∷ facts)
     → IsAfter meter_tree.installations installed_columns every installed_place place content

@@ -1,4 +1,4 @@
--- The rows that pass a test, after an edit of all rows.
+-- Proofs about the rows that pass a test, after an edit of all rows.
 use Rattle.std.proofs.Common.{◌≡◌, ℕ, Bool, true, false, cond, inl, inr, ◌||◌, List, [], ◌∷◌, ◌++◌, map, filter, refl, sym, ap, ap₂, ◌∙◌, IsPermutation}
 use Rattle.std.specs.List.{list_any, AllByRecursion}
 use Rattle.std.proofs.lemmas.Bool.{cases_Bool, cond-true, cond-false}
@@ -14,7 +14,8 @@ map_agree f g same xs = λ i. map (λ x. same x i) xs
 pub any_agree : {X : Type 0} (p q : X → Bool) → ((x : X) → p x ≡ q x) → (xs : List X) → list_any p xs ≡ list_any q xs
 any_agree p q same xs = λ i. list_any (λ x. same x i) xs
 
--- The edit changes the result of no test.
+-- If an edit changes no row's test result, editing all rows and then filtering equals filtering and
+-- then editing.
 pub filter_edited : {X : Type 0} (p : X → Bool) (f : X → X) → ((x : X) → p (f x) ≡ p x) → (xs : List X) → filter p (map f xs) ≡ map f (filter p xs)
 filter_edited p f keeps xs = filter-map p f xs ∙ ap (map f) (filter_agree (λ x. p (f x)) p keeps xs)
 
@@ -23,7 +24,7 @@ fixed_step : {X : Type 0} (b : Bool) (p : X → Bool) (f : X → X) (x : X) (xs 
 fixed_step true p f x xs e same more = cond-true _ _ _ e ∙ ap₂ ◌∷◌ (same refl) more
 fixed_step false p f x xs e same more = cond-false _ _ _ e ∙ more
 
--- The edit leaves the rows that pass unchanged.
+-- If an edit changes no row that passes a test, the list of passing rows stays unchanged.
 pub filter_spared : {X : Type 0} (p : X → Bool) (f : X → X) → ((x : X) → p (f x) ≡ p x) → ((x : X) → p x ≡ true → f x ≡ x) → (xs : List X) → filter p (map f xs) ≡ filter p xs
 filter_spared p f keeps same [] = refl
 filter_spared p f keeps same (x ∷ xs) = fixed_step (p x) p f x xs (keeps x) (same x) (filter_spared p f keeps same xs)
@@ -37,7 +38,8 @@ any_step false p q x xs e implies more =
       | inr is ↦ more ∙ sym (ap (λ b. b || list_any q xs) is)
     ]
 
--- A row that passes is one of all rows.
+-- If a test implies a weaker test, filtering by the weaker test does not change whether any row
+-- passes the test.
 pub any_filter : {X : Type 0} (p q : X → Bool) → ((x : X) → q x ≡ true → p x ≡ true) → (xs : List X) → list_any q (filter p xs) ≡ list_any q xs
 any_filter p q implies [] = refl
 any_filter p q implies (x ∷ xs) = any_step (p x) p q x xs refl (implies x) (any_filter p q implies xs)
@@ -60,7 +62,8 @@ all_step : {X : Type 0} (b : Bool) (P : X → Type 0) (p : X → Bool) (x : X) (
 all_step true P p x xs e other h more = (h.0, more h.1)
 all_step false P p x xs e other h more = (other e, more h)
 
--- A property of the rows that pass and of the rows that don't is a property of all rows.
+-- If the rows that pass a test and the rows that fail the test all have a property, every row has
+-- the property.
 pub all_passing : {X : Type 0} (P : X → Type 0) (p : X → Bool) → ((x : X) → p x ≡ false → P x) → (xs : List X) → AllByRecursion P (filter p xs) → AllByRecursion P xs
 all_passing P p other [] h = tt
 all_passing P p other (x ∷ xs) h = all_step (p x) P p x xs refl (other x) h (all_passing P p other xs)

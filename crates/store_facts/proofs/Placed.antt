@@ -1,4 +1,4 @@
--- Rows with their indices.
+-- Proofs about lists whose rows are numbered by index, starting from 1.
 use Rattle.std.proofs.Common.{◌≡◌, ℕ, ◌+◌, ◌≤◌, zero, suc, List, [], ◌∷◌, map, length, Bool, true, false, cond, Option, Some, None, refl, sym, ap, ap₂, subst, ◌∙◌, arith, filter, IsPermutation}
 use Rattle.std.specs.List.{AllByRecursion}
 use Rattle.std.proofs.lemmas.List.Sorted.{IsPermutation-sym, IsPermutation-trans, length_permutation, All-permutation}
@@ -12,7 +12,8 @@ use Rattle.store_facts.specs.Recording.{next_place}
 pub all_every : {X : Type 0} (xs : List X) → filter every xs ≡ xs
 all_every xs = filter_all every xs (all_of (λ x. every x ≡ true) (λ x. refl) xs)
 
--- The greatest key is the key of `first`, since no other row has a greater key.
+-- If no row has a greater key than the row `first`, the greatest key of all rows is the key of
+-- `first`.
 pub greatest : {Y : Type 0} (key : Y → ℕ) (passes : Y → Bool) (rows : List Y) (first : Y) (others : List Y) (last : Option ℕ)
     → IsPermutation (filter passes rows) (first ∷ others) → AllByRecursion (λ y. key y ≤ key first) others
     → IsLast passes (λ y n. n ≡ key y) key rows last → next_place last ≡ key first + 1
@@ -32,12 +33,12 @@ greatest key passes rows first others (Some n) are most h =
     omega (arith, low.0, high.0, is)
 
 module _ {X Y : Type 0} (row : ℕ → X → Y) (key : Y → ℕ) (keyed : (place : ℕ) (x : X) → key (row place x) ≡ place) where
-  -- No index is greater than the count.
+  -- No index of a numbered list is greater than the length of the list.
   few : (n : ℕ) (xs : List X) → length xs ≤ n → AllByRecursion (λ y. key y ≤ n) (placed row xs)
   few n [] h = tt
   few n (x ∷ xs) h = (rw (keyed (length xs + 1) x) (omega arith), few n xs (omega arith))
 
-  -- The greatest index is the number of rows.
+  -- The greatest index of a numbered list is its length.
   pub last_counts : (xs : List X) (last : Option ℕ) → IsLast every (λ y n. n ≡ key y) key (placed row xs) last → next_place last ≡ length xs + 1
   last_counts [] None h = refl
   last_counts [] (Some n) h = let long = length_permutation _ _ h.3 in absurd (omega (arith, long))
@@ -48,7 +49,8 @@ module _ {X Y : Type 0} (row : ℕ → X → Y) (key : Y → ℕ) (keyed : (plac
       (few (key (row (length xs + 1) x)) xs (omega (arith, first))) h in
       omega (arith, first, following)
 
--- Rows of equal elements are equal.
+-- If two conversions agree on each element of a list, they convert the list to the same numbered
+-- rows.
 pub placed_same : {X Y : Type 0} (row other : ℕ → X → Y) (xs : List X) → AllByRecursion (λ x. (place : ℕ) → row place x ≡ other place x) xs
     → placed row xs ≡ placed other xs
 placed_same row other [] h = refl

@@ -1,4 +1,4 @@
--- Records that change no meter, in the tables.
+-- Proofs about the tables after a record that changes no meter.
 use Rattle.std.proofs.Common.{◌≡◌, ◌≢◌, ℕ, ◌+◌, List, [], ◌∷◌, map, filter, length, Option, Some, None, refl, sym, ap, subst, ◌∙◌, IsPermutation, arith}
 use Rattle.sqlite.specs.Order.{Row}
 use Rattle.office_events.specs.declared.facts.Device.{Device}
@@ -54,7 +54,8 @@ intervals_stay facts others content after same of a = record {
   each = λ meter. subst (λ rs. IsPermutation (filter (is_interval_of meter) a.rows) (map (interval_of meter) rs)) (sym (of meter)) (a.each meter);
 }
 
--- A device, at the index after the last.
+-- If the row of a new device has the index after the last row of `devices`, the tables encode the
+-- device.
 pub device_recorded : (device : Device) (place : ℕ) (content after : Content) → IsAfter list_tree.devices device_columns every device_place place content
     → Edits list_tree.devices device_columns (with_row (added place device)) content after → Records (fact.Device device) content after
 device_recorded device place content after following e zone facts a lawful = record {
@@ -78,7 +79,8 @@ device_recorded device place content after following e zone facts a lawful = rec
   replies = stay poll_tree.replies reply_columns (map kept (replies_in facts)) content after (e.others 16 (λ is. omega (arith, is))) a.replies;
 }
 
--- A register, at the index after the last.
+-- If the row of a new accounting register has the index after the last row of `registers`, the
+-- tables encode the accounting register.
 pub register_recorded : (register : Register) (place : ℕ) (content after : Content) → IsAfter list_tree.registers register_columns every register_place place content
     → Edits list_tree.registers register_columns (with_row (registered place register)) content after → Records (fact.Register register) content after
 register_recorded register place content after following e zone facts a lawful = record {
@@ -102,7 +104,7 @@ register_recorded register place content after following e zone facts a lawful =
   replies = stay poll_tree.replies reply_columns (map kept (replies_in facts)) content after (e.others 16 (λ is. omega (arith, is))) a.replies;
 }
 
--- A poll.
+-- After the row of a new poll is inserted into `polls`, the tables encode the poll.
 pub poll_recorded : (poll : Poll) (content after : Content) → Edits poll_tree.polls poll_columns (with_row (started poll)) content after → Records (fact.Poll poll) content after
 poll_recorded poll content after e zone facts a lawful = record {
   lawful = lawful;
@@ -121,7 +123,7 @@ poll_recorded poll content after e zone facts a lawful = record {
   replies = stay poll_tree.replies reply_columns (map kept (replies_in facts)) content after (e.others 16 (λ is. omega (arith, is))) a.replies;
 }
 
--- The record of an outcome is stored.
+-- After the row of a poll's outcome is inserted into `outcomes`, the tables encode the outcome.
 pub outcome_recorded : (ended : EndedPoll) (content after : Content) → Edits poll_tree.outcomes outcome_columns (with_row (outcome_row ended)) content after → Records (fact.Outcome ended) content after
 outcome_recorded ended content after e zone facts a lawful = record {
   lawful = lawful;
@@ -140,7 +142,7 @@ outcome_recorded ended content after e zone facts a lawful = record {
   replies = stay poll_tree.replies reply_columns (map kept (replies_in facts)) content after (e.others 16 (λ is. omega (arith, is))) a.replies;
 }
 
--- The record of a kept request is stored.
+-- After the row of an accepted request is inserted into `replies`, the tables encode the request.
 pub reply_recorded : (reply : Reply) (content after : Content) → Edits poll_tree.replies reply_columns (with_row (kept reply)) content after → Records (fact.Reply reply) content after
 reply_recorded reply content after e zone facts a lawful = record {
   lawful = lawful;

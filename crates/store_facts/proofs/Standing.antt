@@ -1,4 +1,4 @@
--- The state of a meter, in the tables of records.
+-- Proofs that the tables agree with the records about the current state of each meter.
 use Rattle.std.proofs.Common.{◌≡◌, ℕ, ◌+◌, Bool, true, false, cond, List, [], ◌∷◌, map, filter, length, Option, Some, None, refl, sym, ap, subst, ◌∙◌, IsPermutation, arith}
 use Rattle.std.specs.List.{AllByRecursion}
 use Rattle.std.proofs.lemmas.Option.{same_Some}
@@ -25,7 +25,7 @@ passing_have : {X : Type 0} (p : X → Bool) (Q : X → Type 0) (xs : List X) �
 passing_have p Q [] h = tt
 passing_have p Q (x ∷ xs) h = passing_step (p x) p Q x (filter p xs) refl h.0 (passing_have p Q xs h.1)
 
--- A property of all rows that pass is a property of the row that is found.
+-- If all rows that pass a test have a property, the row that a look-up finds has the property.
 pub found_has : {X A : Type 0} (passes : X → Bool) (IsSeen : X → A → Type 0) (Q : X → Type 0) (rows : List X) (a : A)
     → AllByRecursion (λ x. passes x ≡ true → Q x) rows → IsFound passes IsSeen rows (Some a) → (x : X) × IsSeen x a × Q x
 found_has passes IsSeen Q rows a all found =
@@ -66,7 +66,8 @@ module _ (facts : List Fact) (lawful : AreLawful facts) (meter : List ℕ) (o : 
       all_mapped ranged (λ (r : Ranged). is_range_of meter r ≡ true → r.range ≡ o.range) (openings_in facts)
       (all_weaker _ _ ranged_one (openings_in facts) each_by_name)
 
-  -- The installation's row has the state of the meter, and the range's row has its range.
+  -- The rows of a meter in `installations` and `ranges` agree with the meter's current state and
+  -- its counter's range in the records.
   pub stands_found : {A : Type 0} (IsSeen : Installed → A → Type 0) (a : A) → IsFound (is_meter meter) IsSeen (placed (installed_row facts) (openings_in facts)) (Some a)
       → (i : Installed) × IsSeen i a × (i.row.last ≡ last_row (installation_of facts o))
   stands_found IsSeen a found = found_has (is_meter meter) IsSeen (λ (i : Installed). i.row.last ≡ last_row (installation_of facts o)) (placed (installed_row facts) (openings_in facts)) a installed_all found

@@ -1,4 +1,4 @@
--- How calls inside a transaction, and the complete transaction, change the tables.
+-- How calls inside a transaction, and a complete transaction, change the tables.
 use Rattle.std.specs.Prelude.{◌≡◌, ℕ, List, Result, IsTrue, OnOk, OnErr}
 use Rattle.sqlite.specs.Tree.{Trees}
 use Rattle.sqlite.specs.Effect.{Database}
@@ -6,12 +6,12 @@ use Rattle.sqlite.specs.Order.{Row}
 use Rattle.sqlite.specs.State.{State, HasCleanDisk, KeepsCommit, Survives}
 use Rattle.store_tables.specs.Content.{Content, AreTables, HasRows}
 
--- The database has the store's tables, with a content that `Makes` relates to `content`.
+-- True if a database has the store's tables, and `Makes` relates `content` to their content.
 abbrev pub HasMade : (Content → Content → Type 0) → Content → Database → Type 0
 HasMade Makes content db = (after : Content) × Makes content after × AreTables db after
 
--- A call inside a transaction. At Ok, `Makes` relates the new tables to the old tables. The call
--- commits nothing.
+-- The contract of a call inside a transaction. At Ok, `Makes` relates the old content of the tables
+-- to the new content. The call commits nothing.
 pub record Goes {X E : Type 0} (old new : State) (result : Result X E)
     (Makes : Content → Content → Type 0) : Type 0 where
   pub kept : HasCleanDisk new → IsTrue old.in_transaction → (content : Content)
@@ -21,14 +21,15 @@ pub record Goes {X E : Type 0} (old new : State) (result : Result X E)
       → OnOk result (IsTrue new.in_transaction × HasMade Makes content new.now)
   pub survives : Survives old new (λ _. ⊥)
 
--- The trees are those of a database whose tables `Makes` relates to the old tables.
+-- True if B-trees store a database whose tables have a content that `Makes` relates to the old
+-- content.
 pub record AreMade (old : State) (Makes : Content → Content → Type 0) (trees : Trees) : Type 0 where
   pub db : Database
   pub made : (content : Content) → AreTables old.now content → HasMade Makes content db
   pub same : trees ≡ db.trees
 
--- A complete transaction. At Ok it commits everything, and on an error nothing. A crash leaves the
--- old tables, or all changes.
+-- The contract of a complete transaction. At Ok, the transaction commits all changes, and on an
+-- error none. A crash leaves either the old tables or all changes.
 pub record Commits {X E : Type 0} (old new : State) (result : Result X E)
     (Makes : Content → Content → Type 0) : Type 0 where
   pub ok : HasCleanDisk new → (content : Content) → AreTables old.now content
@@ -37,7 +38,7 @@ pub record Commits {X E : Type 0} (old new : State) (result : Result X E)
       → OnErr result (KeepsCommit old new)
   pub survives : Survives old new (AreMade old Makes)
 
--- A query changed nothing, and its answer follows from the rows of one table.
+-- True if a query changed nothing, and its answer follows from the rows of one table.
 pub record Told {A X : Type 0} (tree : ℕ) (columns : X → Row) (Answers : List X → A → Type 0)
     (answer : A) (content after : Content) : Type 0 where
   pub same : after ≡ content

@@ -1,4 +1,4 @@
--- Streaming the rows of a query to a sink, in order. A sink is a caller's object that takes one row
+-- Streams of the rows of a query to a sink. A sink is an object of the caller that receives one row
 -- at a time.
 use Rattle.std.specs.Prelude.{◌≡◌, ◌≤◌, ◌⊎◌, ℕ, List, [], ◌∷◌, ◌++◌, length, Result, Ok, Err, OnOk, IfErr}
 use Rattle.std.specs.List.{AllByRecursion, AllZip}
@@ -17,30 +17,31 @@ use Rattle.store_tables.specs.Content.{Content, AreTables}
 use Rattle.store_tables.specs.Failing.{IsFault, StateAfterCall}
 use Rattle.store_tables.specs.Asking.{Asks}
 
--- The sink took only rows that have the property `IsRow`.
+-- True if every row that the sink received has the property `IsRow`.
 abbrev pub TookSome : {K T : Type 0} → (IsRow : T → Type 0) → (takes : K → T → K → Type 0)
     → (before after : K) → Type 0
 TookSome {K} {T} IsRow takes before after =
     (rows : List T) × AllByRecursion IsRow rows × TakesAll takes before rows after
 
--- The greatest number of rows that a stream can count: 2^64 - 1. No table has so many.
+-- The greatest number of rows that a stream can count: 2^64 - 1. No real table has as many rows.
 abbrev pub most_rows : ℕ
 most_rows = 18446744073709551615
 
--- The sink took `most_rows` rows.
+-- True if the sink received `most_rows` rows.
 abbrev pub TookMost : {K T : Type 0} → (takes : K → T → K → Type 0) → (before after : K) → Type 0
 TookMost {K} {T} takes before after =
     (rows : List T) × (length rows ≡ most_rows) × TakesAll takes before rows after
 
--- Why a stream ends early: an error of the store, a row that is not sound, or `most_rows` rows.
+-- Why a stream ends early: an error of the store, a row out of its ranges, or `most_rows` rows.
 abbrev pub IsStreamFault : {K T : Type 0} → (old new : State) → (takes : K → T → K → Type 0)
     → (before after : K) → (IsSound : Type 0) → RowFault → Type 0
 IsStreamFault old new takes before after IsSound e =
     IsFault old new IsSound e ⊎ ((e ≡ Sql InvalidQuery) × TookMost takes before after)
 
--- The sink took the first rows of some tables, in order, and at Ok all of them. It took only rows
--- with the property `IsRow`, even from damaged tables. `Damaged` is reported only if a row of the
--- tables is not sound. Any other fault is an error of the store, or follows after `most_rows` rows.
+-- The contract of a stream. The sink receives the rows in order: at Ok all rows, and on a fault the
+-- first rows. Every received row has the property `IsRow`, even if the tables are damaged. The
+-- stream reports `Damaged` only if a row is out of its ranges. Any other fault is an error of the
+-- store, or follows after `most_rows` rows.
 pub record HandsOn {S K T Tables : Type 0} (g : Ghosts S) (old new : Held S)
     (takes : K → T → K → Type 0) (before after : K)
     (result : Result (Unit {0}) RowFault) (IsRow : T → Type 0) (Have : Tables → Content → Type 0)
@@ -60,19 +61,19 @@ pub record HandsOn {S K T Tables : Type 0} (g : Ghosts S) (old new : Held S)
       → IfErr result
       (IsStreamFault (state g old) (state g new) takes before after (AreSound tables))
 
--- ---- the rows of a query, with one reader
+-- ---- streams of the result rows of a query, read by one reader
 
--- `reads` returns these values for the rows, one by one.
+-- True if the reader `reads` returns the values in a list for the rows, one value for each row.
 abbrev pub AreRead : {T : Type 0} → (reads : Row → Result T RowFault) → List Row → List T → Type 0
 AreRead reads = AllZip (λ row read. reads row ≡ Ok read)
 
--- A query that changes nothing was started, and its answer begins with the rows `given`.
+-- True if a query was started and changed nothing, and its answer begins with the rows `given`.
 abbrev pub IsAsked : {S : Type 0} → Ghosts S → (sql : List ℕ) → (params : Row)
     → (old asked : Held S) → (given : List Row) → Type 0
 IsAsked g sql params old asked given =
     IsUnchanged (state g old) (state g asked) × Begins sql params (state g asked) given
 
--- A call of the query failed. The earlier calls of the query left the rows unchanged.
+-- True if a query failed while its rows were read, and its earlier calls left the tables unchanged.
 pub record HasStopped {S : Type 0} (g : Ghosts S) (sql : List ℕ) (params : Row) (old new : Held S)
     (e : Error) : Type 0 where
   pub asked : Held S
@@ -81,8 +82,8 @@ pub record HasStopped {S : Type 0} (g : Ghosts S) (sql : List ℕ) (params : Row
   pub counts : (state g asked).faults ≤ (state g new).faults
   pub fails : FailsToQuery sql params (state g asked) (state g new) e
 
--- Why reading the rows ended: a call of the query failed, `most_rows` rows were read, or the next
--- row can't be read.
+-- Why reading the rows of a query ended: a call failed, `most_rows` rows were read, or a row can't
+-- be read.
 abbrev pub IsReadFault : {S T : Type 0} → Ghosts S → (sql : List ℕ) → (params : Row)
     → (reads : Row → Result T RowFault) → (old new : Held S) → (given : List Row) → (read : List T)
     → RowFault → Type 0
@@ -92,8 +93,8 @@ IsReadFault {S} g sql params reads old new given read Damaged =
     (asked : Held S) × (row : Row) × IsAsked g sql params old asked (given ++ row ∷ [])
     × (reads row ≡ Err Damaged)
 
--- The first rows of a query were read, in order, and handed to the sink. At Ok these are all rows
--- of the query.
+-- The contract of streaming a query. The stream reads the rows and passes them to the sink in
+-- order. At Ok the sink gets all rows, and on a fault the first rows.
 pub record HandsOnQuery {S K T : Type 0} (g : Ghosts S) (sql : List ℕ) (params : Row)
     (reads : Row → Result T RowFault) (old new : Held S)
     (takes : K → T → K → Type 0) (before after : K) (result : Result (Unit {0}) RowFault) : Type 0
@@ -108,8 +109,8 @@ pub record HandsOnQuery {S K T : Type 0} (g : Ghosts S) (sql : List ℕ) (params
         × Shown sql params (state g asked) (state g end) given)
     pub fault : IfErr result (IsReadFault g sql params reads old new given rows)
 
--- `HandsOnQuery` for a query that depends only on the tables, if the database gave back what was
--- written to it.
+-- The contract `HandsOnQuery` for a query whose answer depends only on the tables. The contract
+-- assumes that reads of the database file return the written bytes.
 abbrev pub HandsOnPlain : {S K T : Type 0} → Ghosts S → (sql : List ℕ) → (params : Row)
     → (reads : Row → Result T RowFault) → (old new : Held S)
     → (takes : K → T → K → Type 0) → (before after : K)

@@ -1,4 +1,5 @@
--- The records that the database of a connection has, and the records that a crash would leave.
+-- Definitions of the records that the database of a connection encodes, and of the records that a
+-- crash would leave.
 use Rattle.std.specs.Prelude.{◌≡◌, ◌≢◌, ◌⊎◌, ℕ, false, List, [], ◌∷◌, ◌++◌, reverse, Result, IsOk, IsTrue, OnOk, OnErr}
 use Rattle.sqlite.specs.Tree.{Trees}
 use Rattle.sqlite.specs.Effect.{Database}
@@ -11,18 +12,18 @@ use Rattle.store_tables.specs.Content.{Content, AreTables}
 use Rattle.store_tables.specs.Failing.{StateAfterCall}
 use Rattle.store_facts.specs.Tables.{AreOf}
 
--- A database has the tables of these records and this time zone.
+-- True if the tables of a database encode the records `facts` and the time zone `zone`.
 pub record HasFacts (zone : List ℕ) (facts : List Fact) (db : Database) : Type 0 where
   pub content : Content
   pub tables : AreTables db content
   pub are : AreOf zone facts content
 
--- `facts` is one of the lists of records in `left`.
+-- True if `facts` is one of the lists of records in `left`.
 abbrev pub IsOneOf : List (List Fact) → List Fact → Type 0
 IsOneOf [] facts = ⊥
 IsOneOf (one ∷ left) facts = (facts ≡ one) ⊎ IsOneOf left facts
 
--- The trees are those of a database with one of the lists of records in `left`.
+-- True if B-trees store a database that encodes one of the lists of records in `left`.
 pub record IsLeft (zone : List ℕ) (left : List (List Fact)) (trees : Trees) : Type 0 where
   pub facts : List Fact
   pub one : IsOneOf left facts
@@ -31,19 +32,21 @@ pub record IsLeft (zone : List ℕ) (left : List (List Fact)) (trees : Trees) : 
   pub same : trees ≡ db.trees
 
 module _ {S : Type 0} (g : Ghosts S) (zone : List ℕ) where
-  -- The committed database has the tables of these records. This needs an open connection, and a
-  -- database that gave back what was written to it.
+  -- True if the committed tables encode a list of records. The definition assumes that the
+  -- connection is open, and that reads of the database file return the written bytes.
   unfoldable pub HoldsFacts : Held S → List Fact → Type 0
   HoldsFacts h facts =
       HasCleanDisk (state g h) → IsTrue (state g h).is_open
       → HasFacts zone facts (state g h).committed
 
-  -- A crash at this point leaves the tables of one of the lists of records in `left`.
+  -- True if a crash of the connection leaves tables that encode one of the lists of records in
+  -- `left`.
   unfoldable pub LeavesFacts : Held S → List (List Fact) → Type 0
   LeavesFacts h left = HasCleanDisk (state g h) → (trees : Trees) → (state g h).may_leave trees
       → IsLeft zone left trees
 
-  -- A look-up outside a transaction. It commits nothing, and adds no state that a crash can leave.
+  -- The contract of a look-up outside a transaction. The look-up commits nothing, and a later crash
+  -- leaves only what an earlier crash could leave.
   pub record OnlyLooks (old new : Held S) : Type 0 where
     pub clean : HasCleanDisk (state g new) → HasCleanDisk (state g old)
     pub mode : old.in_transaction ≡ false → new.in_transaction ≡ false
@@ -54,9 +57,10 @@ module _ {S : Type 0} (g : Ghosts S) (zone : List ℕ) where
     pub goes : (facts : List Fact) → HoldsFacts old facts → HasCleanDisk (state g new)
         → StateAfterCall (state g old) (state g new)
 
-  -- One transaction that stores the records `fs`, if they may follow the known records. At Ok all
-  -- of them are stored, and a later crash leaves them. On a fault the known records are unchanged,
-  -- but a crash may leave all of the new ones. Without records, nothing is done.
+  -- The contract of a transaction that appends the records `fs` to the stored records, if the rules
+  -- accept `fs`. At Ok all of `fs` are stored, and a later crash leaves them. On a fault the
+  -- earlier records are unchanged, but a crash may leave all of `fs`. An empty `fs` changes
+  -- nothing.
   pub record BooksFacts {X E : Type 0} (fs : List Fact) (old new : Held S) (result : Result X E) :
       Type 0 where
     pub clean : HasCleanDisk (state g new) → HasCleanDisk (state g old)

@@ -1,4 +1,5 @@
--- Rows of `holds`: how they are read, and which of them a stream gives, in which order.
+-- Definitions of how rows of `holds` are read, and which rows a stream of rejected readings
+-- returns.
 use Rattle.std.specs.Prelude.{◌≡◌, ◌≤◌, ℕ, ℤ, pos, negsuc, nat_le, nat_lt, List, [], ◌∷◌, map, Bool, bytes_eq, ◌&&◌, ◌==◌, IsTrue, Option, Some, None, if◌then◌else◌, Result, Ok}
 use Rattle.std.specs.List.{AllByRecursion}
 use Rattle.sqlite.specs.declared.types.Value.{Value}
@@ -16,9 +17,9 @@ use Rattle.store_tables.specs.Answer.{AreFound, FirstFirst}
 use Rattle.store_devices.specs.Polls.Trees.{holds}
 use Rattle.store_devices.specs.Polls.Rows.{Held, hold_columns, hold_place}
 
--- ---- one row
+-- ---- the value of one row
 
--- The cause of a rejection that has this number in the store, if there is one.
+-- The cause of a rejection that a number in `holds` encodes, or None.
 abbrev pub cause_of : ℕ → Option Cause
 cause_of n =
     if n == 1 then Some cause.NotAccumulated else
@@ -30,12 +31,12 @@ cause_of n =
     if n == 7 then Some cause.TotalFull else
     if n == 8 then Some cause.NotBelowRange else None
 
--- Whether an integer is in the range of a signed 16-bit integer.
+-- True if an integer is in the range of a signed 16-bit integer.
 abbrev pub has_sixteen_bits : ℤ → Bool
 has_sixteen_bits (pos n) = nat_le n 32767
 has_sixteen_bits (negsuc n) = nat_le n 32767
 
--- The 16-bit integer that a value has, if it is in this range.
+-- The integer in a column, or None if the column has no signed 16-bit integer.
 abbrev pub sixteen_in : Value → Option ℤ
 sixteen_in (Int n) = if has_sixteen_bits n then Some n else None
 sixteen_in Null = None
@@ -47,14 +48,14 @@ sixteen_in (Blob b) = None
 abbrev pub greatest_raw : ℕ
 greatest_raw = 4294967295
 
--- The result row that shows a rejected reading, in queries of `holds`.
+-- The columns that a SELECT from `holds` returns for a rejected reading.
 abbrev pub reading_shown : Held → Row
 reading_shown h =
     Int (pos h.row.poll) ∷ Int (pos h.row.moment) ∷ Int (pos h.row.raw) ∷ Int h.row.sf
     ∷ Int (pos (cause_number h.row.cause))
     ∷ []
 
--- The rejected reading of this meter that a row of `holds` encodes.
+-- The rejected reading of the meter `meter` that a row of `holds` encodes.
 abbrev pub reading_of : (meter : List ℕ) → Held → HeldReading
 reading_of meter h = record {
   meter = meter;
@@ -65,19 +66,19 @@ reading_of meter h = record {
   cause = h.row.cause;
 }
 
--- Every value of a rejected reading is in its range.
+-- True if every value of a rejected reading is in its range.
 pub record IsSoundReading (reading : HeldReading) : Type 0 where
   pub poll : IsPlace reading.poll
   pub at : reading.at ≤ latest_moment
   pub raw : reading.raw ≤ greatest_raw
   pub sf : IsTrue (has_sixteen_bits reading.sf)
 
--- Every value of the reading in this row is in its range.
+-- True if every value of the rejected reading in a row of `holds` is in its range.
 abbrev pub HasSoundReading : Held → Type 0
 HasSoundReading h = IsSoundReading (reading_of h.meter h)
 
--- The rejected reading of this meter that a result row shows, or `Damaged` if a column is out of
--- its range.
+-- The rejected reading of the meter `meter` in a result row, or `Damaged` if a column is out of its
+-- range.
 abbrev pub reading_in : (meter : List ℕ) → Row → Result HeldReading RowFault
 reading_in meter row =
     and_then (or_damaged (whole_in 1 greatest_place (column row 0))) (λ poll.
@@ -88,34 +89,34 @@ reading_in meter row =
     and_then (or_damaged (cause_of number)) (λ cause.
     Ok (record { meter = meter; poll = poll; at = at; raw = raw; sf = sf; cause = cause })))))))
 
--- ---- the rows of a meter, in order of index
+-- ---- a meter's rows of `holds`, in order of index
 
--- The table `holds` has these rows.
+-- True if a list has exactly the rows of the table `holds`.
 abbrev pub HaveHolds : List Held → Content → Type 0
 HaveHolds = HasRows holds hold_columns
 
--- Whether the rejected reading is of this meter.
+-- True if a rejected reading belongs to the meter `meter`.
 abbrev pub is_of : (meter : List ℕ) → Held → Bool
 is_of meter h = bytes_eq h.meter meter
 
--- The rejected readings of a meter, in the order in which they were recorded.
+-- True if a list has the rejected readings of a meter, in the order in which they were recorded.
 abbrev pub AreReadingsOf : (meter : List ℕ) → List Held → List HeldReading → Type 0
 AreReadingsOf meter rows all =
     (found : List Held) × AreFound (is_of meter) (FirstFirst hold_place) rows found
     × (all ≡ map (reading_of meter) found)
 
--- Every row of rejected readings is sound.
+-- True if every value of every row of `holds` is in its range.
 abbrev pub AreSoundHolds : List Held → Type 0
 AreSoundHolds = AllByRecursion HasSoundReading
 
--- ---- the rows of a meter with timestamps in a range
+-- ---- a meter's rows of `holds` with timestamps in a range
 
--- Whether the timestamp of the rejected reading is at least `from` and less than `till`.
+-- True if the timestamp of a rejected reading is at least `from` and less than `till`.
 abbrev pub is_between : (from till : ℕ) → Held → Bool
 is_between from till h = nat_le from h.row.moment && nat_lt h.row.moment till
 
--- The rejected readings of a meter with timestamps of at least `from` and less than `till`, in the
--- order in which they were recorded.
+-- True if a list has the rejected readings of a meter with timestamps from `from` until before
+-- `till`, in the order of their recording.
 abbrev pub AreReadingsBetween : (meter : List ℕ) → (from till : ℕ) → List Held → List HeldReading
     → Type 0
 AreReadingsBetween meter from till rows all =

@@ -1,4 +1,4 @@
--- The tables after one more record.
+-- The tables of the store after one more record.
 use Rattle.std.specs.Prelude.{◌≡◌, ℕ, ◌+◌, Bool, List, ◌∷◌, ◌++◌, reverse, Option, Some, None}
 use Rattle.sqlite.specs.Order.{Row}
 use Rattle.office_events.specs.declared.facts.Fact.{Fact}
@@ -7,32 +7,33 @@ use Rattle.store_tables.specs.Answer.{IsLast}
 use Rattle.store_tables.specs.Content.{Content, HasRows}
 use Rattle.store_facts.specs.Tables.{AreOf}
 
--- If the tables are those of some records and `f` may follow these, the new tables are those of all
--- of them with `f`.
+-- The effect of storing the record `f`: if the old tables encode records that `f` may follow, the
+-- new tables also encode `f`.
 abbrev pub Records : Fact → Content → Content → Type 0
 Records f content after = (zone : List ℕ) (facts : List Fact) → AreOf zone facts content
     → AreLawful (f ∷ facts) → AreOf zone (f ∷ facts) after
 
--- If the tables are those of some records and all `fs` may follow these, the new tables are those
--- of all of them with `fs`.
+-- The effect of storing the records `fs`: if the old tables encode records that `fs` may follow,
+-- the new tables also encode `fs`.
 abbrev pub RecordsAll : List Fact → Content → Content → Type 0
 RecordsAll fs content after =
     (zone : List ℕ) (facts : List Fact) → AreOf zone facts content → AreLawful (reverse fs ++ facts)
     → AreOf zone (reverse fs ++ facts) after
 
--- The index after the last index: 1 if there is none.
+-- The index of the next row: one more than the last index, or 1 if the table has no row.
 abbrev pub next_place : Option ℕ → ℕ
 next_place None = 1
 next_place (Some place) = place + 1
 
--- `place` is the index after that of the last row that passes the test, or 1 if no row passes.
+-- True if `place` is the next index: one more than the index of the last row that passes a test, or
+-- 1 if no row passes.
 abbrev pub IsAfter : {X : Type 0} → (tree : ℕ) → (columns : X → Row) → (passes : X → Bool)
     → (key : X → ℕ) → (place : ℕ) → Content → Type 0
 IsAfter {X} tree columns passes key place content =
     (rows : List X) → HasRows tree columns rows content
     → (last : Option ℕ) × (place ≡ next_place last) × IsLast passes (λ x n. n ≡ key x) key rows last
 
--- A query found `place`, the next index, and changed nothing.
+-- True if a query found `place`, the index of the next row, and changed nothing.
 pub record IsNext {X : Type 0} (tree : ℕ) (columns : X → Row) (passes : X → Bool) (key : X → ℕ)
     (place : ℕ) (content after : Content) : Type 0 where
   pub same : after ≡ content

@@ -47,17 +47,17 @@ use Rattle.store_facts.specs.Intervals.Rows.{Interval}
 use Rattle.store_devices.specs.declared.polls.rows.OutcomeRow.{OutcomeRow}
 use Rattle.store_devices.specs.Polls.Rows.{Started, Held, Kept}
 
--- The rows of a list whose latest element is first. The oldest element has index 1.
+-- The numbered rows of a list that is sorted latest first. The oldest element has index 1.
 abbrev pub placed : {X Y : Type 0} → (row : ℕ → X → Y) → List X → List Y
 placed row [] = []
 placed row (x ∷ xs) = row (length xs + 1) x ∷ placed row xs
 
--- The rows of a list in its own order. The first row has index `before` + 1.
+-- The numbered rows of a list, in the order of the list. The first row has index `before` + 1.
 abbrev pub placed_on : {X Y : Type 0} → (row : ℕ → X → Y) → (before : ℕ) → List X → List Y
 placed_on row before [] = []
 placed_on row before (x ∷ xs) = row (before + 1) x ∷ placed_on row (before + 1) xs
 
--- ---- devices, their lists and their registers
+-- ---- rows that encode devices, their point lists and their accounting registers
 
 -- The row that encodes a device.
 abbrev pub added : (place : ℕ) → Device → Added
@@ -75,7 +75,7 @@ abbrev pub point_row : (place : ℕ) → ReadFunction → (area address : ℕ) �
 point_row place function area address =
     record { place = place; function = function; area = area; address = address }
 
--- The row that encodes a point of a device's list.
+-- The row that encodes a point of a device's point list.
 abbrev pub listed : (device : List ℕ) → (place : ℕ) → ListedPoint → Listed
 listed device place point = record {
   device = device;
@@ -90,25 +90,25 @@ listed device place point = record {
   };
 }
 
--- `row` is the point converted to columns, at this index of any device's list.
+-- True if `row` has the columns of a point at index `place` of a point list.
 abbrev pub IsPlacedPoint : (place : ℕ) → ListedPoint → Point → Type 0
 IsPlacedPoint place point row = (device : List ℕ) → listed_at device row ≡ listed device place point
 
--- `rows` are the points of a complete list converted to columns, with indices from 1.
+-- True if `rows` has the columns of all points of a complete point list, with indices from 1.
 abbrev pub ArePlacedPoints : {Z : Type 0} → List ListedPoint → Vec Point Z → Type 0
 ArePlacedPoints points rows =
     (device : List ℕ) → map (listed_at device) rows.items ≡ placed_on (listed device) 0 points
 
--- The points of a point list, in order. Without a list there are none.
+-- The points of a point list, in order. A device without a list has no points.
 abbrev pub points_put : Option DeviceList → List ListedPoint
 points_put None = []
 points_put (Some put) = put.list.points
 
--- The points of a device's latest list in these records, in order.
+-- The points of a device's latest point list in the records, in order.
 abbrev pub points_of : List Fact → (device : List ℕ) → List ListedPoint
 points_of facts device = points_put (find (λ put. same put.device device) (lists_in facts))
 
--- The scale of an accounting register, as the table has it.
+-- The scale of an accounting register, as the table `registers` stores it.
 abbrev pub scale_as : ScaleSource → RegisterScale
 scale_as (source.Fixed sf) = scale.Fixed sf
 scale_as (source.Register address) = scale.At address
@@ -126,25 +126,25 @@ registered place register = record {
   };
 }
 
--- The row of an accounting register is sound if its index, address and scale are, and one read
--- covers its counter and its scale.
+-- True if the row of an accounting register is in its ranges. Its index, address and scale must be
+-- valid, and one read must cover its counter and its scale.
 abbrev pub GivesSoundRow : (place : ℕ) → Register → RegisterRow → Type 0
 GivesSoundRow place register row =
     IsPlace place → register.address ≤ LAST_COUNTER → IsSoundScale (scale_as register.scale)
     → fits_a_read register.address (scale_as register.scale) ≡ true → IsSoundRegister row
 
--- ---- meters
+-- ---- rows that encode meters
 
--- An installation at its opening: no energy, and not closed.
+-- A meter's state at its opening: no energy, and not closed.
 abbrev pub begun : Opening → Installation
 begun opening = record { opening = opening; last = opened opening; total = 0; ended = false }
 
--- The last entry and the total energy of an installation, as columns.
+-- The columns for a meter's last entry and total energy.
 abbrev pub last_row : Installation → LastRow
 last_row row =
     record { moment = row.last.at; raw = row.last.raw; sf = row.last.sf; total = row.total }
 
--- The row that encodes an installation.
+-- The row of `installations` that encodes a meter's state.
 abbrev pub installed_as : (place : ℕ) → Installation → Installed
 installed_as place row = record {
   meter = row.opening.meter;
@@ -157,24 +157,24 @@ installed_as place row = record {
   };
 }
 
--- The row of an opening's installation after all records.
+-- The row of `installations` for the meter of an opening, with the meter's state after all records.
 abbrev pub installed_row : List Fact → (place : ℕ) → Opening → Installed
 installed_row facts place opening = installed_as place (installation_of facts opening)
 
--- Every number of an opening is in the range of its column.
+-- True if every number of an opening is in the range of its column.
 pub record IsSoundOpening (opening : Opening) : Type 0 where
   pub ceiling : (1 ≤ opening.ceiling) × (opening.ceiling ≤ greatest_ceiling)
   pub range : IsRange opening.range
   pub moment : opening.at ≤ latest_moment
   pub sf : IsTrue (is_within 3 opening.sf)
 
--- The row with the range of a meter's counter.
+-- The row of `ranges` that encodes the range of a meter's counter.
 abbrev pub ranged : Opening → Ranged
 ranged opening = record { meter = opening.meter; range = opening.range }
 
--- ---- entries: the opening has index 1
+-- ---- rows that encode the opening and the entries of a meter, where the opening has index 1
 
--- The kind of an entry, as the table has it.
+-- The kind of an entry, as the table `entries` stores it.
 abbrev pub kind_as : journal_kind.EntryKind → EntryKind
 kind_as from.Reading = kind.Reading
 kind_as from.Manual = kind.Manual
@@ -182,22 +182,23 @@ kind_as from.Closing = kind.Closing
 kind_as from.Reset = kind.Reset
 kind_as from.Rescale = kind.Rescale
 
--- The counter's value at an entry. For a change, the value before the counter was set.
+-- The counter's value at a meter entry. For a reset or a rescale, the value before the counter was
+-- set.
 abbrev pub raw_of : Entry → ℕ
 raw_of (entry.Step at raw rolls) = raw
 raw_of (entry.Change at before after sf) = before
 
--- How often the counter rolled over before the entry. A change has no rollovers.
+-- How often the counter rolled over before a meter entry. A reset and a rescale have no rollovers.
 abbrev pub rolls_of : Entry → ℕ
 rolls_of (entry.Step at raw rolls) = rolls
 rolls_of (entry.Change at before after sf) = 0
 
--- The value that a change set the counter to. 0 for other entries.
+-- The value that a reset or a rescale set the counter to. 0 for any other meter entry.
 abbrev pub after_of : Entry → ℕ
 after_of (entry.Step at raw rolls) = 0
 after_of (entry.Change at before after sf) = after
 
--- The row that encodes an entry, with the scale factor after the entry.
+-- The row that encodes a meter entry, with the scale factor after the entry.
 abbrev pub entry_row : (sf : ℤ) → journal.EntryRow → EntryRow
 entry_row sf row = record {
   place = row.place;
@@ -222,38 +223,39 @@ opening_row opening =
       sf = opening.sf;
     }
 
--- The counter's value after an entry. After a reset or a rescale it is the value that the counter
+-- The counter's value after a meter entry. After a reset or a rescale, the value that the counter
 -- was set to.
 abbrev pub raw_after : EntryKind → EntryRow → ℕ
 raw_after kind.Reset e = e.after
 raw_after kind.Rescale e = e.after
 raw_after _ e = e.raw
 
--- The state of the counter after an entry.
+-- The timestamp, the value and the scale factor of a meter's counter after an entry.
 abbrev pub counter_after : EntryRow → Last
 counter_after e = record { at = e.moment; raw = raw_after e.kind e; sf = e.sf }
 
 abbrev pub entered : (meter : List ℕ) → EntryRow → Entered
 entered meter row = record { meter = meter; entry = row }
 
--- The scale factor after the entries of a meter that are not voided.
+-- The scale factor of a meter's counter after its entries that are not voided.
 abbrev pub scale_after : Opening → List journal.EntryRow → ℤ
 scale_after opening rows = (last_of (opened opening) (entries_in rows)).sf
 
--- The rows of a meter's opening and of the entries after it, the latest first. Each row has the
--- scale factor after its entry.
+-- The rows of a meter's opening and of its later entries, the latest first. Each row has the scale
+-- factor after its entry.
 abbrev pub entered_rows : Opening → List journal.EntryRow → List Entered
 entered_rows opening [] = entered opening.meter (opening_row opening) ∷ []
 entered_rows opening (row ∷ rows) =
     entered opening.meter (entry_row (scale_after opening (row ∷ rows)) row)
     ∷ entered_rows opening rows
 
--- The rows of all entries of an opening's meter. Without an opening there are none.
+-- The rows of `entries` that encode all entries of the meter of an opening. If there is no opening,
+-- there are no rows.
 abbrev pub entries_at : List Fact → Option Opening → List Entered
 entries_at facts None = []
 entries_at facts (Some opening) = entered_rows opening (rows_of facts opening)
 
--- The rows of all entries of a meter, by these records.
+-- The rows of `entries` that encode the recorded entries of a meter.
 abbrev pub entries_of : List Fact → (meter : List ℕ) → List Entered
 entries_of facts meter = entries_at facts (opening_of facts meter)
 
@@ -261,11 +263,11 @@ entries_of facts meter = entries_at facts (opening_of facts meter)
 abbrev pub voided : VoidedEntry → Voided
 voided void = record { meter = void.meter; place = void.place; moment = void.at }
 
--- The row that encodes a meter's energy in a quarter hour.
+-- The row of `intervals` that encodes a meter's energy in a quarter hour.
 abbrev pub interval_of : (meter : List ℕ) → Share → Interval
 interval_of meter share = record { meter = meter; share = share }
 
--- ---- polls and kept requests
+-- ---- rows that encode polls, outcomes, rejected readings and stored requests
 
 -- The row that encodes a poll.
 abbrev pub started : Poll → Started
@@ -282,7 +284,7 @@ started poll = record {
   };
 }
 
--- The row that encodes an outcome.
+-- The row that encodes the outcome of a poll.
 abbrev pub outcome_row : EndedPoll → OutcomeRow
 outcome_row ended = record { poll = ended.poll; moment = ended.at; outcome = ended.outcome }
 
@@ -300,7 +302,7 @@ held_row place reading = record {
   };
 }
 
--- The row that encodes a kept request.
+-- The row that encodes a stored request.
 abbrev pub kept : Reply → Kept
 kept given = record {
   caller = given.caller;

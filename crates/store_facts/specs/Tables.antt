@@ -1,5 +1,5 @@
--- When the tables of the store encode lawful records. Lawful records are those that the rules
--- accept one after another.
+-- Definitions of when the tables of the store encode a list of records that the rules accepted one
+-- after another.
 use Rattle.std.specs.Prelude.{ℕ, pos, List, [], ◌∷◌, map}
 use Rattle.std.specs.List.{filter}
 use Rattle.std.specs.List.Sorted.{IsPermutation}
@@ -22,16 +22,16 @@ use Rattle.store_devices.specs.Polls.Trees as poll_tree
 use Rattle.store_devices.specs.Polls.Rows.{poll_columns, outcome_columns, hold_columns, reply_columns}
 use Rattle.store_facts.specs.Rows.{placed, placed_on, added, listed, points_of, registered, installed_row, ranged, entries_of, voided, interval_of, started, outcome_row, held_row, kept}
 
--- The tree number of the table `meta`, which has the version of the tables and the time zone of the
--- civil days in one row.
+-- The number of the B-tree that stores the table `meta`. Its one row has the version of the file
+-- and the time zone of the civil days.
 abbrev pub meta_tree : ℕ
 meta_tree = 0
 
--- The columns of the row of `meta`, in a file of version 3.
+-- The columns of the row of `meta` in a file of version 3.
 abbrev pub meta_columns : (zone : List ℕ) → Row
 meta_columns zone = Int (pos 1) ∷ Null ∷ Int (pos 3) ∷ Text zone ∷ []
 
--- `points` has the points of each device's latest list, in order.
+-- True if the rows of `points` encode each device's latest point list in the records, in order.
 pub record ArePoints (facts : List Fact) (content : Content) : Type 0 where
   pub rows : List Listed
   pub there : HasRows list_tree.points point_columns rows content
@@ -39,14 +39,16 @@ pub record ArePoints (facts : List Fact) (content : Content) : Type 0 where
       → IsPermutation (filter (is_point_of device) rows)
       (placed_on (listed device) 0 (points_of facts device))
 
--- `entries` has the opening of each meter and the entries after it.
+-- True if the rows of `entries` encode the opening of each meter in the records and the meter's
+-- later entries.
 pub record AreEntries (facts : List Fact) (content : Content) : Type 0 where
   pub rows : List Entered
   pub there : HasRows entry_tree.entries entry_columns rows content
   pub each : (meter : List ℕ)
       → IsPermutation (filter (is_entry_of meter) rows) (entries_of facts meter)
 
--- `intervals` has the energy of each meter by quarter hours.
+-- True if the rows of `intervals` encode the energy of each meter by quarter hours, as computed
+-- from the records.
 pub record AreIntervals (facts : List Fact) (content : Content) : Type 0 where
   pub rows : List Interval
   pub there : HasRows interval_tree.intervals interval_columns rows content
@@ -54,7 +56,8 @@ pub record AreIntervals (facts : List Fact) (content : Content) : Type 0 where
       → IsPermutation (filter (is_interval_of meter) rows)
       (map (interval_of meter) (rows_of_meter facts meter))
 
--- The tables have the rows of these lawful records, the latest first, and this time zone.
+-- True if the tables encode the time zone `zone` and the records `facts`, listed latest first,
+-- which the rules accepted.
 pub record AreOf (zone : List ℕ) (facts : List Fact) (content : Content) : Type 0 where
   pub lawful : AreLawful facts
   pub meta : HasRows meta_tree meta_columns (zone ∷ []) content

@@ -1,4 +1,4 @@
-//! Rejected readings in the tables of the store.
+//! Streams of the rejected readings of a meter from the table `holds`.
 
 mod columns;
 mod streams;

@@ -1,4 +1,4 @@
-//! The energy of meters by quarter hours, in the tables of the store.
+//! Reads and writes the energy of meters by quarter hours, in the table `intervals`.
 
 mod columns;
 mod step_shares;

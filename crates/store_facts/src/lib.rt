@@ -1,4 +1,5 @@
-//! The records of an office in the tables of the store: which rows encode which records.
+//! Converts records of a metering store to rows of the tables, streams rows, and specifies which
+//! rows encode which records.
 #![tactic(auto)]
 
 pub mod holds;

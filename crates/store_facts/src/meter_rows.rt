@@ -1,4 +1,4 @@
-//! The installations at an accounting register.
+//! The query for the installations at an accounting register.
 ghost use Rattle.store_tables.specs.Answer.{FirstFirst};
 ghost use Rattle.store_tables.specs.Asking.{Asks, Shows, TellsRows};
 ghost use Rattle.store_tables.specs.Meters.Rows.{installed_columns, installed_place, installed_shown, is_at};

@@ -1,4 +1,4 @@
-//! The points of a device's list as rows of `points`.
+//! Conversions from the points of a device's point list to rows of `points`.
 ghost use Rattle.std.specs.Prelude.{◌≡◌, ◌++◌, ◌∷◌, [], IfOk, All};
 ghost use Rattle.std.specs.Fmt.{signed_decimal};
 ghost use Rattle.std.specs.String.{string_bytes};
@@ -16,29 +16,29 @@ use store_devices::{Point, PointRow};
 use store_tables::{GREATEST_PLACE, RowFault};
 use sun_points::PointType;
 
-/// Returns the text of a point type. Out of memory is reported as an error of SQLite, here and in
-/// the functions below.
+/// Returns the text of a point type. Every function in this file reports out of memory as an SQLite
+/// error.
 fn kind(alloc: Global, kind: PointType) -> Result<String, Error>
     ensures { IfOk result (λ text. string_bytes text ≡ written.type_text kind) }
 {
     Ok(type_text(alloc, kind)?)
 }
 
-/// Returns the text of an exponent.
+/// Returns the decimal text of a scale exponent.
 fn exponent(alloc: Global, exponent: i8) -> Result<String, Error>
     ensures { IfOk result (λ text. string_bytes text ≡ signed_decimal exponent) }
 {
     Ok(format!(in alloc; "{exponent}")?)
 }
 
-/// Returns a copy of a text.
+/// Copies a text. Returns an SQLite error if memory runs out.
 fn copy(alloc: Global, text: &str) -> Result<String, Error>
     ensures { IfOk result (λ copy. string_bytes copy ≡ text.now) }
 {
     Ok(String::from_str(alloc, text)?)
 }
 
-/// Returns the text of a point's name. A name that is not UTF-8 is damage.
+/// Returns the text of a point's name. Reports a name that is not UTF-8 as damage.
 fn name(alloc: Global, name: &PointName) -> Result<String, RowFault>
     ensures { IfOk result (λ text. string_bytes text ≡ name.now) }
 {
@@ -71,7 +71,7 @@ fn numbers(place: u64, function: ReadFunction, area: u8, address: u16) -> PointR
     }
 }
 
-/// Converts a point at index `place` of its list to the columns of its row.
+/// Converts a point at index `place` of its point list to the columns of `points`.
 fn point_at(alloc: Global, point: &ListedPoint, place: u64) -> Result<Point, RowFault>
     ensures listed { IfOk result (IsPlacedPoint place point.now) }
     ensures sound { IsPlace place → IfOk result (λ p. IsSoundPoint p.row) }
@@ -94,8 +94,8 @@ fn push(points: &mut Vec<Point>, point: Point) -> Result<(), Error>
     Ok(())
 }
 
-/// Converts the points of a list to the columns of their rows. Their indices begin at 1. A name
-/// that is not UTF-8 is damage.
+/// Converts the points of a point list to rows of `points`, with indices from 1. Reports a name
+/// that is not UTF-8 as damage.
 pub fn points_at(alloc: Global, points: &[ListedPoint]) -> Result<Vec<Point>, RowFault>
     ensures listed { IfOk result (ArePlacedPoints points.now) }
     ensures sound { IfOk result (λ ps. All (λ p. IsSoundPoint p.row) ps.items) }

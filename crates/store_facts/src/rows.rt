@@ -16,7 +16,7 @@ use office_events::{Device, EndedPoll, HeldReading, Opening, Poll, Register, Sca
 use store_devices::{DeviceRow, HoldRow, OutcomeRow, PollRow, RegisterRow, RegisterScale};
 use store_tables::{EntryRow, InstallationRow, LATEST_MOMENT, LastRow};
 
-/// Returns the row of a device at index `place`.
+/// Returns the row of `devices` for a device at index `place`.
 pub fn device_row(device: Device, place: u64) -> DeviceRow
     ensures row { result ≡ (rows.added place device).row }
     ensures sound { IsPlace place → IsSoundDevice result }
@@ -38,7 +38,7 @@ fn scale(source: ScaleSource) -> RegisterScale
     }
 }
 
-/// Returns the row of an accounting register at index `place`.
+/// Returns the row of `registers` for an accounting register at index `place`.
 pub fn register_row(register: Register, place: u64) -> RegisterRow
     ensures row { result ≡ (rows.registered place register).row }
     ensures sound { rows.GivesSoundRow place register result }
@@ -51,8 +51,8 @@ pub fn register_row(register: Register, place: u64) -> RegisterRow
     }
 }
 
-/// Returns the columns of a meter's last entry. `total` is the meter's energy since its opening, in
-/// mWh.
+/// Returns the columns for a meter's last entry. `total` is the meter's energy since its opening,
+/// in mWh.
 pub fn last_row(last: Last, total: u64) -> LastRow
     ensures { result ≡ record { moment = last.at; raw = last.raw; sf = last.sf; total = total } }
 {
@@ -64,8 +64,8 @@ pub fn last_row(last: Last, total: u64) -> LastRow
     }
 }
 
-/// Returns the state of the counter after an entry. After a reset or a rescale, this is the value
-/// that the counter was set to.
+/// Returns the state of a counter after a meter entry. A reset or a rescale leaves the value that
+/// the counter was set to.
 pub fn counter_after(entry: &EntryRow) -> Last
     ensures { result ≡ rows.counter_after entry.now }
 {
@@ -95,7 +95,8 @@ fn kind(kind: EntryKind) -> store_tables::EntryKind
     }
 }
 
-/// Returns the row of an entry at index `place`. `sf` is the scale factor after the entry.
+/// Returns the row of `entries` for an entry at index `place`. `sf` is the scale factor after the
+/// entry.
 pub fn entry_row(of: EntryKind, entry: Entry, place: u64, sf: &i16) -> EntryRow
     ensures row { result ≡ rows.entry_row sf.now
         (record { place = place; kind = of; entry = entry; stands = true }) }
@@ -129,7 +130,7 @@ pub fn entry_row(of: EntryKind, entry: Entry, place: u64, sf: &i16) -> EntryRow
     }
 }
 
-/// Returns whether a scale factor is from -3 to 3, as counters and the tables allow.
+/// Returns true if a scale factor is from -3 to 3, the range that counters and the tables allow.
 pub fn is_scale(sf: i16) -> bool
     ensures within { result ≡ is_within 3 sf }
     ensures lawful { IsTrue result → IsScale sf }
@@ -137,7 +138,7 @@ pub fn is_scale(sf: i16) -> bool
     MIN_SCALE <= sf && sf <= MAX_SCALE
 }
 
-/// Returns whether every number of an opening is in the range of its column.
+/// Returns true if every number of an opening is in the range of its column.
 pub fn is_sound_opening(opening: &Opening) -> bool
     ensures { result ≡ true → IsSoundOpening opening.now }
 {
@@ -149,7 +150,7 @@ pub fn is_sound_opening(opening: &Opening) -> bool
         && is_scale(opening.sf)
 }
 
-/// Returns the row of a new installation at index `place`.
+/// Returns the row of `installations` for a new meter at index `place`.
 pub fn begun_row(opening: &Opening, place: u64) -> InstallationRow
     ensures row { result ≡ (rows.installed_as place (rows.begun opening.now)).row }
     ensures sound { IsPlace place → IsSoundOpening opening.now → IsSoundInstallation result }
@@ -185,7 +186,7 @@ pub fn opening_row(opening: &Opening) -> EntryRow
     }
 }
 
-/// Returns the row of a poll.
+/// Returns the row of `polls` for a poll.
 pub fn poll_row(poll: Poll) -> PollRow
     ensures row { result ≡ (rows.started poll).row }
     ensures sound { IsPlace poll.number → poll.at ≤ latest_moment → IsSoundPoll result }
@@ -201,7 +202,7 @@ pub fn poll_row(poll: Poll) -> PollRow
     }
 }
 
-/// Returns the row of an outcome.
+/// Returns the row of `outcomes` for the outcome of a poll.
 pub fn outcome_row(ended: EndedPoll) -> OutcomeRow
     ensures { result ≡ rows.outcome_row ended }
 {
@@ -212,7 +213,7 @@ pub fn outcome_row(ended: EndedPoll) -> OutcomeRow
     }
 }
 
-/// Returns the row of a rejected reading at index `place`.
+/// Returns the row of `holds` for a rejected reading at index `place`.
 pub fn hold_row(held: HeldReading, place: u64) -> HoldRow
     ensures { result ≡ (rows.held_row place held).row }
 {

@@ -1,4 +1,4 @@
-//! Streaming the rows of a query to a sink, in memory that does not grow with the number of rows.
+//! Streams the rows of a query to a sink. Memory does not grow with the number of rows.
 ghost use Rattle.sqlite.specs.Given.{IsPlain};
 ghost use Rattle.sqlite.specs.Listing.{understood};
 ghost use Rattle.sqlite.specs.Values.{bound};
@@ -18,20 +18,20 @@ pub(crate) trait RowReader<T> {
     ghost use Rattle.store_tables.specs.declared.faults.RowFault as faults;
     ghost use Rattle.store_tables.specs.declared.faults.RowFault.TheVariants.{Damaged};
 
-    /// The value that a row is read as, or its fault.
+    /// The value that the reader returns for a result row, or its fault.
     ghost reads: { Self → order.Row → Result T faults.RowFault };
 
     /// A property of every value that the reader returns.
     ghost is_row: { T → Type 0 };
 
-    /// Reads the value of a row.
+    /// Reads the value of a result row.
     fn read(&self, row: &Row) -> Result<T, RowFault>
         ensures read { result ≡ reads self.now row.now }
         ensures sound { IfOk result is_row }
         ensures damage { IfErr result (λ e. e ≡ Damaged) };
 }
 
-/// Streams the rows that a query shows to `sink`. Ends with `InvalidQuery` after 2^64 - 1 rows.
+/// Streams the rows of a query to `sink`. Ends with `InvalidQuery` after 2^64 - 1 rows.
 pub(crate) fn hand_on<S: Alter, T, R: RowReader<T>, K: RowSink<T>>(
     conn: &mut Connection<S>,
     sql: &str,

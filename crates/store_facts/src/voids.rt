@@ -1,4 +1,4 @@
-//! The queries and the deletions that voiding an entry needs.
+//! Queries and deletions of rows for voiding an entry of a meter.
 
 mod entries;
 mod neighbours;

@@ -1,4 +1,4 @@
--- The effect of an opening's statements on a file, and the connection after an opening.
+-- Proofs of the effect of opening a file, and of the state of the connection afterwards.
 use Rattle.std.proofs.Common.{◌≡◌, inl, inr, ℕ, List, [], ◌∷◌, ◌++◌, map, drop, append-nil, Ok, Err, Result, IsErrAnd, IsTrue, refl, sym, ap, subst, ◌∙◌, arith, IsPermutation}
 use Rattle.std.proofs.lemmas.List.Sorted.{IsPermutation-refl, IsPermutation-trans, IsPermutation-map}
 use Rattle.sqlite.specs.Order.{Row}
@@ -23,14 +23,14 @@ use Rattle.store_files.proofs.Grown.{has_not, has_split}
 abbrev SetsVersion : Content → Content → Type 0
 SetsVersion = Edits meta meta_columns (changed_where every (with_version 3))
 
--- The rows of a file of version 2, with `voids` empty.
+-- The rows of all tables after the upgrade of a version 2 file created the empty table `voids`.
 abbrev after_second : Content → Content
 after_second content = with_rows 20 [] content
 
 abbrev after_first : Content → Content
 after_first content = with_rows 18 [] (after_second content)
 
--- ---- version 2
+-- ---- upgrading files of version 2
 
 second_same : (content : Content) (t : ℕ) → HasTree (first_tables 12).tables t → after_second content t ≡ content t
 second_same content t there = with_others 20 [] content t (λ is. has_not (first_tables 12).tables 20 refl (subst (HasTree (first_tables 12).tables) is there))
@@ -68,7 +68,7 @@ brought_second a b c x r one two =
       last.2,
     ))
 
--- ---- version 1
+-- ---- upgrading files of version 1
 
 first_same : (content : Content) (t : ℕ) → HasTree (first_tables 11).tables t → after_first content t ≡ content t
 first_same content t there =
@@ -122,10 +122,10 @@ brought_first {E} {D} {F} shown a b c d x r one two three =
       last.2,
     ))
 
--- ---- the connection after an opening
+-- ---- the connection after a file was opened
 
 module _ (layout : Layout) (zone : List ℕ) (content : Content) where
-  -- A query before the opening.
+  -- If a query runs before a file is opened, the result of opening the file stays the same.
   pub after_question : {X E : Type 0} (a b c : State) (r : Result X E) → IsUnchanged a b → Survives a b (λ _. ⊥) → OpensFile layout zone content b c r → OpensFile layout zone content a c r
   after_question a b c (Ok x) same crash it = record { ok = it.ok; err = tt; survives = survives_then a b c (λ _. ⊥) _ _ (λ _ db none. absurd none) (λ _ db is. is) crash it.survives }
   after_question a b c (Err e) same crash it = record {
@@ -134,12 +134,12 @@ module _ (layout : Layout) (zone : List ℕ) (content : Content) where
     survives = survives_then a b c (λ _. ⊥) _ _ (λ _ db none. absurd none) (λ _ db is. is) crash it.survives;
   }
 
-  -- A call that commits nothing, before the opening.
+  -- If a call commits nothing, the result of a later opening of the file stays the same.
   pub after_kept : {X E : Type 0} (a b c : State) (r : Result X E) → KeepsCommit a b → Survives a b (λ _. ⊥) → OpensFile layout zone content b c r → OpensFile layout zone content a c r
   after_kept a b c (Ok x) kept crash it = record { ok = it.ok; err = tt; survives = survives_then a b c (λ _. ⊥) _ _ (λ _ db none. absurd none) (λ _ db is. is) crash it.survives }
   after_kept a b c (Err e) kept crash it = record { ok = tt; err = kept_then a b c kept it.err; survives = survives_then a b c (λ _. ⊥) _ _ (λ _ db none. absurd none) (λ _ db is. is) crash it.survives }
 
-  -- No call.
+  -- If opening a file fails before any call, the file and the connection are unchanged.
   pub untouched : {X E : Type 0} (a : State) (e : E) → OpensFile {X = X} layout zone content a a (Err e)
   untouched a e = record {
     ok = tt;
@@ -147,7 +147,8 @@ module _ (layout : Layout) (zone : List ℕ) (content : Content) where
     survives = record { clean = omega arith; shield = λ is. is; counts = omega arith; limit = refl; closes = λ clean is. inl is; crash = λ clean db left. inl left };
   }
 
-  -- A query that failed, or whose answer ends the opening.
+  -- If a query fails, or if the file is refused because of the query's answer, the file stays
+  -- unchanged.
   pub given_up : {X E : Type 0} (a b : State) (e : E) → KeepsCommit a b → Survives a b (λ _. ⊥) → OpensFile {X = X} layout zone content a b (Err e)
   given_up a b e kept crash = record { ok = tt; err = kept; survives = survives_weaker a b _ _ (λ _ db none. absurd none) crash }
 
@@ -159,14 +160,15 @@ module _ (layout : Layout) (zone : List ℕ) (content : Content) where
   passed_on a b e (Ok y) Q fails it = absurd fails
   passed_on a b e (Err d) Q fails it = record { ok = tt; err = it.err; survives = it.survives }
 
-  -- What `OpensFile` states does not depend on the value in Ok.
+  -- If a result satisfies the contract `OpensFile`, it also satisfies the contract with another
+  -- value in Ok.
   pub told_as : {X Y E D : Type 0} (a b : State) (x : X) (y : Y) → OpensFile {X = X} {E = E} layout zone content a b (Ok x) → OpensFile {X = Y} {E = D} layout zone content a b (Ok y)
   told_as a b x y it = record { ok = it.ok; err = tt; survives = it.survives }
 
   pub failed_as : {X Y E D : Type 0} (a b : State) (e : E) (d : D) → OpensFile {X = X} layout zone content a b (Err e) → OpensFile {X = Y} layout zone content a b (Err d)
   failed_as a b e d it = record { ok = tt; err = it.err; survives = it.survives }
 
-  -- A transaction.
+  -- If an upgrade runs in one transaction, it satisfies the contract `OpensFile`.
   pub transacted : {X E : Type 0} (a b : State) (r : Result X E) (Goes : Database → Database → Type 0) → HasCleanDisk b → TransactsTo a b r Goes
       → ((db : Database) → Goes a.now db → (after : Content) × IsBrought layout zone content after × AreTables db after) → OpensFile layout zone content a b r
   transacted a b r Goes clean done brings = record {
@@ -175,7 +177,7 @@ module _ (layout : Layout) (zone : List ℕ) (content : Content) where
     survives = survives_weaker a b _ _ (λ _ trees (h : (db : Database) × Goes a.now db × (trees ≡ db.trees)). let it = brings h.0 h.1 in (it.0, it.1, h.0, it.2, h.2)) done.survives;
   }
 
--- A file of version 3 is unchanged.
+-- If a file of version 3 is opened, the file stays unchanged.
 pub third : {E : Type 0} (zone : List ℕ) (content : Content) (s : State) → IsOpenTo Third zone content s → OpensFile {X = Unit {0}} {E = E} Third zone content s s (Ok tt)
 third zone content s it = record {
   ok = (it.is_open, content, record { marked = it.file.marked; with_ranges = refl; with_voids = refl; others = λ t off on away. refl }, it.file.tables);
@@ -183,11 +185,11 @@ third zone content s it = record {
   survives = record { clean = omega arith; shield = λ is. is; counts = omega arith; limit = refl; closes = λ clean is. inl is; crash = λ clean db left. inl left };
 }
 
--- The file as the connection sees it.
+-- If a connection is open to a file without uncommitted changes, it sees the tables of the file.
 pub seen : (layout : Layout) (zone : List ℕ) (content : Content) (s : State) → IsOpenTo layout zone content s → IsFile layout zone s.now content
 seen layout zone content s it = subst (λ d. IsFile layout zone d content) (sym it.settled) it.file
 
--- A query leaves the connection open to the file.
+-- After a query, the connection is still open to its file, without uncommitted changes.
 pub still_open : (layout : Layout) (zone : List ℕ) (content : Content) (a b : State) → IsUnchanged a b → IsOpenTo layout zone content a → IsOpenTo layout zone content b
 still_open layout zone content a b same it = record {
   is_open = same.0.is_open;

@@ -1,4 +1,4 @@
--- The effect of CREATE TABLE: the next table is added, without rows.
+-- Proofs of the effect of CREATE TABLE. The schema gets its next table, which has no rows.
 use Rattle.std.proofs.Common.{◌≡◌, ◌≤◌, ◌==◌, ◌⊎◌, inl, inr, ℕ, zero, suc, List, [], ◌∷◌, ◌++◌, take, drop, map, false, None, Ok, Err, Result, OnOk, IsTrue, refl, sym, ap, subst, ◌∙◌, arith}
 use Rattle.std.specs.List.{list_any}
 use Rattle.std.proofs.lemmas.Bool.Decides.{nat_tests}
@@ -27,7 +27,7 @@ use Rattle.store_tables.specs.Schema.{books_schema}
 use Rattle.store_files.specs.Layouts.{first_tables}
 use Rattle.store_files.specs.Growing.{HasFirst, Grows}
 
--- ---- the existing trees
+-- ---- the B-trees of existing tables
 
 pub has_not : (tables : List Table) (t : ℕ) → list_any (λ (x : Table). x.tree == t) tables ≡ false → HasTree tables t → ⊥
 has_not [] t off has = has
@@ -75,7 +75,7 @@ kept [] db next all t has = absurd has
 kept (x ∷ tables) db next all t (inl is) = subst (λ n. next n ≡ db n) (sym is) all.0
 kept (x ∷ tables) db next all t (inr more) = kept tables db next all.1 t more
 
--- ---- one table
+-- ---- the effect of one CREATE TABLE statement
 
 record IsMade (schema : Schema) (table : Table) (old new : Database) : Type 0 where
   schema_is : new.schema ≡ created schema table
@@ -130,7 +130,8 @@ module _ (n : ℕ) (text : List ℕ) (table : Table)
     sound = it.sound;
   }
 
-  -- The statement, inside a transaction.
+  -- If a CREATE TABLE statement inside a transaction succeeds, the database has the next table of
+  -- the store's schema.
   pub creates : (old new : State) (r : Result ℕ Error) → (HasCleanDisk new → IsTrue old.in_transaction → ExecutesInside 0 text [] old new r) → Survives old new (λ _. ⊥) → StepsTo old new r (Grows n (suc n))
   creates old new r runs survives = steps text [] old new r (Grows n (suc n)) runs survives (going old new r)
     where
@@ -138,7 +139,7 @@ module _ (n : ℕ) (text : List ℕ) (table : Table)
       going old new (Err e) h = tt
       going old new (Ok count) h = λ content has. grown old.now new.now (makes old new (Ok count) has.schema h) content has
 
--- ---- one table after another
+-- ---- the effect of several CREATE TABLE statements in sequence
 
 pub first_of : (n : ℕ) (db : Database) (content : Content) → AreTablesIn (first_tables n) db content → ((t : ℕ) → HasTree books_schema.tables t → (HasTree (first_tables n).tables t → ⊥) → content t ≡ []) → HasFirst n db content
 first_of n db content has none = record { schema = has.schema; rows = has.rows; apart = has.apart; none = none }

@@ -1,4 +1,5 @@
--- Two lists of names, compared one by one.
+-- Proofs that comparing two lists of table names, name by name, decides whether the lists are
+-- equal.
 use Rattle.std.proofs.Common.{◌≡◌, inl, inr, ◌<◌, ◌+◌, ℕ, suc, List, [], ◌∷◌, ◌++◌, map, take, length, get_or, slice_get, option_map, Option, Some, true, false, not, Bor, bytes_eq, sym, ap, ◌∙◌, arith}
 use Rattle.std.proofs.lemmas.Bool.{cases_Bool}
 use Rattle.std.proofs.lemmas.Option.{slice_get-get_or, slice_get-map, get_or_from_slice_get}

@@ -1,4 +1,4 @@
--- What the queries of an opening show.
+-- Proofs about the results of the queries that run when a file is opened.
 use Rattle.std.proofs.Common.{◌≡◌, inl, inr, List, [], ◌∷◌, map, filter, true, refl, sym, ap, subst, ◌∙◌, IsPermutation}
 use Rattle.std.proofs.lemmas.List.Sorted.{IsPermutation-sym, IsPermutation-trans, IsPermutation-map}
 use Rattle.sqlite.specs.declared.types.Value.TheVariants.{Null}
@@ -30,7 +30,7 @@ meta_there First = inl refl
 meta_there Second = inl refl
 meta_there Third = inl refl
 
--- The table has one row.
+-- If a table has one row, a query on the table has one result row.
 one_row : (rows all : List Row) (m : Meta) → IsPermutation (map (told true) rows) all → IsPermutation (meta_columns m ∷ []) all → rows ≡ meta_columns m ∷ []
 one_row rows all m is marked = sym (told_same rows) ∙ one_permutation (meta_columns m) (map (told true) rows) (IsPermutation-trans _ _ _ marked (IsPermutation-sym _ _ is))
 

@@ -1,4 +1,5 @@
--- Ranges that are inserted one after another.
+-- Proofs about inserting a counter's range for each meter into the table `ranges`, one after
+-- another, during an upgrade.
 use Rattle.std.proofs.Common.{◌≡◌, ◌<◌, ◌+◌, ℕ, suc, List, [], ◌∷◌, ◌++◌, map, take, length, get_or, Ok, sym, ap, subst, ◌∙◌, arith, IsPermutation}
 use Rattle.std.proofs.lemmas.List.{append_assoc, map-append}
 use Rattle.std.proofs.Math.Seq.{take-suc}
@@ -35,7 +36,7 @@ none_given x z same = record {
 pub begun : (a : State) → Steps {X = Unit {0}} {E = Error} a a (Ok tt) (GivesRanges [])
 begun a = weaker a a (Ok tt) (Turns (λ content after. after ≡ content)) (Turns (GivesRanges [])) (λ turns content has. let it = turns content has in (it.0, none_given content it.0 it.1, it.2)) (no_steps a tt)
 
--- The range of the meter that a row shows.
+-- If an upgrade inserts a range for a result row, the range belongs to the meter in this row.
 pub range_is : (row : Row) (meter : List ℕ) → column row 0 ≡ Text meter → ◌≡◌ {A = Ranged} (record { meter = meter; range = 4294967296 }) (range_in row)
 range_is row meter is = ap (λ v. record { meter = text_in v; range = 4294967296 }) (sym is)
 

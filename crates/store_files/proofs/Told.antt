@@ -1,4 +1,4 @@
--- What an opening learns from the row of `meta`.
+-- Proofs of what opening a file reports about the row of `meta`.
 use Rattle.std.proofs.Common.{◌≡◌, ◌⊎◌, ◌≢◌, ◌≤◌, inl, inr, ℕ, length, IsSome, IsTrue, ◌==◌, eqb-true, eq-eqb, true, false, Ok, Err, Result, OnOk, IfOk, IfErr, IsErrAnd, refl, sym, ap, subst, ◌∙◌, arith}
 use Rattle.std.proofs.lemmas.Result.{IfOk-weaker}
 use Rattle.std.specs.Prelude.{IsUtf8}
@@ -26,7 +26,7 @@ apart_from : (e d f g : OpenFault) → (e ≡ d) ⊎ (e ≡ f) → d ≢ g → f
 apart_from e d f g (inl is) off away same = off (sym is ∙ same)
 apart_from e d f g (inr is) off away same = away (sym is ∙ same)
 
--- ---- the store's own faults
+-- ---- faults of the database itself
 
 own_kind : (a b : State) (e : OpenFault) → IsOwnFault a b e → (e ≡ Store) ⊎ (e ≡ Memory)
 own_kind a b Store own = inl refl
@@ -38,7 +38,8 @@ is_store : (a b : State) (e : OpenFault) → (e ≡ Store) ⊎ (e ≡ Memory) �
 is_store a b e (inl is) own = subst (IsOwnFault a b) (sym is) own
 is_store a b e (inr is) own = subst (IsOwnFault a b) (sym is) tt
 
--- The fault that an error of the store means.
+-- If the database fails with an error, the fault is a fault of the database itself, never a fault
+-- of the file.
 pub own_fault : (a b : State) (error : Error) (e : OpenFault) → e ≡ fault_of error → (e ≡ Store) ⊎ (e ≡ Memory) → a.faults ≤ b.faults → IsStoreError a b error → IsOwnFault a b e
 own_fault a b error e is kind up (inl want) = subst (IsOwnFault a b) (sym (is ∙ ap fault_of want)) tt
 own_fault a b error e is kind up (inr (inl failed)) = is_store a b e kind (up, inl failed)
@@ -50,9 +51,10 @@ later_own a b c Memory goes own = tt
 later_own a b c NotOurs goes own = absurd own
 later_own a b c NoZone goes own = absurd own
 
--- ---- the result of an opening
+-- ---- the result of opening a file
 
--- The fault says nothing about the file.
+-- If the database itself fails, the result of opening says nothing about the file's version or time
+-- zone.
 pub tells_fault : (version : ℕ) (m : Meta) (a b : State) (e : OpenFault) → IsOwnFault a b e → KeepsCommit a b → TellsOpening version m a b (Err e)
 tells_fault version m a b e own kept =
     let is = own_kind a b e own in
@@ -71,7 +73,8 @@ pub tells_err : (version : ℕ) (m : Meta) (a b : State) (e : OpenFault) (r : Re
 tells_err version m a b e (Ok z) fails it = absurd fails
 tells_err version m a b e (Err d) fails it = subst (λ f. TellsOpening version m a b (Err f)) (sym fails) it
 
--- The file is ours, and then the store failed.
+-- If the database fails after the file was accepted, the result of opening the file is the
+-- database's fault.
 pub tells_later : (version : ℕ) (m : Meta) (a b c : State) (z : Zone) (e : OpenFault) (r : Result Zone OpenFault) → (version ≡ 3 → ⊥) → TellsOpening version m a b (Ok z) → (e ≡ Store) ⊎ (e ≡ Memory) → IsErrAnd r (λ d. d ≡ e) → KeepsCommit a c → TellsOpening version m a c r
 tells_later version m a b c z e (Ok y) earlier it is fails kept = absurd fails
 tells_later version m a b c z e (Err d) earlier it is fails kept =
@@ -97,7 +100,7 @@ tells_well version m a b c z it = record {
   kept = tt;
 }
 
--- A call ran before the query.
+-- If a call runs before the query of `meta`, the result of opening the file stays the same.
 pub tells_since : (version : ℕ) (m : Meta) (a b c : State) (r : Result Zone OpenFault) → StateAfterCall a b → KeepsCommit a b → TellsOpening version m b c r → TellsOpening version m a c r
 tells_since version m a b c (Ok z) goes kept it = record {
   other = λ off. ((it.other off).0, tt);
@@ -118,7 +121,8 @@ tells_since version m a b c (Err e) goes kept it = record {
   kept = kept_then a b c kept it.kept;
 }
 
--- The row was read.
+-- If memory runs out while the time zone is read, the fault counts as a fault of the database
+-- itself.
 memory_or : (a b : State) (e : OpenFault) → (e ≡ NoZone) ⊎ (e ≡ Memory) → (e ≡ NoZone) ⊎ IsOwnFault a b e
 memory_or a b e (inl is) = inl is
 memory_or a b e (inr is) = inr (subst (IsOwnFault a b) (sym is) tt)
@@ -147,7 +151,8 @@ none_of : (P : Type 0) (Q : Zone → Type 0) (r : Result Zone OpenFault) → (P 
 none_of P Q (Ok z) out h = out h.1
 none_of P Q (Err e) out h = tt
 
--- The version is right, and the zone was read.
+-- If `meta` has the expected version, the result is the file's time zone, or a fault about the time
+-- zone.
 pub tells_zone : (version : ℕ) (m : Meta) (r : Result Zone OpenFault) → m.version ≡ version → IfErr r (λ e. (e ≡ NoZone) ⊎ (e ≡ Memory)) → IfOk r (λ z. HasRule m.zone z × IsZone m.zone)
     → (IsUtf8 m.zone → IsZone m.zone → IfErr r (λ e. e ≢ NoZone)) → ReadsMeta version m r
 tells_zone version m r same fault zone rule = record {
@@ -165,13 +170,14 @@ any_ok (Err e) p = tt
 pub unchanged_kept : (a b : State) → IsUnchanged a b → KeepsCommit a b
 unchanged_kept a b same = record { was_open = λ _. same.0.was_open; committed = λ _. same.0.committed_is }
 
--- Only one layout has version 3.
+-- If a layout has version 3, it is the layout with all tables.
 pub is_third : (layout : Layout) → version_of layout ≡ 3 → layout ≡ Third
 is_third First is = absurd (omega (arith, is))
 is_third Second is = absurd (omega (arith, is))
 is_third Third is = refl
 
--- Each layout has its own number of tables.
+-- If two layouts have equal table names, they are the same layout, because each layout has a
+-- different number of tables.
 pub one_layout : (l k : Layout) → names_of (schema_of l) ≡ names_of (schema_of k) → l ≡ k
 one_layout First First same = refl
 one_layout First Second same = absurd (let n : 11 ≡ 12 = ap length same in omega (arith, n))
@@ -183,7 +189,7 @@ one_layout Third First same = absurd (let n : 13 ≡ 11 = ap length same in omeg
 one_layout Third Second same = absurd (let n : 13 ≡ 12 = ap length same in omega (arith, n))
 one_layout Third Third same = refl
 
--- If the upgrade of a file of this version fails, the file stays as it was committed.
+-- If the upgrade of a file fails, the file keeps its committed rows.
 pub kept_of : (layout : Layout) (m : Meta) (content : Content) (a b c : State) (z : Zone) → IsTrue a.is_open → a.now ≡ a.committed → AreTablesIn (schema_of layout) a.now content → IsMarked m content
     → TellsOpening (version_of layout) m a b (Ok z) → KeepsCommit a b → IsUnchanged a b → (IsOpenTo layout m.zone content b → KeepsCommit b c) → KeepsCommit a c
 kept_of layout m content a b c z is_open settled has marked told kept same brings =

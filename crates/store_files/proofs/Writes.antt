@@ -1,4 +1,4 @@
--- The effect of the statements on `meta`.
+-- Proofs of the effect of the SQL statements on `meta`.
 use Rattle.std.proofs.Common.{◌≡◌, ℕ, pos, List, [], ◌∷◌, Result, OnOk, refl}
 use Rattle.sqlite.specs.declared.types.Value.TheVariants.{Text}
 use Rattle.sqlite.specs.declared.error.Error.{Error}

@@ -1,4 +1,4 @@
--- Why a file is not opened, and the numbers of these faults.
+-- Definitions of why a file is not opened or not created, and the numbers of these faults.
 use Rattle.std.specs.Prelude.{⊤, ◌≤◌, ◌⊎◌, ℕ, IsSome}
 use Rattle.sqlite.specs.State.{State}
 use Rattle.sqlite.specs.declared.error.ErrorCode.TheVariants.{OutOfMemory}
@@ -8,15 +8,15 @@ use Rattle.store_tables.specs.Failing.{HasFailed}
 use Rattle.store_files.specs.declared.faults.OpenFault.{OpenFault}
 use Rattle.store_files.specs.declared.faults.OpenFault.TheVariants.{NotOurs, Zone, Store, Memory}
 
--- The number of a fault.
+-- The number of a fault in opening or creating a file.
 abbrev pub open_fault_number : OpenFault → ℕ
 open_fault_number NotOurs = 1
 open_fault_number Zone = 2
 open_fault_number Store = 3
 open_fault_number Memory = 4
 
--- A fault of the database itself: it was closed, its disk failed, or SQLite's limit of steps was
--- reached. Out of memory is the fault `Memory`.
+-- True if the database itself caused a fault: it was closed, its disk failed, it reached SQLite's
+-- limit of steps, or memory ran out.
 abbrev pub IsOwnFault : (old new : State) → OpenFault → Type 0
 IsOwnFault old new Store =
     (old.faults ≤ new.faults) × (HasFailed old new ⊎ IsSome old.step_limit)
@@ -24,8 +24,8 @@ IsOwnFault old new Memory = ⊤
 IsOwnFault old new NotOurs = ⊥
 IsOwnFault old new Zone = ⊥
 
--- The fault that an error of SQLite means for opening a file: `Memory` for out of memory, `Store`
--- for any other error.
+-- The fault of opening a file for an error of SQLite: `Memory` for out of memory, `Store` for any
+-- other error.
 abbrev pub fault_of : Error → OpenFault
 fault_of (SqliteFailure OutOfMemory) = Memory
 fault_of _ = Store

@@ -1,4 +1,4 @@
--- Tables that are added to a database, one after another.
+-- The effect of creating several tables one after another.
 use Rattle.std.specs.Prelude.{◌≡◌, ℕ, [], map}
 use Rattle.std.specs.List.Sorted.{IsPermutation}
 use Rattle.sqlite.specs.Effect.{Database}
@@ -6,8 +6,8 @@ use Rattle.store_tables.specs.Content.{Content, HasTree, AreApart, AreTablesIn, 
 use Rattle.store_tables.specs.Schema.{books_schema}
 use Rattle.store_files.specs.Layouts.{first_tables}
 
--- The database has the first `count` tables of the schema. Its rows are those of `content`, in
--- which every other table is empty.
+-- True if a database has the first `count` tables of the schema with the rows of `content`. All
+-- other tables are empty in `content`.
 pub record HasFirst (count : ℕ) (db : Database) (content : Content) : Type 0 where
   pub schema : db.schema ≡ first_tables count
   pub rows : (t : ℕ) → HasTree (first_tables count).tables t
@@ -16,8 +16,8 @@ pub record HasFirst (count : ℕ) (db : Database) (content : Content) : Type 0 w
   pub none : (t : ℕ) → HasTree books_schema.tables t → (HasTree (first_tables count).tables t → ⊥)
       → content t ≡ []
 
--- A database with the first `from` tables gets the first `to` tables. The new tables have no rows,
--- and the old tables keep their rows.
+-- The effect of creating tables: a database with the first `from` tables gets the first `to`
+-- tables. New tables have no rows, and old tables keep their rows.
 abbrev pub Grows : (from to : ℕ) → Database → Database → Type 0
 Grows from to old new = (content : Content) → HasFirst from old content
     → AreTablesIn (first_tables to) new content

@@ -1,4 +1,4 @@
--- The tables of each version of a file.
+-- The tables that each version of a file has.
 use Rattle.std.specs.Prelude.{◌≡◌, ◌==◌, ◌+◌, ℕ, Bool, List, [], take, map, filter}
 use Rattle.std.specs.List.{list_any}
 use Rattle.sqlite.specs.Schema.{Schema}
@@ -12,12 +12,12 @@ use Rattle.store_files.specs.declared.layouts.Layout.TheVariants.{First, Second,
 abbrev pub no_schema : Schema
 no_schema = record { tables = []; indexes = []; views = [] }
 
--- Whether the index belongs to one of these tables.
+-- True if an index belongs to one of the tables in a list.
 abbrev pub is_index_of : List Table → Index → Bool
 is_index_of tables i = list_any (λ (t : Table). t.tree == i.table) tables
 
--- The schema with the first `n` tables, in the order in which they are created, and with their
--- indexes.
+-- The schema with the first `n` tables of the store, in the order in which they are created, and
+-- with their indexes.
 abbrev pub first_tables : ℕ → Schema
 first_tables n =
     let tables = take n books_schema.tables in
@@ -27,18 +27,18 @@ first_tables n =
       views = [];
     }
 
--- The version number of a layout, as `meta` has it.
+-- The version number of a layout, as the table `meta` stores it.
 abbrev pub version_of : Layout → ℕ
 version_of First = 1
 version_of Second = 2
 version_of Third = 3
 
--- How many tables a layout has. Version 1 has all tables except the last two, and each later
--- version has one more.
+-- How many tables a layout has. Version 1 lacks the last two tables, version 2 lacks the last
+-- table, and version 3 has all tables.
 abbrev pub table_count : Layout → ℕ
 table_count layout = version_of layout + 10
 
--- The schema of a layout.
+-- The schema of a file with a given layout.
 abbrev pub schema_of : Layout → Schema
 schema_of layout = first_tables (table_count layout)
 
@@ -46,6 +46,6 @@ schema_of layout = first_tables (table_count layout)
 abbrev pub names_of : Schema → List (List ℕ)
 names_of schema = map (λ (t : Table). t.name) schema.tables
 
--- The tables have the names of this layout's tables, in the same order.
+-- True if the tables of a schema have the names of a layout's tables, in the same order.
 abbrev pub IsNamedAs : Schema → Layout → Type 0
 IsNamedAs schema layout = names_of schema ≡ names_of (schema_of layout)

@@ -5,12 +5,12 @@ use Rattle.store_tables.specs.Content.{Content, AreTables}
 use Rattle.store_files.specs.Layouts.{no_schema}
 use Rattle.store_files.specs.Meta.{meta, IsMarked}
 
--- The tables have the row of `meta` with version 3 and this zone, and no other row.
+-- True if the only row in all tables is the row of `meta` with version 3 and the time zone `zone`.
 pub record IsNew (zone : List ℕ) (content : Content) : Type 0 where
   pub marked : IsMarked (record { version = 3; zone = zone }) content
   pub empty : (t : ℕ) → t ≢ meta → content t ≡ []
 
--- A database without tables gets the tables of a new store.
+-- The effect of creating a store: a database without tables gets the tables of a new store.
 abbrev pub Makes : (zone : List ℕ) → Database → Database → Type 0
 Makes zone old new = old.schema ≡ no_schema
     → (content : Content) × IsNew zone content × AreTables new content

@@ -1,4 +1,5 @@
--- What the opening of a file reads from `meta`, and the state of the connection after the opening.
+-- Definitions of what opening a file reads from `meta`, and of the state of the connection
+-- afterwards.
 use Rattle.std.specs.Prelude.{◌≡◌, ◌≢◌, ◌⊎◌, ℕ, [], ◌∷◌, Vec, Result, Err, OnOk, OnErr, IfOk, IfErr, IsUtf8, IsTrue}
 use Rattle.sqlite.specs.Order.{Row}
 use Rattle.sqlite.specs.State.{State, KeepsCommit, Survives, IsUnchanged}
@@ -13,13 +14,13 @@ use Rattle.store_files.specs.Layouts.{version_of, schema_of}
 use Rattle.store_files.specs.Meta.{Meta, meta_shown, IsMarked}
 use Rattle.store_files.specs.Zones.{IsZone}
 
--- The query shows the row of `meta` and no other row, and nothing changed.
+-- True if a query returned the one row of `meta` and changed nothing.
 abbrev pub ShowsMeta : {Z : Type 0} → Content → (old new : State) → Vec Row Z → Type 0
 ShowsMeta content old new rows =
     IsUnchanged old new × ((m : Meta) → IsMarked m content → rows.items ≡ meta_shown m ∷ [])
 
--- The result of reading `meta`: the zone, `NotOurs` for another version, or `Zone` for a text that
--- is not a time zone. The only other fault is `Memory`.
+-- The result of reading `meta`: the time zone, `NotOurs` for an unexpected version, or `Zone` for
+-- an invalid time zone. The only other fault is `Memory`.
 pub record ReadsMeta (version : ℕ) (m : Meta) (result : Result Zone OpenFault) : Type 0 where
   pub other : m.version ≢ version → result ≡ Err NotOurs
   pub ours : m.version ≡ version → IfErr result (λ e. (e ≡ NoZone) ⊎ (e ≡ Memory))
@@ -27,9 +28,9 @@ pub record ReadsMeta (version : ℕ) (m : Meta) (result : Result Zone OpenFault)
   pub rule : IsUtf8 m.zone → IsZone m.zone → IfErr result (λ e. e ≢ NoZone)
   pub none : (IsZone m.zone → ⊥) → OnOk result ⊥
 
--- The result of opening a file, unless the database itself failed. For another version, the fault
--- is `NotOurs`. For an invalid zone it is `Zone`. Otherwise Ok has the file's zone. A file of
--- version 3 with a valid zone is opened.
+-- The result of opening a file, unless the database itself fails: the time zone, `NotOurs` for an
+-- unexpected version, or `Zone` for an invalid time zone. A file of version 3 with a valid time
+-- zone is always opened.
 pub record TellsOpening (version : ℕ) (m : Meta) (old new : State)
     (result : Result Zone OpenFault) : Type 0 where
   pub other : m.version ≢ version
@@ -43,8 +44,8 @@ pub record TellsOpening (version : ℕ) (m : Meta) (old new : State)
       → IfErr result (IsOwnFault old new)
   pub kept : OnErr result (KeepsCommit old new)
 
--- The result of querying the zone in tables of this layout. The query changes nothing and commits
--- nothing.
+-- The contract of the query for the time zone in a file of a given layout. The query changes
+-- nothing and commits nothing.
 pub record FindsZone (layout : Layout) (content : Content) (old new : State)
     (result : Result Zone OpenFault) : Type 0 where
   pub kept : KeepsCommit old new
@@ -52,7 +53,7 @@ pub record FindsZone (layout : Layout) (content : Content) (old new : State)
   pub survives : Survives old new (λ _. ⊥)
   pub told : (m : Meta) → IsMarked m content → TellsOpening (version_of layout) m old new result
 
--- The result of opening a file of this layout. The connection is open, and has no uncommitted
+-- The result of opening a file of a given layout over an open connection without uncommitted
 -- changes.
 abbrev pub TellsOfLayout : Layout → (old new : State) → Result Zone OpenFault → Type 0
 TellsOfLayout layout old new result =
@@ -60,7 +61,7 @@ TellsOfLayout layout old new result =
     → AreTablesIn (schema_of layout) old.now content
     → (m : Meta) → IsMarked m content → TellsOpening (version_of layout) m old new result
 
--- The result of opening a file of any layout, by the row of `meta` that the file has.
+-- The result of opening a file of any layout, which depends on the row of `meta`.
 abbrev pub TellsOfFile : (old new : State) → Result Zone OpenFault → Type 0
 TellsOfFile old new result =
     (layout : Layout) (content : Content) → AreTablesIn (schema_of layout) old.committed content

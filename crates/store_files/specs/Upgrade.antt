@@ -1,4 +1,4 @@
--- The tables of a file of an earlier version, after the opening of the file upgraded them.
+-- The tables of a file of an earlier version after the file was opened and upgraded.
 use Rattle.std.specs.Prelude.{◌≡◌, ◌≢◌, ℕ, List, [], ◌∷◌, ◌++◌, map, Vec, Result, IsTrue, OnOk, OnErr}
 use Rattle.std.specs.List.Sorted.{IsPermutation}
 use Rattle.sqlite.specs.declared.types.Value.{Value}
@@ -14,22 +14,23 @@ use Rattle.store_files.specs.declared.layouts.Layout.TheVariants.{First, Second,
 use Rattle.store_files.specs.Layouts.{version_of, schema_of}
 use Rattle.store_files.specs.Meta.{meta, IsMarked}
 
--- The tree number of `voids`.
+-- The number of the B-tree that stores the table `voids`.
 abbrev pub voids : ℕ
 voids = 20
 
--- The database has the tables of this layout with these rows, the version of the layout, and this
--- zone.
+-- True if a database has the tables of a layout with some rows, and `meta` has the layout's version
+-- and the time zone `zone`.
 pub record IsFile (layout : Layout) (zone : List ℕ) (db : Database)
     (content : Content) : Type 0 where
   pub tables : AreTablesIn (schema_of layout) db content
   pub marked : IsMarked (record { version = version_of layout; zone = zone }) content
 
--- The range that the counter of a version 1 meter gets: 2^32 values.
+-- The row of `ranges` that an upgrade gives a meter of a version 1 file: its counter has 2^32
+-- values.
 abbrev pub full_range : Installed → Ranged
 full_range i = record { meter = i.meter; range = 4294967296 }
 
--- The table `ranges` after an upgrade. Each meter of a version 1 file gets a range. A file of a
+-- The effect of an upgrade on `ranges`: each meter of a version 1 file gets a range. A file of a
 -- later version keeps its ranges.
 abbrev pub HasRanges : Layout → (content after : Content) → Type 0
 HasRanges First content after =
@@ -38,14 +39,14 @@ HasRanges First content after =
 HasRanges Second content after = after ranges ≡ content ranges
 HasRanges Third content after = after ranges ≡ content ranges
 
--- The table `voids` after an upgrade. A file of version 1 or 2 gets no voids. A file of version 3
--- keeps its voids.
+-- The effect of an upgrade on `voids`: a file of version 1 or 2 gets an empty table. A file of
+-- version 3 keeps its voids.
 abbrev pub HasVoids : Layout → (content after : Content) → Type 0
 HasVoids First content after = after voids ≡ []
 HasVoids Second content after = after voids ≡ []
 HasVoids Third content after = after voids ≡ content voids
 
--- The tables after an upgrade: version 3, and the same zone. The upgrade leaves all other rows
+-- The tables after an upgrade. `meta` has version 3 and the old time zone, and all other rows are
 -- unchanged.
 pub record IsBrought (layout : Layout) (zone : List ℕ) (content after : Content) : Type 0 where
   pub marked : IsMarked (record { version = 3; zone = zone }) after
@@ -53,28 +54,29 @@ pub record IsBrought (layout : Layout) (zone : List ℕ) (content after : Conten
   pub with_voids : HasVoids layout content after
   pub others : (t : ℕ) → t ≢ meta → t ≢ ranges → t ≢ voids → after t ≡ content t
 
--- A file of this layout is upgraded to version 3.
+-- The effect of upgrading a file of a given layout to version 3.
 abbrev pub Brings : Layout → (zone : List ℕ) → Database → Database → Type 0
 Brings layout zone old new = (content : Content) → IsFile layout zone old content
     → (after : Content) × IsBrought layout zone content after × AreTables new after
 
--- ---- the meters of a file of version 1, as a query shows them
+-- ---- the query for the meters of a version 1 file
 
--- The result row that shows the meter of an installation.
+-- The result row that the query for a file's meters returns for a meter. The row has only the
+-- meter's name.
 abbrev pub meter_shown : Installed → Row
 meter_shown i = Text i.meter ∷ []
 
--- The rows show the name of each meter of the file, in any order.
+-- True if the result rows have the name of each meter of a file, in any order.
 abbrev pub AreMetersOf : Content → (shown : List Row) → Type 0
 AreMetersOf content shown =
     (is : List Installed) → HasRows installations installed_columns is content
     → IsPermutation (map meter_shown is) shown
 
--- The query shows the name of each meter of the file, and nothing changed.
+-- True if a query returned the name of each meter of a file and changed nothing.
 abbrev pub ShowsMeters : {Z : Type 0} → Content → (old new : State) → Vec Row Z → Type 0
 ShowsMeters content old new rows = IsUnchanged old new × AreMetersOf content rows.items
 
--- The text that a value has, or an empty text for any other value.
+-- The text in a column, or an empty text if the column is not a text.
 abbrev pub text_in : Value → List ℕ
 text_in Null = []
 text_in (Int n) = []
@@ -82,33 +84,33 @@ text_in (Real x) = []
 text_in (Text t) = t
 text_in (Blob b) = []
 
--- The range for the meter that a row shows: 2^32 values.
+-- The range of 2^32 values for the meter whose name is in a result row.
 abbrev pub range_in : Row → Ranged
 range_in row = record { meter = text_in (column row 0); range = 4294967296 }
 
--- The ranges with one added for the meter of each row.
+-- The rows of `ranges` after a range was added for the meter in each result row.
 abbrev pub with_ranges : List Row → List Ranged → List Ranged
 with_ranges shown rs = map range_in shown ++ rs
 
--- The table `ranges` gets a range for the meter of each row.
+-- The effect of inserting into `ranges` a range for the meter in each result row.
 abbrev pub GivesRanges : List Row → Content → Content → Type 0
 GivesRanges shown = Edits ranges ranged_columns (with_ranges shown)
 
--- ---- one opening
+-- ---- the contract of opening a file, including its upgrade
 
--- The effect of upgrading a file of version 1, if the rows `shown` show its meters.
+-- The effect of upgrading a version 1 file whose meters are in the result rows `shown`.
 abbrev pub BringsFirst : (shown : List Row) → Database → Database → Type 0
 BringsFirst shown old new =
     (zone : List ℕ) (content : Content) → IsFile First zone old content
     → AreMetersOf content shown
     → (after : Content) × IsBrought First zone content after × AreTables new after
 
--- The effect of upgrading a file of version 2.
+-- The effect of upgrading a file of version 2 to version 3.
 abbrev pub BringsSecond : Database → Database → Type 0
 BringsSecond old new = (zone : List ℕ) → Brings Second zone old new
 
--- The connection after opening a file of this layout. At Ok the upgraded file is committed,
--- otherwise the old file. A crash leaves the old file or the upgraded one.
+-- The contract of opening a file of a given layout. At Ok the upgraded file is committed, otherwise
+-- the old file. A crash leaves the old file or the upgraded one.
 pub record OpensFile {X E : Type 0} (layout : Layout) (zone : List ℕ) (content : Content)
     (old new : State) (result : Result X E) : Type 0 where
   pub ok : OnOk result
@@ -119,13 +121,13 @@ pub record OpensFile {X E : Type 0} (layout : Layout) (zone : List ℕ) (content
       (λ trees. (after : Content) × IsBrought layout zone content after × (db : Database)
       × AreTables db after × (trees ≡ db.trees))
 
--- A connection is open to a file of this layout, with no uncommitted changes.
+-- True if a connection is open to a file of a given layout, without uncommitted changes.
 pub record IsOpenTo (layout : Layout) (zone : List ℕ) (content : Content) (s : State) : Type 0 where
   pub is_open : IsTrue s.is_open
   pub settled : s.now ≡ s.committed
   pub file : IsFile layout zone s.committed content
 
--- The connection after opening a file of any layout.
+-- The contract of opening a file of any layout.
 abbrev pub OpensAnyFile : {X E : Type 0} → (old new : State) → Result X E → Type 0
 OpensAnyFile old new result =
     (layout : Layout) (zone : List ℕ) (content : Content)

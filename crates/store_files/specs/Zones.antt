@@ -1,8 +1,8 @@
--- Which texts are valid time zones.
+-- Defines which texts are valid time zones of a store.
 use Rattle.std.specs.Prelude.{◌≤◌, ℕ, List, length, IsSome}
 use Rattle.interval_core.specs.declared.limits.TheConstants.{MAX_ZONE_TEXT}
 use Rattle.jiff_tz.specs.PosixReader.{read_whole}
 
--- The text is a POSIX time zone rule of at most 64 bytes.
+-- True if a text is a POSIX time zone rule of at most 64 bytes.
 abbrev pub IsZone : List ℕ → Type 0
 IsZone text = IsSome (read_whole text) × (length text ≤ MAX_ZONE_TEXT)

@@ -1,4 +1,4 @@
-//! Why a file is not opened or not created.
+//! Faults that report why a file is not opened or not created.
 ghost use Rattle.std.specs.Prelude.{◌≡◌, ◌⊎◌};
 ghost use Rattle.store_files.specs.Faults.{open_fault_number, fault_of};
 
@@ -6,22 +6,24 @@ use sqlite::{Error, ErrorCode};
 use std::fmt;
 use std::fmt::{Display, Formatter};
 
-/// Why a database was not opened as an office's store, or why no store was created in it.
+/// The reason why a database was not opened as a store, or why no store was created in the
+/// database.
 #[derive(Clone, Copy, Debug, PartialEq, Eq)]
 pub enum OpenFault {
-    /// For an opening: the tables are not those of an office, their version is unknown, or a
-    /// transaction is open. For a new file: the database is not empty.
+    /// On opening, the database does not have the tables of a store, their version is unknown, or a
+    /// transaction is open. On creating, the database is not empty, or a transaction is open.
     NotOurs,
     /// The text of the time zone is not a POSIX rule.
     Zone,
-    /// SQLite refused the statement or failed.
+    /// SQLite refused a statement of opening or creating a store, or SQLite failed.
     Store,
-    /// Memory ran out.
+    /// Memory ran out while a store was opened or created.
     Memory,
 }
 
 impl OpenFault {
-    /// Returns the number of the fault, from 1. No text of the program shows this number.
+    /// Returns the number of a fault in opening or creating a file, from 1. No text of the program
+    /// shows the number.
     pub fn number(self) -> u8
         ensures { result ≡ open_fault_number self }
     {
@@ -49,7 +51,7 @@ impl Display for OpenFault {
 
 impl std::error::Error for OpenFault {}
 
-/// Returns the fault that an error of SQLite means for opening a file.
+/// Returns the fault of opening a file for an error of SQLite.
 pub(crate) fn fault_of(error: Error) -> OpenFault
     ensures value { result ≡ fault_of error }
     ensures kind { (result ≡ OpenFault.Store) ⊎ (result ≡ OpenFault.Memory) }

@@ -1,4 +1,4 @@
-//! The tables of each version of a file.
+//! The tables that each version of a file has.
 ghost use Rattle.std.specs.Prelude.{◌≡◌, ◌≢◌, ◌↔◌, map, IsTrue, IfSome, IfNone};
 ghost use Rattle.sqlite.specs.Table.{Table};
 ghost use Rattle.store_files.specs.declared.layouts.Layout.{Layout};
@@ -6,8 +6,8 @@ ghost use Rattle.store_files.specs.Layouts.{version_of, IsNamedAs};
 
 use sqlite_schema::schema::{Schema, Table};
 
-/// The layout of a file: which tables it has. Version 1 lacks `ranges` and `voids`, version 2 lacks
-/// `voids`, and version 3 has all tables.
+/// The layout of a file, which determines its tables. Version 1 lacks `ranges` and `voids`, version
+/// 2 lacks `voids`, and version 3 has all tables.
 #[derive(Clone, Copy, Debug, PartialEq, Eq)]
 pub enum Layout {
     First,
@@ -16,7 +16,7 @@ pub enum Layout {
 }
 
 impl Layout {
-    /// Returns the version number that `meta` has in a file of this layout.
+    /// Returns the version number that `meta` stores in a file of this layout.
     pub fn version(self) -> u64
         ensures { result ≡ version_of self }
     {
@@ -45,7 +45,7 @@ const NAMES: [&str; 13] = [
     "voids",
 ];
 
-/// Returns whether the tables have these names, in this order.
+/// Returns true if the tables have the given names, in the given order.
 fn are_named(tables: &[Table], names: &[&str]) -> bool
     ensures { IsTrue result ↔ (map (λ (t : Table). t.name) tables.now
         ≡ map (λ name. name.now) names.now) }
@@ -61,7 +61,7 @@ fn are_named(tables: &[Table], names: &[&str]) -> bool
     true
 }
 
-/// Returns the layout with exactly the tables of this schema, by name, or None.
+/// Returns the layout whose tables have the names of a schema's tables, or None.
 pub fn layout_of(schema: &Schema) -> Option<Layout>
     ensures found { IfSome result (IsNamedAs schema.now) }
     ensures none { IfNone result ((layout : Layout) → ¬ IsNamedAs schema.now layout) }

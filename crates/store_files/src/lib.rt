@@ -1,5 +1,4 @@
-//! The file of an office's store: creating its tables, opening it, and upgrading it from an earlier
-//! version.
+//! Creates the tables of a store's file, opens a file, and upgrades a file of an earlier version.
 #![tactic(auto)]
 
 mod faults;

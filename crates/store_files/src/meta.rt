@@ -8,7 +8,7 @@ ghost use Rattle.store_files.specs.Meta.{meta, meta_columns, with_version};
 
 use sqlite::{Alter, Connection, Error, Row, Transaction, params};
 
-/// Inserts the row of `meta`: version 3, and this zone.
+/// Inserts the row of `meta`: version 3, and the time zone `zone`.
 pub(crate) fn insert_meta<S: Alter>(tx: &mut Transaction<'_, S>, zone: &str) -> Result<usize, Error>
     ensures same_reference { IsSameBorrow tx.old.conn tx.new.conn }
     ensures does { Steps (state S.Store tx.old.conn.now) (state S.Store tx.new.conn.now) result
@@ -20,7 +20,7 @@ pub(crate) fn insert_meta<S: Alter>(tx: &mut Transaction<'_, S>, zone: &str) -> 
     )
 }
 
-/// Sets the version of the file to 3.
+/// Sets the version in the table `meta` to 3.
 pub(crate) fn set_version<S: Alter>(tx: &mut Transaction<'_, S>) -> Result<usize, Error>
     ensures same_reference { IsSameBorrow tx.old.conn tx.new.conn }
     ensures does { Steps (state S.Store tx.old.conn.now) (state S.Store tx.new.conn.now) result

@@ -1,4 +1,4 @@
-//! Creating the file of a store.
+//! Creates the tables of a new store.
 ghost use Rattle.std.specs.Prelude.{◌≡◌, ◌≢◌, ◌⊎◌, ◌↔◌, false, IsTrue, Err, IfOk, IfErr};
 ghost use Rattle.sqlite.specs.Held.{state};
 ghost use Rattle.store_tables.specs.Steps.{StepsTo, TransactsTo, IsSameBorrow};
@@ -15,7 +15,7 @@ use interval_core::Zone;
 use sqlite::{Alter, Connection, Error, Transaction};
 use sqlite_schema::schema::Schema;
 
-/// Returns whether a schema has no table, index or view.
+/// Returns true if a schema has no table, index or view.
 fn is_blank(schema: &Schema) -> bool
     ensures { IsTrue result ↔ (schema.now ≡ no_schema) }
 {
@@ -46,7 +46,7 @@ fn made<S: Alter>(conn: &mut Connection<S>, zone: &str) -> Result<(), Error>
     tx.commit()
 }
 
-/// Creates all tables as `made` does, and maps an error to a fault.
+/// Creates all tables of a store in one transaction, and converts an error of SQLite to a fault.
 fn make<S: Alter>(conn: &mut Connection<S>, zone: &str) -> Result<(), OpenFault>
     requires autocommit { conn.old.in_transaction ≡ false }
     ensures autocommit { conn.new.in_transaction ≡ false }
@@ -60,11 +60,11 @@ fn make<S: Alter>(conn: &mut Connection<S>, zone: &str) -> Result<(), OpenFault>
     }
 }
 
-/// Creates the tables of a new store in a database without tables, and returns their time zone.
-/// Runs one transaction, whose commit is the last call of the database.
+/// Creates the tables of a new store in a database without tables, and returns the store's time
+/// zone. Runs one transaction, whose commit is the last call of the database.
 ///
 /// Faults: `NotOurs` if the database has any table, index or view, or a transaction is open. `Zone`
-/// if the text is not a time zone.
+/// if `zone` is not a valid time zone.
 pub fn create<S: Alter>(conn: &mut Connection<S>, zone: &str) -> Result<Zone, OpenFault>
     ensures busy { IsTrue conn.old.in_transaction → result ≡ Err OpenFault.NotOurs }
     ensures others { conn.old.schema ≢ no_schema → result ≡ Err OpenFault.NotOurs }

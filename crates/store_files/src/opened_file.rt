@@ -1,4 +1,4 @@
-//! Opening the file of a store.
+//! Opens the file of a store.
 ghost use Rattle.std.specs.Prelude.{◌≡◌, ◌≢◌, ◌⊎◌, ◌↔◌, false, [], ◌∷◌, IsTrue, IfOk, IfErr};
 ghost use Rattle.std.specs.Prelude.{IsUtf8, Err, OnErr};
 ghost use Rattle.sqlite.specs.State.{HasCleanDisk, KeepsCommit, Survives};
@@ -22,7 +22,7 @@ use interval_core::Zone;
 use sqlite::{Alter, Connection, Error, Row};
 use store_tables::{RowFault, check_open, text, whole};
 
-/// Queries the rows of `meta`.
+/// Queries the rows of the table `meta`, which has one row for the complete file.
 fn meta_rows<S: Alter>(conn: &mut Connection<S>) -> Result<Vec<Row>, Error>
     ensures clean { HasCleanDisk (state S.Store conn.new) → HasCleanDisk (state S.Store conn.old) }
     ensures mode { conn.old.in_transaction ≡ false → conn.new.in_transaction ≡ false }
@@ -42,7 +42,7 @@ fn meta_rows<S: Alter>(conn: &mut Connection<S>) -> Result<Vec<Row>, Error>
     conn.query_all("SELECT version, zone FROM meta", &[])
 }
 
-/// Returns whether the row of `meta` has this version.
+/// Returns true if the row of `meta` has the version `version`.
 fn has_version(row: &Row, version: u64) -> bool
     ensures { (m : Meta) → row.now ≡ meta_shown m → IsTrue result ↔ (m.version ≡ version) }
 {
@@ -65,8 +65,8 @@ fn told_zone(row: &Row) -> Result<Zone, OpenFault>
     }
 }
 
-/// Reads the time zone from the only row of `meta`. Another version, or another number of rows, is
-/// `NotOurs`.
+/// Reads the time zone from the only row of `meta`. Returns `NotOurs` for an unexpected version, or
+/// for any other number of rows.
 fn zone_in(rows: &[Row], version: u64) -> Result<Zone, OpenFault>
     ensures tells { (m : Meta) → rows.now ≡ meta_shown m ∷ [] → ReadsMeta version m result }
 {
@@ -82,7 +82,7 @@ fn zone_in(rows: &[Row], version: u64) -> Result<Zone, OpenFault>
     }
 }
 
-/// Returns the time zone of the file, if `meta` has the version of this layout.
+/// Returns the time zone of the file, if `meta` has the version of `layout`.
 fn stored_zone<S: Alter>(conn: &mut Connection<S>, layout: Layout) -> Result<Zone, OpenFault>
     ensures clean { HasCleanDisk (state S.Store conn.new) → HasCleanDisk (state S.Store conn.old) }
     ensures mode { conn.old.in_transaction ≡ false → conn.new.in_transaction ≡ false }
@@ -96,7 +96,7 @@ fn stored_zone<S: Alter>(conn: &mut Connection<S>, layout: Layout) -> Result<Zon
     }
 }
 
-/// Upgrades a file as `bring` does, and maps its error to a fault.
+/// Upgrades a file to version 3, and converts an error of SQLite to a fault.
 fn brought<S: Alter>(conn: &mut Connection<S>, layout: Layout) -> Result<(), OpenFault>
     requires autocommit { conn.old.in_transaction ≡ false }
     ensures autocommit { conn.new.in_transaction ≡ false }
@@ -113,7 +113,7 @@ fn brought<S: Alter>(conn: &mut Connection<S>, layout: Layout) -> Result<(), Ope
     }
 }
 
-/// Opens a file of a layout, after the check that the database is open.
+/// Opens a file of a given layout after `check_open` returned Ok.
 fn open_settled<S: Alter>(conn: &mut Connection<S>, layout: Layout) -> Result<Zone, OpenFault>
     requires autocommit { conn.old.in_transaction ≡ false }
     ensures autocommit { conn.new.in_transaction ≡ false }

@@ -160,7 +160,7 @@ fn create_lists<S: Alter>(tx: &mut Transaction<'_, S>) -> Result<usize, Error>
     create_registers(tx)
 }
 
-/// Creates the tables of installations, entries, polls and rejected readings.
+/// Creates the tables of installations, meter entries, polls and rejected readings.
 fn create_meters<S: Alter>(tx: &mut Transaction<'_, S>) -> Result<usize, Error>
     ensures same_reference { IsSameBorrow tx.old.conn tx.new.conn }
     ensures does { StepsTo (state S.Store tx.old.conn.now) (state S.Store tx.new.conn.now) result
@@ -172,7 +172,7 @@ fn create_meters<S: Alter>(tx: &mut Transaction<'_, S>) -> Result<usize, Error>
     create_holds(tx)
 }
 
-/// Creates the tables of outcomes, interval rows and kept requests.
+/// Creates the tables of outcomes, energy by quarter hours, and stored requests.
 fn create_answers<S: Alter>(tx: &mut Transaction<'_, S>) -> Result<usize, Error>
     ensures same_reference { IsSameBorrow tx.old.conn tx.new.conn }
     ensures does { StepsTo (state S.Store tx.old.conn.now) (state S.Store tx.new.conn.now) result
@@ -183,7 +183,7 @@ fn create_answers<S: Alter>(tx: &mut Transaction<'_, S>) -> Result<usize, Error>
     create_replies(tx)
 }
 
-/// Creates all tables that version 1 has.
+/// Creates all tables of a version 1 file.
 fn create_first<S: Alter>(tx: &mut Transaction<'_, S>) -> Result<usize, Error>
     ensures same_reference { IsSameBorrow tx.old.conn tx.new.conn }
     ensures does { StepsTo (state S.Store tx.old.conn.now) (state S.Store tx.new.conn.now) result
@@ -204,7 +204,7 @@ pub(crate) fn create_last<S: Alter>(tx: &mut Transaction<'_, S>) -> Result<usize
     create_voids(tx)
 }
 
-/// Creates all tables.
+/// Creates all tables of a version 3 file.
 pub(crate) fn create_tables<S: Alter>(tx: &mut Transaction<'_, S>) -> Result<usize, Error>
     ensures same_reference { IsSameBorrow tx.old.conn tx.new.conn }
     ensures does { StepsTo (state S.Store tx.old.conn.now) (state S.Store tx.new.conn.now) result

@@ -1,4 +1,4 @@
-//! The time zone of the store's civil days.
+//! The time zone that determines the civil days of a store.
 ghost use Rattle.std.specs.Prelude.{◌≡◌, ◌↔◌, IsOk, IfOk, IfErr};
 ghost use Rattle.interval_core.specs.Zone.{HasRule};
 ghost use Rattle.store_files.specs.Zones.{IsZone};

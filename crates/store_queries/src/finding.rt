@@ -1,5 +1,5 @@
-//! Queries for devices, point lists, accounting registers, polls, kept requests and the latest
-//! time.
+//! Queries for devices, point lists, accounting registers, polls, stored requests and the latest
+//! timestamp.
 
 mod device_rows;
 mod kept;

@@ -1,5 +1,5 @@
-//! Queries over the tables of the store: devices, lists and polls, and meters, entries and quarter
-//! hours.
+//! Queries on the tables of the store: devices, point lists, polls, meters, entries and energy by
+//! quarter hours.
 #![tactic(auto)]
 
 mod finding;

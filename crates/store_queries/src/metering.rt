@@ -1,4 +1,4 @@
-//! Queries for meters, entries, quarter hours and rejected readings.
+//! Queries for meters, entries, energy by quarter hours, and rejected readings.
 
 mod around;
 mod entries;

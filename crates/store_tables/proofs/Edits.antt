@@ -1,4 +1,4 @@
--- The rows of a table after UPDATE and DELETE.
+-- Proofs about the rows of a table after an UPDATE or a DELETE.
 use Rattle.std.proofs.Common.{◌≡◌, inl, inr, ℤ, List, [], ◌∷◌, ◌++◌, map, filter, flat_map, Bool, true, false, cond, not, ◌&&◌, ◌||◌, refl, sym, ap, subst, ◌∙◌, arith, ◌<ℤ◌, if◌then◌else◌}
 use Rattle.std.specs.List.{AllByRecursion, IsDistinct, list_any}
 use Rattle.std.specs.List.Sorted.{IsPermutation}
@@ -24,7 +24,7 @@ use Rattle.store_tables.proofs.Fresh.{put_fresh}
 abbrev pub picks : List ℤ → Row → Bool
 picks ids r = list_any (λ id. has_rowid id r) ids
 
--- ---- the rows that are taken out
+-- ---- rows that a DELETE removes
 
 filter_twice : (a b : Row → Bool) (rows : List Row) → filter (λ r. not (b r)) (filter (λ r. not (a r)) rows) ≡ filter (λ r. not (a r || b r)) rows
 filter_twice a b [] = refl
@@ -68,7 +68,7 @@ module _ (p : Row → Bool) where
   abbrev chosen : List Row → List ℤ
   chosen rows = ids_of (filter p rows)
 
-  -- The rowid of another row selects none of these rows.
+  -- A list of rowids does not select a row whose rowid is not in the list.
   none_of : (r : Row) (rows : List Row) → rowid r ≡ Int (id_of r) → AllByRecursion (λ y. same_id (id_of r) y ≡ false) (map id_of rows) → picks (chosen rows) r ≡ false
   none_of r [] keyed apart = refl
   none_of r (s ∷ rows) keyed apart = elim (cases_Bool (p s)) [
@@ -110,13 +110,13 @@ same_picks : (ids more : List ℤ) (rows : List Row) → IsPermutation ids more 
 same_picks ids more [] same = tt
 same_picks ids more (r ∷ rows) same = (sym (list_any-IsPermutation (λ id. has_rowid id r) ids more same), same_picks ids more rows same)
 
--- The remaining rows are those that were not chosen.
+-- Deleting the rowids of the rows that pass test `p` leaves exactly the rows that fail `p`.
 pub left_are : (p : Row → Bool) (rows : List Row) (ids : List ℤ) → AreApart rows → IsPermutation (ids_of (filter p rows)) ids → without_all rows ids ≡ filter (λ r. not (p r)) rows
 left_are p rows ids apart same =
     without_is rows ids ∙ (same_filter (picks ids) (picks (ids_of (filter p rows))) rows (same_picks (ids_of (filter p rows)) ids rows same)
     ∙ same_filter (picks (ids_of (filter p rows))) p rows (picked_are p rows apart.keyed apart.distinct))
 
--- ---- the rows that are put in
+-- ---- rows that an UPDATE writes back
 
 first_free : (b c : Bool) → not b && c ≡ true → (b ≡ false) × (c ≡ true)
 first_free true c e = absurd (let f = e in cc)
@@ -133,7 +133,7 @@ pub given_are : (rows news : List Row) → numbered Given rows news ≡ news
 given_are rows [] = refl
 given_are rows (n ∷ news) = ap (λ ns. n ∷ ns) (given_are (put_row n rows) news)
 
--- ---- both
+-- ---- rows after an UPDATE
 
 module _ (p : Row → Bool) (f : Row → Row) where
   abbrev pub changed : Row → Row
@@ -159,7 +159,7 @@ module _ (p : Row → Bool) (f : Row → Row) where
       IsPermutation-sym _ _ (subst (IsPermutation (map changed rows)) (both ∙ (ap (λ xs. xs ++ map changed (filter (λ r. not (p r)) rows)) (chosen_change rows) ∙ ap (λ ys. map f (filter p rows) ++ ys) (others_stay rows)))
       (IsPermutation-map changed rows (filter p rows ++ filter (λ r. not (p r)) rows) (IsPermutation-filter_both p (λ r. not (p r)) (λ r. refl) rows)))
 
-  -- The new rows are `f` of the chosen rows, in any order, and replace the chosen rows.
+  -- An UPDATE replaces each row that passes test `p` by `f` of this row, and leaves all other rows.
   pub edited_rows : (rows news : List Row) (ids : List ℤ) → AreApart rows → IsPermutation (ids_of (filter p rows)) ids → IsPermutation (map f (filter p rows)) news → are_fresh (without_all rows ids) news ≡ true
       → IsPermutation (map changed rows) (put_all (without_all rows ids) news)
   edited_rows rows news ids apart same_ids same_news fresh =
@@ -169,7 +169,7 @@ module _ (p : Row → Bool) (f : Row → Row) where
       subst (λ ls. IsPermutation (map f (filter p rows) ++ filter (λ r. not (p r)) rows) (news ++ ls)) (sym left) (IsPermutation-append_left (filter (λ r. not (p r)) rows) (map f (filter p rows)) news same_news) in
       IsPermutation-trans _ _ _ (IsPermutation-sym _ _ (parted rows)) (IsPermutation-trans _ _ _ joined put)
 
--- ---- the rows that a scan finds
+-- ---- rows that a table scan finds
 
 pub picked : {X : Type 0} (p : Row → Bool) (e : Row → X) (rows : List Row) → flat_map (λ r. cond (p r) (e r ∷ []) []) rows ≡ map e (filter p rows)
 picked p e [] = refl

@@ -1,4 +1,4 @@
--- Why a query of the store fails.
+-- Proofs that a query of the store fails only for the causes in `IsStoreError`.
 use Rattle.std.proofs.Common.{◌≡◌, ◌⊎◌, inl, inr, ℕ, ◌≤◌, List, [], ◌∷◌, length, false, true, Option, Ok, Err, Result, IfOk, IfErr, IsErrAnd, MatchResult, nat_le, IsTrue, IsSome, codes, refl, sym, ap, subst, ◌∙◌, arith, append-nil}
 use Rattle.std.proofs.lemmas.Bool.{leb-true, cases_Bool}
 use Rattle.sqlite.specs.Order.{Row}
@@ -29,7 +29,7 @@ use Rattle.store_tables.specs.declared.faults.RowFault.TheVariants.{Sql, Damaged
 use Rattle.store_tables.specs.Failing.{HasFailed, IsStoreError, IsFault, IsRowFault, StateAfterCall}
 use Rattle.store_tables.proofs.Scans.{scan}
 
--- The text is one complete statement with this number of parameters.
+-- True if the SQL text compiles to one complete statement with `count` parameters.
 abbrev pub IsWhole : (sql : List ℕ) → (count : ℕ) → Result Compiled CompileError → Type 0
 IsWhole sql count (Ok c) = IsTrue (nat_le (length sql) c.tail) × (length c.names ≡ count) × (c.formats ≡ [])
 IsWhole sql count (Err e) = ⊥
@@ -61,14 +61,15 @@ pub probe_whole : (schema : Schema) → IsWhole (codes "SELECT 1") 0 (understood
 unfolding understood everything
 probe_whole schema = (refl, refl, refl)
 
--- A property of an error is also true of the error that a caller passes on.
+-- A property of an error still applies if a caller returns the error unchanged.
 pub passed : {X E : Type 0} (P : E → Type 0) (e : E) (r : Result X E) → IsErrAnd r (λ d. d ≡ e) → P e → IfErr r P
 passed P e (Ok x) fails h = absurd fails
 passed P e (Err d) fails h = subst P (sym fails) h
 
 -- ---- queries
 
--- The text is a query that a database of this schema can answer, with these parameters.
+-- True if a database with the schema `schema` can answer the query `sql` with the parameters
+-- `params`.
 pub record Suits (schema : Schema) (sql : List ℕ) (params : Row) : Type 0 where
   pub query : Query
   pub names : List (List ℕ)
@@ -124,23 +125,23 @@ module _ (schema : Schema) (sql : List ℕ) (params : Row) (suits : Suits schema
       let bare = subst IsPlain (sym known) suits.plain in
       absurd (let f = subst IsSome bare.0 late.2 in cc)
 
--- A result with a stronger postcondition also has a weaker one.
+-- A result that satisfies a stronger postcondition also satisfies a weaker one.
 pub told : {A : Type 0} (r : Result A Error) (P Q : A → Type 0) (R T : Error → Type 0) → ((a : A) → P a → Q a) → ((e : Error) → R e → T e) → IfOk r P → IfErr r R → MatchResult r Q T
 told (Ok a) P Q R T tells fails ok err = tells a ok
 told (Err e) P Q R T tells fails ok err = fails e err
 
--- The result of a failed query.
+-- A failed query satisfies its postcondition if its error satisfies the part about errors.
 pub failed_on : {A : Type 0} (P : A → Type 0) (Q : Error → Type 0) (e : Error) (r : Result A Error) → IsErrAnd r (λ d. d ≡ e) → Q e → MatchResult r P Q
 failed_on P Q e (Ok a) fails h = absurd fails
 failed_on P Q e (Err d) fails h = subst Q (sym fails) h
 
--- ---- one call after the other
+-- ---- two calls in sequence
 
 pub on_err : {X E : Type 0} {P Q : E → Type 0} (r : Result X E) → ((e : E) → P e → Q e) → IfErr r P → IfErr r Q
 on_err (Ok x) f h = tt
 on_err (Err e) f h = f e h
 
--- Without a call, the state is unchanged.
+-- A connection on which no call was made is in a state that `StateAfterCall` permits.
 pub still_goes : (a : State) → StateAfterCall a a
 still_goes a = record { faults = omega arith; closes = λ is. inl is; limit = refl }
 
@@ -157,7 +158,8 @@ goes_then a b c one two = record {
   limit = two.limit ∙ one.limit;
 }
 
--- If the store has failed between `b` and `c`, it has failed between `a` and `c`.
+-- A store failure between the states `b` and `c` is also a failure between the earlier state `a`
+-- and `c`.
 pub later_failed : (a b c : State) → StateAfterCall a b → b.faults ≤ c.faults → HasFailed b c → HasFailed a c
 later_failed a b c goes up (inr more) = inr (let first = goes.faults in omega arith)
 later_failed a b c goes up (inl shut) = elim (cases_Bool a.is_open) [
@@ -177,12 +179,12 @@ pub later_fault : (a b c : State) (Sound : Type 0) (f : RowFault) → StateAfter
 later_fault a b c Sound (Sql e) goes up why = later_error a b c e goes up why
 later_fault a b c Sound Damaged goes up why = why
 
--- A fault in a part of the rows is a fault of all rows.
+-- Damage in some rows of a table justifies the fault `Damaged` for all of its rows.
 pub less_fault : (a b : State) (Sound Part : Type 0) (f : RowFault) → (Sound → Part) → IsFault a b Part f → IsFault a b Sound f
 less_fault a b Sound Part (Sql e) part why = why
 less_fault a b Sound Part Damaged part not = λ sound. not (part sound)
 
--- The fault of a row is a fault of the look-up.
+-- A fault in reading one row is a permitted fault of the look-up that reads it.
 pub row_fault : (a b : State) (Sound One : Type 0) (f : RowFault) → (Sound → One) → IsRowFault One f → IsFault a b Sound f
 row_fault a b Sound One (Sql e) part why = inl why
 row_fault a b Sound One Damaged part not = λ sound. not (part sound)

@@ -37,7 +37,7 @@ one_only : (b : Bool) → b && true ≡ true → b ≡ true
 one_only true e = refl
 one_only false e = absurd (let f = e in cc)
 
--- The table without AUTOINCREMENT.
+-- The description of a table, with AUTOINCREMENT switched off.
 abbrev pub plainly : Table → Table
 plainly t = record t { is_counted = false }
 
@@ -48,7 +48,7 @@ module _ (t : Table) (at : ℕ) (place : slice_get books_schema.tables at ≡ So
   abbrev new_row : Trees → Row → Row
   new_row db source = with_rowid Chosen (db t.tree) (cast_row table source)
 
-  -- The table gets one more row.
+  -- The effect of an INSERT: the table has one more row, and the other tables are unchanged.
   record Comes (old new : Database) (source : Row) : Type 0 where
     rewrites : Rewrites books_schema t.tree old new
     row : IsPermutation (new_row old.trees source ∷ old.trees t.tree) (new.trees t.tree)
@@ -84,7 +84,8 @@ module _ (t : Table) (at : ℕ) (place : slice_get books_schema.tables at ≡ So
         row = row;
       }
 
-  -- INSERT INTO .. VALUES of a row that begins with its rowid, or with none.
+  -- The effect of INSERT INTO .. VALUES, for a row with its own rowid or a rowid that SQLite
+  -- chooses.
   module _ {X : Type 0} (columns : X → Row) (x : X) (source : Row) (stored : (rows : List Row) → (n : ℤ) × (with_rowid Chosen rows (cast_row table source) ≡ laid (is_numbered t.tree) n (columns x))) where
     pub inserts : (old new : State) (terms : List Term) (width : ℕ) (text : List ℕ) (params : Row) (r : Result ℕ Error)
         → command_of (understood books_schema text) ≡ Insert at (Values terms width) → IsPlain (understood books_schema text)
@@ -98,10 +99,10 @@ module _ (t : Table) (at : ℕ) (place : slice_get books_schema.tables at ≡ So
         (λ apart xs lies. laid_permuted (is_numbered t.tree) columns _ (new.now.trees t.tree) (x ∷ xs) (subst (λ (r : Row). IsPermutation (r ∷ old.now.trees t.tree) (new.now.trees t.tree)) number.1 came.row)
         (laid_more (is_numbered t.tree) columns (old.now.trees t.tree) xs number.0 x lies)) content has
 
--- SQLite chooses the rowid.
+-- SQLite chooses the rowid of an inserted row whose first column is NULL.
 pub chosen_rowid : (row columns : Row) → row ≡ Null ∷ columns → (rows : List Row) → (n : ℤ) × (with_rowid Chosen rows row ≡ laid false n columns)
 chosen_rowid row columns is rows = (next_rowid rows, ap (with_rowid Chosen rows) is)
 
--- The key of the row is its rowid.
+-- An inserted row whose first column is an integer has this integer as its rowid.
 pub given_rowid : (row columns : Row) (n : ℤ) → row ≡ Int n ∷ columns → (rows : List Row) → (m : ℤ) × (with_rowid Chosen rows row ≡ laid true m (Int n ∷ columns))
 given_rowid row columns n is rows = (n, ap (with_rowid Chosen rows) is)

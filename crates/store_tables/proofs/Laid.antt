@@ -11,7 +11,8 @@ use Rattle.store_tables.specs.Content.{told, id_of, changed_where, without_where
 use Rattle.store_tables.proofs.Permuted.{unmapped}
 use Rattle.store_tables.proofs.Edits.{changed}
 
--- The stored row of some columns.
+-- The stored row with the given columns. The rowid comes first, unless the columns begin with the
+-- rowid.
 abbrev pub laid : Bool → ℤ → Row → Row
 laid true n columns = columns
 laid false n columns = Int n ∷ columns
@@ -27,7 +28,7 @@ module _ {X : Type 0} (numbered : Bool) (columns : X → Row) where
   abbrev pub lay : Numbered X → Row
   lay z = laid numbered z.0 (columns z.1)
 
-  -- The stored rows encode these values, in any order.
+  -- True if the stored rows `kept` encode the values `xs`, in any order.
   pub record IsLaid (kept : List Row) (xs : List X) : Type 0 where
     pub all : List (Numbered X)
     pub rows : kept ≡ map lay all
@@ -73,7 +74,7 @@ module _ {X : Type 0} (numbered : Bool) (columns : X → Row) where
   laid_more rows xs n x h = record { all = (n, x) ∷ h.all; rows = ap (λ rs. laid numbered n (columns x) ∷ rs) h.rows; same = IsPermutation-cons x _ _ h.same }
 
   module _ (test : Row → Bool) (p : X → Bool) (tells : (n : ℤ) (x : X) → test (laid numbered n (columns x)) ≡ p x) where
-    -- The test on stored rows selects the rows of the values that pass.
+    -- The stored rows that pass `test` are the stored rows of the values that pass `p`.
     chosen : (all : List (Numbered X)) → filter test (map lay all) ≡ map lay (filter (λ (z : Numbered X). p z.1) all)
     chosen [] = refl
     chosen (z ∷ all) = elim (cases_Bool (p z.1)) [

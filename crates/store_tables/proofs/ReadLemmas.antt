@@ -1,4 +1,4 @@
--- Reading a row column by column.
+-- Proofs about readers that read a result row column by column.
 use Rattle.std.proofs.Common.{◌≡◌, ◌≢◌, ◌≤◌, inl, inr, ℕ, ℤ, pos, nat_le, Bool, true, false, ◌&&◌, if◌then◌else◌, Option, Some, None, Ok, Err, Result, IfOk, IfErr, IsTrue, refl, sym, ap, subst, ◌∙◌}
 use Rattle.std.proofs.lemmas.Bool.{le-leb, leb-true, and_parts}
 use Rattle.mb_wire.specs.declared.span.ReadFunction.{ReadFunction}
@@ -13,12 +13,12 @@ use Rattle.store_tables.specs.Failing.{IsRowFault}
 use Rattle.store_tables.specs.Columns.{whole_in, within, is_within, function_in, or_damaged, and_then}
 use Rattle.store_tables.specs.Asking.{ReadsRow}
 
--- The result has the property `Is`, or reports damage only if the row is not sound.
+-- True if an Ok value satisfies `Is`, and `Damaged` is reported only for a row out of its ranges.
 pub record IsFair {A : Type 0} (Sound : Type 0) (Is : A → Type 0) (result : Result A RowFault) : Type 0 where
   pub read : IfOk result Is
   pub fault : IfErr result (IsRowFault Sound)
 
--- A row with an unsound part is not sound.
+-- Damage in one part of a row justifies the fault `Damaged` for the row.
 pub less_sound : (Sound Part : Type 0) → (Sound → Part) → (e : RowFault) → IsRowFault Part e → IsRowFault Sound e
 less_sound Sound Part part (Sql e) is = is
 less_sound Sound Part part Damaged not = λ sound. not (part sound)
@@ -28,7 +28,8 @@ module _ {A B : Type 0} (Sound : Type 0) (Is : B → Type 0) (next : A → Resul
   tested true x sound rest = rest
   tested false x sound rest = record { read = tt; fault = λ is. let f = sound is in cc }
 
-  -- A column that is in its range, before the other columns of the row.
+  -- A row is read correctly if its first column is in range and its other columns are read
+  -- correctly.
   pub fair_some : (o : Option A) (x : A) → o ≡ Some x → IsFair Sound Is (next x) → IsFair Sound Is (and_then (or_damaged o) next)
   fair_some o x is rest = rw is rest
 
@@ -37,7 +38,8 @@ both true b e f = f
 both false b e f = absurd (let g = e in cc)
 
 module _ {B : Type 0} (Sound : Type 0) (Is : B → Type 0) where
-  -- An integer column within its bounds, before the other columns of the row.
+  -- A row that begins with an integer from `low` to `high` is read correctly if its other columns
+  -- are.
   pub fair_whole : (next : ℕ → Result B RowFault) (low high n : ℕ) → (Sound → (low ≤ n) × (n ≤ high)) → IsFair Sound Is (next n) → IsFair Sound Is (and_then (or_damaged (whole_in low high (Int (pos n)))) next)
   fair_whole next low high n sound rest = tested Sound Is next (nat_le low n && nat_le n high) n (λ is. both _ _ (le-leb low n (sound is).0) (le-leb n high (sound is).1)) rest
 
@@ -48,23 +50,25 @@ module _ {B : Type 0} (Sound : Type 0) (Is : B → Type 0) where
   if_fair true x sound is = record { read = is; fault = tt }
   if_fair false x sound is = record { read = tt; fault = λ s. let f = sound s in cc }
 
-  -- A part of the row that has a reader of its own, before the other columns.
+  -- A row is read correctly if a reader of its first columns and a reader of its other columns are
+  -- correct.
   pub fair_then : {A : Type 0} (Part : Type 0) (a : A) (first : Result A RowFault) (next : A → Result B RowFault) → (Sound → Part) → IsFair Part (λ x. x ≡ a) first → IsFair Sound Is (next a) → IsFair Sound Is (and_then first next)
   fair_then Part a (Ok x) next part one rest = subst (λ y. IsFair Sound Is (next y)) (sym one.read) rest
   fair_then Part a (Err e) next part one rest = record { read = tt; fault = less_sound Sound Part part e one.fault }
 
--- An integer column within its bounds that is the last column of the row.
+-- A row that consists of one integer from `low` to `high` is read correctly.
 pub fair_last : (Sound : Type 0) (Is : ℕ → Type 0) (low high n : ℕ) → (Sound → (low ≤ n) × (n ≤ high)) → Is n → IsFair Sound Is (or_damaged (whole_in low high (Int (pos n))))
 fair_last Sound Is low high n sound is = if_fair Sound Is (nat_le low n && nat_le n high) n (λ s. both _ _ (le-leb low n (sound s).0) (le-leb n high (sound s).1)) is
 
--- If both parts were read, the first part was read.
+-- If reading two parts of a row in sequence succeeds, reading the first part succeeded.
 pub then_read : {A B : Type 0} (first : Result A RowFault) (next : A → Result B RowFault) (b : B) → and_then first next ≡ Ok b → (a : A) × (first ≡ Ok a) × (next a ≡ Ok b)
 then_read (Ok a) next b e = (a, refl, e)
 then_read (Err f) next b e = absurd (let g = e in cc)
 
--- ---- what was read is within its bounds
+-- ---- bounds of the values that were read
 
--- A value `x` was read from a column, and then `b` from the remaining columns.
+-- Splits a successful read of a row: `value` is from the first column, and `b` from the other
+-- columns.
 pub record HasRead {X B : Type 0} (o : Option X) (next : X → Result B RowFault) (b : B) : Type 0 where
   pub value : X
   pub is : o ≡ Some value
@@ -111,7 +115,7 @@ pub or_is : {A : Type 0} (o : Option A) (a : A) → or_damaged o ≡ Ok a → o 
 or_is (Some b) a e = ap Some (ok_is e)
 or_is None a e = absurd (let f = e in cc)
 
--- ---- a number in the first column
+-- ---- an integer in the first column
 
 pub number_bounds : (low high : ℕ) (row : Row) (r : Result ℕ RowFault) → r ≡ or_damaged (whole_in low high (column row 0)) → IfOk r (λ n. (low ≤ n) × (n ≤ high))
 number_bounds low high row (Err f) is = tt
@@ -122,7 +126,7 @@ pub reads_number : {X : Type 0} (low high : ℕ) (shown : X → Row) (of : X →
 reads_number low high shown of Sound first bounds row r is = reads_row row shown (λ x n. n ≡ of x) Sound r (λ x seen.
     subst (IsFair (Sound x) (λ n. n ≡ of x)) (sym (is ∙ ap (λ v. or_damaged (whole_in low high v)) (ap (λ r. column r 0) seen ∙ first x))) (fair_last (Sound x) (λ m. m ≡ of x) low high (of x) (bounds x) refl))
 
--- ---- functions
+-- ---- Modbus function codes
 
 pub function_back : (f : ReadFunction) → function_in (Int (pos (code_of f))) ≡ Some f
 function_back HoldingRegisters = refl

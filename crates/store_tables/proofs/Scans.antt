@@ -1,4 +1,4 @@
--- A query over one table.
+-- The structure of a SELECT from one table, and its answer.
 use Rattle.std.proofs.Common.{◌≡◌, ℕ, pos, negsuc, List, [], ◌∷◌, map, filter, Bool, true, false, ◌&&◌, None, Some, refl, sym, ap, subst, ◌∙◌, bytes_eq, IsPermutation, Ordering, flat_map, cond, nat_le, ◌^◌, inl, inr, ◌<ℤ◌, ◌==◌, eq-eqb, ne_eqb, arith, Less, Equal, Greater}
 use Rattle.std.proofs.lemmas.Bool.{cases_Bool}
 use Rattle.std.specs.List.{list_all}
@@ -29,7 +29,7 @@ no_limit = lit (Int (negsuc 0))
 abbrev pub one : Term
 one = lit (Int (pos 1))
 
--- The test that a column equals a parameter.
+-- The SQL test that a column equals a parameter, by their indices.
 abbrev pub is_param : (column param : ℕ) → Term
 is_param column param = op2 (Compare Eq Binary) (col 1 column) (col 0 param)
 
@@ -39,7 +39,7 @@ falling = record { collation = Binary; descending = true }
 abbrev pub rising : Key
 rising = record { collation = Binary; descending = false }
 
--- SELECT .. FROM one table WHERE .. ORDER BY .. LIMIT ..
+-- The query SELECT .. FROM one table WHERE .. ORDER BY .. LIMIT .., built from its parts.
 abbrev pub scan : (tree : ℕ) → (tests project : List Term) → List (Term × Key) → (limit : Term) → Query
 scan tree tests project order limit = record {
   from = inner tree end;
@@ -53,7 +53,7 @@ scan tree tests project order limit = record {
   offset = lit (Int (pos 0));
 }
 
--- The query has no common table expression.
+-- A query without common table expressions (WITH) reads the stored rows of a table.
 pub overlay_none : (db : Trees) (tree : ℕ) → overlay db [] tree ≡ db tree
 overlay_none db tree = elim (cases_Bool (nat_le (2 ^ 31) tree)) [
   | inl high ↦ rw high refl
@@ -64,7 +64,7 @@ module _ (params : Row) where
   abbrev pub env : Row → Env
   env r = params ∷ r ∷ []
 
-  -- Whether a row passes WHERE.
+  -- True if a row passes all tests of a WHERE clause.
   abbrev pub passes : List Term → Row → Bool
   passes tests r = list_all (holds (env r)) tests
 
@@ -79,7 +79,7 @@ module _ (params : Row) where
     outputs_are [] = refl
     outputs_are (r ∷ rows) = ap (λ os. output query (env r) ∷ os) (outputs_are rows)
 
-    -- The rows that pass, before they are ordered.
+    -- The rows of an answer before ORDER BY are the table's rows that pass the WHERE clause.
     pub kept_are : (db : Trees) (rows : List Row) (a : IsAnswer query (overlay db []) params rows) → a.kept ≡ map (λ r. output query (env r)) (filter (passes tests) (db tree))
     kept_are db rows a = a.distinct ∙ (ap (map (output query)) (a.grouped ∙ (ap (flat_map (λ r. cond (passes tests r) (env r ∷ []) [])) (overlay_none db tree) ∙ picked (passes tests) env (db tree))) ∙ outputs_are (filter (passes tests) (db tree)))
 
@@ -87,7 +87,8 @@ module _ (params : Row) where
     shown_are [] = refl
     shown_are (r ∷ rows) = ap (λ rs. shows project r ∷ rs) (shown_are rows)
 
--- A query without ORDER BY and LIMIT, as in UPDATE and DELETE.
+-- A query without ORDER BY and LIMIT, as in UPDATE and DELETE, finds all rows that pass its WHERE
+-- clause.
 pub asked : (params : Row) (tree : ℕ) (tests project : List Term) (db : Trees) (rows : List Row) → IsAnswer (scan tree tests project [] no_limit) (overlay db []) params rows
     → IsPermutation (map (shows params project) (filter (passes params tests) (db tree))) rows
 asked params tree tests project db rows a =
@@ -95,7 +96,7 @@ asked params tree tests project db rows a =
     subst (IsPermutation (map (shows params project) (filter (passes params tests) (db tree)))) (sym a.shown)
     (subst (λ xs. IsPermutation xs (map (λ (o : Output). o.1) a.ordered)) (ap (map (λ (o : Output). o.1)) (kept_are params tree tests project [] no_limit db rows a) ∙ shown_are params tree tests project [] no_limit (filter (passes params tests) (db tree))) shown)
 
--- ---- tests
+-- ---- the tests of a WHERE clause
 
 truth_back : (b : Bool) → is_true (from_truth (Some b)) ≡ b
 truth_back true = refl

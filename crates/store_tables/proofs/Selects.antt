@@ -29,7 +29,7 @@ use Rattle.store_tables.proofs.Permuted.{unmapped}
 use Rattle.store_tables.proofs.Laid.{Numbered, laid, lay, IsLaid, laid_from, laid_chosen}
 use Rattle.store_tables.proofs.Scans.{scan, env, passes, shows, kept_are}
 
--- ---- a sorted list ascends
+-- ---- the order of a sorted list
 
 module _ {X : Type 0} (cmp : X → X → Ordering) (total : IsTotalOrder cmp) where
   abbrev AtMost : X → X → Type 0
@@ -53,7 +53,7 @@ module _ {X : Type 0} (cmp : X → X → Ordering) (total : IsTotalOrder cmp) wh
       let up = ascends xs tail in
       (below_all x xs sorted up, up)
 
--- ---- the query
+-- ---- SELECT with WHERE, ORDER BY and LIMIT
 
 module _ {X : Type 0} (tree : ℕ) (tests project : List Term) (order : List (Term × Key)) (limit : Term) (params : Row) (columns : X → Row) (p : X → Bool) (shown : X → Row) (R : X → X → Type 0)
     (tells : (n : ℤ) (x : X) → passes params tests (laid (is_numbered tree) n (columns x)) ≡ p x) (tells_columns : (n : ℤ) (x : X) → shows params project (laid (is_numbered tree) n (columns x)) ≡ shown x)
@@ -89,7 +89,8 @@ module _ {X : Type 0} (tree : ℕ) (tests project : List Term) (order : List (Te
         a.shown ∙ ap (page query params) (ap (map (λ (o : Output). o.1)) moved.2 ∙ shown_all moved.0),
       )
 
-  -- A text with this meaning, over the tables of the store.
+  -- An SQL text that compiles to a SELECT from one table of the store returns the matching rows of
+  -- the table.
   pub selects : (old new : State) (text : List ℕ) (names : List (List ℕ)) (content : Content) (xs : List X) (rows : List Row) → HasTree books_schema.tables tree → AreTables old.now content → HasRows tree columns xs content
       → command_of (understood books_schema text) ≡ Select (record { lets = []; body = query }) names → reads_listing books_schema text ≡ false → IsPlain (understood books_schema text)
       → Shown text params old new rows → (found : List X) × AreFound p R xs found × (rows ≡ page query params (map shown found))
@@ -117,13 +118,13 @@ module _ {X A : Type 0} (passes : X → Bool) (IsSeen : X → A → Type 0) wher
   last_some key xs [] x a h is seen = absurd (let e = is in cc)
   last_some key xs (y ∷ found) x a h is seen = let same : y ≡ x = cc in (y, subst (λ z. IsSeen z a) (sym same) seen, found, h.all, h.order.0)
 
--- ---- the order of numbers
+-- ---- the order of integers
 
 not_above : (a b : ℕ) (o : Ordering) → MatchOrdering o (pos a <ℤ pos b) (pos a ≡ pos b) (pos b <ℤ pos a) → is_gt o ≡ false → a ≤ b
 not_above a b Less h e = omega (arith, ints)
 not_above a b Equal h e = omega (arith, ints)
 not_above a b Greater h e = absurd (let f = e in cc)
 
--- ORDER BY one column of integers.
+-- ORDER BY one integer column lists smaller integers first.
 pub in_order : (a b : ℕ) → is_gt (ordering_then (value_cmp (Int (pos a)) (Int (pos b))) Equal) ≡ false → a ≤ b
 in_order a b e = not_above a b (int_cmp (pos a) (pos b)) (int_ranks (pos a) (pos b)) (sym (ap is_gt (then-Equal _ ∙ value_cmp-Int (pos a) (pos b))) ∙ e)

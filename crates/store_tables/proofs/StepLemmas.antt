@@ -1,4 +1,4 @@
--- Steps of a transaction, one after another.
+-- Proofs about calls in sequence inside one transaction.
 use Rattle.std.proofs.Common.{◌≡◌, inl, inr, ℕ, List, true, Ok, Err, Result, IsTrue, OnOk, OnErr, IfOk, IfErr, [], false, refl, sym, subst, ◌∙◌, arith, ◌⊎◌}
 use Rattle.sqlite.specs.declared.error.Error.{Error}
 use Rattle.sqlite.specs.Order.{Row}
@@ -36,7 +36,7 @@ pub ran : (sql : List ℕ) (params : Row) (old new : State) (r : Result ℕ Erro
 ran sql params old new (Ok count) Q f h = f h.0
 ran sql params old new (Err e) Q f h = tt
 
--- One statement inside a transaction.
+-- An INSERT, UPDATE or DELETE inside a transaction satisfies the contract of a step.
 pub steps : (sql : List ℕ) (params : Row) (old new : State) (r : Result ℕ Error) (Goes : Database → Database → Type 0)
     → (HasCleanDisk new → IsTrue old.in_transaction → ExecutesInside 0 sql params old new r) → Survives old new (λ _. ⊥)
     → (Executes sql params old new r → OnOk r (Goes old.now new.now)) → StepsTo old new r Goes
@@ -47,7 +47,7 @@ steps sql params old new r Goes runs survives rows = record {
   survives = survives;
 }
 
--- Two steps that each keep the commit together keep it.
+-- Two calls in sequence leave the last commit unchanged if each call leaves it unchanged.
 pub kept_then : (a b c : State) → KeepsCommit a b → KeepsCommit b c → KeepsCommit a c
 kept_then a b c p q = record { was_open = λ still. p.was_open (q.was_open still); committed = λ still. q.committed still ∙ p.committed (q.was_open still) }
 
@@ -55,14 +55,14 @@ pub on_ok : {X E : Type 0} {P Q : Type 0} (r : Result X E) → (P → Q) → OnO
 on_ok (Ok x) f h = f h
 on_ok (Err e) f h = tt
 
--- Two turns of the tables, one after another.
+-- The effects of two calls in sequence combine to one effect on the content of the tables.
 pub turns_then : (schema : Schema) (a b c : Database) (P Q R : Content → Content → Type 0) → ((x y z : Content) → P x y → Q y z → R x z) → TurnsIn schema P a b → TurnsIn schema Q b c → TurnsIn schema R a c
 turns_then schema a b c P Q R goes one two content has =
     let first = one content has in
     let second = two first.0 first.2 in
     (second.0, goes content first.0 second.0 first.1 second.1, second.2)
 
--- If the first of two calls is Ok, the two calls together are one step.
+-- Two calls in sequence inside a transaction are one step if the first call is Ok.
 pub goes_then : {X Y D E : Type 0} (a b c : State) (x : X) (r : Result Y E) (P Q R : Database → Database → Type 0) → StepsTo {X = X} {E = D} a b (Ok x) P → StepsTo b c r Q
     → (P a.now b.now → Q b.now c.now → R a.now c.now) → StepsTo a c r R
 goes_then a b c x r P Q R one two goes = record {
@@ -78,7 +78,7 @@ pub steps_then : {X Y D E : Type 0} (a b c : State) (x : X) (r : Result Y E) (P 
     → ((x y z : Content) → P x y → Q y z → R x z) → StepsTo a c r (Turns R)
 steps_then a b c x r P Q R one two goes = goes_then a b c x r (Turns P) (Turns Q) (Turns R) one two (turns_then _ a.now b.now c.now P Q R goes)
 
--- Without any call, the tables are unchanged.
+-- A transaction without any call leaves the tables unchanged.
 pub no_steps : {X E : Type 0} (a : State) (x : X) → StepsTo {X = X} {E = E} a a (Ok x) (Turns (λ content after. after ≡ content))
 no_steps a x = record {
   kept = λ clean inside. record { was_open = λ still. still; committed = λ still. refl };
@@ -87,15 +87,16 @@ no_steps a x = record {
   survives = record { clean = omega arith; shield = λ is. is; counts = omega arith; limit = refl; closes = λ clean is. inl is; crash = λ clean db left. inl left };
 }
 
--- A failed step is a failed step of any kind.
+-- A failed step satisfies the contract of any step, because contracts constrain the rows only at
+-- Ok.
 pub failed : {X Y D E : Type 0} (a b : State) (e : D) (d : E) (P Q : Database → Database → Type 0) → StepsTo {X = X} a b (Err e) P → StepsTo {X = Y} a b (Err d) Q
 failed a b e d P Q one = record { kept = one.kept; inside = λ clean inside. tt; rows = λ clean inside. tt; survives = one.survives }
 
--- A step with one Ok value is a step with any other Ok value.
+-- The effect of a successful step does not depend on the Ok value that the step returns.
 pub answered : {X Y D E : Type 0} (a b : State) (x : X) (y : Y) (P : Database → Database → Type 0) → StepsTo {X = X} {E = D} a b (Ok x) P → StepsTo {X = Y} {E = E} a b (Ok y) P
 answered a b x y P one = record { kept = one.kept; inside = one.inside; rows = one.rows; survives = one.survives }
 
--- A step whose postcondition is implied by that of another step.
+-- A step that satisfies a stronger postcondition also satisfies a weaker one.
 pub weaker : {X E : Type 0} (a b : State) (r : Result X E) (P Q : Database → Database → Type 0) → (P a.now b.now → Q a.now b.now) → StepsTo a b r P → StepsTo a b r Q
 weaker a b r P Q tells one = record { kept = one.kept; inside = one.inside; rows = λ clean inside. on_ok r tells (one.rows clean inside); survives = one.survives }
 
@@ -116,7 +117,7 @@ module _ {S : Type 0} (g : Ghosts S) (old : Held S) (mid end : State) (Goes : Da
   kept_begun : (new : State) → KeepsCommit (state g (record old { in_transaction = true })) new → KeepsCommit (state g old) new
   kept_begun new k = record { was_open = k.was_open; committed = k.committed }
 
-  -- A transaction whose calls before the commit succeeded.
+  -- If all calls before COMMIT succeeded, the result of the transaction is the result of COMMIT.
   pub transacted : {D : Type 0} (r : Result (Unit {0}) Error) → StepsTo {X = Unit {0}} {E = D} (state g (record old { in_transaction = true })) mid (Ok tt) Goes
       → (HasCleanDisk end → OnOk r (IsTrue mid.in_transaction × Shows mid end mid.now mid.now false × KeepsCounts mid end × (end.marks ≡ []))) → (HasCleanDisk end → IfErr r (FailsToCommit mid end))
       → Survives mid end (λ db. db ≡ mid.now.trees) → TransactsTo (state g old) end r Goes
@@ -133,7 +134,7 @@ module _ {S : Type 0} (g : Ghosts S) (old : Held S) (mid end : State) (Goes : Da
             (λ _ db none. absurd none) (λ clean db is. (mid.now, turns clean, is)) done.survives crash);
       }
 
-  -- A transaction that was rolled back leaves the last commit.
+  -- A transaction that was rolled back after an error leaves the last committed rows.
   pub given_up : {X Y D E : Type 0} (e : D) (d : E) → StepsTo {X = X} (state g (record old { in_transaction = true })) mid (Err e) Goes → (HasCleanDisk end → IsRolledBack mid end) → Survives mid end (λ _. ⊥)
       → TransactsTo {X = Y} (state g old) end (Err d) Goes
   given_up e d done undone crash =
@@ -146,14 +147,14 @@ module _ {S : Type 0} (g : Ghosts S) (old : Held S) (mid end : State) (Goes : Da
 
 -- ---- queries
 
--- A query changes nothing.
+-- A successful query leaves the database unchanged.
 pub shown_same : (sql : List ℕ) (params : Row) (old new : State) (rows : List Row) → IsPlain (understood old.now.schema sql) → Shown sql params old new rows → IsUnchanged old new
 unfolding Shown
 shown_same sql params old new rows plain h =
     let none = (subst IsPlain h.1.is plain).0 in
     (subst (ShowsRows old new sql h.0 (timed params h.0.formats h.1.now) rows) none h.2).3
 
--- A failed query keeps the commit.
+-- A failed query leaves the last committed rows.
 pub failed_query_kept : (sql : List ℕ) (params : Row) (old new : State) (e : Error) → IsPlain (understood old.now.schema sql) → FailsToQuery sql params old new e → KeepsCommit old new
 unfolding FailsToQuery
 failed_query_kept sql params old new e plain (inl h) = not_run_kept old new sql params e h
@@ -170,11 +171,11 @@ asked_kept sql params old new (Err e) rows plain ok err = failed_query_kept sql 
 pub plain_in : (schema : Schema) (sql : List ℕ) (d : Database) → d.schema ≡ schema → IsPlain (understood schema sql) → IsPlain (understood d.schema sql)
 plain_in schema sql d has plain = subst (λ s. IsPlain (understood s sql)) (sym has) plain
 
--- A query commits nothing.
+-- A query commits nothing, even if a crash interrupts it.
 pub shown_survives : (sql : List ℕ) (params : Row) (old new : State) → IsPlain (understood old.now.schema sql) → Survives old new (CommitsShowing sql params old) → Survives old new (λ _. ⊥)
 shown_survives sql params old new plain = survives_weaker old new _ _ (λ _ db. never_commits sql params old db plain)
 
--- What `Asks` states is true of a look-up by one query.
+-- A look-up that makes one query satisfies `Asks`: it commits nothing and opens no transaction.
 pub asks : {S X : Type 0} (g : Ghosts S) (sql : List ℕ) (params : Row) (old new : Held S) (r : Result X Error) (rows : X → List Row) → IsPlain (understood books_schema sql)
     → (HasCleanDisk (state g new) → IfOk r (λ x. Shown sql params (state g old) (state g new) (rows x))) → (HasCleanDisk (state g new) → IfErr r (FailsToQuery sql params (state g old) (state g new)))
     → (old.in_transaction ≡ false → new.in_transaction ≡ false) → Survives (state g old) (state g new) (CommitsShowing sql params (state g old)) → Asks g old new
@@ -196,7 +197,8 @@ shown_still : {X : Type 0} (sql : List ℕ) (params : Row) (old new : State) (r 
 shown_still sql params old new (Ok x) rows plain ok inside = let same = shown_same sql params old new (rows x) plain ok in (same.0.mode ∙ inside, same.0.now_is)
 shown_still sql params old new (Err e) rows plain ok inside = tt
 
--- What `AsksInside` states is true of one query inside a transaction.
+-- One query inside a transaction satisfies `AsksInside`: if it succeeds, the transaction stays open
+-- with the same rows.
 pub asks_inside : {S X : Type 0} (g : Ghosts S) (sql : List ℕ) (params : Row) (old new : Held S) (r : Result X Error) (rows : X → List Row) → IsPlain (understood books_schema sql)
     → (HasCleanDisk (state g new) → IfOk r (λ x. Shown sql params (state g old) (state g new) (rows x)))
     → (HasCleanDisk (state g new) → IfErr r (λ e. FailsToQuery sql params (state g old) (state g new) e ⊎ IsTooLate sql params (state g old) (state g new) e))

@@ -34,7 +34,7 @@ pub cast_null : cast Integer Null ≡ Null
 unfolding unary
 cast_null = either _ Null
 
--- A cast keeps a rowid.
+-- Casting a rowid to INTEGER leaves the rowid unchanged.
 pub rowid_stays : (r : Row) → rowid r ≡ Int (id_of r) → cast Integer (rowid r) ≡ rowid r
 rowid_stays r keyed = ap (cast Integer) keyed ∙ (cast_int (id_of r) ∙ sym keyed)
 
@@ -45,7 +45,7 @@ went (inr on) = on
 pub same_value : {B E : Type 0} {a b : B} → ◌≡◌ {A = Result B E} (Ok a) (Ok b) → a ≡ b
 same_value e = cc
 
--- No foreign key of the store changes rows, for any change or deletion of rows.
+-- No foreign key of the store changes rows when a parent row is updated or deleted.
 acts_not : (k : ℕ) (deletes : Bool) (olds news : List Row)
     → flat_map (λ (child : Table). filter_map (λ (ref : Reference). work_by 0 k (pairs olds news) child ref (deed_for Enforced deletes ref) (parent_key books_schema.tables ref)) child.references) books_schema.tables ≡ []
 acts_not k true olds news = refl
@@ -54,7 +54,7 @@ acts_not k false olds news = refl
 pub nothing_acts : (k : ℕ) (olds news : List Row) → works books_schema Enforced 0 k olds news ≡ []
 nothing_acts k olds news = acts_not k (length news == 0) olds news
 
--- One table has other rows, and everything else is unchanged.
+-- True if the databases `old` and `new` differ only in the rows of table `k`.
 pub record Rewrites (form : Schema) (k : ℕ) (old new : Database) : Type 0 where
   pub schema : new.schema ≡ form
   pub sound : IsDatabase new

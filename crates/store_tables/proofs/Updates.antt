@@ -63,7 +63,7 @@ module _ (t : Table) (at : ℕ) (place : slice_get books_schema.tables at ≡ So
     news_are [] = refl
     news_are (r ∷ rows) = ap (λ rs. made r ∷ rs) (news_are rows)
 
-    -- The rows that pass are changed, and keep their rowids.
+    -- The effect of an UPDATE: each row that passes the test is changed, and keeps its rowid.
     record Changes (old new : Database) : Type 0 where
       rewrites : Rewrites books_schema k old new
       rows : AreApart (old.trees k) → IsPermutation (map (changed chosen made) (old.trees k)) (new.trees k)
@@ -101,7 +101,7 @@ module _ (t : Table) (at : ℕ) (place : slice_get books_schema.tables at ≡ So
           rows = stored;
         }
 
-    -- UPDATE .. SET .. WHERE ..
+    -- The effect of UPDATE .. SET .. WHERE .. on the rows of a table.
     module _ {X : Type 0} (columns : X → Row) (p : X → Bool) (f : X → X) (tells : (n : ℤ) (x : X) → chosen (laid (is_numbered k) n (columns x)) ≡ p x)
         (makes : (n : ℤ) (x : X) → made (laid (is_numbered k) n (columns x)) ≡ laid (is_numbered k) n (columns (f x))) (keeps : (r : Row) → rowid r ≡ Int (id_of r) → rowid (made r) ≡ rowid r) where
       pub updates : (old new : State) (text : List ℕ) (r : Result ℕ Error) → command_of (understood books_schema text) ≡ Update at (record { lets = []; body = query }) → IsPlain (understood books_schema text)
@@ -121,7 +121,7 @@ module _ (t : Table) (at : ℕ) (place : slice_get books_schema.tables at ≡ So
   gone_are [] = refl
   gone_are (r ∷ rows) = ap (λ ids. id_of r ∷ ids) (gone_are rows)
 
-  -- The rows that pass are deleted.
+  -- The effect of a DELETE: the rows that pass the test are deleted, and no other row.
   record Goes (old new : Database) : Type 0 where
     rewrites : Rewrites books_schema k old new
     rows : AreApart (old.trees k) → new.trees k ≡ filter (λ r. not (chosen r)) (old.trees k)
@@ -155,7 +155,7 @@ module _ (t : Table) (at : ℕ) (place : slice_get books_schema.tables at ≡ So
         rows = stored;
       }
 
-  -- DELETE FROM .. WHERE ..
+  -- The effect of DELETE FROM .. WHERE .. on the rows of a table.
   pub deletes : {X : Type 0} (columns : X → Row) (p : X → Bool) → ((n : ℤ) (x : X) → chosen (laid (is_numbered k) n (columns x)) ≡ p x) → (old new : State) (text : List ℕ) (r : Result ℕ Error)
       → command_of (understood books_schema text) ≡ Delete at (record { lets = []; body = gone_query }) → IsPlain (understood books_schema text)
       → Executes text params old new r → OnOk r (Turns (Edits k columns (without_where p)) old.now new.now)

@@ -4,39 +4,40 @@ use Rattle.std.specs.List.{AllByRecursion}
 use Rattle.std.specs.List.Sorted.{IsPermutation}
 use Rattle.sqlite.specs.Tree.{IsAscending}
 
--- `found` lists all rows that pass the test. Each row is in relation `Later` to every later row.
+-- True if `found` lists the rows that pass a test, and `Later` relates each row to every row after
+-- it in `found`.
 pub record AreFound {X : Type 0} (passes : X → Bool) (Later : X → X → Type 0)
     (rows found : List X) : Type 0 where
   pub all : IsPermutation (filter passes rows) found
   pub order : IsAscending Later found
 
 module _ {X A : Type 0} (passes : X → Bool) (IsSeen : X → A → Type 0) where
-  -- The answer is the value that the query shows of one passing row, or None if no row passes.
+  -- True if a look-up returns the value in a row that passes its test, or None if no row passes.
   abbrev pub IsFound : List X → Option A → Type 0
   IsFound rows None = filter passes rows ≡ []
   IsFound rows (Some a) =
       (x : X) × IsSeen x a × (others : List X) × IsPermutation (filter passes rows) (x ∷ others)
 
-  -- The answer is the value that the query shows of the passing row with the greatest key, or None
-  -- if no row passes.
+  -- True if a look-up returns the value in the passing row with the greatest key, or None if no row
+  -- passes.
   abbrev pub IsLast : (key : X → ℕ) → List X → Option A → Type 0
   IsLast key rows None = filter passes rows ≡ []
   IsLast key rows (Some a) =
       (x : X) × IsSeen x a × (others : List X) × IsPermutation (filter passes rows) (x ∷ others)
       × AllByRecursion (λ y. key y ≤ key x) others
 
--- The relation `Later` of rows in any order.
+-- The order of a query without ORDER BY: rows may come in any order.
 abbrev pub AnyOrder : {X : Type 0} → X → X → Type 0
 AnyOrder x y = ⊤
 
--- The relation `Later` of rows in descending order of their keys.
+-- The order of ORDER BY .. DESC: no row has a greater key than the rows before it.
 abbrev pub LastFirst : {X : Type 0} → (key : X → ℕ) → X → X → Type 0
 LastFirst key x y = key y ≤ key x
 
--- The relation `Later` of rows in ascending order of their keys.
+-- The order of ORDER BY: no row has a smaller key than the rows before it.
 abbrev pub FirstFirst : {X : Type 0} → (key : X → ℕ) → X → X → Type 0
 FirstFirst key x y = key x ≤ key y
 
--- The test that every row passes.
+-- The test of a query without WHERE: every row passes.
 abbrev pub every : {X : Type 0} → X → Bool
 every x = true

@@ -1,4 +1,4 @@
--- What a query leaves unchanged, and how its answer follows from the rows.
+-- What a query leaves unchanged, and how its answer follows from the rows of a table.
 use Rattle.std.specs.Prelude.{◌≡◌, ℕ, Bool, false, List, take, map, Result, Vec, IsTrue, IfOk, IfErr, OnOk, MatchResult}
 use Rattle.std.specs.List.{AllByRecursion}
 use Rattle.sqlite.specs.Order.{Row}
@@ -33,19 +33,19 @@ pub record AsksInside {S X E : Type 0} (g : Ghosts S) (old new : Held S) (result
       → OnOk result (IsTrue new.in_transaction × ((state g new).now ≡ (state g old).now))
   pub survives : Survives (state g old) (state g new) (λ _. ⊥)
 
--- `answer` has the rows that a SELECT shows: the table's rows that pass its test, in its order.
+-- True if `answer` is the result of a SELECT: the rows that pass its WHERE test, in its order.
 abbrev pub Shows : {X : Type 0} → (passes : X → Bool) → (Later : X → X → Type 0) → (shown : X → Row)
     → (rows : List X) → (answer : List Row) → Type 0
 Shows {X} passes Later shown rows answer =
     (found : List X) × AreFound passes Later rows found × (answer ≡ map shown found)
 
--- `answer` has the first row that a SELECT shows, or no row if it shows none.
+-- True if `answer` is the result of a SELECT with LIMIT 1: its first matching row, or no row.
 abbrev pub ShowsFirst : {X : Type 0} → (passes : X → Bool) → (Later : X → X → Type 0)
     → (shown : X → Row) → (rows : List X) → (answer : List Row) → Type 0
 ShowsFirst {X} passes Later shown rows answer =
     (found : List X) × AreFound passes Later rows found × (answer ≡ take 1 (map shown found))
 
--- An Ok answer follows from the rows of one table. An error has one of the causes of
+-- True if an Ok answer of a query follows from the rows of one table, and an error has a cause in
 -- `IsStoreError`.
 abbrev pub TellsAnswer : {S A X : Type 0} → Ghosts S → (old new : Held S) → (tree : ℕ)
     → (columns : X → Row) → (result : Result A Error) → (Answers : List X → A → Type 0) → Type 0
@@ -54,7 +54,7 @@ TellsAnswer {S} {A} {X} g old new tree columns result Answers =
     → (rows : List X) → HasRows tree columns rows content
     → MatchResult result (Answers rows) (IsStoreError (state g old) (state g new))
 
--- An Ok list of rows follows from the rows of one table. An error has one of the causes of
+-- True if the rows of an Ok answer follow from the rows of one table, and an error has a cause in
 -- `IsStoreError`.
 abbrev pub TellsRows : {S X Z : Type 0} → Ghosts S → (old new : Held S) → (tree : ℕ)
     → (columns : X → Row) → (result : Result (Vec Row Z) Error)
@@ -62,16 +62,15 @@ abbrev pub TellsRows : {S X Z : Type 0} → Ghosts S → (old new : Held S) → 
 TellsRows {S} {X} {Z} g old new tree columns result Answers =
     TellsAnswer g old new tree columns result (λ rows answer. Answers rows answer.items)
 
--- A result row that shows a value is read back as this value. `Damaged` is reported only for a
--- value out of its range. The only other fault is out of memory.
+-- True if a reader returns the value that a result row encodes. The reader reports `Damaged` only
+-- for a value out of its range. The only other fault is out of memory.
 pub record ReadsRow {A X : Type 0} (row : Row) (shown : X → Row) (IsSeen : X → A → Type 0)
     (IsSound : X → Type 0) (result : Result A RowFault) : Type 0 where
   pub read : (x : X) → row ≡ shown x → IfOk result (IsSeen x)
   pub fault : (x : X) → row ≡ shown x → IfErr result (IsRowFault (IsSound x))
 
--- A look-up queries one table, and an Ok answer follows from the table's rows. `Damaged` is
--- reported only if a row is out of its ranges. Any other fault has one of the causes of
--- `IsStoreError`.
+-- True if a look-up makes one query, and an Ok answer follows from the table's rows. `Damaged` is
+-- reported only if a row is out of its ranges. Any other fault has a cause in `IsStoreError`.
 pub record LooksUp {S A X : Type 0} (g : Ghosts S) (old new : Held S) (tree : ℕ) (columns : X → Row)
     (IsSound : X → Type 0) (result : Result A RowFault) (Answers : List X → A → Type 0) : Type 0
   where

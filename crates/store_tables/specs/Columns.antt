@@ -1,4 +1,4 @@
--- Readers of one value of a row, within bounds.
+-- Checks of single column values of a row against their bounds.
 use Rattle.std.specs.Prelude.{ℕ, suc, ℤ, pos, negsuc, Bool, nat_le, ◌&&◌, ◌==◌, if◌then◌else◌, List, Option, Some, None, Result, Ok, Err}
 use Rattle.std.specs.List.{slice_get}
 use Rattle.std.specs.Option.{option_and_then}
@@ -10,7 +10,7 @@ use Rattle.sqlite.specs.declared.types.Value.TheVariants.{Null, Int, Real, Text,
 use Rattle.store_tables.specs.declared.faults.RowFault.{RowFault}
 use Rattle.store_tables.specs.declared.faults.RowFault.TheVariants.{Damaged}
 
--- The integer that a value has, if it is from `low` to `high`.
+-- The integer in a column, or None if the column has no integer from `low` to `high`.
 abbrev pub whole_in : (low high : ℕ) → Value → Option ℕ
 whole_in low high (Int (pos n)) = if nat_le low n && nat_le n high then Some n else None
 whole_in low high (Int (negsuc n)) = None
@@ -19,12 +19,12 @@ whole_in low high (Real x) = None
 whole_in low high (Text t) = None
 whole_in low high (Blob b) = None
 
--- Whether an integer is from `-bound` to `bound`.
+-- True if an integer is from `-bound` to `bound`.
 abbrev pub is_within : (bound : ℕ) → ℤ → Bool
 is_within bound (pos n) = nat_le n bound
 is_within bound (negsuc n) = nat_le (suc n) bound
 
--- The integer that a value has, if it is from `-bound` to `bound`.
+-- The integer in a column, or None if the column has no integer from `-bound` to `bound`.
 abbrev pub within : (bound : ℕ) → Value → Option ℤ
 within bound (Int n) = if is_within bound n then Some n else None
 within bound Null = None
@@ -32,34 +32,35 @@ within bound (Real x) = None
 within bound (Text t) = None
 within bound (Blob b) = None
 
--- The Modbus read function with this function code, if there is one.
+-- The Modbus read function with a function code (3 or 4), or None for any other code.
 abbrev pub function_of : ℕ → Option ReadFunction
 function_of code =
     if code == 3 then Some HoldingRegisters else if code == 4 then Some InputRegisters else None
 
--- The Modbus read function whose code a value has, if there is one.
+-- The Modbus read function whose function code is in a column, or None.
 abbrev pub function_in : Value → Option ReadFunction
 function_in v = option_and_then function_of (whole_in 3 4 v)
 
--- The value as Ok, or `Damaged` if there is no value.
+-- Ok with the value of a column, or `Damaged` if the column has no valid value.
 abbrev pub or_damaged : {X : Type 0} → Option X → Result X RowFault
 or_damaged None = Err Damaged
 or_damaged (Some x) = Ok x
 
--- Passes an Ok column to the reader of the next column. A damaged column ends the row as damaged.
+-- Continues with the next column of a row if a column is Ok, and otherwise returns the column's
+-- fault.
 abbrev pub and_then : {X Y : Type 0} → Result X RowFault → (X → Result Y RowFault)
     → Result Y RowFault
 and_then (Err e) next = Err e
 and_then (Ok x) next = next x
 
--- The integer in the first column of the row, or None without a row. An integer outside `low` to
+-- The integer in the first column of a row, or None without a row. An integer outside `low` to
 -- `high` is damage.
 abbrev pub first_of : (low high : ℕ) → Option Row → Result (Option ℕ) RowFault
 first_of low high None = Ok None
 first_of low high (Some row) =
     and_then (or_damaged (whole_in low high (column row 0))) (λ n. Ok (Some n))
 
--- The integer in the first column of the first row, or None without rows. An integer outside `low`
--- to `high` is damage.
+-- The integer in the first column of a result's first row, or None without rows. An integer outside
+-- `low` to `high` is damage.
 abbrev pub first_in : (low high : ℕ) → List Row → Result (Option ℕ) RowFault
 first_in low high rows = first_of low high (slice_get rows 0)

@@ -12,23 +12,22 @@ use Rattle.sqlite.specs.Schema.{Schema}
 use Rattle.sqlite.specs.Effect.{Database, IsDatabase}
 use Rattle.store_tables.specs.Schema.{books_schema}
 
--- A table in the list is stored in the tree (B-tree) with this number.
+-- True if a table in the list is stored in the B-tree with the given number.
 abbrev pub HasTree : List Table → ℕ → Type 0
 HasTree [] t = ⊥
 HasTree (x ∷ xs) t = (t ≡ x.tree) ⊎ HasTree xs t
 
--- The rows of each table, in any order. The key is the number of the table's tree. If a table's
--- integer primary key is its rowid, its rows begin with the rowid, and the key's own column is
--- NULL.
+-- The rows of each table, by the number of the table's B-tree, in any order. If a table has an
+-- integer primary key, each of its rows begins with the rowid, and the key's own column is NULL.
 abbrev pub Content : Type 0
 Content = ℕ → List Row
 
--- Whether the primary key of the table with this tree number is its rowid.
+-- True if the table with the given tree number has an integer primary key, which is the table's
+-- rowid.
 abbrev pub is_numbered : ℕ → Bool
 is_numbered t = list_any (λ n. n == t) (0 ∷ 1 ∷ 5 ∷ 7 ∷ 11 ∷ 12 ∷ 13 ∷ [])
 
--- The columns of a stored row. The first column, the rowid, is dropped from a row whose rowid
--- SQLite chose.
+-- The columns of a stored row, without the rowid if SQLite chose the rowid.
 abbrev pub told : Bool → Row → Row
 told true row = row
 told false row = drop 1 row
@@ -37,16 +36,16 @@ told false row = drop 1 row
 abbrev pub id_of : Row → ℤ
 id_of r = id_in (rowid r)
 
--- Whether two rowids are equal.
+-- True if two rowids are equal.
 abbrev pub same_id : ℤ → ℤ → Bool
 same_id x y = is_eq (int_cmp x y)
 
--- Each row has an integer rowid, and no two rows have equal rowids.
+-- True if each row of a table has an integer rowid, and no two rows have equal rowids.
 pub record AreApart (rows : List Row) : Type 0 where
   pub keyed : AllByRecursion (λ r. rowid r ≡ Int (id_of r)) rows
   pub distinct : IsDistinct same_id (map id_of rows)
 
--- A database has this schema, and its tables have the rows of `content`.
+-- True if the database `db` has the schema `form`, and its tables have the rows of `content`.
 pub record AreTablesIn (form : Schema) (db : Database) (content : Content) : Type 0 where
   pub schema : db.schema ≡ form
   pub rows : (t : ℕ) → HasTree form.tables t
@@ -54,34 +53,33 @@ pub record AreTablesIn (form : Schema) (db : Database) (content : Content) : Typ
   pub apart : (t : ℕ) → HasTree form.tables t → AreApart (db.trees t)
   pub sound : IsDatabase db
 
--- A database has the store's schema, and its tables have the rows of `content`.
+-- True if a database has the store's schema, and its tables have the rows of a `Content`.
 abbrev pub AreTables : Database → Content → Type 0
 AreTables = AreTablesIn books_schema
 
--- The content with the rows of one table replaced.
+-- The content of a store's tables, with the rows of one table replaced.
 abbrev pub with_rows : ℕ → List Row → Content → Content
 with_rows k rows content t = if t == k then rows else content t
 
--- One table has these rows, in any order.
+-- True if the table `tree` has exactly the rows that encode the values in a list, in any order.
 abbrev pub HasRows : {X : Type 0} → (tree : ℕ) → (columns : X → Row) → List X → Content → Type 0
 HasRows tree columns xs content = IsPermutation (map columns xs) (content tree)
 
--- The table with number `tree` has the rows that `edit` makes of its old rows. Every other table is
--- unchanged.
+-- True if a write replaces the rows of table `tree` by `edit` of these rows, and leaves all other
+-- tables unchanged.
 pub record Edits {X : Type 0} (tree : ℕ) (columns : X → Row) (edit : List X → List X)
     (content after : Content) : Type 0 where
   pub rows : (xs : List X) → HasRows tree columns xs content → HasRows tree columns (edit xs) after
   pub others : (t : ℕ) → t ≢ tree → after t ≡ content t
 
--- The rows with `x` added. `changed_where` and `without_where` are the other two changes of a
--- table's rows.
+-- The rows of a table after an INSERT: the row `x` is added.
 abbrev pub with_row : {X : Type 0} → X → List X → List X
 with_row x xs = x ∷ xs
 
--- The rows, with each row that passes the test `p` changed by `f`.
+-- The rows of a table after an UPDATE: each row that passes the test `p` is changed by `f`.
 abbrev pub changed_where : {X : Type 0} → (X → Bool) → (X → X) → List X → List X
 changed_where p f xs = map (λ x. if p x then f x else x) xs
 
--- The rows that do not pass the test `p`.
+-- The rows of a table after a DELETE: only rows that fail the test `p` remain.
 abbrev pub without_where : {X : Type 0} → (X → Bool) → List X → List X
 without_where p xs = filter (λ x. not (p x)) xs

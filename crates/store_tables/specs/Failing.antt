@@ -1,4 +1,4 @@
--- Why a call of the store's tables returns an error.
+-- Why a call on the store's tables returns an error.
 use Rattle.std.specs.Prelude.{◌≡◌, ◌≤◌, ◌⊎◌, false, IsTrue, IsSome}
 use Rattle.sqlite.specs.declared.error.ErrorCode.TheVariants.{OutOfMemory, OperationInterrupted}
 use Rattle.sqlite.specs.declared.error.Error.{Error}
@@ -8,7 +8,8 @@ use Rattle.sqlite_disk.specs.Disk.{MoreFaults}
 use Rattle.store_tables.specs.declared.faults.RowFault.{RowFault}
 use Rattle.store_tables.specs.declared.faults.RowFault.TheVariants.{Sql, Damaged}
 
--- The database was closed before the call, or its disk failed or refused an access during the call.
+-- True if the database was closed before a call, or its disk failed or refused an access during the
+-- call.
 abbrev pub HasFailed : (old new : State) → Type 0
 HasFailed old new = (old.is_open ≡ false) ⊎ MoreFaults old.faults new.faults
 
@@ -16,27 +17,28 @@ HasFailed old new = (old.is_open ≡ false) ⊎ MoreFaults old.faults new.faults
 abbrev pub want_of_memory : Error
 want_of_memory = SqliteFailure OutOfMemory
 
--- The only causes of an error: out of memory, a closed database, a failure of its disk, or SQLite's
--- limit of steps.
+-- True if an error has a permitted cause: out of memory, a closed database, a failed disk, or
+-- SQLite's limit of steps.
 abbrev pub IsStoreError : (old new : State) → Error → Type 0
 IsStoreError old new e =
     (e ≡ want_of_memory)
     ⊎ (HasFailed old new
     ⊎ ((e ≡ SqliteFailure OperationInterrupted) × IsSome old.step_limit))
 
--- Why a look-up fails. An error has one of the causes of `IsStoreError`, and `Damaged` is reported
--- only if the rows are not sound.
+-- True if a look-up may fail with a fault: an error with a cause in `IsStoreError`, or `Damaged` if
+-- a row is out of its ranges.
 abbrev pub IsFault : (old new : State) → (IsSound : Type 0) → RowFault → Type 0
 IsFault old new IsSound (Sql e) = IsStoreError old new e
 IsFault old new IsSound Damaged = ¬ IsSound
 
--- Why a row can't be read: out of memory for its text, or `Damaged` if the row is not sound.
+-- True if the reader of a row may fail with a fault: out of memory, or `Damaged` if the row is out
+-- of its ranges.
 abbrev pub IsRowFault : (IsSound : Type 0) → RowFault → Type 0
 IsRowFault IsSound (Sql e) = e ≡ want_of_memory
 IsRowFault IsSound Damaged = ¬ IsSound
 
--- The state of the connection after a call. Failures of the disk stay counted, only a new failure
--- closes the database, and the limit of steps is unchanged.
+-- The state of a database connection after a call. Failures of the disk stay counted, only a new
+-- failure closes the database, and the limit of steps is unchanged.
 pub record StateAfterCall (old new : State) : Type 0 where
   pub faults : old.faults ≤ new.faults
   pub closes : IsTrue old.is_open → IsTrue new.is_open ⊎ MoreFaults old.faults new.faults

@@ -1,4 +1,4 @@
--- Bounds that several tables share.
+-- Bounds of the indices and timestamps in the tables of the store.
 use Rattle.std.specs.Prelude.{ℕ, ◌≤◌}
 use Rattle.poll_core.specs.declared.limits.TheConstants.{LAST_MOMENT}
 use Rattle.store_tables.specs.declared.limits.TheConstants.{GREATEST_PLACE}
@@ -7,7 +7,7 @@ use Rattle.store_tables.specs.declared.limits.TheConstants.{GREATEST_PLACE}
 abbrev pub greatest_place : ℕ
 greatest_place = GREATEST_PLACE
 
--- An index of a row is from 1 to `greatest_place`.
+-- True if a number can be the index of a row: from 1 to `greatest_place`.
 abbrev pub IsPlace : ℕ → Type 0
 IsPlace place = (1 ≤ place) × (place ≤ greatest_place)
 

@@ -7,23 +7,24 @@ use Rattle.sqlite.specs.State.{State, HasCleanDisk, KeepsCommit, Survives}
 use Rattle.store_tables.specs.Schema.{books_schema}
 use Rattle.store_tables.specs.Content.{Content, AreTablesIn}
 
--- Both are borrows of the same connection. Its owner gets back the state that the call left.
+-- True if two mutable borrows are of the same connection, so that its owner sees the state that a
+-- call left.
 abbrev pub IsSameBorrow : {X : Type 0} → MutBor X → MutBor X → Type 0
 IsSameBorrow old new = new.ghost_name ≡ old.ghost_name
 
--- For each content of the old database, the new one has a content that `Makes` relates to it. Both
--- databases have this schema.
+-- True if both databases have the schema `schema`, and `Makes` relates each old content of the
+-- tables to a new content.
 abbrev pub TurnsIn : Schema → (Content → Content → Type 0) → Database → Database → Type 0
 TurnsIn schema Makes old new = (content : Content) → AreTablesIn schema old content
     → (after : Content) × Makes content after × AreTablesIn schema new after
 
--- For each content of the old database, the new one has a content that `Makes` relates to it. Both
--- have the store's schema.
+-- True if both databases have the store's schema, and `Makes` relates each old content of the
+-- tables to a new content.
 abbrev pub Turns : (Content → Content → Type 0) → Database → Database → Type 0
 Turns = TurnsIn books_schema
 
--- A call inside a transaction. At Ok, `Goes` relates the new database to the old one. The call
--- commits nothing.
+-- The contract of a call inside a transaction. At Ok, `Goes` relates the new database to the old
+-- one. The call commits nothing.
 pub record StepsTo {X E : Type 0} (old new : State) (result : Result X E)
     (Goes : Database → Database → Type 0) : Type 0 where
   pub kept : HasCleanDisk new → IsTrue old.in_transaction → KeepsCommit old new
@@ -32,14 +33,14 @@ pub record StepsTo {X E : Type 0} (old new : State) (result : Result X E)
   pub rows : HasCleanDisk new → IsTrue old.in_transaction → OnOk result (Goes old.now new.now)
   pub survives : Survives old new (λ _. ⊥)
 
--- A call inside a transaction. At Ok, `Makes` relates the new content of the store's tables to the
--- old content.
+-- The contract of a call inside a transaction. At Ok, `Makes` relates the new content of the
+-- store's tables to the old content.
 abbrev pub Steps : {X E : Type 0} → State → State → Result X E → (Content → Content → Type 0)
     → Type 0
 Steps old new result Makes = StepsTo old new result (Turns Makes)
 
--- A complete transaction. At Ok it commits everything, and on an error nothing. A crash leaves the
--- old rows, or all changes.
+-- The contract of a complete transaction. At Ok, it commits all changes, and on an error none. A
+-- crash leaves the old rows, or all changes.
 pub record TransactsTo {X E : Type 0} (old new : State) (result : Result X E)
     (Goes : Database → Database → Type 0) : Type 0 where
   pub ok : HasCleanDisk new
@@ -47,8 +48,8 @@ pub record TransactsTo {X E : Type 0} (old new : State) (result : Result X E)
   pub err : HasCleanDisk new → OnErr result (KeepsCommit old new)
   pub survives : Survives old new (λ trees. (db : Database) × Goes old.now db × (trees ≡ db.trees))
 
--- A complete transaction after which `Makes` relates the new content of the store's tables to the
--- old content.
+-- The contract of a complete transaction after which `Makes` relates the new content of the store's
+-- tables to the old content.
 abbrev pub Transacts : {X E : Type 0} → State → State → Result X E → (Content → Content → Type 0)
     → Type 0
 Transacts old new result Makes = TransactsTo old new result (Turns Makes)

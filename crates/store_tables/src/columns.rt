@@ -1,4 +1,4 @@
-//! Readers of single columns of a result row, which check type and range.
+//! Readers of single columns of a result row, which check the type and the range of a column.
 ghost use Rattle.std.specs.Prelude.{◌≡◌, ◌≤◌, string_bytes, IsUtf8, IfOk, IfErr, IfSome};
 ghost use Rattle.sqlite.specs.declared.types.Value.TheVariants.{Text};
 ghost use Rattle.sqlite.specs.Order.{column};
@@ -11,7 +11,8 @@ use mb_wire::ReadFunction;
 use sqlite::types::ValueRef;
 use sqlite::{Error, ErrorCode, Row};
 
-/// Reads the column at index `at` as an integer from `low` to `high`. Anything else is damage.
+/// Reads the column at index `at` as an integer from `low` to `high`. Reports any other value as
+/// damage.
 pub fn whole(row: &Row, at: usize, low: u64, high: u64) -> Result<u64, RowFault>
     ensures read { result ≡ or_damaged (whole_in low high (column row.now at)) }
     ensures bounds { IfOk result (λ n. (low ≤ n) × (n ≤ high)) }
@@ -32,8 +33,8 @@ pub fn whole(row: &Row, at: usize, low: u64, high: u64) -> Result<u64, RowFault>
     }
 }
 
-/// Reads the first column of the first row as an integer from `low` to `high`. Returns None without
-/// rows.
+/// Reads the first column of a result's first row as an integer from `low` to `high`. Returns None
+/// without rows.
 pub fn first_whole(rows: &[Row], low: u64, high: u64) -> Result<Option<u64>, RowFault>
     ensures read { result ≡ first_in low high rows.now }
     ensures bounds { IfOk result (λ found. IfSome found (λ n. (low ≤ n) × (n ≤ high))) }
@@ -45,7 +46,7 @@ pub fn first_whole(rows: &[Row], low: u64, high: u64) -> Result<Option<u64>, Row
 }
 
 /// Reads the column at index `at` as a SunSpec scale factor from -3 to 3, the range that the store
-/// keeps.
+/// accepts.
 pub fn scale(row: &Row, at: usize) -> Result<i16, RowFault>
     ensures { result ≡ or_damaged (within 3 (column row.now at)) }
 {
@@ -72,8 +73,8 @@ pub fn function(row: &Row, at: usize) -> Result<ReadFunction, RowFault>
     }
 }
 
-/// Reads the column at index `at` as a text. A column of another type, or a text that is not UTF-8,
-/// is damage.
+/// Reads the column at index `at` as a text. Reports a column of another type, or a text that is
+/// not UTF-8, as damage.
 pub fn text(row: &Row, at: usize) -> Result<String, RowFault>
     ensures read { IfOk result (λ s. column row.now at ≡ Text (string_bytes s)) }
     ensures fault { (t : _) → column row.now at ≡ Text t → IfErr result (IsRowFault (IsUtf8 t)) }

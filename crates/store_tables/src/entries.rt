@@ -1,4 +1,4 @@
-//! The entries of meters, and which of them are voided, in the tables of the store.
+//! Statements on the tables `entries` and `voids`: the entries of meters, and the voided entries.
 
 mod columns;
 mod entries;

@@ -1,4 +1,4 @@
-//! Bounds that several tables share.
+//! Bounds of the indices and timestamps in the tables of the store.
 use poll_core::LAST_MOMENT;
 
 /// The greatest index of a row, and the greatest number of a poll: 2^62.

@@ -1,4 +1,4 @@
-//! The meters in the tables of the store: installations, and the ranges of their counters.
+//! Statements on the tables `installations` and `ranges`: meters, and the ranges of their counters.
 
 mod columns;
 mod installations;

@@ -4,7 +4,7 @@ ghost use Rattle.sqlite.specs.declared.types.Value.TheVariants.{Int};
 
 use sqlite::types::Value;
 
-/// Returns the SQL integer of an unsigned number.
+/// Converts an unsigned number to an SQL integer.
 pub fn number(n: u64) -> Value
     requires { n < 2 ^ 63 }
     ensures { result ≡ Int (pos n) }
@@ -12,7 +12,7 @@ pub fn number(n: u64) -> Value
     Value::Int(n as i64)
 }
 
-/// Returns the SQL integer of a signed number.
+/// Converts a signed number to an SQL integer.
 pub fn signed(n: &i16) -> Value
     ensures { result ≡ Int n.now }
 {

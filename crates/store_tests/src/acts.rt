@@ -1,5 +1,5 @@
-//! The acts of the tests over a database. Only this file runs them over files in memory, because
-//! the gate takes longer for each place that names the type of a store.
+//! Tasks that tests run over a database. Only this file runs tasks over files in memory, because
+//! each use of the type of a store makes the proofs take longer.
 use crate::stops::asked::Asked;
 use crate::stops::files::{Stop, Stopping, connected, files};
 use crate::stops::offices::play;
@@ -11,20 +11,21 @@ use sqlite_disk::{Fuse, Memory};
 use std::alloc::Global;
 use std::process::Abort;
 
-/// An act of a test over a database.
+/// A task that a test runs over a database.
 #[derive(Clone, Copy, Debug)]
 pub(crate) enum Act {
-    /// Creates a file of version 1.
+    /// Creates a file of version 1 for a test.
     Prepare,
     /// Opens a file of version 1, which upgrades it to version 3.
     Bring,
-    /// Plays all steps of an office, and then this request.
+    /// Runs all steps of a metering office over a new store, and then sends the office the given
+    /// request.
     Play(Asked),
-    /// Asserts what the upgraded file holds after a crash. The number is that of the acknowledged
+    /// Asserts which rows the upgraded file has after a crash, given the number of acknowledged
     /// steps.
     Brought(usize),
-    /// Asserts what the office's file holds after a crash. The number is that of the acknowledged
-    /// steps.
+    /// Asserts which rows the office's file has after a crash, given the request and the number of
+    /// acknowledged steps.
     Played(Asked, usize),
     /// Runs a test that begins with an empty database.
     Damage,
@@ -34,7 +35,7 @@ pub(crate) enum Act {
     RefusedFacts,
 }
 
-/// Runs an act over a database. Returns how many steps were acknowledged, and the store.
+/// Runs a task over a database. Returns how many steps were acknowledged, and the store.
 fn act_over<S: Alter + Drop>(
     rt: &impl Abort,
     alloc: Global,
@@ -58,7 +59,7 @@ fn act_over<S: Alter + Drop>(
     }
 }
 
-/// Runs an act over the database in these files. Returns how many steps were acknowledged, and the
+/// Runs a task over the database in these files. Returns how many steps were acknowledged, and the
 /// files.
 pub(crate) fn act_in(
     rt: &impl Abort,
@@ -78,7 +79,7 @@ pub(crate) fn act_in(
     }
 }
 
-/// Returns the files of an empty database. None of their calls fails.
+/// Returns the files of an empty database, on which no call fails.
 pub(crate) fn empty_files(rt: &impl Abort, alloc: Global) -> Files<Fuse<Memory>> {
     let never = Stop {
         file: Stopping::Log,
@@ -97,8 +98,9 @@ static TESTS: [Act; 5] = [
     Act::RefusedFacts,
 ];
 
-// A store counts its failures, and returns a database that has no office. It returns rejected
-// readings with all fields, and the days of a range. Records that the store refuses leave no row.
+// Checks that a store counts its failures, and that a database without a store is returned to the
+// caller. Also checks the fields of rejected readings, the days of a range, and that refused
+// records leave no row.
 #[test]
 fn stores_keep_what_they_promise(rt: HostRuntime) {
     for act in &TESTS {

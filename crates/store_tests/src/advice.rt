@@ -1,17 +1,17 @@
-//! The messages that explain the numbers which a round has printed.
+//! Tests the messages that explain the numbers which a polling round has printed.
 use office_program::PollEnd;
 use stored_office::say_remarks;
 
-// Printed lines: a rejected reading and a refusal among other lines, unknown numbers, and lines
-// that lack a word.
+// The printed lines of a polling round. The lines have a rejected reading and a refusal among other
+// lines, unknown numbers, and incomplete lines.
 static PRINTED: &[u8] =
     b"ok\nheld m1 60000 cause 6\nreading m1 60000 rolls 0 step 1\nheld m1 60000 cause 9\nheld m1 60000\nrefused 1\nrefused 13\n";
 
 static SAID: &[u8] =
     b"sunreg: m1: reading rejected: more energy than the ceiling allows; compare the reading with the meter: enter a reset or an exchange if the counter was changed, or a manual reading if it is right\nsunreg: inv: the database failed; check the free disk space and the file's permissions, then restart: everything acknowledged is kept\n";
 
-// The meanings of a rejected reading and of a refusal are printed. Other lines, and a round that
-// could not connect, have no message.
+// Checks that messages explain a rejected reading and a refusal. Other lines, and a polling round
+// that could not connect, have no message.
 #[test]
 fn what_numbers_mean_is_said(rt: HostRuntime) {
     let mut said = Vec::new(rt.alloc());

@@ -1,5 +1,5 @@
-//! A store with damaged rows. A query that reads the damage fails, and the store counts its
-//! failures. `tests/damaged_rows.py` damages every column.
+//! Tests a store with damaged rows. A query that reads a damaged row fails, and the store counts
+//! the failure. `tests/damaged_rows.py` damages every column.
 use crate::made::{found, opened};
 use crate::refused_facts::known_device;
 use crate::tables::strict;
@@ -9,8 +9,8 @@ use sqlite::{Alter, Connection};
 use std::alloc::Global;
 use std::process::Abort;
 
-/// Asserts that an office refuses the query that reads the damage, with this cause. Returns the
-/// store.
+/// Asserts that an office refuses a query that reads a damaged row, and that it reports damage as
+/// the cause. Returns the store.
 fn asked<B: Books>(rt: &impl Abort, alloc: Global, books: B) -> B {
     let mut office = opened(rt, alloc, books, 5000);
     let answer = office.meter(&Name::new(b"m1"));
@@ -18,8 +18,9 @@ fn asked<B: Books>(rt: &impl Abort, alloc: Global, books: B) -> B {
     office.into_books()
 }
 
-/// Asserts the failures of a store and their count, where each entry has a counter below zero. A
-/// known device is refused. Returns the store.
+/// Asserts the failures of a store and their count. Each stored meter entry has a damaged counter
+/// value below zero. Also asserts that the store refuses a device that it already has. Returns the
+/// store.
 pub(crate) fn failures_are_counted<S: Alter + Drop>(
     rt: &impl Abort,
     alloc: Global,

@@ -1,12 +1,12 @@
-//! A database that has no office is returned to the caller. No store is created or opened inside a
-//! transaction.
+//! Tests that a database without a store is returned to the caller, and that no store is created or
+//! opened inside a transaction.
 use office_store::SqlBooks;
 use sqlite::{Alter, Connection};
 use std::alloc::Global;
 use std::process::Abort;
 
-/// Creates a store with this time zone, or opens one if there is no time zone. Returns the number
-/// of the fault, or 0, and the connection.
+/// Creates a store with the given time zone, or opens a store if no time zone is given. Returns the
+/// number of the fault, or 0, and the connection.
 fn opening<S: Alter + Drop>(
     alloc: Global,
     connection: Connection<S>,
@@ -23,7 +23,7 @@ fn opening<S: Alter + Drop>(
 }
 
 /// An SQL statement that changes the database, the time zone of the store that is then created, and
-/// the number of the fault. Without a time zone, a store is opened.
+/// the number of the expected fault. If no time zone is given, a store is opened.
 type Step = (&'static str, Option<&'static str>, u8);
 
 static STEPS: [Step; 10] = [
@@ -39,7 +39,8 @@ static STEPS: [Step; 10] = [
     ("UPDATE meta SET version = 9", None, 1),
 ];
 
-/// Carries out a step, asserts the number of its fault, and returns the connection.
+/// Runs the SQL statement of a test step, creates or opens a store, asserts the number of the
+/// fault, and returns the connection.
 fn stepped<S: Alter + Drop>(
     rt: &impl Abort,
     alloc: Global,
@@ -53,7 +54,8 @@ fn stepped<S: Alter + Drop>(
     left
 }
 
-/// Carries out all steps over an empty database. Returns its store.
+/// Runs all test steps over an empty database, one after another. Returns the store of the
+/// database.
 pub(crate) fn each_is_handed_back<S: Alter + Drop>(
     rt: &impl Abort,
     alloc: Global,

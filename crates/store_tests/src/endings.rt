@@ -1,9 +1,9 @@
-//! The exit status of each ending of a command, and what is printed about the ending on standard
-//! error.
+//! Tests the exit status of each ending of a command, and the text that the command prints on
+//! standard error.
 use stored_files::{Ending, Failure, say};
 
-// Nothing is printed about a command that ended well or was refused. About a failure, `failed` is
-// printed, and a line with details.
+// Checks that a command prints nothing on standard error if it ended well or was refused. If a
+// command failed, it prints `failed` and a line with details.
 #[test]
 fn endings_have_their_statuses_and_texts(rt: HostRuntime) {
     let text = String::from_str(rt.alloc(), "error: x\n").expect(&rt, "no memory");

@@ -1,9 +1,9 @@
-//! The texts of all failures of a command.
+//! Tests the texts of all failures of a command.
 use device_scan::ScanFault;
 use office_store::OpenFault;
 use stored_files::{AuditFault, CopyFault, Failure, FileFault};
 
-/// Each failure of a command, and its text.
+/// Every failure of a command, with its text.
 static FAILURES: [(Failure<'static>, &str); 40] = [
     (Failure::Memory, "out of memory"),
     (
@@ -246,7 +246,7 @@ static FAILURES: [(Failure<'static>, &str); 40] = [
     ),
 ];
 
-// The text of each failure names the file or the port, says what happened, and what to do.
+// Checks that the text of each failure names the file or the port, the cause, and what to do.
 #[test]
 fn failures_have_their_texts(rt: HostRuntime) {
     for (failure, text) in &FAILURES {

@@ -1,5 +1,5 @@
-//! The texts of faults of the tables and of their file that no command prints, and the numbers of
-//! faults.
+//! Tests the texts of faults of the tables and of their file, and the numbers of the faults. No
+//! command prints these texts.
 use sqlite::Error;
 use std::alloc::Global;
 use std::fmt::Display;
@@ -8,7 +8,7 @@ use store_files::OpenFault;
 use store_tables::RowFault;
 use stored_files::FileFault;
 
-/// Asserts that each fault has the text beside it, without a full stop.
+/// Asserts that each fault has its expected text, without a full stop.
 fn assert_texts<F: Display>(rt: &impl Abort, alloc: Global, texts: &[(F, &str)]) {
     for (fault, text) in texts {
         let said = format!(in alloc; "{fault}").expect(rt, "no memory");
@@ -57,7 +57,7 @@ static CONNECTIONS: [(FileFault, u8); 5] = [
     (FileFault::Memory, 5),
 ];
 
-// Each fault has its text and its number.
+// Checks that each fault has its text and its number.
 #[test]
 fn faults_have_their_texts_and_numbers(rt: HostRuntime) {
     assert_texts(&rt, rt.alloc(), &FILES);

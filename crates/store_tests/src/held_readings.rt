@@ -1,4 +1,4 @@
-//! Queries return rejected readings with all their fields.
+//! Tests that queries return rejected readings with all their fields.
 use crate::new_books::ready;
 use crate::tables::strict;
 use energy_core::Cause;
@@ -9,16 +9,16 @@ use std::alloc::Global;
 use std::process::Abort;
 use store_queries::holds;
 
-/// SQL statements that insert two rejected readings of m1, and one of m0 between them. The second
-/// row of m1 has an earlier time than the first.
+/// SQL statements that insert two rejected readings of the meter m1, and one of the meter m0
+/// between them. The second reading of m1 has an earlier timestamp than the first.
 const HOLDS: &str =
     "DELETE FROM holds; INSERT INTO installations VALUES (2, 'm0', 'main', 20000, 1, 2000, 0, 0, 0);
 INSERT INTO holds VALUES (3, 'm1', 2, 1500, 4294967295, -32768, 1), (1, 'm1', 1, 1900, 0, 32767, 8), (2, 'm0', 2, 2000, 7, 0, 6)";
 
-/// A rejected reading: its poll, time, counter value, scale factor and cause.
+/// A rejected reading: its poll, timestamp, counter value, scale factor and cause.
 type Shown = (u64, u64, u32, i16, Cause);
 
-/// A sink that collects rejected readings, and remembers if memory ran out.
+/// A sink that collects rejected readings, and records whether memory ran out.
 #[derive(Drop)]
 struct Taken {
     readings: Vec<HeldReading>,
@@ -35,7 +35,7 @@ impl RowSink<HeldReading> for Taken {
     }
 }
 
-/// Creates a store that has these rejected readings.
+/// Creates a store that has the rejected readings of `HOLDS`.
 fn held<S: Alter + Drop>(
     rt: &impl Abort,
     alloc: Global,
@@ -46,7 +46,7 @@ fn held<S: Alter + Drop>(
     conn
 }
 
-/// Asserts that a query returns these rejected readings of m1, in this order.
+/// Asserts that a query returns the given rejected readings of the meter m1, in the given order.
 fn assert_readings<S: Alter>(
     rt: &impl Abort,
     alloc: Global,
@@ -76,7 +76,7 @@ fn assert_readings<S: Alter>(
     }
 }
 
-/// A time span, and the rejected readings of m1 in it.
+/// A time span, with the rejected readings of the meter m1 in the span.
 struct Part {
     from: u64,
     till: u64,
@@ -114,7 +114,8 @@ static PARTS: [Part; 5] = [
     },
 ];
 
-/// Queries all rejected readings, and those in each time span. Returns the store.
+/// Asserts the results of queries for all rejected readings, and for the rejected readings in each
+/// time span. Returns the store.
 pub(crate) fn they_are_handed_on<S: Alter + Drop>(
     rt: &impl Abort,
     alloc: Global,

@@ -1,5 +1,5 @@
-//! A meter whose energy in all files is more than a meter may have. The rows of a sound file never
-//! have so much energy.
+//! Tests a meter whose energy in all files together exceeds the greatest total of a meter. The rows
+//! of valid files never add up to so much energy.
 use energy_core::{Last, MAX_TOTAL};
 use meter_audit::Standing;
 use meter_journal::Installed;
@@ -13,7 +13,7 @@ const STAND: Last = Last {
     sf: 0,
 };
 
-/// Returns what is kept of a file whose meter has this total energy.
+/// Returns the summary of a file whose meter has the total energy `total`.
 fn file_of(rt: &impl Abort, alloc: Global, file: &'static str, total: u64) -> FiledOffice<'static> {
     let meter = FiledMeter {
         file,
@@ -40,8 +40,8 @@ fn file_of(rt: &impl Abort, alloc: Global, file: &'static str, total: u64) -> Fi
     }
 }
 
-/// The total energy of a meter in the next file, and the printed text about this file after one
-/// with 200 Wh.
+/// Each test case: the total energy of a meter in the second file, and the text that is printed
+/// about this file. The first file has 200 Wh.
 static TOTALS: [(u64, &[u8]); 2] = [
     (3_999_999_999_999_800_000, b"joined: fine\n"),
     (
@@ -50,7 +50,7 @@ static TOTALS: [(u64, &[u8]); 2] = [
     ),
 ];
 
-// A meter may have at most as much energy in all files as in one file.
+// Checks that a meter may have at most as much energy in all files together as in one file.
 #[test]
 fn the_energy_of_all_files_has_a_limit(rt: HostRuntime) {
     for (total, printed) in &TOTALS {

@@ -1,4 +1,4 @@
-//! The theorems about the energy of several files and about the days of a range, applied to
+//! Applies the theorems about the energy of several files and about the days of a range to
 //! examples.
 use crate::made::{made, opened};
 use crate::stops::offices::accepts;
@@ -15,7 +15,7 @@ use sqlite::{Alter, Connection};
 use std::alloc::Global;
 use std::process::Abort;
 
-/// A sink that counts days.
+/// A sink that counts the days that a query returns.
 #[derive(Drop)]
 struct CountedDays {
     count: u32,
@@ -35,7 +35,8 @@ const DAY: &str = "0 device d 1 60 1
 0 install main m 0 0 1000000
 900 manual main 100 0";
 
-/// Returns the number of days in a range: from the first day on, and before the end day.
+/// Returns the number of days in a range that begins with the day `from` and ends before the day
+/// `till`.
 fn days_between<B: Books>(rt: &impl Abort, office: &mut Office<B>, from: &str, till: &str) -> u32 {
     let range = DayRange {
         from: read_day(from),
@@ -47,8 +48,8 @@ fn days_between<B: Books>(rt: &impl Abort, office: &mut Office<B>, from: &str, t
     counted.count
 }
 
-/// Asserts that ranges have their days. A range that ends before it begins has none, and no command
-/// makes such a query. Returns the store.
+/// Asserts the number of days in several ranges. A range that ends before its beginning has no
+/// days, although no command makes such a query. Returns the store.
 fn ranges_over<B: Books>(rt: &impl Abort, alloc: Global, books: B) -> B {
     let mut office = opened(rt, alloc, books, 0);
     for line in DAY.lines() {
@@ -59,8 +60,8 @@ fn ranges_over<B: Books>(rt: &impl Abort, alloc: Global, books: B) -> B {
     office.into_books()
 }
 
-/// Applies the theorem that the energy over several files is the energy of one file. Asserts the
-/// days of ranges over an empty database. Returns the database's store.
+/// Applies the theorem that the energy over several files equals the energy of one file. Asserts
+/// the days of ranges over an empty database, and returns its store.
 pub(crate) fn files_and_ranges_have_their_days<S: Alter + Drop>(
     rt: &impl Abort,
     alloc: Global,

@@ -1,6 +1,7 @@
-//! Tests of a store in tables: crashes at each call of its files, failures, and records that the
-//! tables refuse. Also tests of how commands over files end, and of their messages. Golden tests
-//! and tests of the program cover what can be shown by an input text and an output text.
+//! Tests of a store in a SQLite database: crashes at each call of its files, failures, and records
+//! that the tables refuse. Also tests how commands over files end, and which messages they print.
+//! Golden tests and tests of the program cover properties that an input text and an output text can
+//! show.
 #![tactic(auto)]
 
 #[cfg(test)]

@@ -1,4 +1,4 @@
-//! Creates a store in a new database, and an office over a store.
+//! Creates a store in a new database, opens a store, and opens a metering office over a store.
 use office_books::Books;
 use office_core::Office;
 use office_store::SqlBooks;
@@ -6,7 +6,7 @@ use sqlite::{Alter, Connection};
 use std::alloc::Global;
 use std::process::Abort;
 
-/// Creates a store in the database of this connection.
+/// Creates a store in the database of a connection.
 pub(crate) fn made<S: Alter + Drop>(
     rt: &impl Abort,
     alloc: Global,
@@ -19,7 +19,7 @@ pub(crate) fn made<S: Alter + Drop>(
     }
 }
 
-/// Opens the store in the database of this connection.
+/// Opens the store in the database of a connection.
 pub(crate) fn found<S: Alter + Drop>(
     rt: &impl Abort,
     alloc: Global,
@@ -31,7 +31,7 @@ pub(crate) fn found<S: Alter + Drop>(
     }
 }
 
-/// Opens an office over a store at this time.
+/// Opens an office over a store at the time `moment`.
 pub(crate) fn opened<B: Books>(rt: &impl Abort, alloc: Global, books: B, moment: u64) -> Office<B> {
     match Office::open(alloc, books, moment) {
         Ok(office) => office,

@@ -1,11 +1,11 @@
-//! Queries for tests that the store itself does not have.
+//! Queries on a database that tests need, but that the store itself does not have.
 ghost use Rattle.std.specs.Prelude.{◌≡◌, false, IfOk};
 
 use sqlite::{Alter, Connection, Error};
 use std::alloc::Global;
 use std::process::Abort;
 
-/// Refuses a connection with a transaction in progress.
+/// Returns an error if a transaction is open on the connection.
 pub(crate) fn ready<S: Alter>(conn: &mut Connection<S>) -> Result<(), Error>
     ensures same { conn.new ≡ conn.old }
     ensures idle { IfOk result (λ _. conn.new.in_transaction ≡ false) }

@@ -1,4 +1,4 @@
-//! If the store refuses one record of an event, no row of the event is stored.
+//! Tests that the store stores no row of an event if it refuses any of the event's records.
 use crate::new_books::{count, ready};
 use crate::tables::strict;
 use energy_core::Entry;
@@ -39,7 +39,7 @@ pub(crate) fn known_device(rt: &impl Abort) -> Fact {
     })
 }
 
-/// Returns whether the store accepts these records.
+/// Writes the given records, and returns true if the store accepts all of them.
 fn is_booked<S: Alter>(
     rt: &impl Abort,
     alloc: Global,
@@ -50,7 +50,7 @@ fn is_booked<S: Alter>(
     book_facts(alloc, conn, facts).is_ok()
 }
 
-/// Each table with its number of rows, which refused records leave unchanged.
+/// Tables with their numbers of rows, which refused records leave unchanged.
 static COUNTS: [(&str, i64); 4] = [
     ("devices", 1),
     ("polls", 2),
@@ -58,8 +58,8 @@ static COUNTS: [(&str, i64); 4] = [
     ("intervals", 2),
 ];
 
-/// Stores a poll and a reading, which may follow the known records. A device that is already known
-/// may not follow them. A reading with a lower counter value may not either. Returns the store.
+/// Stores a poll and a reading, which the store accepts. Asserts that the store refuses a device
+/// that it already has, and a reading with a lower counter value. Returns the store.
 pub(crate) fn they_leave_no_row<S: Alter + Drop>(
     rt: &impl Abort,
     alloc: Global,

@@ -1,4 +1,4 @@
-//! A store that has rows in each table.
+//! Creates a store that has rows in each table.
 use crate::made::made;
 use sqlite::{Alter, Connection};
 use std::alloc::Global;
@@ -22,7 +22,7 @@ INSERT INTO outcomes VALUES (1, 1900, 1, 0);
 INSERT INTO holds VALUES (1, 'm1', 1, 1900, 5100, 1, 2);
 INSERT INTO replies VALUES ('desk', 7, x'766f6964', 'void', 4000)";
 
-/// Creates a store in an empty database, and inserts these rows.
+/// Creates a store in an empty database, and inserts the rows of `ROWS`.
 pub(crate) fn strict<S: Alter + Drop>(
     rt: &impl Abort,
     alloc: Global,

@@ -1,4 +1,5 @@
-//! The exit statuses of tasks over an office, and which failure is printed.
+//! Tests the exit statuses of commands that run a metering office, and the failures that the
+//! commands print.
 use command_io::ExitStatus;
 use office_events::Refusal;
 use office_program::{PollEnd, ServeEnd};
@@ -9,8 +10,8 @@ use std::process::Abort;
 use stored_files::{Ending, Failure, ending_of};
 use stored_office::{Done, ending_of_done};
 
-/// How a task with sockets at port 80 of the host h ended, its exit status, and how the text of its
-/// failure begins. Only status 3 has a failure.
+/// Each test case: the result of a task with sockets at port 80 of the host h, its exit status, and
+/// the beginning of its failure text. Only exit status 3 has a failure.
 const ENDS: [(Result<Done, Failure<'static>>, u8, &str); 25] = [
     (Ok(Done::Reported(ExitStatus::Fine)), 0, ""),
     (Ok(Done::Reported(ExitStatus::Refused)), 1, ""),
@@ -111,15 +112,15 @@ const ENDS: [(Result<Done, Failure<'static>>, u8, &str); 25] = [
     (Err(Failure::Host { host: "h" }), 3, "can't resolve h"),
 ];
 
-/// How a command that prints ended, and its exit status.
+/// The ending of a command that prints, with its expected exit status.
 const STATUSES: [(ExitStatus, u8); 3] = [
     (ExitStatus::Fine, 0),
     (ExitStatus::Refused, 1),
     (ExitStatus::Failed, 3),
 ];
 
-/// Asserts that a task ends with this exit status, and that the text of its failure begins with
-/// this text.
+/// Asserts that a task ends with the exit status `status`, and that the text of its failure begins
+/// with `text`.
 fn ends(rt: &impl Abort, alloc: Global, done: Result<Done, Failure<'_>>, status: u8, text: &str) {
     let ending = ending_of_done(done, "h", 80);
     assert!(rt; ending.number() == status, "{text}");
@@ -135,7 +136,8 @@ fn ends(rt: &impl Abort, alloc: Global, done: Result<Done, Failure<'_>>, status:
     }
 }
 
-// Each end of a report, a server, a round and a run has its exit status and its failure.
+// Checks the exit status and the failure text for each way in which a report, a server, a polling
+// round or a run of `sunreg run` ends.
 #[test]
 fn tasks_have_their_ends(rt: HostRuntime) {
     for (done, status, text) in ENDS {

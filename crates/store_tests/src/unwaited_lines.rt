@@ -1,7 +1,7 @@
-//! Lines that are written without waiting for their reader.
+//! Tests the function that writes a line without waiting for the line's reader.
 use office_running::write_without_waiting;
 
-// A line that is written without waiting for its reader is written completely.
+// Checks that a line is written completely even if the writer does not wait for the reader.
 #[test]
 fn what_nobody_waits_for_is_written_whole(rt: HostRuntime) {
     let mut written = Vec::new(rt.alloc());

@@ -1,4 +1,4 @@
--- The latest timestamp in a file with an opened store.
+-- Lemmas on the timestamp of the latest record, for a store that was opened from a database file.
 use Rattle.std.proofs.Common.{◌≡◌, ℕ, List, Result, Ok, Err, IfOk}
 use Rattle.sqlite.specs.Store.{Ghosts}
 use Rattle.sqlite.specs.Held.{Held, state}

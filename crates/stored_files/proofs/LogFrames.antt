@@ -1,4 +1,4 @@
--- Where frames begin and end.
+-- Lemmas on the offsets and checksums of the frames in SQLite's write-ahead log.
 use Rattle.std.proofs.Common.{◌≡◌, ◌≢◌, ◌⊎◌, ℕ, zero, suc, ◌+◌, ◌-◌, ◌*◌, ◌/◌, ◌≤◌, ◌<◌, List, [], ◌∷◌, length, sym, refl, ◌∙◌, ap, inl, inr, arith, add-one, div-mul-le_self, le-div_iff_mul-le, le-mul_of_pos_right, mul-le-mul_right}
 use Rattle.std.proofs.lemmas.List.{nil_from_length}
 use Rattle.sqlite_disk.specs.Disk.{Holds, Torn}
@@ -14,17 +14,19 @@ use Rattle.stored_files.specs.declared.logs.check.LogFault.TheVariants.{Header, 
 use Rattle.stored_files.specs.Logs.Damage.{KeepsAll}
 use Rattle.stored_files.specs.Logs.Faults.{IsCause, IsUnread, fault_of}
 
--- Frame `i` ends where the next frame begins.
+-- The offset of frame `i` + 1 in a write-ahead log is the offset of frame `i` plus a frame's
+-- length.
 pub frame_ends : (page_size i : ℕ) → frame_at page_size (i + 1) ≡ frame_at page_size i + (24 + page_size)
 frame_ends page_size i =
     let next = ap (frames_len page_size) (add-one i) ∙ frames_len-suc page_size i in
     omega (arith, next)
 
--- An earlier frame does not begin later.
+-- If `i` is at most `j`, then the offset of frame `i` in a write-ahead log is at most the offset of
+-- frame `j`.
 pub frame_at-le : (page_size i j : ℕ) → i ≤ j → frame_at page_size i ≤ frame_at page_size j
 frame_at-le page_size i j low = omega (arith, frames_len-le page_size i j low)
 
--- The checksum that a frame after the first continues.
+-- Frame `i` of a write-ahead log continues the checksum that is stored in frame `i` - 1.
 pub sum_behind : (page_size : ℕ) (log : List ℕ) (i : ℕ) → 0 < i
     → sum_before page_size log i ≡ stored_sum (frame page_size log (i - 1)) 16
 sum_behind page_size log zero some = absurd (omega arith)
@@ -32,7 +34,7 @@ sum_behind page_size log (suc j) some =
     let last : suc j - 1 ≡ j = omega arith in
     ap (λ k. stored_sum (frame page_size log k) 16) (sym last)
 
--- An empty file has exactly what is written to it.
+-- After some bytes are written to an empty file, the file has exactly these bytes.
 pub written_whole : (bytes new : List ℕ) → Torn 0 (length bytes) [] new
     → (0 < length bytes → Holds new 0 bytes) → new ≡ bytes
 written_whole [] new torn holds = nil_from_length new (omega (arith, torn.no_longer))
@@ -45,7 +47,8 @@ few : (page_size k : ℕ) → k ≤ frames_len page_size k
 unfolding frames_len
 few page_size k = le-mul_of_pos_right k (omega arith)
 
--- Recovery takes frames that the file has.
+-- If SQLite's recovery replays `k` frames of a write-ahead log, then the log file contains all
+-- these frames.
 pub taken_within : (page_size : ℕ) (log : List ℕ) (k : ℕ) → 32 ≤ length log → Replays page_size log k
     → frame_at page_size k ≤ length log
 taken_within page_size log k room (inl ignored) =
@@ -56,14 +59,16 @@ taken_within page_size log (suc k) room (inr taken) =
     let last = taken.0.valid k (omega arith) in
     omega (arith, last.within, frames_len-suc page_size k)
 
--- There are at most as many of these frames as bytes.
+-- If SQLite's recovery replays `k` frames of a log, then `k` is at most the length of the log in
+-- bytes.
 pub taken_few : (page_size : ℕ) (log : List ℕ) (k : ℕ) → 32 ≤ length log → Replays page_size log k
     → k ≤ length log
 taken_few page_size log k room taken =
     let within = taken_within page_size log k room taken in
     omega (arith, within, few page_size k)
 
--- What an error of recovery says about the log.
+-- If SQLite's recovery fails with an error, then the log has the cause that belongs to the error's
+-- `LogFault`.
 pub caused : (page_size : ℕ) (log : List ℕ) (old new : ℕ) (e : Error)
     → HasCause old new (RefusesLog page_size log) e → IsUnread page_size log (fault_of e)
 caused page_size log old new (Io e) cause = tt
@@ -75,7 +80,7 @@ caused page_size log old new Corrupt (inl counts) = counts.1
 caused page_size log old new Corrupt (inr full) = grind (arith, full.0)
 caused page_size log old new Exists cause = tt
 
--- The frames for which a file of this length has room.
+-- A log of `len` bytes contains every frame with an index below (`len` - 32) / (24 + page size).
 pub fits_below : (page_size len i : ℕ) → 32 ≤ len → i < (len - 32) / (24 + page_size)
     → frame_at page_size (i + 1) ≤ len
 unfolding frames_len
@@ -93,7 +98,7 @@ low_if_fits page_size len j within =
     let some = (le-div_iff_mul-le (omega arith)).1 all in
     omega (arith, some)
 
--- A log that can't be read is refused.
+-- If recovery can't read a log, then the log has the cause that belongs to its `LogFault`.
 pub unread_causes : (page_size : ℕ) (log : List ℕ) (fault : LogFault) → IsUnread page_size log fault
     → IsCause page_size log fault
 unread_causes page_size log Header unread = absurd unread
@@ -101,7 +106,8 @@ unread_causes page_size log Count unread = unread
 unread_causes page_size log (Commits at) unread = absurd unread
 unread_causes page_size log Memory unread = unread
 
--- Nothing is known to be kept of a log that can't be read.
+-- If recovery can't read a log, then memory ran out, or the database file does not have all
+-- committed pages of the log.
 pub unread_refuses : (page_size : ℕ) (log db : List ℕ) (fault : LogFault) → IsUnread page_size log fault
     → (fault ≡ Memory) ⊎ (¬ KeepsAll page_size log db)
 unread_refuses page_size log db Header unread = absurd unread

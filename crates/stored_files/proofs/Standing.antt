@@ -1,4 +1,4 @@
--- Stores in a database with the history of accepted events.
+-- Lemmas on stores whose database has the records of a history of accepted events.
 use Rattle.std.proofs.Common.{ℕ, zero, suc, List, [], ◌∷◌, inl, refl, arith}
 use Rattle.std.specs.Prelude.{All}
 use Rattle.sqlite.specs.Store.{Ghosts}

@@ -1,11 +1,11 @@
--- The result of creating a store.
+-- Lemmas on the result of creating a store in a database.
 use Rattle.std.proofs.Common.{◌≡◌, Result, Ok, Err, ap}
 
--- A value is not an error.
+-- A result can't be both a value and an error.
 pub not_both : {Z E : Type 0} (zone : Z) (fault : E) → Ok zone ≡ Err fault → ⊥
 not_both zone fault both = cc
 
--- The same error in two results is equal.
+-- If two error results are equal, then their faults are equal.
 pub same_fault : {Z Y E : Type 0} (told meant : E) → (let r : Result Z E = Err told in r) ≡ Err meant
     → (let r : Result Y E = Err told in r) ≡ Err meant
 same_fault {Y = Y} {E = E} told meant same =

@@ -1,4 +1,4 @@
--- The records that the file of a database has, and the model of a store in the database.
+-- Defines the records in a database file, and the logical model of a store in the database.
 use Rattle.std.specs.Prelude.{ℕ, List}
 use Rattle.sqlite.specs.Store.{Ghosts}
 use Rattle.sqlite.specs.Held.{Held}
@@ -10,12 +10,13 @@ use Rattle.office_store.specs.Database.{HasFile}
 use Rattle.office_store.specs.declared.books.SqlBooks.{SqlBooks}
 
 module _ {S : Type 0} (g : Ghosts S) where
-  -- The file of the connection has the records of a history of accepted events.
+  -- States that the database file of the connection `h` has exactly the records of the history
+  -- `past` of accepted events.
   pub record HasPast (h : Held S) (past : History) : Type 0 where
     pub zone : List ℕ
     pub is_past : IsPast past
     pub has : HasFile g zone h (facts_of past)
 
-  -- The model of a store in a database, which specifications call its ledger.
+  -- The logical model (`Ledger`) of a store in a database file.
   abbrev pub ledger_beneath : SqlBooks S g → Ledger
   ledger_beneath books = ledger_of g books.connection books.failures books.zone

@@ -1,4 +1,4 @@
--- Creating an office in a database.
+-- Defines the creation of a new office in a database.
 use Rattle.std.specs.Prelude.{◌≡◌, ℕ, List, [], Ok}
 use Rattle.std.specs.declared.result.Result.{Result}
 use Rattle.sqlite.specs.Store.{Ghosts}
@@ -9,8 +9,8 @@ use Rattle.store_files.specs.NewFile.{Makes}
 use Rattle.store_tables.specs.Steps.{TransactsTo}
 use Rattle.office_store.specs.Database.{HoldsAlone}
 
--- The tables of a new office were created in one transaction. After this call the connection held
--- no records, and a crash would have left none. Later calls are not described.
+-- States that the tables of a new office were created in one transaction. Right after this
+-- transaction, the database had no records, and a crash would have left no records.
 pub record IsMade {S : Type 0} (g : Ghosts S) (zone : List ℕ) (from : Held S) : Type 0 where
   pub made : Held S
   pub told : Zone

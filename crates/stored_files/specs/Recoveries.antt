@@ -1,4 +1,4 @@
--- The report on an office that was recovered from a damaged log.
+-- Defines the report on an office whose records were recovered from a damaged write-ahead log.
 use Rattle.std.specs.Prelude.{◌≡◌, ℕ, true, false, List, [], ◌∷◌, ◌++◌, if◌then◌else◌, codes, decimal, string_bytes}
 use Rattle.sqlite.specs.Store.{Ghosts}
 use Rattle.sqlite.specs.Held.{Held, state}
@@ -10,26 +10,27 @@ use Rattle.table_seals.specs.declared.filed.FiledMeter.{FiledMeter}
 use Rattle.stored_files.specs.BooksFound.{ledger_beneath}
 
 module _ {S : Type 0} (g : Ghosts S) where
-  -- `latest` is the latest timestamp of the store's records. The claim needs a database that gave
-  -- back what was written to it.
+  -- States that `latest` is the latest timestamp of the store's records, provided that the disk
+  -- returned what was written to it.
   pub record IsLatestIn (books : SqlBooks S g) (latest : ℕ) : Type 0 where
     pub asked : SqlBooks S g
     pub clean : (ledger_beneath g asked).is_clean → (ledger_beneath g books).is_clean
     pub is_latest : (facts : List Fact) → (ledger_beneath g books).holds facts
         → (ledger_beneath g asked).is_clean → latest ≡ latest_in facts
 
-  -- `latest` is the latest timestamp of the records `facts`, which the file of the database has.
+  -- States that `latest` is the latest timestamp of `facts`, the records in the database file.
   pub record HasLatest (old : Held S) (facts : List Fact) (latest : ℕ) : Type 0 where
     pub asked : SqlBooks S g
     pub clean : (ledger_beneath g asked).is_clean → HasCleanDisk (state g old)
     pub is_latest : (ledger_beneath g asked).is_clean → latest ≡ latest_in facts
 
--- The text with a line about the last entry of a meter.
+-- Appends a line to the report, with the timestamp of a meter's last recovered entry.
 abbrev pub with_last_entry : List ℕ → List ℕ → ℕ → List ℕ
 with_last_entry text meter at =
     text ++ meter ++ codes " last entry " ++ decimal at ++ codes ", later ones may be lost\n"
 
--- The text with a line about the last entry of a meter, if the meter is open.
+-- Appends a line to the report, with the timestamp of a meter's last recovered entry. Appends
+-- nothing if the meter is closed.
 abbrev pub with_open_meter : List ℕ → FiledMeter → List ℕ
 with_open_meter text meter =
     if meter.standing.is_ended then text
@@ -39,7 +40,8 @@ abbrev pub with_open_meters : List ℕ → List FiledMeter → List ℕ
 with_open_meters text [] = text
 with_open_meters text (meter ∷ meters) = with_open_meters (with_open_meter text meter) meters
 
--- The text of the report: the latest timestamp, and a line for each open meter.
+-- Appends the report on a recovered office to a text. The report has the latest timestamp, and a
+-- line for each open meter.
 abbrev pub with_recovered : List ℕ → ℕ → List FiledMeter → List ℕ
 with_recovered text latest meters =
     with_open_meters (text ++ codes "latest " ++ decimal latest ++ codes "\n") meters

@@ -1,4 +1,4 @@
-//! The audit of an office in a database, and the check of whether files continue each other.
+//! Audits an office in a database, and checks whether several files continue each other.
 ghost use Rattle.std.specs.Prelude.{◌≡◌, ◌↔◌, ◌⊎◌, ◌++◌, [], false, Err, Some, IsTrue, IfOk, IfErr, OnOk, option_map, string_bytes};
 ghost use Rattle.std.specs.Io.KnownBytes.{Appends};
 ghost use Rattle.sqlite.specs.Held.{state};
@@ -22,29 +22,30 @@ use sun_points::Sink;
 use table_audit::{Findings, audit_tables, put_findings};
 use table_seals::{FiledMeter, FiledOffice, Joining, filed_meters, put_joins};
 
-/// Why an audit of an office's file has no result.
+/// A reason why the audit of an office's file failed.
 #[derive(Clone, Copy, Debug, PartialEq, Eq)]
 pub enum AuditFault {
-    /// The tables are not those of an office.
+    /// The database does not have an office's tables.
     NotOurs,
-    /// The tables are those of an earlier version of the program.
+    /// The database has the tables of an earlier version of the program.
     Earlier,
-    /// A row has a value that can't be read, or a name that is not a word.
+    /// The tables can't be sealed: a row has an invalid value, or a name that is not a word.
     Unsealable,
-    /// A name or the time zone is not a text.
+    /// A name or the time zone is not valid text.
     NoText,
-    /// The text of the seal's file is not a seal.
+    /// The file given as a seal does not have the text of a seal.
     NoSeal,
-    /// The file of the seal can't be read.
+    /// The file with the seal can't be read.
     Unread,
-    /// The database failed.
+    /// Reading the database failed.
     Store,
     Memory,
-    /// The result can't be written.
+    /// The result of the audit can't be written.
     Output,
 }
 
-/// Checks that a database has the tables of an office, and that no transaction is open.
+/// Checks that a database has the tables of an office, and that the connection has no open
+/// transaction.
 pub(crate) fn check_ours<S: Alter>(connection: &Connection<S>) -> Result<(), AuditFault>
     ensures foreign { ((layout : TheLayout) → ¬ IsNamedAs connection.now.schema layout)
         → result ≡ Err AuditFault.NotOurs }
@@ -62,7 +63,7 @@ pub(crate) fn check_ours<S: Alter>(connection: &Connection<S>) -> Result<(), Aud
     }
 }
 
-/// Maps a fault of the tables to a fault of an audit.
+/// Maps a fault of reading the tables to an `AuditFault`.
 pub(crate) fn fault_of(fault: RowFault) -> AuditFault
     ensures { (result ≡ AuditFault.Memory) ⊎ (result ≡ AuditFault.Store) }
 {
@@ -72,8 +73,8 @@ pub(crate) fn fault_of(fault: RowFault) -> AuditFault
     }
 }
 
-/// Audits an office in a database: whether each meter has the rows of a lawful journal, and whether
-/// the polls are complete and in order. Writes nothing to the database.
+/// Audits an office in a database. Checks whether each meter has the rows of a lawful journal, and
+/// whether the polls are complete and in order. Writes nothing to the database.
 pub fn audit_stored<S: Alter>(
     alloc: Global,
     connection: &mut Connection<S>,
@@ -92,7 +93,7 @@ pub fn audit_stored<S: Alter>(
     }
 }
 
-/// Writes the result of an audit to `output`. Returns whether the tables are fine.
+/// Writes the result of an audit to `output`. Returns whether the audit found no differences.
 pub fn write_audit<W: Write>(
     alloc: Global,
     findings: &Findings,
@@ -112,10 +113,9 @@ pub fn write_audit<W: Write>(
     }
 }
 
-/// Returns the meters of an office in a database, for the check of whether the next file continues
-/// them. Each meter has the name of its file for messages. Fails with `NoText` if a value of a
-/// meter can't be read: after an audit without differences, only because a name is not a text.
-/// Writes nothing to the database.
+/// Returns the meters of an office in a database, so that the next file can be compared with them.
+/// `NoText` means that a meter has an invalid value. After an audit without differences, the only
+/// possible invalid value is a name that is no text. Writes nothing to the database.
 pub fn meters_stored<'a, S: Alter>(
     alloc: Global,
     connection: &mut Connection<S>,
@@ -140,9 +140,9 @@ pub fn meters_stored<'a, S: Alter>(
     }
 }
 
-/// Checks whether a file continues the earlier files, by its time zone and its meters. Adds a line
-/// for each way in which it does not. If memory runs out, lines may be missing, and what was kept
-/// of the files is lost.
+/// Checks whether the time zone and the meters of a file continue the earlier files. Adds a line to
+/// the result for each difference. If memory runs out, lines may be missing, and the data about the
+/// earlier files is lost.
 pub fn hold_to_earlier<'a>(
     alloc: Global,
     joining: &mut Joining<'a>,
@@ -172,7 +172,8 @@ pub fn hold_to_earlier<'a>(
     }
 }
 
-/// Writes the lines about files that should continue each other. Returns whether there are none.
+/// Writes the differences between files that should continue each other. Returns whether there are
+/// none.
 pub fn write_joins<W: Write>(
     alloc: Global,
     lines: &[Vec<u8>],

@@ -1,4 +1,4 @@
-//! Backups: database files that hold an office without a log.
+//! Makes backups, which are database files that have all records of an office without a log.
 
 mod faults;
 mod whole;

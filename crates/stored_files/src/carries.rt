@@ -1,4 +1,4 @@
-//! The rollover of an office into a new database. Each open meter continues there from its last
+//! Rolls an office over into a new database, in which each open meter continues from its last
 //! entry.
 
 mod stored;

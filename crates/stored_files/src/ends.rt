@@ -1,4 +1,4 @@
-//! The end of a command: its exit status, and its message.
+//! Defines the exit statuses of commands, and the messages that report how a command ended.
 
 mod ending;
 mod failure;

@@ -1,4 +1,4 @@
-//! The database file of an office: how a connection to it is opened, and why it may not be.
+//! Opens the database file of an office, and defines the errors of opening it.
 
 mod beside;
 mod faults;

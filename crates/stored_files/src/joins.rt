@@ -1,4 +1,4 @@
-//! The merged report on an accounting register, from the offices in several databases.
+//! Merges the reports on an accounting register from several database files of one office.
 
 mod stored;
 

@@ -1,5 +1,5 @@
-//! Commands over the files of an office in a database, for any store and writer, and how a command
-//! ends.
+//! Commands over an office's database files, for any store and writer. Also defines the exit
+//! statuses of commands.
 #![tactic(auto)]
 
 mod audits;

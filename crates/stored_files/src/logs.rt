@@ -1,4 +1,4 @@
-//! The check of the write-ahead log beside a database file, before the two are opened.
+//! Checks the write-ahead log beside a database file before SQLite opens the file and the log.
 mod check;
 mod emptied;
 mod format;

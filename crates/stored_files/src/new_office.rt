@@ -1,4 +1,4 @@
-//! Creating an office in a database.
+//! Creates an office in a database.
 ghost use Rattle.std.specs.Prelude.{◌≡◌, ◌≢◌, ◌⊎◌, false, Err, IfErr, OnOk};
 ghost use Rattle.store_files.specs.Layouts.{no_schema};
 ghost use Rattle.store_files.specs.Zones.{IsZone};
@@ -8,8 +8,8 @@ use office_store::{OpenFault, SqlBooks};
 use sqlite::{Alter, Connection};
 use std::alloc::Global;
 
-/// Creates the tables of a new office in a database without tables, for the days of a time zone, as
-/// `SqlBooks::create` does.
+/// Creates the tables of a new office in an empty database, with the days of a time zone, by
+/// `SqlBooks::create`.
 pub fn create_stored<S: Alter + Drop>(
     alloc: Global,
     connection: Connection<S>,

@@ -1,4 +1,4 @@
-//! The report on an office that was recovered from a damaged log.
+//! Reports on an office whose records were recovered from a damaged write-ahead log.
 ghost use Rattle.std.specs.Prelude.{◌≡◌, ◌++◌, ℕ, List, [], OnOk, IfOk, codes, decimal, string_bytes};
 ghost use Rattle.std.specs.Io.KnownBytes.{Appends};
 ghost use Rattle.office_events.specs.declared.facts.Fact.{Fact};
@@ -15,7 +15,7 @@ use std::io::Write;
 use sun_points::Sink;
 use table_seals::FiledMeter;
 
-// Maps a fault of opening an office to a fault of an audit.
+// Maps a fault of opening an office to an `AuditFault`.
 fn opening_fault(fault: OpenFault) -> AuditFault {
     match fault {
         OpenFault::NotOurs => AuditFault::NotOurs,
@@ -63,7 +63,7 @@ fn put_number(text: &mut Vec<u8>, number: u64) -> Result<(), AllocError>
     put(text, buffer.format(number).as_bytes())
 }
 
-// Appends the line about the last entry of a meter.
+// Appends a line to the report, with the timestamp of a meter's last recovered entry.
 fn put_last_entry(text: &mut Vec<u8>, meter: &str, at: u64) -> Result<(), AllocError>
     ensures { OnOk result (text.new.items ≡ with_last_entry text.old.items meter.now at) }
 {
@@ -73,7 +73,8 @@ fn put_last_entry(text: &mut Vec<u8>, meter: &str, at: u64) -> Result<(), AllocE
     put(text, b", later ones may be lost\n")
 }
 
-// Appends the line about the last entry of a meter, if the meter is open.
+// Appends a line to the report, with the timestamp of a meter's last recovered entry. Appends
+// nothing if the meter is closed.
 fn put_open_meter(text: &mut Vec<u8>, meter: &FiledMeter<'_>) -> Result<(), AllocError>
     ensures { OnOk result (text.new.items ≡ with_open_meter text.old.items meter.now) }
 {
@@ -93,7 +94,8 @@ fn put_open_meters(text: &mut Vec<u8>, meters: &[FiledMeter<'_>]) -> Result<(), 
     Ok(())
 }
 
-// Appends the latest timestamp of a recovered office, and the meters that may lack later entries.
+// Appends the latest timestamp of a recovered office to a text, and a line for each open meter.
+// Later entries of an open meter may be missing.
 fn put_recovered(
     text: &mut Vec<u8>,
     latest: u64,
@@ -107,8 +109,8 @@ fn put_recovered(
     put_open_meters(text, meters)
 }
 
-/// Writes the latest timestamp of a recovered office, and which of its meters may lack later
-/// entries.
+/// Writes the latest timestamp of a recovered office, and a line for each open meter. Later entries
+/// of an open meter may be missing.
 pub fn write_recovered<W: Write>(
     alloc: Global,
     latest: u64,

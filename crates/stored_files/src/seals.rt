@@ -1,4 +1,4 @@
-//! Seals of an office in a database: signed-off digests of its tables.
+//! Makes and checks seals of an office in a database, which are signed-off digests of its tables.
 ghost use Rattle.std.specs.Prelude.{◌≡◌, ◌≢◌, ◌↔◌, ◌⊎◌, false, Err, Some, IsTrue, IfOk, IfErr, OnOk};
 ghost use Rattle.std.specs.Io.KnownBytes.{Appends};
 ghost use Rattle.sqlite.specs.Held.{state};
@@ -46,7 +46,7 @@ pub fn seal_stored<S: Alter>(
     }
 }
 
-/// Writes the text of a seal.
+/// Writes the text of a seal to `output`.
 pub fn write_seal<W: Write>(alloc: Global, seal: &Seal, output: &mut W) -> Result<(), AuditFault>
     ensures { OnOk result (Appends (W.contents output.old) (W.contents output.new)
         (seal_text (sealed_tables_of seal.now))) }
@@ -60,8 +60,8 @@ pub fn write_seal<W: Write>(alloc: Global, seal: &Seal, output: &mut W) -> Resul
     }
 }
 
-/// Checks an office in a database against the seal in a text. Returns the meters that the tables no
-/// longer have as they were sealed, and whether the polls differ. Writes nothing to the database.
+/// Checks an office in a database against the text of a seal. Returns the meters that don't match
+/// the seal, and whether the polls differ from the seal. Writes nothing to the database.
 pub fn check_stored_seal<S: Alter>(
     alloc: Global,
     connection: &mut Connection<S>,
@@ -90,7 +90,7 @@ pub fn check_stored_seal<S: Alter>(
     }
 }
 
-/// Writes the result of checking a seal. Returns whether nothing differs.
+/// Writes the result of checking a seal. Returns whether all meters and the polls match the seal.
 pub fn write_checked<W: Write>(
     alloc: Global,
     checked: &Checked,

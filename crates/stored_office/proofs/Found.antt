@@ -1,4 +1,4 @@
--- Tasks over a store that was found with the records of a history.
+-- Lemmas on tasks over a store that has the records of a history of accepted events.
 use Rattle.std.proofs.Common.{◌≡◌, ℕ, List, sym, subst}
 use Rattle.sqlite.specs.Store.{Ghosts}
 use Rattle.office_rules.specs.History.{History, facts_of}
@@ -13,7 +13,7 @@ use Rattle.stored_files.proofs.Standing.{stands_alone}
 use Rattle.stored_files.specs.BooksFound.{ledger_beneath}
 use Rattle.stored_office.specs.OverBooks.{OverBooks, ledger_in}
 
--- A store with the same state as another has the same history.
+-- If two stores have the same state, then they have the same history of accepted events.
 stands_so : (before after : Ledger) (past : History) → StandsAs before after → BooksStand before past → BooksStand after past
 stands_so before after past meant stand = record {
   is_past = stand.is_past;

@@ -1,4 +1,4 @@
--- Tasks over the store that is found in a database.
+-- Defines tasks over the store that was opened from a database.
 use Rattle.std.specs.Prelude.{ℕ, List}
 use Rattle.sqlite.specs.Store.{Ghosts}
 use Rattle.office_rules.specs.History.{History, facts_of}
@@ -10,13 +10,14 @@ use Rattle.office_store.specs.declared.books.SqlBooks.{SqlBooks}
 use Rattle.stored_files.specs.BooksFound.{ledger_beneath}
 
 module _ {S : Type 0} (g : Ghosts S) where
-  -- The model of a cached store in a database. A cached store keeps what it has read.
+  -- The logical model of a cached store in a database. The cache stores records that were already
+  -- read.
   abbrev pub ledger_in : KeptBooks (SqlBooks S g) → Ledger
   ledger_in books = ledger_over (ledger_beneath g) books
 
-  -- A task ran over the store that was found in a database. The store had the records of a history
-  -- of accepted events, and a crash would have left exactly these. If the database gave back what
-  -- was written to it, `Does` relates the store to the one after the task.
+  -- States that a task ran over the store in a database, which had exactly the records of the
+  -- history `past`, also after a crash. If the disk returned what was written to it, `Does` relates
+  -- the store before the task to the store after it.
   pub record OverBooks (past : History)
       (Does : (found left : KeptBooks (SqlBooks S g)) → Type 0) : Type 0 where
     pub zone : List ℕ

@@ -1,5 +1,5 @@
-//! Messages that follow a round: what its device lacks, and what its refusals and rejected readings
-//! mean.
+//! Messages after a round of polls. They report missing parts of the device's setup, and explain
+//! refusals and rejected readings.
 
 mod ends;
 mod lacking;

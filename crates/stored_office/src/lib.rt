@@ -1,5 +1,5 @@
 //! The program's commands over an office in a database, for any store, clock, sockets and writer.
-//! An office is the program's state over one store.
+//! An office accepts events, polls devices and records the energy of their meters.
 #![tactic(auto)]
 
 mod advice;

@@ -1,4 +1,4 @@
-//! The main theorem about an office, for stores in a database.
+//! Applies the main theorem about an office to stores in a database.
 
 mod runs;
 

@@ -1,5 +1,5 @@
-//! The program's tasks over an office in a database, for any store, clock, sockets and writer, and
-//! how the tasks end.
+//! The program's tasks over an office in a database, and their results, for any store, clock,
+//! sockets and writer.
 
 mod ends;
 mod tasks;

@@ -1,4 +1,4 @@
--- Consecutive models, and the fault after them.
+-- Lemmas about consecutive models and the fault after them.
 use Rattle.std.proofs.Common.{◌≡◌, ℕ, ◌+◌, ◌<◌, ◌≤◌, Bool, true, false, if◌then◌else◌, nat_le, nat_lt, ◌==◌, Option, Some, None, List, [], ◌∷◌, ◌++◌, length, arith, length-append, refl, sym, ◌∙◌, add-zero, zero-add, add-suc, add-one, suc-add}
 use Rattle.std.specs.List.{All}
 use Rattle.std.proofs.lemmas.List.Elements.{All-cons}
@@ -10,13 +10,13 @@ use Rattle.sun_chain.specs.declared.model.Model.{Model}
 use Rattle.sun_chain.specs.declared.fault.ChainFault.{ChainFault}
 use Rattle.sun_chain.specs.declared.fault.ChainFault.TheVariants.{NoMark, Unreadable, PastEnd, TooMany, Memory}
 
--- A list of consecutive models stays one with one more model at its end.
+-- A list of consecutive models remains consecutive with one more model at its end.
 pub follow_more : (word : Words) (from : ℕ) (models : List Model) (model : Model) → Follow word from models model.address → Stands word model →
     Follow word from (models ++ model ∷ []) (next_after model)
 follow_more word from [] model follow stands = (sym follow, stands, refl)
 follow_more word from (first ∷ models) model follow stands = (follow.0, follow.1, follow_more word (next_after first) models model follow.2 stands)
 
--- At the address of a valid model there is no fault.
+-- A valid model at an address has no fault there.
 pub no_lack : (word : Words) (count : ℕ) (model : Model) → Stands word model → count < 64 → first_lack word count model.address ≡ None
 no_lack word count model stands few =
     let in_space : nat_lt 65535 model.address ≡ false = le-ltb 65535 model.address (omega (arith, stands.inside)) in
@@ -29,14 +29,14 @@ no_lack word count model stands few =
 pub some_same : {X : Type 0} (a b : X) (found : Option X) → found ≡ Some a → found ≡ Some b → a ≡ b
 some_same a b found is_a is_b = cc
 
--- Models at one address have the same length.
+-- Two models at the same address end at the same address.
 pub same_next : (word : Words) (first other : Model) → first.address ≡ other.address → Stands word first → Stands word other → next_after first ≡ next_after other
 same_next word first other same stands other_stands =
     let length_too : word (first.address + 1) ≡ Some other.length = rw same other_stands.length in
     let lengths : first.length ≡ other.length = some_same first.length other.length (word (first.address + 1)) stands.length length_too in
     omega (arith, same, lengths)
 
--- No lawful list is longer than a list with a fault after it.
+-- No valid list of models is longer than a valid list that a fault follows.
 pub longest_from : (word : Words) (from before : ℕ) (models others : List Model) (next other_next : ℕ) (fault : ChainFault) →
     Follow word from models next → Follow word from others other_next → before + length others ≤ 64 →
     first_lack word (before + length models) next ≡ Some fault → length others ≤ length models
@@ -54,7 +54,7 @@ longest_from word from before (first ∷ models) (other ∷ others) next other_n
     longest_from word (next_after first) (before + 1) models others next other_next fault follow.2 other_too (omega arith) lacking in
     omega arith
 
--- A missing mark is never the fault of a model's end.
+-- The fault for a model's end is never the fault of a missing `SunS` mark.
 no_mark_no_end : (inside : Bool) → (if inside then Some PastEnd else None) ≡ Some NoMark → ⊥
 no_mark_no_end true is = cc
 no_mark_no_end false is = cc
@@ -104,7 +104,7 @@ pub fails_after : (word : Words) (base : ℕ) (models : List Model) (count next 
     count ≡ length models → first_lack word count next ≡ Some fault → Fails word fault
 fails_after word base models count next fault lawful counted lack = fails_by word base models next fault lawful (rw counted at lack)
 
--- A lawful list with fewer than 64 models stays lawful with the model after it.
+-- A valid list of fewer than 64 models remains valid with the model after it.
 pub lawful_more : (word : Words) (base : ℕ) (models : List Model) (next : ℕ) (model : Model) → IsLawful word base models next →
     model.address ≡ next → Stands word model → length models < 64 → IsLawful word base (models ++ model ∷ []) (next_after model)
 lawful_more word base models next model lawful at_next stands few = record {
@@ -113,7 +113,7 @@ lawful_more word base models next model lawful at_next stands few = record {
   few = rw length-append (omega arith);
 }
 
--- Consecutive models lie inside the addresses.
+-- Consecutive models lie within the 65536 addresses.
 pub follow_inside : (word : Words) (from : ℕ) (models : List Model) (next : ℕ) → Follow word from models next → All (λ model. model.address + 2 + model.length ≤ 65536) models
 follow_inside word from [] next follow = λ k d below. absurd (omega (arith, below))
 follow_inside word from (model ∷ models) next follow =

@@ -1,5 +1,4 @@
--- Worked examples, computed from the definitions: the last valid value and the first invalid value
--- of each limit.
+-- The definitions evaluated at each limit: the last valid value and the first invalid value.
 use Rattle.std.proofs.Common.{◌≡◌, ℕ, List, [], ◌∷◌, Some, None, refl}
 use Rattle.sun_chain.specs.Chain.{base_in}
 use Rattle.sun_chain.specs.Common.{device_address_in}
@@ -9,11 +8,11 @@ use Rattle.sun_chain.specs.Walk.{end_lack, first_lack}
 use Rattle.sun_chain.specs.declared.model.Model.{Model}
 use Rattle.sun_chain.specs.declared.fault.ChainFault.TheVariants.{PastEnd, TooMany, Unreadable}
 
--- The same word at each address.
+-- A memory image with the same word at every address.
 abbrev everywhere : ℕ → Words
 everywhere word address = Some word
 
--- A chain of 64 models, and a 65th.
+-- A chain may have 64 models, and a 65th model is a fault.
 
 room_for_a_64th : first_lack (everywhere 66) 63 40002 ≡ None
 room_for_a_64th = refl
@@ -24,7 +23,7 @@ no_room_for_a_65th = refl
 an_end_after_64 : first_lack (everywhere 0xFFFF) 64 40002 ≡ None
 an_end_after_64 = refl
 
--- The last address, and the address after it.
+-- A chain may end at address 65535 and not after it.
 
 an_end_at_the_last_address : first_lack (everywhere 0xFFFF) 0 65535 ≡ None
 an_end_at_the_last_address = refl
@@ -44,7 +43,7 @@ a_model_past_the_last_address = refl
 a_word_not_read : first_lack (λ address. None) 0 40002 ≡ Some (Unreadable 40002)
 a_word_not_read = refl
 
--- The base addresses, and the base that the walk chooses.
+-- The base addresses with the `SunS` mark, and the base address at which the walk starts.
 
 abbrev mark : List ℕ
 mark = 0x5375 ∷ 0x6E53 ∷ []
@@ -61,7 +60,7 @@ at_50000_before_zero = refl
 not_at_40001 : base_in (put_words (λ address. None) 40001 mark) ≡ None
 not_at_40001 = refl
 
--- Model 1 has its device address with 66 registers and with 65, and lacks it with 64.
+-- A common model (model 1) of 65 or 66 registers has a device address, and one of 64 has none.
 
 abbrev model_of_length : ℕ → Model
 model_of_length length = record { address = 40002; id = 1; length = length }
@@ -77,7 +76,7 @@ of_65 = refl
 of_64 : device_address_in (everywhere 5) (model_of_length 64) ≡ None
 of_64 = refl
 
--- Model 1 has register 67 with 66 registers, and lacks it with 65.
+-- A common model (model 1) of 66 registers has a register at offset 67, and one of 65 has none.
 pad_of_66 : registers_in (everywhere 5) (model_of_length 66) 67 1 ≡ Some (5 ∷ [])
 unfolding words_in
 pad_of_66 = refl

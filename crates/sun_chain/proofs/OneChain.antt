@@ -1,4 +1,4 @@
--- Words have at most one chain, and at most one fault.
+-- Proves that a memory image has at most one chain and at most one fault.
 use Rattle.std.proofs.Common.{◌≡◌, ◌≢◌, ℕ, ◌+◌, ◌≤◌, nat_lt, false, Option, Some, None, List, [], ◌∷◌, length, arith, refl, sym, ◌∙◌, ap}
 use Rattle.std.proofs.lemmas.Bool.{le-ltb}
 use Rattle.sun_chain.specs.Image.{Words}
@@ -41,7 +41,7 @@ same_models word from (first ∷ models) (other ∷ others) next other_next foll
     same_models word (next_after first) models others next other_next follow.2 other_too (omega arith) in
     (ap (λ (m : Model). m ∷ models) one ∙ ap (λ (ms : List Model). other ∷ ms) rest.0, rest.1)
 
--- No list of models reaches past the end of the chain.
+-- No list of models from the same address is longer than a complete chain.
 none_after_end : (word : Words) (from : ℕ) (models others : List Model) (end other_next : ℕ) →
     Follow word from models end → word end ≡ Some 0xFFFF → Follow word from others other_next → length others ≤ length models
 none_after_end word from models [] end other_next follow ends other_follow = omega arith
@@ -64,7 +64,7 @@ chain_is_one word base other_base models others end other_end chain other =
     let same : (models ≡ others) × (end ≡ other_end) = same_models word (base + 2) models others end other_end chain.lawful.follow other_follow (omega arith) in
     (bases, same.0, same.1)
 
--- The end of a chain is no fault.
+-- The end of a chain has no fault.
 no_lack_at_end : (word : Words) (count end : ℕ) → word end ≡ Some 0xFFFF → end ≤ 65535 → first_lack word count end ≡ None
 no_lack_at_end word count end ends inside =
     let in_space : nat_lt 65535 end ≡ false = le-ltb 65535 end inside in

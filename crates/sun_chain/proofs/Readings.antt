@@ -1,4 +1,4 @@
--- Consecutive words that were read.
+-- Lemmas about consecutive words of a memory image.
 use Rattle.std.proofs.Common.{◌≡◌, ℕ, zero, suc, ◌+◌, ◌<◌, ◌≤◌, Bool, true, false, ◌&&◌, Option, Some, None, List, [], ◌∷◌, length, get_or, take, drop, arith, refl, sym, ◌∙◌, ap, add-one, drop-cons, option_map, option_and_then, true≢false}
 use Rattle.std.proofs.lemmas.List.{get_or_past}
 use Rattle.std.specs.List.{list_all}
@@ -24,7 +24,7 @@ nothing_after : (found : Option ℕ) → option_and_then (λ first. option_map (
 nothing_after None = refl
 nothing_after (Some word) = refl
 
--- Consecutive words are the first word, and the words after it.
+-- A range of consecutive words consists of the first word and the words after it.
 words_in-suc : (word : Words) (start count : ℕ) → words_in word start (suc count) ≡ option_and_then (λ first. option_map (λ rest. first ∷ rest) (words_in word (start + 1) count)) (word start)
 unfolding words_in
 words_in-suc word start count = refl
@@ -33,7 +33,7 @@ words_in-zero : (word : Words) (start : ℕ) → words_in word start 0 ≡ Some 
 unfolding words_in
 words_in-zero word start = refl
 
--- If all words were read, the result is the words of the list.
+-- A range of the image whose words were all read is the slice of the image's words.
 pub words_in-read : (read : List Bool) (words : List ℕ) (start count : ℕ) → start + count ≤ length read → length read ≤ length words →
     all_read read start count ≡ true → words_in (cell read words) start count ≡ Some (take count (drop start words))
 words_in-read read words start zero fits sized all = words_in-zero (cell read words) start
@@ -49,7 +49,7 @@ words_in-read read words start (suc count) fits sized all =
     let whole : take (suc count) (drop start words) ≡ get_or words start 0 ∷ take count (drop (start + 1) words) = rw (drop-cons words start 0, add-one) refl in
     words_in-suc (cell read words) start count ∙ unfolded ∙ sym (ap (λ (rest : List ℕ). Some rest) whole)
 
--- If a word was not read, the result is none.
+-- A range of the image with an unread word has no result.
 pub words_in-unread : (read : List Bool) (words : List ℕ) (start count : ℕ) → start + count ≤ length read →
     all_read read start count ≡ false → words_in (cell read words) start count ≡ None
 words_in-unread read words start zero fits some = absurd (true≢false some)
@@ -63,7 +63,7 @@ words_in-unread read words start (suc count) fits some =
     ] in
     tests (get_or read start false) refl
 
--- Past the last word that was read, the result is none.
+-- A range of the image that extends past the last word read has no result.
 pub words_in-past : (read : List Bool) (words : List ℕ) (start count : ℕ) → 0 < count → length read < start + count →
     words_in (cell read words) start count ≡ None
 words_in-past read words start zero many past = absurd (omega arith)

@@ -1,4 +1,4 @@
--- A list with some of its elements overwritten, and a list with more elements at its end.
+-- Lemmas about lists with some elements overwritten or with elements appended.
 use Rattle.std.proofs.Common.{◌≡◌, ℕ, ◌+◌, ◌-◌, ◌<◌, ◌≤◌, Bool, true, false, nat_le, nat_lt, if◌then◌else◌, Option, Some, None, List, ◌++◌, length, get_or, take, drop, replicate, arith, refl, ◌∙◌, sym, ap, ⊎_elim}
 use Rattle.std.proofs.lemmas.List.{get_or_append_left, get_or-append_right, get_or_past, get_or-replicate, length-replicate}
 use Rattle.std.proofs.lemmas.Bool.{cases_lt, lt-leb, le-ltb, le-leb, lt-ltb}
@@ -17,7 +17,7 @@ pub get_or-splice_above : {X : Type 0} (s n : ℕ) (xs ys : List X) (k : ℕ) (d
     get_or (take s xs ++ (ys ++ drop n (drop s xs))) k d ≡ get_or xs k d
 get_or-splice_above s n xs ys k d fits size above = grind (arith, elements)
 
--- Padding with the default changes no element.
+-- Padding a list with the default value changes no element.
 pub get_or-padded : {X : Type 0} (n : ℕ) (xs : List X) (k : ℕ) (d : X) → get_or (xs ++ replicate n d) k d ≡ get_or xs k d
 get_or-padded n xs k d =
     ⊎_elim
@@ -33,7 +33,7 @@ get_or-padded n xs k d =
     (cases_lt (k - length xs) n))
     (cases_lt k (length xs))
 
--- The word that was read at an address, from the marks and the words.
+-- The word at an address of the image, or `None` if the word was not read.
 abbrev pub cell : List Bool → List ℕ → ℕ → Option ℕ
 cell read words at = if get_or read at false then Some (get_or words at 0) else None
 

@@ -1,4 +1,4 @@
--- The tables are lawful, so the points of a model are in order of address.
+-- Proves that the model tables are valid, so that the points of a model are in order of address.
 use Rattle.std.proofs.Common.{◌≡◌, ℕ, ◌+◌, ◌≤◌, Bool, true, false, ◌&&◌, ◌==◌, nat_le, if◌then◌else◌, Option, Some, None, List, [], ◌∷◌, filter_map, option_map, arith, refl, leb-true}
 use Rattle.std.specs.List.{cons_option}
 use Rattle.sun_points.specs.PointType.{registers_of}
@@ -23,14 +23,14 @@ tables_are_lawful id = tests (id == 1) (nat_le 101 id && nat_le id 103) (nat_le 
     tests false false true = refl
     tests false false false = refl
 
--- Points after an address are also after each lower address.
+-- Points in order after an address are also in order after each lower address.
 in_order_from_less : (from later : ℕ) (points : List Named) → from ≤ later → StandInOrder later points → StandInOrder from points
 in_order_from_less from later [] below stand = tt
 in_order_from_less from later (point ∷ points) below stand =
     let first : later ≤ point.address = stand.0 in
     (omega (arith, first), stand.1)
 
--- Points stay in order with one more point before them, if that point exists.
+-- Points remain in order if one more point with a lower address is added before them, or none.
 one_before : (model : Model) (from : ℕ) (row : Row) (scale : PointScale) (found : Option Value) (following : List Named) → from ≤ row.offset →
     StandInOrder (model.address + end_of_row row) following →
     StandInOrder (model.address + from)

@@ -1,24 +1,24 @@
--- The chain of SunSpec models in the words that were read from a device.
+-- Defines the chain of SunSpec models in the words that were read from a device.
 use Rattle.std.specs.Prelude.{◌≡◌, ◌≢◌, ℕ, ◌+◌, ◌≤◌, ◌<◌, Bool, false, ◌&&◌, ◌==◌, List, [], ◌∷◌, length, Some, option_map, unwrap_or, find, MatchOption}
 use Rattle.std.specs.declared.option.Option.{Option}
 use Rattle.sun_chain.specs.Image.{Words, word_in}
 use Rattle.sun_chain.specs.declared.chain.Chain.{Chain}
 use Rattle.sun_chain.specs.declared.model.Model.{Model}
 
--- The word was read, and equals this value.
+-- True if the word was read and equals this value.
 abbrev pub is_word : Option ℕ → ℕ → Bool
 is_word found value = unwrap_or (option_map (λ word. word == value) found) false
 
--- The address holds the mark `SunS`: the words `Su` and `nS`.
+-- True if the words at the address are the mark `SunS`: `Su` and `nS`.
 abbrev pub is_marked : Words → ℕ → Bool
 is_marked word address = is_word (word address) 0x5375 && is_word (word (address + 1)) 0x6E53
 
--- The first of the base addresses 40000, 50000 and 0 that holds the mark, or `None`.
+-- The first of the base addresses 40000, 50000 and 0 that has the `SunS` mark, or `None`.
 abbrev pub base_in : Words → Option ℕ
 base_in word = find (is_marked word) (40000 ∷ 50000 ∷ 0 ∷ [])
 
--- The words hold this model: its ID, other than 0xFFFF, and its length. All of its registers have
--- addresses below 65536.
+-- True if the image has this model: an ID other than 0xFFFF, followed by the length. All of the
+-- model's registers have addresses below 65536.
 pub record Stands (word : Words) (model : Model) : Type 0 where
   pub id : word model.address ≡ Some model.id
   pub no_end : model.id ≢ 0xFFFF
@@ -29,38 +29,39 @@ pub record Stands (word : Words) (model : Model) : Type 0 where
 abbrev pub next_after : Model → ℕ
 next_after model = model.address + 2 + model.length
 
--- The models follow one another without a gap, the first at address `from`. `next` is the address
--- after the last.
+-- True if the models are consecutive and the first is at address `from`. `next` is the address
+-- after the last model.
 abbrev pub Follow : Words → ℕ → List Model → ℕ → Type 0
 Follow word from [] next = from ≡ next
 Follow word from (model ∷ models) next =
     (model.address ≡ from) × Stands word model × Follow word (next_after model) models next
 
--- What comes at an address after `count` models: `found` is a model there, or `None` at the end
--- of the chain.
+-- The content of an address after `count` models: `found` is the model that begins there, or `None`
+-- at the end of the chain.
 abbrev pub IsNext : Words → (count address : ℕ) → Option Model → Type 0
 IsNext word count address found =
     MatchOption found ((word address ≡ Some 0xFFFF) × (address ≤ 65535))
     (λ model. (model.address ≡ address) × Stands word model × (count < 64))
 
--- The models follow the mark at `base` without a gap, and are at most 64. `next` is the address
--- after the last of them.
+-- True if at most 64 consecutive models follow the `SunS` mark at `base`. `next` is the address
+-- after the last model.
 pub record IsLawful (word : Words) (base : ℕ) (models : List Model) (next : ℕ) : Type 0 where
   pub marked : base_in word ≡ Some base
   pub follow : Follow word (base + 2) models next
   pub few : length models ≤ 64
 
--- A complete chain: the models, and the address `end` of the ID 0xFFFF after them.
+-- A complete chain: the models after the mark at `base`, and the address `end` of the ID 0xFFFF
+-- after them.
 pub record IsChain (word : Words) (base : ℕ) (models : List Model) (end : ℕ) : Type 0 where
   pub lawful : IsLawful word base models end
   pub ends : word end ≡ Some 0xFFFF
   pub inside : end ≤ 65535
 
--- The words of the image in which `walk` found the chain.
+-- The words of the image that contains the chain.
 abbrev pub words_of : Chain → Words
 words_of chain = word_in chain.image.now
 
--- The address of the chain's mark.
+-- The address of the chain's `SunS` mark.
 abbrev pub base_of : Chain → ℕ
 base_of chain = chain.base
 

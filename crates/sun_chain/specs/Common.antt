@@ -1,4 +1,4 @@
--- The identity of a device: the fields of its first common model (model 1).
+-- Defines the identity of a device: the fields of its first common model (model 1).
 use Rattle.std.specs.Prelude.{ℕ, ◌==◌, List, [], Some, None, option_map, option_and_then, find}
 use Rattle.std.specs.declared.option.Option.{Option}
 use Rattle.sun_points.specs.Point.{Value, Absent, Signed, Unsigned, Bits, value_of}
@@ -9,8 +9,8 @@ use Rattle.sun_chain.specs.Points.{registers_in}
 use Rattle.sun_chain.specs.declared.model.Model.{Model}
 use Rattle.sun_chain.specs.declared.common.Common.{Common}
 
--- The fields of a common model, each text as its words, without the image that the program's
--- texts borrow.
+-- The fields of a common model, each text as its registers, independent of the image that a
+-- `Common` borrows.
 pub record Said : Type 0 where
   pub manufacturer : List ℕ
   pub model : List ℕ
@@ -19,7 +19,7 @@ pub record Said : Type 0 where
   pub serial : List ℕ
   pub device_address : Option ℕ
 
--- The fields of a `Common` of the program, as values.
+-- The fields of a `Common`, without its borrowed image.
 abbrev pub said : Common → Said
 said common = record {
   manufacturer = common.manufacturer.words.now;
@@ -30,7 +30,7 @@ said common = record {
   device_address = common.device_address;
 }
 
--- The words of a text. Any other value has none.
+-- The registers of a text point. A value of another type has none.
 abbrev pub text_words : Value → List ℕ
 text_words Absent = []
 text_words (Signed value) = []
@@ -38,18 +38,18 @@ text_words (Unsigned value) = []
 text_words (Bits bits) = []
 text_words (WordsOf words) = words
 
--- The words of a text that may be missing; none if it is missing.
+-- The registers of a text point, or an empty list if the point is missing.
 abbrev pub words_or_none : Option Value → List ℕ
 words_or_none None = []
 words_or_none (Some value) = text_words value
 
--- The words of a text at an offset of a model; none if the text is not fully inside the model or
--- was not read.
+-- The registers of a text point at an offset of a model. Empty if they are not fully inside the
+-- model or were not read.
 abbrev pub text_in : Words → Model → ℕ → ℕ → List ℕ
 text_in word model offset count =
     words_or_none (option_map (value_of (Text count)) (registers_in word model offset count))
 
--- The number of an unsigned value, or `None` if the point is not implemented.
+-- The number of an unsigned value, or `None` for other values.
 abbrev pub number_of : Value → Option ℕ
 number_of Absent = None
 number_of (Signed value) = None
@@ -57,7 +57,7 @@ number_of (Unsigned value) = Some value
 number_of (Bits bits) = None
 number_of (WordsOf words) = None
 
--- The device address at offset 66 of the model, if it exists and is implemented.
+-- The device address at offset 66 of model 1, or `None` if it is missing or not implemented.
 abbrev pub device_address_in : Words → Model → Option ℕ
 device_address_in word model =
     option_and_then (λ words. number_of (value_of Uint16 words)) (registers_in word model 66 1)

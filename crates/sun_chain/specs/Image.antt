@@ -1,26 +1,26 @@
--- The words that were read from a device, by address.
+-- Defines a memory image: the words that were read from a device, by address.
 use Rattle.std.specs.Prelude.{ℕ, zero, suc, ◌+◌, ◌-◌, false, ◌&&◌, nat_le, nat_lt, if◌then◌else◌, List, [], ◌∷◌, length, slice_index, slice_index_or, Some, None, option_map, option_and_then}
 use Rattle.std.specs.declared.option.Option.{Option}
 use Rattle.sun_chain.specs.declared.image.Image.{Image}
 
--- The word at each address, or `None` where no word was read.
+-- The word at each address, or `None` if the word was not read.
 abbrev pub Words : Type 0
 Words = ℕ → Option ℕ
 
--- The words of an image, by address.
+-- The words of an `Image`, by address.
 abbrev pub word_in : Image → Words
 word_in image address =
     if slice_index_or image.read.items address false
     then Some (slice_index image.words.items address)
     else None
 
--- The words after these new words were written at consecutive addresses from an address on.
+-- The words of an image after new words were written at consecutive addresses from `at`.
 abbrev pub put_words : Words → ℕ → List ℕ → Words
 put_words word address words at =
     if nat_le address at && nat_lt at (address + length words)
     then Some (slice_index words (at - address)) else word at
 
--- The `count` words from an address on, or `None` unless all of them were read.
+-- The `count` words from `address`, or `None` unless all of them were read.
 unfoldable pub words_in : Words → ℕ → ℕ → Option (List ℕ)
 words_in word address zero = Some []
 words_in word address (suc count) =

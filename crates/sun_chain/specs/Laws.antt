@@ -1,4 +1,4 @@
--- Theorems on chains and their faults, over all words.
+-- The statements of the theorems about chains and their faults, over all memory images.
 use Rattle.std.specs.Prelude.{◌≡◌, ◌≢◌, ℕ, ◌⊎◌, List}
 use Rattle.sun_chain.specs.Image.{Words}
 use Rattle.sun_chain.specs.Chain.{IsChain}
@@ -7,30 +7,30 @@ use Rattle.sun_chain.specs.declared.model.Model.{Model}
 use Rattle.sun_chain.specs.declared.fault.ChainFault.{ChainFault}
 use Rattle.sun_chain.specs.declared.fault.ChainFault.TheVariants.{Memory}
 
--- The words hold a complete chain of models.
+-- True if the words contain a complete chain of models.
 abbrev pub HasChain : Words → Type 0
 HasChain word = (base : ℕ) × (models : List Model) × (end : ℕ) × IsChain word base models end
 
--- The words have a fault other than lack of memory.
+-- True if the words have a chain fault other than lack of memory.
 abbrev pub HasFault : Words → Type 0
 HasFault word = (fault : ChainFault) × (fault ≢ Memory) × Fails word fault
 
--- Theorem: any words have a chain, or have a fault.
+-- The statement that all words have a chain or a fault.
 abbrev pub ChainOrFault : Type 0
 ChainOrFault = (word : Words) → HasChain word ⊎ HasFault word
 
--- Theorem: no words have two different chains.
+-- The statement that no words have two different chains.
 abbrev pub ChainIsOne : Type 0
 ChainIsOne = (word : Words) (base other_base : ℕ) (models others : List Model) (end other_end : ℕ)
     → IsChain word base models end → IsChain word other_base others other_end
     → (base ≡ other_base) × (models ≡ others) × (end ≡ other_end)
 
--- Theorem: words with a chain have no fault except lack of memory.
+-- The statement that words with a chain have no fault except lack of memory.
 abbrev pub ChainHasNoFault : Type 0
 ChainHasNoFault = (word : Words) (base : ℕ) (models : List Model) (end : ℕ) (fault : ChainFault)
     → IsChain word base models end → Fails word fault → fault ≡ Memory
 
--- Theorem: no words have two different faults, apart from lack of memory.
+-- The statement that no words have two different faults, except lack of memory.
 abbrev pub FaultIsOne : Type 0
 FaultIsOne = (word : Words) (fault other : ChainFault) → fault ≢ Memory → other ≢ Memory
     → Fails word fault → Fails word other → fault ≡ other

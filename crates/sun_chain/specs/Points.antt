@@ -1,4 +1,4 @@
--- The points of a model in a device's words.
+-- Defines the points of a model in a device's memory image.
 use Rattle.std.specs.Prelude.{ℕ, ℤ, pos, ◌+◌, nat_le, if◌then◌else◌, List, Some, None, option_map, unwrap_or, filter_map, codes}
 use Rattle.std.specs.declared.option.Option.{Option}
 use Rattle.sun_points.specs.PointType.{registers_of}
@@ -14,7 +14,7 @@ use Rattle.sun_chain.specs.declared.named_point.PointScale.{PointScale}
 use Rattle.sun_chain.specs.declared.named_point.PointScale.TheVariants.{Unscaled, Scaled, Faulty}
 use Rattle.sun_chain.specs.declared.named_point.NamedPoint.{NamedPoint}
 
--- A point of a model as a value, without the memory that the program's name and text borrow.
+-- A point of a model as a value, independent of the memory that a `NamedPoint` borrows.
 pub record Named : Type 0 where
   pub name : List ℕ
   pub address : ℕ
@@ -22,21 +22,22 @@ pub record Named : Type 0 where
   pub value : Value
   pub scale : PointScale
 
--- The scale for an exponent, or `Faulty` without one.
+-- The scale with this exponent, or `Faulty` without an exponent.
 abbrev pub scaled_or_faulty : Option ℤ → PointScale
 scaled_or_faulty None = Faulty
 scaled_or_faulty (Some exponent) = Scaled exponent
 
--- The scale of a point, by the word in the register of its scale point.
+-- The scale of a point, by the register value of its scale point.
 abbrev pub scale_said : ℕ → PointScale
 scale_said word = scaled_or_faulty (scale_of word)
 
--- The scale of a point, by the word of its scale point; `Unscaled` if it has no scale point.
+-- The scale of a point, by the register value of its scale point, or `Unscaled` if there is no
+-- scale point.
 abbrev pub point_scale : Option ℕ → PointScale
 point_scale None = Unscaled
 point_scale (Some word) = scale_said word
 
--- A `NamedPoint` of the program, as a value.
+-- The value of a `NamedPoint`, without its borrowed memory.
 abbrev pub seen : NamedPoint → Named
 seen point = record {
   name = point.name.now;
@@ -53,25 +54,26 @@ registers_in word model offset count =
     if nat_le (offset + count) (2 + model.length) then words_in word (model.address + offset) count
     else None
 
--- The register at an offset of a model, or `None` unless it lies inside the model and was read.
+-- The register at an offset of a model, or `None` unless the register lies inside the model and was
+-- read.
 abbrev pub register_in : Words → Model → ℕ → Option ℕ
 register_in word model offset =
     if nat_le (offset + 1) (2 + model.length) then word (model.address + offset) else None
 
--- The word of the scale point at this offset of a model. A scale point outside the model or not
--- read counts as 0. `None` if the point has no scale point.
+-- The register value of the scale point at this offset of a model, or `None` without a scale point.
+-- A scale point that is outside the model or was not read counts as 0.
 abbrev pub scale_word_in : Words → Model → Option ℕ → Option ℕ
 scale_word_in word model scale =
     option_map (λ offset. unwrap_or (register_in word model offset) 0) scale
 
--- The value of a table's point in a model, or `None` unless all its registers lie inside the
--- model and were read.
+-- The value of a table's point in a model, or `None` unless all registers of the point lie inside
+-- the model and were read.
 abbrev pub value_in : Words → Model → Row → Option Value
 value_in word model row =
     option_map (value_of row.ty) (registers_in word model row.offset (registers_of row.ty))
 
--- A table's point in a model, with its value and its scale, or `None` unless its registers were
--- read.
+-- A table's point in a model, with its value and its scale. `None` unless all registers of the
+-- point lie inside the model and were read.
 abbrev pub point_in : Words → Model → Row → Option Named
 point_in word model row =
     option_map
@@ -88,7 +90,7 @@ point_in word model row =
 abbrev pub points_in : Words → Model → List Named
 points_in word model = filter_map (point_in word model) (table_of model.id)
 
--- The text of a value whose scale is `Faulty`: `absent` for an absent value, otherwise `faulty`.
+-- The text of a value with a faulty scale: `absent` for an absent value, otherwise `faulty`.
 abbrev pub faulty_text : Value → List ℕ
 faulty_text Absent = codes "absent"
 faulty_text (Signed value) = codes "faulty"
@@ -96,7 +98,7 @@ faulty_text (Unsigned value) = codes "faulty"
 faulty_text (Bits bits) = codes "faulty"
 faulty_text (Text words) = codes "faulty"
 
--- The text of a value at the scale of its point.
+-- The text of a value at the scale of the value's point.
 abbrev pub value_text : Value → PointScale → List ℕ
 value_text value Unscaled = point_text value (pos 0)
 value_text value (Scaled exponent) = point_text value exponent

@@ -1,4 +1,4 @@
--- The invariants of the model tables, and the order of a model's points.
+-- Defines the invariants of the model tables, and the order of a model's points.
 use Rattle.std.specs.Prelude.{ℕ, ◌+◌, ◌≤◌, ◌==◌, ◌&&◌, nat_le, Bool, true, false, IsTrue, if◌then◌else◌, List, [], ◌∷◌, option_map, unwrap_or}
 use Rattle.std.specs.List.{list_all, list_any}
 use Rattle.sun_points.specs.PointType.{registers_of}
@@ -7,21 +7,20 @@ use Rattle.sun_points.specs.declared.point_type.PointType.TheVariants.{Int16, Ui
 use Rattle.sun_chain.specs.Tables.{Row, table_of}
 use Rattle.sun_chain.specs.Points.{Named}
 
--- The offset after the last register of a table's point.
+-- The offset after the last register of a point in a model table.
 abbrev pub end_of_row : Row → ℕ
 end_of_row row = row.offset + registers_of row.ty
 
--- Points in order without overlap: each begins at or after the end of the point before, the first
--- at or after `from`.
+-- True if the points are in order without overlap, the first at or after offset `from`.
 abbrev pub ascends_from : ℕ → List Row → Bool
 ascends_from from [] = true
 ascends_from from (row ∷ rows) = nat_le from row.offset && ascends_from (end_of_row row) rows
 
--- A point lies inside a model of this length.
+-- True if the point lies inside a model with this length.
 abbrev pub lies_inside : ℕ → Row → Bool
 lies_inside length row = nat_le (end_of_row row) (2 + length)
 
--- The type of this point is `sunssf`, which scale points have.
+-- True if the point type is `sunssf`, the type of scale points.
 abbrev pub is_sunssf : PointType → Bool
 is_sunssf Int16 = false
 is_sunssf Uint16 = false
@@ -33,17 +32,17 @@ is_sunssf Acc32 = false
 is_sunssf Sunssf = true
 is_sunssf (Text registers) = false
 
--- The table's point is a scale point at this offset.
+-- True if the row is a scale point at this offset.
 abbrev pub is_scale_point : ℕ → Row → Bool
 is_scale_point offset row = is_sunssf row.ty && row.offset == offset
 
--- The table holds the scale point of this point, if the point has one.
+-- True if the table has the scale point of the row, or the row needs none.
 abbrev pub has_its_scale : List Row → Row → Bool
 has_its_scale rows row =
     unwrap_or (option_map (λ offset. list_any (is_scale_point offset) rows) row.scale) true
 
--- The table is lawful for models of this length. Its points come after the ID and the length, are
--- in order and lie inside the model. Their scale points are in the table.
+-- True if the table is valid for models of this length. Points begin after the ID and length
+-- registers, are in order and lie inside the model, and their scale points are in the table.
 abbrev pub is_lawful_table : ℕ → List Row → Bool
 is_lawful_table length rows =
     ascends_from 2 rows && list_all (lies_inside length) rows && list_all (has_its_scale rows) rows
@@ -57,11 +56,11 @@ length_of_known id =
     else if nat_le 201 id && nat_le id 204 then 105
     else 0
 
--- Theorem: the table of every model ID is lawful.
+-- The statement that the table of each model ID is valid.
 abbrev pub TablesAreLawful : Type 0
 TablesAreLawful = (id : ℕ) → IsTrue (is_lawful_table (length_of_known id) (table_of id))
 
--- Points in order of address without overlap, the first at or after address `from`.
+-- True if the points are in order of address without overlap, the first at or after address `from`.
 abbrev pub StandInOrder : ℕ → List Named → Type 0
 StandInOrder from [] = Unit {0}
 StandInOrder from (point ∷ points) =

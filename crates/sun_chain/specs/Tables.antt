@@ -1,5 +1,5 @@
--- The tables of the known models: 1, 101 to 103 and 201 to 204 of the SunSpec Information Model
--- Reference.
+-- Defines the tables of the known models, from the SunSpec Information Model Reference: 1, 101 to
+-- 103, and 201 to 204.
 use Rattle.std.specs.Prelude.{ℕ, ◌==◌, ◌&&◌, nat_le, if◌then◌else◌, List, [], ◌∷◌, codes, find, Some, None}
 use Rattle.std.specs.Option.{option_and_then, option_map}
 use Rattle.std.specs.Str.{bytes_eq}
@@ -10,19 +10,19 @@ use Rattle.sun_chain.specs.declared.tables.Entry.{Entry}
 use Rattle.sun_chain.specs.declared.tables.EntryType.{EntryType}
 use Rattle.sun_chain.specs.declared.tables.EntryType.TheVariants as entry
 
--- A point of a model: its name, its offset from the model's ID register, its type, and the offset
--- of its scale point.
+-- A point of a model: its name, its offset in registers from the model's ID register, its type, and
+-- the offset of its scale point.
 pub record Row : Type 0 where
   pub name : List ℕ
   pub offset : ℕ
   pub ty : PointType
   pub scale : Option ℕ
 
--- The row of a table with this name, offset, type and offset of its scale point.
+-- The table row with this name, offset, type and offset of the scale point.
 abbrev pub row : List ℕ → ℕ → PointType → Option ℕ → Row
 row name offset ty scale = record { name = name; offset = offset; ty = ty; scale = scale }
 
--- Model 1, common: the identity of a device.
+-- The points of model 1 (common), which identify a device.
 abbrev pub common_table : List Row
 common_table =
     row (codes "Mn") 2 (Text 16) None
@@ -33,7 +33,7 @@ common_table =
     ∷ row (codes "DA") 66 Uint16 None
     ∷ []
 
--- Models 101 to 103: a single-, split- or three-phase inverter.
+-- The points of models 101 to 103: single-, split- and three-phase inverters.
 abbrev pub inverter_table : List Row
 inverter_table =
     row (codes "A") 2 Uint16 (Some 6)
@@ -81,7 +81,7 @@ inverter_table =
     ∷ row (codes "EvtVnd4") 50 Bitfield32 None
     ∷ []
 
--- Models 201 to 204: a meter.
+-- The points of models 201 to 204: meters.
 abbrev pub meter_table : List Row
 meter_table =
     row (codes "A") 2 Int16 (Some 6)
@@ -158,7 +158,7 @@ meter_table =
     ∷ row (codes "Evt") 105 Bitfield32 None
     ∷ []
 
--- The table of the model with this ID; empty for an unknown model.
+-- The table of the model with this ID, or an empty list for an unknown model.
 abbrev pub table_of : ℕ → List Row
 table_of id =
     if id == 1 then common_table
@@ -166,7 +166,7 @@ table_of id =
     else if nat_le 201 id && nat_le id 204 then meter_table
     else []
 
--- The type of a point in the program's tables.
+-- The SunSpec point type of an `EntryType` in the program's tables.
 abbrev pub type_of : EntryType → PointType
 type_of entry.Int16 = Int16
 type_of entry.Uint16 = Uint16
@@ -177,7 +177,7 @@ type_of entry.Sunssf = Sunssf
 type_of entry.String8 = Text 8
 type_of entry.String16 = Text 16
 
--- The row that an entry of the program's tables represents.
+-- The row of the defined tables that an entry of the program's tables represents.
 abbrev pub row_of : Entry → Row
 row_of found = row found.name.now found.offset (type_of found.ty) found.scale
 

@@ -1,4 +1,4 @@
--- The fault of words without a chain of models.
+-- Defines the fault of a memory image without a chain of models.
 use Rattle.std.specs.Prelude.{◌≡◌, ℕ, ◌+◌, ◌≤◌, ◌==◌, nat_le, nat_lt, if◌then◌else◌, List, length, Some, None}
 use Rattle.std.specs.declared.option.Option.{Option}
 use Rattle.sun_chain.specs.Image.{Words}
@@ -11,14 +11,14 @@ use Rattle.sun_chain.specs.declared.fault.ChainFault.TheVariants.{NoMark, Unread
 abbrev pub end_lack : ℕ → ℕ → Option ChainFault
 end_lack address length = if nat_lt 65536 (address + 2 + length) then Some PastEnd else None
 
--- The first fault of a model from its length word on, or `None`. The word is missing if it was
--- not read.
+-- The first fault of a model, from its length word on, or `None`. A length word that was not read
+-- is the fault `Unreadable`.
 abbrev pub length_lack : ℕ → Option ℕ → Option ChainFault
 length_lack address None = Some (Unreadable (address + 1))
 length_lack address (Some length) = end_lack address length
 
--- The first fault at a model's ID word, or `None`. A 65th model is a fault before its length is
--- read.
+-- The first fault of a model, from its ID word on, or `None`. A 65th model is reported before its
+-- length is read.
 abbrev pub id_lack : Words → ℕ → ℕ → Option ℕ → Option ChainFault
 id_lack word count address None = Some (Unreadable address)
 id_lack word count address (Some id) =
@@ -27,13 +27,13 @@ id_lack word count address (Some id) =
     else if nat_lt 65535 (address + 1) then Some PastEnd
     else length_lack address (word (address + 1))
 
--- The first fault at an address after `count` models, or `None`. A valid model and the end of the
--- chain have no fault.
+-- The first fault at an address after `count` models, or `None` for a valid model or the end of the
+-- chain.
 abbrev pub first_lack : Words → ℕ → ℕ → Option ChainFault
 first_lack word count address =
     if nat_lt 65535 address then Some PastEnd else id_lack word count address (word address)
 
--- The first fault comes directly after the longest lawful list of models.
+-- True if the fault comes directly after the longest valid list of models.
 pub record Lacks (word : Words) (fault : ChainFault) : Type 0 where
   pub base : ℕ
   pub models : List Model
@@ -43,7 +43,7 @@ pub record Lacks (word : Words) (fault : ChainFault) : Type 0 where
       → length others ≤ length models
   pub lack : first_lack word (length models) next ≡ Some fault
 
--- The words have this fault. Lack of memory can happen with any words.
+-- True if the words have this fault. Lack of memory may occur with any words.
 abbrev pub Fails : Words → ChainFault → Type 0
 Fails word NoMark = base_in word ≡ None
 Fails word (Unreadable address) = Lacks word (Unreadable address)

@@ -1,11 +1,11 @@
-//! The chain of models in an image.
+//! The chain of SunSpec models in a device's memory image.
 ghost use Rattle.std.specs.Prelude.{◌+◌, ◌≤◌, length};
 ghost use Rattle.std.specs.List.{All};
 
 use crate::image::Image;
 use crate::model::Model;
 
-/// The chain of SunSpec models in an image, as `walk` found it.
+/// The chain of SunSpec models in a memory image, which the function `walk` found.
 #[derive(Drop)]
 pub struct Chain<'a> {
     pub(crate) image: &'a Image,

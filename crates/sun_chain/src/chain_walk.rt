@@ -1,4 +1,4 @@
-//! Walks a chain from its mark to its end.
+//! Finds the chain of SunSpec models in a memory image.
 ghost use Rattle.std.specs.Prelude.{◌≡◌, ◌<◌, ◌≤◌, ◌+◌, Some, None, IfOk, IfErr};
 ghost use Rattle.sun_chain.specs.Image.{word_in};
 ghost use Rattle.sun_chain.specs.Chain.{base_in, is_marked, base_of, end_of, models_of, words_of};
@@ -11,7 +11,7 @@ use crate::image::{ADDRESSES, Image};
 use crate::model::Model;
 use std::alloc::Global;
 
-/// The addresses where SunSpec allows the mark, in the order of the search.
+/// The base addresses at which SunSpec allows the `SunS` mark, in the order of the search.
 const BASES: [u16; 3] = [40000, 50000, 0];
 
 /// The maximum number of models in a chain.
@@ -20,8 +20,8 @@ const MOST_MODELS: usize = 64;
 /// The ID of the model that ends a chain.
 const END_ID: u16 = 0xFFFF;
 
-/// Finds the chain of models in an image. The words `Su` and `nS` mark its base address: 40000,
-/// 50000 or 0.
+/// Finds the chain of models in a memory image. The words `Su` and `nS` mark the chain's base
+/// address: 40000, 50000 or 0.
 pub fn walk(alloc: Global, image: &Image) -> Result<Chain<'_>, ChainFault>
     ensures chain { IfOk result
         (λ chain. IsChain (word_in image.now) (base_of chain) (models_of chain) (end_of chain)) }
@@ -63,8 +63,8 @@ fn is_marked_at(image: &Image, base: u16) -> bool
     image.word(base) == Some(0x5375) && image.word(base + 1) == Some(0x6E53)
 }
 
-// Returns the model at an address after `count` models, or `None` at the end of the chain. On
-// error, returns the first fault there.
+// Returns the model that begins at an address after `count` models, or `None` at the end of the
+// chain. On error, returns the first fault at the address.
 fn model_at(image: &Image, count: usize, address: u32) -> Result<Option<Model>, ChainFault>
     ensures stands { IfOk result (IsNext (word_in image.now) count address) }
     ensures lack { IfErr result

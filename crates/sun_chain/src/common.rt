@@ -8,8 +8,8 @@ use crate::chain::Chain;
 use crate::model::Model;
 use sun_points::{Point, PointType, Text, TextLength, read_point};
 
-/// The fields of a device's first common model. A text that is absent, outside the model or not
-/// read is empty.
+/// The fields of a device's first common model. A text that is absent, outside the model or unread
+/// is empty.
 #[derive(Clone, Copy, Debug, PartialEq, Eq)]
 pub struct Common<'a> {
     pub manufacturer: Text<'a>,
@@ -21,7 +21,7 @@ pub struct Common<'a> {
 }
 
 impl<'a> Chain<'a> {
-    /// Returns the fields of the first common model, or `None` if the chain has no model 1.
+    /// Returns the fields of the first common model, or `None` if the chain has no model with ID 1.
     pub fn common(&self) -> Option<Common<'a>>
         ensures { option_map said result
             ≡ option_map (common_in (words_of self.now)) (first_common (models_of self.now)) }

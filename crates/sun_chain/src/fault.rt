@@ -1,4 +1,4 @@
-//! Faults of a write into an image, and of an image without a chain.
+//! Faults of a write into a memory image, and of an image without a chain.
 ghost use Rattle.std.specs.Prelude.{◌≡◌};
 ghost use Rattle.sun_chain.specs.Fault.{chain_fault_number, image_fault_number};
 
@@ -6,7 +6,7 @@ use std::error::Error;
 use std::fmt;
 use std::fmt::{Display, Formatter};
 
-/// The reason why an image refused words.
+/// The reason why a memory image refused a write of words.
 #[derive(Clone, Copy, Debug, PartialEq, Eq)]
 pub enum ImageFault {
     /// The words would end past address 65535.
@@ -15,7 +15,7 @@ pub enum ImageFault {
 }
 
 impl ImageFault {
-    /// Returns the number of the fault, from 1.
+    /// Returns the number of the fault, counted from 1.
     pub fn number(self) -> u8
         ensures { result ≡ image_fault_number self }
     {
@@ -37,22 +37,22 @@ impl Display for ImageFault {
 
 impl Error for ImageFault {}
 
-/// The reason why an image has no chain of models.
+/// The reason why a memory image has no chain of models.
 #[derive(Clone, Copy, Debug, PartialEq, Eq)]
 pub enum ChainFault {
-    /// No base address holds the mark `SunS`.
+    /// No base address has the `SunS` mark.
     NoMark,
-    /// The chain needs the word at this address, and it was not read.
+    /// The chain needs the word at this address, which was not read.
     Unreadable(u16),
     /// The chain continues past address 65535.
     PastEnd,
-    /// The chain has a 65th model.
+    /// The chain has more than 64 models.
     TooMany,
     Memory,
 }
 
 impl ChainFault {
-    /// Returns the number that `chain` prints for the fault, from 1.
+    /// Returns the number that the command `chain` prints for the fault, counted from 1.
     pub fn number(self) -> u8
         ensures { result ≡ chain_fault_number self }
     {

@@ -1,4 +1,4 @@
-//! The words that were read from a device, by address.
+//! A memory image: the words that were read from a device, by address.
 ghost use Rattle.std.specs.Prelude.{◌≡◌, ◌↔◌, ℕ, ◌+◌, ◌<◌, ◌≤◌, length, None, IfSome, IsSome, OnOk};
 ghost use Rattle.std.specs.Prelude.{OnErr, ◌++◌, ◌-◌, replicate, true, vec_len};
 ghost use Rattle.std.specs.Option.{option_map};
@@ -8,14 +8,14 @@ ghost use Rattle.sun_chain.specs.Replaced.{replaced};
 use crate::fault::ImageFault;
 use std::alloc::{AllocError, Global};
 
-/// The number of Modbus addresses.
+/// The number of register addresses of a Modbus device.
 pub(crate) const ADDRESSES: u32 = 65536;
 
-/// The words that were read from a device, by address.
+/// A memory image: the words that were read from a device, by address.
 #[derive(Drop)]
 pub struct Image {
     words: Vec<u16>,
-    // Whether the word at the same index was read.
+    // For each index of `words`, whether that word was read.
     read: Vec<bool>,
     ghost sized: { vec_len read ≤ vec_len words },
     ghost few: { vec_len read ≤ 65536 },
@@ -24,7 +24,7 @@ pub struct Image {
 impl Image {
     ghost use Rattle.sun_chain.specs.Image.{put_words, word_in, words_in};
 
-    /// Creates an image without words.
+    /// Creates a memory image without words.
     pub fn new(alloc: Global) -> Self
         ensures { (address : ℕ) → word_in result address ≡ None }
     {
@@ -34,8 +34,8 @@ impl Image {
         }
     }
 
-    /// Writes words at consecutive addresses, and replaces any earlier words there. Words past
-    /// address 65535 are refused with `PastEnd`. On an error the image keeps its words.
+    /// Writes words at consecutive addresses, and replaces earlier words there. Words past address
+    /// 65535 are refused with `PastEnd`. On error, the image is unchanged.
     pub fn put(&mut self, address: u16, words: &[u16]) -> Result<(), ImageFault>
         ensures past_end { (result ≡ Err ImageFault.PastEnd)
             ↔ (65536 < address + length words.now) }
@@ -73,15 +73,15 @@ impl Image {
         mark_at(&mut self.read, start, words.len());
     }
 
-    /// Returns the word at the address, or `None` if it was not read.
+    /// Returns the word at the address, or `None` if the word was not read.
     pub fn word(&self, address: u16) -> Option<u16>
         ensures { result ≡ word_in self.now address }
     {
         self.word_at(u32::from(address))
     }
 
-    /// Returns the word at an address, or `None` if it was not read. The address may be past
-    /// 65535.
+    /// Returns the word at an address, or `None` if the word was not read. Addresses past 65535
+    /// have no word.
     pub(crate) fn word_at(&self, address: u32) -> Option<u16>
         ensures { result ≡ word_in self.now address }
     {
@@ -91,7 +91,7 @@ impl Image {
         }
     }
 
-    /// Returns `count` words from an address on, or `None` unless all of them were read.
+    /// Returns the `count` words from `address`, or `None` unless all of them were read.
     pub(crate) fn words_at(&self, address: u32, count: u16) -> Option<&[u16]>
         requires { 1 ≤ count }
         ensures words { option_map (λ words. words.now) result
@@ -115,7 +115,7 @@ fn is_all_true(marks: &[bool]) -> bool
     marks.iter().all(|mark| *mark)
 }
 
-// Extends a list with copies of the value to at least this size.
+// Extends a list to at least `size` items with copies of `value`.
 fn pad<T: Copy>(items: &mut Vec<T>, size: usize, value: T) -> Result<(), AllocError>
     ensures longer { OnOk result
         (items.new.items ≡ items.old.items ++ replicate (size - vec_len items.old) value) }

@@ -1,4 +1,4 @@
-//! SunSpec models: a device's memory image, and the chain of models in the image.
+//! SunSpec models: the memory image of a device, and the chain of models in the image.
 #![tactic(auto)]
 
 mod chain;

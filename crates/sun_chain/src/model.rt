@@ -1,8 +1,8 @@
-//! A model: its address, its ID and its length.
+//! A SunSpec model: its address, its ID and its length.
 ghost use Rattle.std.specs.Prelude.{◌≡◌};
 
-/// A model: the address of its ID register, its ID, and its length. The length counts the registers
-/// after the ID and the length register.
+/// A SunSpec model: the address of its ID register, its ID, and its length. The length is the
+/// number of registers after the ID and length registers.
 #[derive(Clone, Copy, Debug, PartialEq, Eq)]
 pub struct Model {
     pub address: u16,

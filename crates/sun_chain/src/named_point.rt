@@ -1,4 +1,4 @@
-//! The points of a model, with their names and scales.
+//! A point of a SunSpec model, with its name, address, value and scale.
 ghost use Rattle.std.specs.Prelude.{◌≡◌};
 ghost use Rattle.sun_chain.specs.Points.{faulty_text, scale_said, seen, value_text};
 ghost use Rattle.sun_points.specs.Point.{seen as point_seen};
@@ -7,17 +7,17 @@ use crate::tables::EntryType;
 use std::io;
 use sun_points::{Point, PointType, Scale, Sink};
 
-/// The scale of a point.
+/// The scale of a point: the power of ten for its value.
 #[derive(Clone, Copy, Debug, PartialEq, Eq)]
 pub enum PointScale {
     /// The point has no scale point.
     Unscaled,
     Scaled(Scale),
-    /// The scale point's register holds no scale factor from -10 to 10.
+    /// The register of the scale point has no scale factor from -10 to 10.
     Faulty,
 }
 
-/// A point of a model. Its text borrows the image.
+/// A point of a SunSpec model in a memory image. A text value borrows the image.
 #[derive(Clone, Copy, Debug)]
 pub struct NamedPoint<'a> {
     pub(crate) name: &'a str,
@@ -42,21 +42,22 @@ impl<'a> NamedPoint<'a> {
         self.address
     }
 
-    /// Returns the type of the point.
+    /// Returns the SunSpec type of the point.
     pub fn ty(&self) -> PointType
         ensures { result ≡ (seen self.now).ty }
     {
         self.ty.point_type()
     }
 
-    /// Returns the value of the point, to which its scale is not applied.
+    /// Returns the value of the point, without its scale applied.
     pub fn value(&self) -> Point<'a>
         ensures { point_seen result ≡ (seen self.now).value }
     {
         self.value
     }
 
-    /// Returns the scale of the point. A scale point outside the model or not read counts as 0.
+    /// Returns the scale of the point. A scale point that lies outside the model or was not read
+    /// counts as 0.
     pub fn scale(&self) -> PointScale
         ensures { result ≡ (seen self.now).scale }
     {
@@ -66,8 +67,8 @@ impl<'a> NamedPoint<'a> {
         }
     }
 
-    /// Writes the value as `Point::write` does. A value that is present and has a faulty scale is
-    /// written as `faulty`.
+    /// Writes the value of the point at its scale. A value with a faulty scale is written as
+    /// `faulty`, unless it is absent.
     pub fn write_value<S: Sink>(&self, output: &mut S) -> io::Result<()>
         ensures { let point = seen self.now in
             S.takes output.old (value_text point.value point.scale) result output.new }

@@ -16,8 +16,8 @@ use std::alloc::AllocError;
 use sun_points::{Point, read_point};
 
 impl<'a> Chain<'a> {
-    /// Returns the points that lie fully inside the model and were read, in order of address. An
-    /// unknown model has no points.
+    /// Returns the points of a model that lie fully inside the model and were read, in order of
+    /// address. An unknown model has no points.
     pub fn points(&self, model: &Model) -> Result<Vec<NamedPoint<'a>>, AllocError>
         ensures points { IfOk result
             (λ points. map seen points.items ≡ points_in (words_of self.now) model.now) }
@@ -75,7 +75,8 @@ impl<'a> Chain<'a> {
             .words_at(u32::from(model.address) + u32::from(offset), count)
     }
 
-    // A scale point outside the model or not read counts as 0.
+    // Returns the register value of a point's scale point, or `None` without one. A scale point
+    // that is outside the model or was not read counts as 0.
     fn scale_word(&self, model: &Model, scale: Option<u16>) -> Option<u16>
         ensures { result ≡ scale_word_in (words_of self.now) model.now scale }
     {

@@ -1,4 +1,4 @@
-//! The tables of the known SunSpec models.
+//! The tables of points of the known SunSpec models.
 
 ghost use Rattle.std.specs.Prelude.{◌≡◌, ◌==◌, find, map};
 ghost use Rattle.std.specs.Option.{option_copied, option_map};
@@ -8,7 +8,7 @@ ghost use Rattle.sun_chain.specs.Tables.{name_at_in, row_of, scale_name_in, tabl
 use EntryType::{Acc32, Bitfield32, Enum16, Int16, String8, String16, Sunssf, Uint16};
 use sun_points::{PointType, TextLength};
 
-/// The point types that occur in the tables.
+/// The SunSpec point types that occur in the model tables.
 #[derive(Clone, Copy, Debug)]
 pub(crate) enum EntryType {
     Int16,
@@ -38,24 +38,24 @@ impl EntryType {
     }
 }
 
-/// A point of a model. Offsets count registers from the model's ID register.
+/// A point in a model table. Offsets are in registers from the model's ID register.
 #[derive(Clone, Copy)]
 pub(crate) struct Entry {
     pub(crate) name: &'static str,
     pub(crate) offset: u16,
     pub(crate) ty: EntryType,
-    /// The offset of the scale point.
+    /// The offset of the point's scale point, or `None` without one.
     pub(crate) scale: Option<u16>,
 }
 
-// The rows hold the name, the offset, the type and the offset of the scale point.
+// Builds a table from tuples of a point's name, offset, type and offset of the scale point.
 macro_rules! entries {
     ($(($name:expr, $offset:expr, $ty:expr, $scale:expr),)*) => {
         [$(Entry { name: $name, offset: $offset, ty: $ty, scale: $scale }),*]
     };
 }
 
-// Model 1, common.
+// The points of model 1 (common).
 static COMMON: [Entry; 6] = entries![
     ("Mn", 2, String16, None),
     ("Md", 18, String16, None),
@@ -65,7 +65,7 @@ static COMMON: [Entry; 6] = entries![
     ("DA", 66, Uint16, None),
 ];
 
-// Models 101 to 103, inverters.
+// The points of models 101 to 103 (inverters).
 static INVERTER: [Entry; 43] = entries![
     ("A", 2, Uint16, Some(6)),
     ("AphA", 3, Uint16, Some(6)),
@@ -112,7 +112,7 @@ static INVERTER: [Entry; 43] = entries![
     ("EvtVnd4", 50, Bitfield32, None),
 ];
 
-// Models 201 to 204, meters.
+// The points of models 201 to 204 (meters).
 static METER: [Entry; 72] = entries![
     ("A", 2, Int16, Some(6)),
     ("AphA", 3, Int16, Some(6)),
@@ -188,7 +188,8 @@ static METER: [Entry; 72] = entries![
     ("Evt", 105, Bitfield32, None),
 ];
 
-/// Returns the points of the model with an ID, in order of offset. An unknown model has none.
+/// Returns the table of the model with an ID, in order of offset, or an empty table for an unknown
+/// model.
 pub(crate) fn table(id: u16) -> &'static [Entry]
     ensures { map row_of result.now ≡ table_of id }
 {
@@ -200,7 +201,8 @@ pub(crate) fn table(id: u16) -> &'static [Entry]
     }
 }
 
-/// Returns the name of the scale point of a named point, by the table of the model.
+/// Returns the name of the scale point of a point, by the table of the model with this ID, or
+/// `None` without one.
 pub fn scale_name(id: u16, name: &str) -> Option<&'static str>
     ensures { option_map (λ found. found.now) result ≡ scale_name_in (table_of id) name.now }
 {

@@ -1,11 +1,12 @@
--- The lowest digits of a number, computed from the last digit.
+-- Lemmas about computing the lowest digits of a number from the last digit to the first.
 use Rattle.std.proofs.Common.{◌≡◌, ℕ, ◌+◌, ◌-◌, ◌/◌, ◌%◌, ◌^◌, ◌<◌, false, List, ◌∷◌, length, drop, set, refl, ◌∙◌, ap, arith, add-one, pow-suc}
 use Rattle.std.proofs.Math.Nat.{div-div-eq-div-mul}
 use Rattle.std.specs.Fmt.{digit_glyph}
 use Rattle.std.proofs.lemmas.Grind.{drop-set_at}
 use Rattle.sun_points.specs.Decimal.{low_digits}
 
--- Setting one more digit before the lowest digits gives one more of the number's lowest digits.
+-- Writing the next higher digit before the lowest digits gives one more of the number's lowest
+-- digits.
 pub drop-set_digit : (base : ℕ) (digits : List ℕ) (count place n : ℕ) → place < count → length digits ≡ count →
     drop (count - place) digits ≡ low_digits base place n →
     drop (count - (place + 1)) (set digits (count - 1 - place) (digit_glyph false (n / base ^ place % base))) ≡ low_digits base (place + 1) n

@@ -1,4 +1,4 @@
--- A text, printed byte by byte.
+-- Lemmas about a text that is printed byte by byte.
 use Rattle.std.proofs.Common.{◌≡◌, ℕ, ◌+◌, ◌<◌, ◌==◌, List, ◌∷◌, ◌++◌, length, get_or, drop, refl, sym, ◌∙◌, ap, append_assoc, one-add, add-one, drop-cons}
 use Rattle.std.proofs.lemmas.Bool.{ne_eqb}
 use Rattle.std.specs.Int.{w16, to_be_bytes}
@@ -8,15 +8,15 @@ use Rattle.sun_points.specs.Text.{shown_byte, bytes_of}
 abbrev pub shown_bytes : List ℕ → List ℕ
 shown_bytes bytes = flat_map shown_byte (before_first (λ b. b == 0) bytes)
 
--- The printed form of all words consists of the part printed already and the printed form of the
--- words left.
+-- The loop invariant of printing: the printed form of all registers is the form printed until now
+-- followed by that of the remaining registers.
 abbrev pub ShownUpTo : List ℕ → List ℕ → List ℕ → Type 0
 ShownUpTo shown words left = shown_bytes (bytes_of words) ≡ shown ++ shown_bytes (bytes_of left)
 
 pub shown_bytes-other : (b : ℕ) (bytes : List ℕ) → (b ≡ 0 → ⊥) → shown_bytes (b ∷ bytes) ≡ shown_byte b ++ shown_bytes bytes
 shown_bytes-other b bytes other = rw (ne_eqb b 0 other, one-add) refl
 
--- The bytes of the words from index i begin with the two bytes of word i.
+-- The bytes of the registers from index `i` begin with the two bytes of register `i`.
 pub bytes_of-drop : (words : List ℕ) (i : ℕ) {bytes : List ℕ} → i < length words → bytes ≡ to_be_bytes w16 (get_or words i 0) →
     bytes_of (drop i words) ≡ get_or bytes 0 0 ∷ get_or bytes 1 0 ∷ bytes_of (drop (i + 1) words)
 bytes_of-drop words i in_range bytes_are = rw (bytes_are, drop-cons words i 0, add-one) refl

@@ -1,4 +1,4 @@
--- The types of points.
+-- Defines the number of registers of each SunSpec point type.
 use Rattle.std.specs.Prelude.{ℕ}
 use Rattle.sun_points.specs.declared.point_type.PointType.{PointType}
 use Rattle.sun_points.specs.declared.point_type.PointType.TheVariants.{Int16, Uint16, Enum16, Int32, Uint32, Bitfield32, Acc32, Sunssf, Text}

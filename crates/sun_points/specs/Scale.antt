@@ -1,14 +1,14 @@
--- Scale factors: powers of ten in sunssf registers.
+-- Defines SunSpec scale factors: powers of ten in sunssf registers.
 use Rattle.std.specs.Prelude.{ℕ, ℤ, pos, negsuc, Bool, ◌&&◌, ◌==◌, int_le, if◌then◌else◌, Some, None}
 use Rattle.std.specs.Int.{w16, cast_signed}
 use Rattle.std.specs.declared.option.Option.{Option}
 
--- SunSpec allows this exponent for a scale factor: it is from -10 to 10.
+-- True if the number is from -10 to 10, the exponents that SunSpec allows for a scale factor.
 abbrev pub is_exponent : ℤ → Bool
 is_exponent z = int_le (negsuc 9) z && int_le z (pos 10)
 
--- The scale factor in a sunssf register: 0 if not implemented, or a signed value from -10 to 10.
--- `None` for any other word.
+-- The scale factor in a sunssf register, from -10 to 10. The value 0x8000 ("not implemented") has
+-- the scale factor 0, and any other value `None`.
 abbrev pub scale_of : ℕ → Option ℤ
 scale_of word =
     if word == 0x8000 then Some (pos 0)

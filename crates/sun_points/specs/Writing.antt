@@ -1,4 +1,4 @@
--- What a call that writes a text to a writer returns, and which bytes the writer received, if the
+-- Defines the result of writing a text to a writer, and the bytes that the writer received, if the
 -- writer reports them.
 use Rattle.std.specs.Prelude.{◌≡◌, ◌≢◌, ℕ, List, [], ◌++◌, Ok, Err, IfErr, IsOk}
 use Rattle.std.specs.Io.KnownBytes.{Appends}
@@ -8,19 +8,18 @@ use Rattle.std.specs.declared.io.ErrorKind.TheVariants.{Interrupted}
 use Rattle.std.specs.declared.option.Option.{Option}
 use Rattle.std.specs.declared.result.Result.{Result}
 
--- The writer received a beginning of the text, possibly nothing or all of it.
+-- True if the writer received a first part of the text, possibly none or all of it.
 abbrev pub GotPart : List ℕ → Option (List ℕ) → Option (List ℕ) → Type 0
 GotPart text old new = (part unwritten : List ℕ) × (text ≡ part ++ unwritten) × Appends old new part
 
--- The writer received the complete text if the call succeeded, and a beginning of it if the call
--- failed.
+-- True if the writer received the complete text on success, or a first part of the text on failure.
 abbrev pub GotText : {X E : Type 0} → Result X E → List ℕ → Option (List ℕ) → Option (List ℕ)
     → Type 0
 GotText (Ok done) text old new = Appends old new text
 GotText (Err error) text old new = GotPart text old new
 
--- An empty text always succeeds. An interrupted write is repeated, so the result is never
--- `Interrupted`.
+-- The effects of writing a text. An empty text always succeeds, and interrupted writes are retried,
+-- so the result is never `Interrupted`.
 pub record TakesText {X : Type 0} (result : Result X Error) (text : List ℕ)
     (old new : Option (List ℕ)) : Type 0 where
   pub bytes : GotText result text old new

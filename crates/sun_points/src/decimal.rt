@@ -14,8 +14,8 @@ use std::io;
 /// The text of a scaled number: at most a sign, twenty digits, a decimal point and ten digits.
 pub(crate) type NumberText = ArrayVec<u8, 32>;
 
-/// Writes `value * 10 ^ scale` exactly. A scale of 0 or more appends that many zeros, unless the
-/// value is 0. A negative scale gives that many decimals.
+/// Writes `value * 10 ^ scale` exactly. A scale of 0 or more appends that number of zeros to a
+/// nonzero value. A negative scale gives that number of decimal places.
 pub fn write_scaled<S: Sink>(value: i64, scale: Scale, output: &mut S) -> io::Result<()>
     ensures { S.takes output.old (scaled_text value scale) result output.new }
 {
@@ -80,7 +80,7 @@ fn append_with_decimals(text: &mut NumberText, magnitude: u64, places: u8)
     append(text, decimals);
 }
 
-// Appends the decimal digits of a number. A `u64` has at most twenty of them.
+// Appends the decimal digits of a number. A `u64` has at most twenty digits.
 fn append_decimal(text: &mut NumberText, number: u64)
     requires { array_vec_len text.old ≤ 1 }
     ensures digits { text.new.items ≡ text.old.items ++ decimal number }

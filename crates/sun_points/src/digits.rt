@@ -1,9 +1,9 @@
-//! Digits of a number in bases up to sixteen.
+//! Digits of numbers in bases up to 16.
 ghost use Rattle.std.specs.Prelude.{◌≡◌, ◌<◌, ◌≤◌, length, true, false};
 ghost use Rattle.std.specs.Fmt.{digit_glyph};
 ghost use Rattle.sun_points.specs.Decimal.{low_digits};
 
-/// Returns the character of a digit below sixteen, in lower case.
+/// Returns the character of a digit below 16, in lower case.
 pub(crate) fn lower_digit(value: u8) -> u8
     requires { value < 16 }
     ensures { result ≡ digit_glyph false value }
@@ -15,7 +15,7 @@ pub(crate) fn lower_digit(value: u8) -> u8
     }
 }
 
-/// Returns the character of a digit below sixteen, in upper case.
+/// Returns the character of a digit below 16, in upper case.
 pub(crate) fn upper_digit(value: u8) -> u8
     requires { value < 16 }
     ensures { result ≡ digit_glyph true value }
@@ -27,7 +27,8 @@ pub(crate) fn upper_digit(value: u8) -> u8
     }
 }
 
-/// Fills the slice with the lowest digits of the number in this base, the ones last.
+/// Fills the slice with the lowest digits of the number in this base, the most significant digit
+/// first.
 pub(crate) fn fill_digits(number: u64, base: u64, digits: &mut [u8])
     requires some { 0 < base }
     requires few { base ≤ 16 }

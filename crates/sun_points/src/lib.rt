@@ -1,5 +1,5 @@
-//! SunSpec points: decodes registers of each point type, counters and scale factors, and writes a
-//! scaled value exactly.
+//! Decodes SunSpec points of each type, counters and scale factors from registers, and writes
+//! scaled values exactly.
 #![tactic(auto)]
 
 mod counters;

@@ -5,8 +5,8 @@ ghost use Rattle.std.specs.Char.{is_ascii_digit};
 ghost use Rattle.std.specs.List.{list_all};
 ghost use Rattle.sun_points.specs.Numbers.Digits.{digits_value, number_of_digits};
 
-/// Parses a text of one to `most` decimal digits; returns `None` for any other text. `most` is at
-/// most 19, because 20 digits may exceed 64 bits.
+/// Parses a text of one to `most` decimal digits, or returns `None` for any other text. `most` is
+/// limited to 19, because 20 digits may exceed 64 bits.
 pub fn number_of_digits(most: usize, word: &[u8]) -> Option<u64>
     requires { most ≤ 19 }
     ensures { result ≡ number_of_digits most word.now }

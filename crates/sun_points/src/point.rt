@@ -1,4 +1,4 @@
-//! Decodes the registers of a point.
+//! Decodes the registers of a SunSpec point by its type.
 ghost use Rattle.std.specs.Prelude.{◌≡◌, ◌≤◌, ◌==◌, nat_le, if◌then◌else◌, length};
 ghost use Rattle.std.specs.Int.{w16, w32, cast_signed};
 ghost use Rattle.std.specs.List.{list_all};
@@ -8,10 +8,10 @@ ghost use Rattle.sun_points.specs.Point.{Absent, Signed, Unsigned, Bits, Text as
 use crate::point_type::PointType;
 use crate::text::Text;
 
-/// The value of a point. A text borrows the registers.
+/// The value of a SunSpec point. A text borrows the registers.
 #[derive(Clone, Copy, Debug, PartialEq, Eq)]
 pub enum Point<'a> {
-    /// The registers hold the type's value for "not implemented".
+    /// The registers have the type's value for "not implemented".
     Absent,
     Signed(i64),
     Unsigned(u64),
@@ -19,7 +19,7 @@ pub enum Point<'a> {
     Text(Text<'a>),
 }
 
-/// Decodes a point of the type from its registers.
+/// Decodes a point of type `ty` from its registers.
 pub fn read_point(ty: PointType, words: &[u16]) -> Point<'_>
     requires { length words.now ≡ registers_of ty }
     ensures { seen result ≡ value_of ty words.now }
@@ -35,7 +35,7 @@ pub fn read_point(ty: PointType, words: &[u16]) -> Point<'_>
     }
 }
 
-// Returns the 32-bit number in the first two registers, the high word first.
+// Returns the 32-bit number in the first two registers, high word first.
 fn long_in(words: &[u16]) -> u32
     requires { 2 ≤ length words.now }
     ensures { result ≡ long words.now }

@@ -1,4 +1,4 @@
-//! Writes the value of a point as text.
+//! Writes the value of a SunSpec point as text.
 ghost use Rattle.std.specs.Prelude.{◌≡◌};
 ghost use Rattle.sun_points.specs.Point.{seen};
 ghost use Rattle.sun_points.specs.PointText.{bits_text, point_text};
@@ -12,7 +12,7 @@ use std::io;
 
 impl Point<'_> {
     /// Writes the value as text: `absent`, a number times the power of ten, `0x` with eight
-    /// lower-case hex digits, or the characters of a text.
+    /// lower-case hex digits, or the characters of a text point.
     pub fn write<S: Sink>(&self, scale: Scale, output: &mut S) -> io::Result<()>
         ensures { S.takes output.old (point_text (seen self.now) scale) result output.new }
     {

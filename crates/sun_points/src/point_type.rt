@@ -1,10 +1,11 @@
-//! The types of points, and their numbers of registers.
+//! The SunSpec point types, and their numbers of registers.
 ghost use Rattle.std.specs.Prelude.{◌≡◌, ◌≤◌, ◌↔◌, IsSome, IfSome};
 ghost use Rattle.sun_points.specs.PointType.{registers_of};
 
 use std::marker::Model;
 
-/// The number of registers of a text, 1 to 125. One Modbus read requests at most 125 registers.
+/// The number of registers of a text point, 1 to 125. One Modbus read requests at most 125
+/// registers.
 #[derive(Clone, Copy, Debug, PartialEq, Eq)]
 pub struct TextLength {
     registers: u16,
@@ -23,13 +24,14 @@ impl Model for TextLength {
 }
 
 impl TextLength {
-    /// A text of 8 registers.
+    /// The length of a text point with 8 registers.
     pub const EIGHT: TextLength = TextLength { registers: 8 };
 
-    /// A text of 16 registers.
+    /// The length of a text point with 16 registers.
     pub const SIXTEEN: TextLength = TextLength { registers: 16 };
 
-    /// Creates a length of 1 to 125 registers.
+    /// Creates the length of a text point from a number of registers, or returns `None` if it is
+    /// not 1 to 125.
     pub fn new(registers: u16) -> Option<Self>
         ensures lawful { IsSome result ↔ ((1 ≤ registers) × (registers ≤ 125)) }
         ensures value { IfSome result (λ length. length ≡ registers) }
@@ -41,7 +43,7 @@ impl TextLength {
         }
     }
 
-    /// Returns the number of registers.
+    /// Returns the number of registers of a text point with this length.
     pub fn registers(self) -> u16
         ensures value { result ≡ self }
         ensures some { 1 ≤ result }
@@ -60,9 +62,9 @@ pub enum PointType {
     Int32,
     Uint32,
     Bitfield32,
-    /// A counter that only rises, and rolls over to 0.
+    /// A 32-bit counter that only increases and rolls over to 0.
     Acc32,
-    /// A scale factor: the power of ten of other points.
+    /// A scale factor: the power of ten for the values of other points.
     Sunssf,
     /// A text with two characters in each register, the high byte first.
     Text(TextLength),

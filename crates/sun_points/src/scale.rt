@@ -1,4 +1,4 @@
-//! Scale factors of `sunssf` registers.
+//! SunSpec scale factors, decoded from `sunssf` registers.
 ghost use Rattle.std.specs.Prelude.{◌≡◌, ◌≤ℤ◌, pos, negsuc};
 ghost use Rattle.sun_points.specs.Scale.{scale_of};
 
@@ -23,8 +23,8 @@ impl Model for Scale {
 }
 
 impl Scale {
-    /// Returns the scale factor of a sunssf register, or `None` if it is not from -10 to 10. The
-    /// word 0x8000 ("not implemented") gives 0.
+    /// Returns the scale factor of a sunssf register, or `None` if the value is not from -10 to 10.
+    /// The value 0x8000 ("not implemented") means 0.
     pub fn new(word: u16) -> Option<Self>
         ensures { result ≡ scale_of word }
     {

@@ -1,4 +1,4 @@
-//! The trait of a sink that accepts a complete text in one call.
+//! The trait of a destination that accepts a complete text in one call.
 ghost use Rattle.std.specs.Prelude.{◌≡◌, ◌≢◌, List, ℕ, IfErr, IsTrue, ◌↔◌};
 ghost use Rattle.std.specs.IoError.{error_kind};
 ghost use Rattle.std.specs.declared.result.Result.{Result};
@@ -7,20 +7,21 @@ ghost use Rattle.sun_points.specs.Writing.{GotText, TakesText};
 
 use std::io::{self, ErrorKind, Write};
 
-/// A sink that accepts a complete text in one call. The functions of this crate return the result
-/// of one such call unchanged.
+/// A destination that accepts a complete text in one call. Functions that print a value return the
+/// result of one such call unchanged.
 pub trait Sink {
-    // The relation between a sink, a text, the result of writing the text, and the sink afterwards.
+    // The relation between a sink, a text, the result of writing that text, and the sink
+    // afterwards.
     ghost takes: { Self → List ℕ → Result (Unit {0}) Error → Self → Type 0 };
 
-    /// Writes the complete text, or fails. After an error the sink may have received a beginning of
-    /// the text.
+    /// Writes the complete text, or fails. After an error, the sink may have received a first part
+    /// of the text.
     fn take_text(&mut self, text: &[u8]) -> io::Result<()>
         ensures { takes self.old text.now result self.new };
 }
 
-/// Any writer is a sink. It receives the text in as many writes as it needs, at most 2^64 - 1. A
-/// write of 0 bytes is the error `WriteZero`.
+/// Makes any writer a sink. The text is written in at most 2^64 - 1 writes, and a write of 0 bytes
+/// is the error `WriteZero`.
 impl<W: Write> Sink for W {
     ghost takes = { λ old text result new.
         TakesText result text (W.contents old) (W.contents new) };
@@ -34,7 +35,7 @@ impl<W: Write> Sink for W {
 }
 
 // Writes the complete text, unless the writer fails or accepts no byte. An interrupted write is
-// repeated.
+// retried.
 fn write_whole<W: Write>(text: &[u8], writer: &mut W) -> io::Result<()>
     ensures bytes { GotText result text.now (W.contents writer.old) (W.contents writer.new) }
     ensures made_again { IfErr result (λ error. error_kind error ≢ ErrorKind.Interrupted) }

@@ -1,4 +1,4 @@
-//! Texts in registers, two bytes in each.
+//! Texts in SunSpec registers, two bytes in each register.
 ghost use Rattle.std.specs.Prelude.{◌≡◌, ◌≤◌, ◌+◌, ◌++◌, length};
 ghost use Rattle.std.specs.List.{flat_map};
 ghost use Rattle.arrayvec.specs.ArrayVec.{array_vec_len};
@@ -9,7 +9,7 @@ use crate::sink::Sink;
 use arrayvec::ArrayVec;
 use std::io;
 
-/// Appends bytes to a text. The contract guarantees that they fit.
+/// Appends bytes to a text. The contract guarantees that the bytes fit.
 pub(crate) fn append<const N: usize>(text: &mut ArrayVec<u8, N>, more: &[u8])
     requires { array_vec_len text.old + length more.now ≤ N }
     ensures bytes { text.new.items ≡ text.old.items ++ more.now }
@@ -20,11 +20,11 @@ pub(crate) fn append<const N: usize>(text: &mut ArrayVec<u8, N>, more: &[u8])
 
 const MOST_REGISTERS: usize = 125;
 
-/// The printed form of a text: at most four bytes for each of its 250 bytes.
+/// The printed form of a text: at most four characters for each of 250 bytes.
 type ShownText = ArrayVec<u8, 1000>;
 
-/// A text in registers, two bytes in each, the high byte first. The text ends before its first zero
-/// byte. Only its first 125 registers are printed.
+/// A text in registers, two bytes each, high byte first. The text ends before its first zero byte.
+/// Only the first 125 registers are printed.
 #[derive(Clone, Copy, Debug, PartialEq, Eq)]
 pub struct Text<'a> {
     pub words: &'a [u16],

@@ -1,13 +1,13 @@
-//! The output of a command that works on an office.
+//! Writes the output of a command over an office's file.
 use command_io::Buffered;
 use std::alloc::Global;
 use std::io::{self, LineWriter, Write};
 
-/// A writer that writes in pieces of some 8 KiB, or line by line. Line by line it may also keep a
-/// copy of its output.
+/// A writer for the output of a command over an office's file. It writes chunks of about 8 KiB, or
+/// line by line. With line output, it can also store a copy of the output.
 ///
-/// It is one type, so that the commands over an office's file are compiled once, and not once for
-/// each way of printing.
+/// A single type for all ways of printing, so that the commands over an office's file are compiled
+/// only once.
 #[derive(Drop)]
 pub(crate) enum CommandOutput<W: Write + Drop> {
     Pieces(Buffered<W>),
@@ -24,13 +24,13 @@ impl<W: Write + Drop> CommandOutput<W> {
         Ok(CommandOutput::Lines(LineWriter::new(alloc, output)?))
     }
 
-    /// Makes a writer that writes line by line, and keeps a copy of its output as far as memory
-    /// allows.
+    /// Creates a writer that writes line by line, and stores a copy of its output. If memory runs
+    /// out, the copy is incomplete.
     pub(crate) fn keeping(alloc: Global, output: W) -> io::Result<CommandOutput<W>> {
         Ok(CommandOutput::Kept(LineWriter::new(alloc, output)?, Vec::new(alloc)))
     }
 
-    /// Returns the copy of the output; empty if no copy is kept.
+    /// Returns the stored copy of the output, or no bytes if the writer stores no copy.
     pub(crate) fn kept(&self) -> &[u8] {
         match self {
             CommandOutput::Pieces(_) | CommandOutput::Lines(_) => &[],

@@ -1,4 +1,4 @@
-//! Executes commands with the streams, files and sockets of the process.
+//! Executes commands with the standard streams, files and sockets of the process.
 use crate::completions::completions;
 use crate::ended;
 use crate::entering::enter;
@@ -27,14 +27,14 @@ use stored_files::{Ending, Failure, ending_of};
 use stored_office::{Task, ending_of_done};
 use sunspec_text::{chain_text, plan_text};
 
-/// Executes a command, reports how it ended, and returns the exit status. Only this call names the
-/// files of the system.
+/// Executes a command, reports how it ended, and returns the exit status. Passes the files of the
+/// operating system to functions that are generic over the source of files.
 pub(crate) fn carry_out(rt: &HostRuntime, line: &CommandLine<'_>) -> ExitCode {
     let files = Surroundings::of(rt, line);
     carry_out_over(rt, &files, line)
 }
 
-// Executes a command over an office's files.
+// Executes a command with the given source of files.
 fn carry_out_over<D: OfficeFiles + NamedFiles>(
     rt: &HostRuntime,
     files: &D,
@@ -196,7 +196,8 @@ fn stand_in<'a>(rt: &HostRuntime, host: &'a str, port: u16, connections: u32) ->
     }
 }
 
-// Flushes the output, and returns the status of the command.
+// Flushes the output of a command, and returns the status of the command. If flushing fails, the
+// status is `Failed`.
 fn flushed<W: Write>(status: ExitStatus, output: &mut Buffered<W>) -> ExitStatus {
     match output.flush() {
         Ok(()) => status,

@@ -1,4 +1,4 @@
-//! Prints the command line's completions for bash, which it generates from the table of commands.
+//! Prints the bash completion script, which is generated from the table of commands.
 use command_io::Buffered;
 use command_words::{CommandText, OptionText, ProgramText, Value, program};
 use std::io::{self, Write};
@@ -19,7 +19,7 @@ const TAIL: &str = "\
 complete -F _sunreg sunreg
 ";
 
-// Returns the name that the help shows for an option's value. A flag has none.
+// Returns the placeholder that the help text shows for an option's value. `None` for a flag.
 fn value_of<'a>(value: Value<'a>) -> Option<&'a str> {
     match value {
         Value::Required(shown)
@@ -41,14 +41,14 @@ fn write_names<W: Write>(commands: &[CommandText<'_>], output: &mut W) -> io::Re
     Ok(())
 }
 
-// Writes the names of all commands, followed by `help`.
+// Writes the names of all commands to the completion script, followed by `help`.
 fn write_all_names<W: Write>(program: &ProgramText<'_>, output: &mut W) -> io::Result<()> {
     write_names(program.commands, output)?;
     write_names(program.later, output)?;
     output.write_all(b"help")
 }
 
-// Writes the words that an option of a command accepts.
+// Writes the words that an option accepts to the completion script.
 fn write_chosen<W: Write>(
     command: &str,
     option: &str,
@@ -60,7 +60,8 @@ fn write_chosen<W: Write>(
     output.write_all(b"' ;;\n")
 }
 
-// Writes what may follow an option of a command: one of its words, a file, or any value.
+// Writes the completion of an option's value to the completion script. The completion is one of
+// several words, a file name, or nothing.
 fn write_value<W: Write>(command: &str, option: &OptionText<'_>, output: &mut W) -> io::Result<()> {
     if let Value::Chosen { choices, .. } = option.value {
         return write_chosen(command, option.name, choices, output);
@@ -116,7 +117,7 @@ fn write_options<W: Write>(commands: &[CommandText<'_>], output: &mut W) -> io::
     Ok(())
 }
 
-// Writes for every command what may follow each of its options.
+// For every command, writes the completion of each option's value to the completion script.
 fn write_all_values<W: Write>(program: &ProgramText<'_>, output: &mut W) -> io::Result<()> {
     output.write_all(b"    *) case ${COMP_WORDS[1]}\" \"${COMP_WORDS[COMP_CWORD - 1]} in\n")?;
     write_values(program.commands, output)?;
@@ -124,7 +125,8 @@ fn write_all_values<W: Write>(program: &ProgramText<'_>, output: &mut W) -> io::
     output.write_all(b"    *) case ${COMP_WORDS[1]} in\n")
 }
 
-// Writes for every command its options, and the words that may follow its name.
+// For every command, writes its options and the words of its positional arguments to the completion
+// script.
 fn write_all_options<W: Write>(program: &ProgramText<'_>, output: &mut W) -> io::Result<()> {
     write_options(program.commands, output)?;
     write_options(program.later, output)?;
@@ -144,7 +146,7 @@ fn write_script<W: Write>(program: &ProgramText<'_>, output: &mut W) -> io::Resu
     output.write_all(TAIL.as_bytes())
 }
 
-/// Prints the completions.
+/// Prints the bash completion script.
 pub(crate) fn completions(rt: &HostRuntime) -> Ending<'static> {
     let mut output = Buffered::new(io::writer(rt));
     let written = write_script(&program(), &mut output);

@@ -1,4 +1,4 @@
-//! Reads the counters of devices, each once over a socket.
+//! Reads the energy counters of devices, each over its own socket.
 use crate::run_words::bare_host;
 use crate::scans::connect;
 use command_words::Device;
@@ -12,22 +12,22 @@ use std::fmt::{Display, Formatter};
 use std::str::from_utf8;
 use stored_files::Failure;
 
-/// Why a counter could not be read.
+/// A reason why a device's counter could not be read.
 #[derive(Clone, Copy, Debug, Drop)]
 pub(crate) enum Unread<'a> {
-    /// The arguments give no address for this device.
+    /// The arguments have no address for the device.
     Nowhere {
         device: Name,
     },
-    /// No connection to the device could be made.
+    /// The program could not connect to the device.
     Unconnected(Failure<'a>),
-    /// The read failed.
+    /// The read of the counter failed with a `ScanFault`.
     Broken {
         host: &'a str,
         port: u16,
         fault: ScanFault,
     },
-    /// The device sent no value of the counter.
+    /// The device responded without a value of the counter.
     Untold {
         host: &'a str,
         port: u16,
@@ -57,7 +57,8 @@ impl<'a> Display for Unread<'a> {
     }
 }
 
-// Returns the device with this name and its address, if the arguments list it.
+// Returns the device with the name `name` from the devices in the arguments, or `None` if the
+// arguments have no such device.
 fn place_of<'a>(places: &[Device<'a>], name: &Name) -> Option<Device<'a>> {
     for place in places {
         if place.name.as_bytes() == name.as_bytes() {
@@ -74,8 +75,8 @@ fn scale_of(source: ScaleSource) -> CounterScale {
     }
 }
 
-// Reads a counter over a new link. Two attempts are possible, so the link has the time for two
-// responses.
+// Reads a counter of a device over a new link. The deadline of the link is twice the device's
+// timeout, because reading a counter can need two Modbus reads.
 fn shown_within<'a, L: Link>(
     rt: &HostRuntime,
     place: Device<'a>,
@@ -109,8 +110,8 @@ fn shown_within<'a, L: Link>(
     }
 }
 
-/// Returns the present counter of a register. It is read from the first address of the device's
-/// host that accepts the connection.
+/// Reads the present value of an accounting register's counter from the device. Connects to the
+/// first address of the device's host that accepts the connection.
 pub(crate) fn shown_at<'a>(
     rt: &HostRuntime,
     places: &[Device<'a>],

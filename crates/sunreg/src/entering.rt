@@ -1,4 +1,4 @@
-//! Enters the lines of standard input into an office's file.
+//! Executes the command lines of standard input on an office's file.
 use crate::counters::shown_at;
 use crate::offices::{OWN_HOST, over_office};
 use crate::surroundings::Surroundings;
@@ -14,15 +14,14 @@ use std::str::from_utf8;
 use stored_files::{Databases, Ending, Failure, Named, ending_of};
 use stored_office::{Task, ending_of_done};
 
-// Reports why a file that a line names cannot be read, or why the counter of a register that it
-// names cannot.
+// Reports why a file or a counter that an input line names cannot be read.
 fn say_unread<D: Display>(rt: &HostRuntime, name: &str, why: &D) {
     let mut errors = Escaped::new(rt.stderr());
     let _said = write!(errors, "sunreg: {}: {why}\n", Named(name));
 }
 
-// Returns the bytes of a regular file, at most one piece more than a file may have. Any other file
-// is refused, because opening a pipe would block.
+// Reads a regular file, up to slightly more than the maximum length. Rejects other kinds of files,
+// because opening a pipe would block the command.
 fn read_within(rt: &HostRuntime, alloc: Global, name: &str) -> io::Result<Vec<u8>> {
     if !fs::metadata(rt, name)?.is_file() {
         return Err(io::Error::from(ErrorKind::InvalidInput));
@@ -86,8 +85,8 @@ impl NamedFiles for Surroundings<'_> {
     }
 }
 
-/// Executes the commands in the lines of standard input on an office, for a caller; or only checks
-/// the lines.
+/// Executes the command lines of standard input on an office, or only checks these lines. The
+/// events' idempotency keys contain `caller`.
 pub(crate) fn enter<'a, D: Databases + NamedFiles>(
     rt: &HostRuntime,
     files: &D,

@@ -1,13 +1,14 @@
-//! Explains a number that the program printed.
+//! Prints the meaning of a number that the program printed.
 use command_io::Buffered;
 use printed_numbers::{Kind, Meaning, kinds, meaning_of};
 use std::io::{self, Write};
 use stored_files::{Ending, Failure};
 
-/// The greatest number that the program can print after a word.
+/// The greatest number that the program can print after a word such as `held`.
 const MOST_NUMBER: u32 = 999;
 
-// Returns the words that say what the number belongs to, for kinds that share a word.
+// Returns words that distinguish a kind of numbers from the other kinds that are printed after the
+// same word.
 fn owner(kind: Kind) -> &'static str {
     match kind {
         Kind::RowFault => " of a point list row",
@@ -22,7 +23,8 @@ fn owner(kind: Kind) -> &'static str {
     }
 }
 
-// Returns the meaning of a number of this kind, if `what` is the word of the kind.
+// Returns the meaning of a number of the kind `kind`. Returns `None` if the program never prints
+// numbers of this kind after the word `what`.
 fn meaning_at(kind: Kind, what: &str, number: u32) -> Option<&'static Meaning> {
     if kind.word() == what {
         meaning_of(kind, number)
@@ -49,8 +51,8 @@ fn write_meaning<W: Write>(meaning: &Meaning, output: &mut W) -> io::Result<()> 
     write!(output, "What to do: {remedy}.\n")
 }
 
-// Writes each meaning of the number after this word, with an empty line between two meanings.
-// Returns how many there are.
+// Writes each meaning of a number after the word `what`, with an empty line between two meanings.
+// Returns the number of meanings.
 fn write_meanings<W: Write>(what: &str, number: u32, output: &mut W) -> io::Result<u32> {
     let mut count: u32 = 0;
     for kind in kinds() {
@@ -75,7 +77,7 @@ fn has_number(what: &str, number: u32) -> bool {
         .any(|kind| meaning_at(*kind, what, number).is_some())
 }
 
-// Writes the numbers that the program can print after a word.
+// Writes all numbers that the program can print after the word `what`.
 fn write_numbers<W: Write>(what: &str, output: &mut W) -> io::Result<()> {
     for number in 0..=MOST_NUMBER {
         if has_number(what, number) {
@@ -85,7 +87,7 @@ fn write_numbers<W: Write>(what: &str, output: &mut W) -> io::Result<()> {
     Ok(())
 }
 
-// Writes what is wrong with the arguments, and which ones are allowed.
+// Writes which argument of the command `explain` is wrong, and which words or numbers are allowed.
 fn write_fault<W: Write>(what: &str, number: &str, output: &mut W) -> io::Result<()> {
     if is_word(what) {
         write!(
@@ -116,7 +118,7 @@ fn wrong(rt: &HostRuntime, what: &str, number: &str) -> Ending<'static> {
     }
 }
 
-/// Prints the meaning of a number that the program printed after a word.
+/// Prints the meaning of a number that the program printed after the word `what`.
 pub(crate) fn explain(rt: &HostRuntime, what: &str, number: &str) -> Ending<'static> {
     let Ok(value) = number.parse::<u32>() else {
         return wrong(rt, what, number);

@@ -1,4 +1,4 @@
-//! The program: polls SunSpec devices, and records their energy.
+//! The program `sunreg`: polls SunSpec devices, and records their energy.
 #![tactic(auto)]
 
 ghost use Rattle.std.specs.Prelude.{◌≡◌};
@@ -60,7 +60,7 @@ fn main(rt: HostRuntime) -> ExitCode {
     }
 }
 
-// Returns the arguments after the program's name.
+// Returns the command line arguments after the program's name.
 fn words_in(alloc: Global, args: env::Args) -> Result<Vec<String>, AllocError> {
     let mut args = args;
     let _program = args.next();

@@ -1,4 +1,4 @@
-//! The commands that work on an office's file.
+//! Executes the commands that open an office's file.
 ghost use Rattle.std.specs.Prelude.{IfOk};
 ghost use Rattle.stored_office.specs.Tasks.Tasks.{IsOf};
 
@@ -16,11 +16,11 @@ use std::io::{self, ErrorKind, Printer, Write};
 use stored_files::{Databases, Ending, Failure, latest_stored, log_of};
 use stored_office::{Done, Task, carry_out_stored, ending_of_done, may_be_ahead, say_remarks};
 
-/// The host on which HTTP is served.
+/// The host on which the program serves HTTP.
 pub(crate) const OWN_HOST: &str = "127.0.0.1";
 
-/// Executes a task over the office in a database, and flushes the task's output. After a round,
-/// reports the meaning of its refusals and rejected readings.
+/// Executes a task over the office in a database, and flushes the task's output. After a round of
+/// polls, explains the refusals and rejected readings that the round printed.
 pub(crate) fn over_office<'a, D: Databases + NamedFiles>(
     rt: &HostRuntime,
     files: &D,
@@ -34,7 +34,7 @@ pub(crate) fn over_office<'a, D: Databases + NamedFiles>(
     over_connection(rt, files, path, connection, task, &mut clock)
 }
 
-// Executes a task over a connection to an office, with the timestamps of a clock.
+// Executes a task over a connection to an office's database, with timestamps from `clock`.
 fn over_connection<'a, D: Databases + NamedFiles, C: Clock>(
     rt: &HostRuntime,
     files: &D,
@@ -60,7 +60,7 @@ fn over_connection<'a, D: Databases + NamedFiles, C: Clock>(
         &mut errors,
     );
     match (output.flush(), done) {
-        // (if the reader of the output has closed it, the rest is dropped)
+        // (if the reader of standard output has closed it, the remaining output is dropped)
         (Err(error), Ok(Done::Ran(end))) if error.kind() == ErrorKind::BrokenPipe => {
             Ok(Done::Ran(end))
         }
@@ -78,8 +78,8 @@ fn over_connection<'a, D: Databases + NamedFiles, C: Clock>(
     }
 }
 
-// If the latest record is later than the clock, reports both times and what to do. Returns whether
-// it is later.
+// If an office's latest record is later than the clock, reports this with both times and a remedy.
+// Returns whether the record is later.
 fn is_said_ahead<D: Databases, C: Clock>(
     rt: &HostRuntime,
     files: &D,
@@ -95,8 +95,9 @@ fn is_said_ahead<D: Databases, C: Clock>(
     }
 }
 
-// Returns the output of a task: line by line for a round and a run, in pieces for other tasks. The
-// output of a round is kept, so that its meaning can be reported.
+// Returns the writer for a task's output. A round of polls and the command `run` write line by
+// line, and other tasks write in chunks. The output of a round is also stored, so that its numbers
+// can be explained.
 fn output_of<'r>(
     rt: &'r HostRuntime,
     task: Task<'_>,
@@ -113,8 +114,8 @@ fn output_of<'r>(
     }
 }
 
-// Returns how many bytes of accepted requests a database stores, or 0 if the query fails. If it
-// fails, opening the store reports the failure.
+// Returns the number of bytes of accepted requests in a database, or 0 if the query fails. When the
+// store is opened afterwards, the failure is reported.
 fn kept_in<S: Alter + Drop>(connection: &mut Connection<S>) -> u64 {
     let Ok(row) = connection.query_row("SELECT sum(length(request)) FROM replies", &[]) else {
         return 0;
@@ -125,7 +126,7 @@ fn kept_in<S: Alter + Drop>(connection: &mut Connection<S>) -> u64 {
     }
 }
 
-// Runs the office in a database.
+// Polls devices and serves HTTP over the office in a database.
 fn run_over<'a, D: Databases + NamedFiles>(
     rt: &HostRuntime,
     files: &D,
@@ -138,8 +139,9 @@ fn run_over<'a, D: Databases + NamedFiles>(
     run_opened(rt, files, path, connection, sites, settings, &mut clock)
 }
 
-/// Runs an office over a connection to a database, with the timestamps of a clock, and watches the
-/// file and its log. The bytes of stored requests are counted once, before the store is opened.
+/// Runs an office over a connection to a database, with timestamps from `clock`. Watches the
+/// lengths of the file and its log. Counts the bytes of stored requests once, before the store is
+/// opened.
 pub(crate) fn run_opened<'a, D: Databases + NamedFiles, C: Clock>(
     rt: &HostRuntime,
     files: &D,
@@ -164,8 +166,8 @@ pub(crate) fn run_opened<'a, D: Databases + NamedFiles, C: Clock>(
     over_connection(rt, files, path, connection, task, clock)
 }
 
-/// Polls devices on a schedule and serves HTTP. If several files are given, the oldest first,
-/// records go into the last one, and the energy of all is reported.
+/// Polls devices on a schedule and serves HTTP. If there are several files, the oldest first,
+/// records are written to the last file and the energy of all files is reported.
 pub(crate) fn run<'a, D: OfficeFiles + NamedFiles>(
     rt: &HostRuntime,
     files: &D,

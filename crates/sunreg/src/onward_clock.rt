@@ -1,8 +1,9 @@
-//! The clock by which records get their timestamps, over one run or several.
+//! The clock for the timestamps of records. While the command `run` changes to a new file, the time
+//! of this clock does not go back.
 use run_schedule::OnwardTime;
 use socket_link::Clock;
 
-/// A clock, and the least time that it may return.
+/// A clock whose times have a lower bound.
 #[derive(Drop)]
 pub(crate) struct OnwardClock<C: Clock + Drop> {
     clock: C,
@@ -17,7 +18,7 @@ impl<C: Clock + Drop> OnwardClock<C> {
         }
     }
 
-    /// Makes the latest time so far the least time that later calls return.
+    /// Sets the lower bound of the clock to the latest time that the clock has returned.
     pub(crate) fn go_on(&mut self) {
         self.time.go_on();
     }

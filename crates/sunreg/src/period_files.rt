@@ -1,4 +1,5 @@
-//! Finds the files of a run that begins a new file each month or year, by their names.
+//! Finds the files of the command `run --carry`, which begins a new file each month or year. The
+//! files are found by their names in one folder.
 use energy_report::Period;
 use file_commands::part_name;
 use run_schedule::{LedPeriod, file_of_period, period_of_file};
@@ -8,10 +9,12 @@ use std::os::unix::fs::MetadataExt;
 use std::str::from_utf8;
 use stored_files::{Failure, FileFault, is_blank, length_of, log_of};
 
-/// The most empty files in a row that are removed. Killed processes may have left them.
+/// The maximum number of consecutive empty files that are removed. Such files may be left by killed
+/// processes.
 const TRIES: u32 = 8;
 
-/// The active file of a run, and the text of its period. The run's own file has no period.
+/// The file to which the command `run` writes, with the text of the file's period. The file that
+/// the arguments name has no period.
 #[derive(Drop)]
 pub(crate) struct Led {
     pub(crate) path: String,
@@ -19,7 +22,7 @@ pub(crate) struct Led {
 }
 
 impl Led {
-    /// Returns the text of the active file's period, such as `2026-11`.
+    /// Returns the text of the current file's period, such as `2026-11`.
     pub(crate) fn period(&self) -> Option<&[u8]> {
         match &self.text {
             Some(text) => Some(text.as_slice()),
@@ -28,7 +31,7 @@ impl Led {
     }
 }
 
-// Splits a path into the folder of a file, and the file's name.
+// Splits a path into the folder and the name of a file.
 fn split_path(path: &str) -> (&str, &str) {
     match path.rsplit_once('/') {
         Some((folder, name)) => (if folder.is_empty() { "/" } else { folder }, name),
@@ -36,8 +39,8 @@ fn split_path(path: &str) -> (&str, &str) {
     }
 }
 
-// Finds the active file among the names in the folder of the run's own file, and returns its
-// period. A name that is not UTF-8 belongs to no period.
+// Returns the latest period that has a file in the folder of the run's own file. Ignores names that
+// are not UTF-8.
 fn period_beside(rt: &HostRuntime, file: &str, period: Period) -> io::Result<LedPeriod> {
     let (folder, name) = split_path(file);
     let mut led = LedPeriod::none();
@@ -54,7 +57,7 @@ fn period_beside(rt: &HostRuntime, file: &str, period: Period) -> io::Result<Led
     Ok(led)
 }
 
-/// Returns the path of the file for a period.
+/// Returns the path of the file for a period, in the folder of the file that the arguments name.
 pub(crate) fn path_of<'a>(
     rt: &HostRuntime,
     file: &str,
@@ -69,7 +72,7 @@ pub(crate) fn path_of<'a>(
     }
 }
 
-// Returns the file for a period as the active one; without a period, the run's own file.
+// Returns the file for a period, or the run's own file without a period, as the current file.
 fn led_path<'a>(rt: &HostRuntime, file: &str, text: Option<Vec<u8>>) -> Result<Led, Failure<'a>> {
     let path = match &text {
         Some(text) => path_of(rt, file, text.as_slice())?,
@@ -81,7 +84,7 @@ fn led_path<'a>(rt: &HostRuntime, file: &str, text: Option<Vec<u8>>) -> Result<L
     Ok(Led { path, text })
 }
 
-// Returns the active file by the names that exist.
+// Returns the current file of a run, by the file names in the folder.
 fn named_file<'a>(rt: &HostRuntime, file: &'a str, period: Period) -> Result<Led, Failure<'a>> {
     match period_beside(rt, file, period) {
         Ok(led) => led_path(rt, file, led.text),
@@ -94,8 +97,8 @@ fn named_file<'a>(rt: &HostRuntime, file: &'a str, period: Period) -> Result<Led
     }
 }
 
-// Returns whether the active file is empty. A killed process may leave it empty on a file system
-// without hard links.
+// Returns whether the current file is an empty file of a period. A killed process may leave such a
+// file on a file system without hard links.
 fn is_left_empty<'a>(rt: &HostRuntime, led: &Led) -> Result<bool, Failure<'a>> {
     let path = led.path.as_str();
     if led.text.is_none() || length_of(rt, path) != Some(0) {
@@ -105,8 +108,8 @@ fn is_left_empty<'a>(rt: &HostRuntime, led: &Led) -> Result<bool, Failure<'a>> {
     Ok(is_blank(length_of(rt, log.as_str())))
 }
 
-/// Returns the active file: the latest file of a period beside the run's own file, or the own file
-/// if there is none. Removes empty files of periods.
+/// Returns the current file of a run: the latest file of a period in the folder, or the run's own
+/// file. Removes empty files of periods.
 pub(crate) fn led_file<'a>(
     rt: &HostRuntime,
     file: &'a str,
@@ -122,8 +125,7 @@ pub(crate) fn led_file<'a>(
     named_file(rt, file, period)
 }
 
-// Returns the texts of the periods before `current` that have a file beside the run's own, in
-// order.
+// Returns the texts of all periods before `current` that have a file in the folder, in order.
 fn periods_before(
     rt: &HostRuntime,
     file: &str,
@@ -150,8 +152,8 @@ fn periods_before(
     Ok(texts)
 }
 
-// Returns the paths of the files for these periods, after the path of the run's own file if that
-// exists.
+// Returns the paths of the files for the given periods, in order. If the file that the arguments
+// name exists, its path comes first.
 fn paths_before<'a>(
     rt: &HostRuntime,
     file: &str,
@@ -175,8 +177,9 @@ fn paths_before<'a>(
     Ok(paths)
 }
 
-/// Returns the files of a run that come before the file at `path`, the oldest first: the run's own
-/// file, and then those of periods. No file comes before the run's own.
+/// Returns the files of the command `run` that are older than the file at `path`, the oldest first.
+/// The file that the arguments name comes first, and the files of periods follow. No file is older
+/// than the file that the arguments name.
 pub(crate) fn files_before<'a>(
     rt: &HostRuntime,
     file: &'a str,
@@ -200,7 +203,7 @@ pub(crate) fn files_before<'a>(
     }
 }
 
-// Returns whether two paths lead to the same file.
+// Returns whether two paths are names of the same file.
 fn are_one(rt: &HostRuntime, path: &str, other: &str) -> bool {
     match (
         fs::symlink_metadata(rt, path),
@@ -211,7 +214,7 @@ fn are_one(rt: &HostRuntime, path: &str, other: &str) -> bool {
     }
 }
 
-// Removes the second name of a file, and syncs the folder.
+// Removes the temporary name of a file that also has a final name, and syncs the folder.
 fn remove_name(rt: &HostRuntime, path: &str, part: &str) -> io::Result<()> {
     fs::remove_file(rt, part)?;
     let mut folder = fs::canonicalize(rt, path)?;
@@ -219,8 +222,8 @@ fn remove_name(rt: &HostRuntime, path: &str, part: &str) -> io::Result<()> {
     File::open(rt, folder.as_str())?.sync_all()
 }
 
-/// If a killed process left a file under both its incomplete name and its final name, removes the
-/// incomplete name. A file with two names cannot be opened.
+/// Removes the temporary name of a file that a killed process left under both its temporary and
+/// final name. A file with two names cannot be opened.
 pub(crate) fn leave_one_name(rt: &HostRuntime, path: &str) {
     let Ok(part) = part_name(rt, path) else {
         return;

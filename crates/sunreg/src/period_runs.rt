@@ -1,7 +1,7 @@
-//! A run that begins a new file each month or year.
+//! Executes the command `run --carry`, which begins a new file each month or year.
 //!
-//! It consists of runs over one file each. Such a run ends soon after the next period has begun.
-//! The meters then continue in the file of that period, and the next run begins over it.
+//! The command `run --carry` runs over one file at a time. Soon after a new period begins, the
+//! meters are rolled over into the period's file, and the next run uses that file.
 use crate::ended;
 use crate::offices::{OWN_HOST, run_opened};
 use crate::onward_clock::OnwardClock;
@@ -30,8 +30,9 @@ use std::time::{Duration, Instant};
 use stored_files::{CopyFault, Databases, Ending, Failure, FileFault, Named, told_zone};
 use stored_office::ending_of_done;
 
-/// How often a file is tried that another process has open, and how often a file is looked for that
-/// another process may be creating. `PAUSE` is the time between two attempts, in milliseconds.
+/// The maximum number of attempts to open a file that another process has open. `LOOKS` is the
+/// maximum number of checks for a file that another process may be creating. `PAUSE` is the time
+/// between two attempts, in milliseconds.
 const TRIES: u32 = 100;
 
 const LOOKS: u32 = 30;
@@ -42,7 +43,8 @@ const NOT_CARRIED: &str = "not carried: it stays in use, and sunreg tries again 
 
 const NAMED: &str = "carried: the new file is in use now";
 
-// Standard error, written only as far as its reader lets it without waiting.
+// A writer to standard error that never waits for the reader of standard error. Output that would
+// have to wait is dropped.
 #[derive(Clone, Copy)]
 struct Unwaited<'r> {
     rt: &'r HostRuntime,
@@ -61,7 +63,7 @@ impl Write for Unwaited<'_> {
     }
 }
 
-// Writes lines to standard error.
+// Writes lines to standard error, without waiting for the reader of standard error.
 fn say(rt: &HostRuntime, lines: &[u8]) {
     let mut errors = Escaped::new(Unwaited { rt });
     let _said = errors.write_all(lines);
@@ -104,7 +106,8 @@ fn say_alone(rt: &HostRuntime, path: &str) {
     }
 }
 
-// Reports why the meters of a file could not continue in another, and what follows from that.
+// Reports why a file could not be rolled over into the next file, and what the command does
+// instead.
 fn say_not_carried(rt: &HostRuntime, from: &str, why: &NotCarried<'_>, comes: &str) {
     let mut lines = Vec::new(rt.alloc());
     let _written = write_why(&mut lines, why);
@@ -112,9 +115,9 @@ fn say_not_carried(rt: &HostRuntime, from: &str, why: &NotCarried<'_>, comes: &s
     say(rt, lines.as_slice());
 }
 
-/// The options of a run that begins new files: the given files, whose last is the run's own, and
-/// the period. Also how many earlier files of periods have their energy reported too. That option
-/// is only given with a single file.
+/// The options of the command `run --carry`, with its files and its period. The file names of the
+/// periods are formed from the last name in `files`. `earlier` is the number of earlier periods
+/// whose energy is also reported, and is only given with a single file.
 #[derive(Clone, Copy)]
 pub(crate) struct PeriodWords<'r> {
     pub(crate) files: &'r [&'r str],
@@ -122,8 +125,8 @@ pub(crate) struct PeriodWords<'r> {
     pub(crate) earlier: Option<u32>,
 }
 
-// What the options request: the run's own file and its periods, and the earlier files whose energy
-// is reported. These are the given ones, and a number of those of periods.
+// The options of the command `run --carry` that are the same for all its periods. They are the last
+// file in the arguments, the period, and the earlier files whose energy is also reported.
 #[derive(Clone, Copy)]
 struct Asked<'r> {
     rt: &'r HostRuntime,
@@ -136,13 +139,13 @@ struct Asked<'r> {
 }
 
 impl Asked<'_> {
-    // Returns whether the energy of earlier files is reported.
+    // Returns whether the command `run` also reports the energy of earlier files.
     fn has_earlier(&self) -> bool {
         self.earlier.is_some() || !self.given.is_empty()
     }
 
-    // Returns the most earlier files of periods whose energy is reported. If earlier files were
-    // given, all files between those and the active one are included.
+    // Returns the maximum number of earlier period files whose energy is reported. If the arguments
+    // name earlier files, all period files up to the current file are included.
     fn most_earlier(&self) -> u32 {
         if self.given.is_empty() {
             self.earlier.unwrap_or(0)
@@ -152,12 +155,13 @@ impl Asked<'_> {
     }
 }
 
-// In which file the run continues, and until when, if there is an end.
+// The file over which the office runs next, and the time at which it must change to another file,
+// in seconds since 1970-01-01 UTC.
 #[derive(Drop)]
 enum Course {
-    // In the active file.
+    // The office runs over the current file.
     Stay(Option<u64>),
-    // In a new file at this path.
+    // The office runs over a new file at this path.
     Carry(String, Option<u64>),
 }
 
@@ -171,8 +175,8 @@ fn zone_in<S: Alter>(connection: &mut Connection<S>) -> Result<Zone, OpenFault> 
     }
 }
 
-// Returns the time of the latest entry of any meter; 0 if there is none, or if the query fails. If
-// it fails, opening the store reports the failure.
+// Returns the timestamp of the latest meter entry in a database. Returns 0 if there is no meter
+// entry, or if the query fails. When the store is opened afterwards, the failure is reported.
 fn latest_entry<S: Alter + Drop>(connection: &mut Connection<S>) -> u64 {
     let Ok(row) = connection.query_row("SELECT max(last_moment) FROM installations", &[]) else {
         return 0;
@@ -183,7 +187,7 @@ fn latest_entry<S: Alter + Drop>(connection: &mut Connection<S>) -> u64 {
     }
 }
 
-// Returns in which file the run continues on a given day in a time zone.
+// Returns the file over which the office runs on a given day in a time zone.
 fn course_on<'a, S: Alter + Drop>(
     asked: &Asked<'a>,
     led: &Led,
@@ -213,8 +217,8 @@ fn course_on<'a, S: Alter + Drop>(
     }
 }
 
-// Returns in which file the run continues at a given time. After the last timestamp there are no
-// days, so it stays in the active file.
+// Returns the file over which the office runs at a given time. After the greatest valid timestamp
+// there are no days, so the office stays in the current file.
 fn course_at<'a, S: Alter + Drop>(
     asked: &Asked<'a>,
     led: &Led,
@@ -231,7 +235,7 @@ fn course_at<'a, S: Alter + Drop>(
     }
 }
 
-// Appends the last `count` of these files to the paths.
+// Appends the last `count` paths of `files` to a list of paths.
 fn add_last<'p>(
     paths: &mut Vec<&'p str>,
     files: &'p [String],
@@ -244,7 +248,7 @@ fn add_last<'p>(
     Ok(())
 }
 
-// Returns the given paths, followed by the last `count` of the other files.
+// Returns the paths in `given`, followed by the last `count` paths of `files`.
 fn paths_of<'p>(
     rt: &HostRuntime,
     given: &'p [&'p str],
@@ -259,8 +263,8 @@ fn paths_of<'p>(
     Ok(paths)
 }
 
-// Returns the energy that the files before the one at a path have for their registers. Does not
-// wait for the reader of standard error.
+// Returns the energy of all accounting registers in the files that are older than the file at
+// `path`. Does not wait for the reader of standard error.
 fn registers_before<'a, D: OfficeFiles>(
     rt: &HostRuntime,
     files: &D,
@@ -277,8 +281,8 @@ fn registers_before<'a, D: OfficeFiles>(
     }
 }
 
-// Handles earlier files that cannot be read, or do not continue each other. A run that has just
-// begun ends. A later run continues, and reports only the energy of its own file.
+// Handles earlier files that cannot be read, or do not continue each other. The first run ends. A
+// later run continues, and reports only the energy of its current file.
 fn untold(
     rt: &HostRuntime,
     path: &str,
@@ -296,8 +300,8 @@ fn untold(
     Ok(Vec::new(rt.alloc()))
 }
 
-// Returns the energy that the files before the one at a path have for their registers, if the
-// options request it.
+// Returns the energy of all registers in the files older than the file at `path`, if the options
+// request it.
 fn told_before<D: OfficeFiles>(
     asked: &Asked<'_>,
     files: &D,
@@ -327,8 +331,8 @@ fn told_before<D: OfficeFiles>(
     }
 }
 
-// Runs over a connection to the file at a path, until a given time. Returns `None` if the run ended
-// at that time, or because its requested duration is over.
+// Runs an office over a connection to the file at `path`, until a given time. Returns `None` if
+// this time was reached, or if the requested duration of the command has passed.
 fn run_in<D: Databases + NamedFiles, C: Clock + Drop>(
     asked: &Asked<'_>,
     files: &D,
@@ -353,7 +357,7 @@ fn run_in<D: Databases + NamedFiles, C: Clock + Drop>(
     }
 }
 
-// Opens the file at a path. A new file has no log yet, and nothing is reported about that.
+// Opens the database file at a path. If the file is new, does not report that its log is missing.
 fn open_once<'a, D: Databases>(
     rt: &HostRuntime,
     files: &D,
@@ -379,8 +383,8 @@ fn is_busy(failure: &Failure<'_>) -> bool {
     )
 }
 
-// Opens a file that this process has just closed or created. If another process has opened it in
-// between, waits for some seconds.
+// Opens a file that this process has just closed or created. If another process has opened the file
+// since then, waits for some seconds.
 fn open_again<'a, D: Databases>(
     rt: &HostRuntime,
     files: &D,
@@ -396,8 +400,8 @@ fn open_again<'a, D: Databases>(
     open_once(rt, files, path, is_new)
 }
 
-// Reads the files before the one at a path, opens that file, and runs over it. The file is new, or
-// this process had it open before.
+// Reads the energy of earlier files, opens the file at `path`, and runs an office over this file.
+// The file is new, or this process had it open before.
 fn run_at<D: OfficeFiles + NamedFiles, C: Clock + Drop>(
     asked: &Asked<'_>,
     files: &D,
@@ -437,8 +441,9 @@ fn is_unfinished(why: &NotCarried<'_>) -> bool {
     )
 }
 
-// Returns whether the new file exists although this call did not create it. If an incomplete file
-// exists, another run may be creating the new file, so this call waits for its final name.
+// Returns whether a new file exists although this process failed to create it. If an incomplete
+// file exists, another process may be creating the new file. This call then waits until the file
+// has its final name.
 fn is_made(rt: &HostRuntime, to: &str, why: &NotCarried<'_>) -> bool {
     if is_unfinished(why) {
         for _look in 0..LOOKS {
@@ -451,8 +456,8 @@ fn is_made(rt: &HostRuntime, to: &str, why: &NotCarried<'_>) -> bool {
     is_there(rt, to)
 }
 
-// Lets the meters of one file continue in another, and runs over that one. If the meters cannot
-// continue, runs over the old file until the next attempt, at the next full hour.
+// Rolls a file over into a new file, and runs an office over the new file. If the file rollover
+// fails, the office runs over the old file until the next full hour, and then tries again.
 fn carry_on<D: OfficeFiles + NamedFiles, C: Clock + Drop>(
     asked: &Asked<'_>,
     files: &D,
@@ -473,16 +478,16 @@ fn carry_on<D: OfficeFiles + NamedFiles, C: Clock + Drop>(
                 let until = next_try(asked.settings.every, clock.now());
                 return run_at(asked, files, from, is_first, false, clock, until, left);
             }
-            // (the file has its name, but the folder could not be synced; or another process
-            // created the file)
+            // (the new file has its final name, but the folder could not be synced, or another
+            // process created the file)
             say_not_carried(rt, from, &why, NAMED);
         }
     }
     run_at(asked, files, to, is_first, true, clock, until, left)
 }
 
-// Opens the active file. If this is not the first run, waits for another process that has the file
-// open.
+// Opens the current file of the command `run`. If another process has the file open, waits, except
+// when the command begins.
 fn open_led<'a, D: Databases>(
     rt: &HostRuntime,
     files: &D,
@@ -496,7 +501,7 @@ fn open_led<'a, D: Databases>(
     }
 }
 
-// Runs over the active file, or over a new file if one is due.
+// Runs an office over the current file, or over a new file if a new period has begun.
 fn turn<D: OfficeFiles + NamedFiles, C: Clock + Drop>(
     asked: &Asked<'_>,
     files: &D,
@@ -528,7 +533,8 @@ fn turn<D: OfficeFiles + NamedFiles, C: Clock + Drop>(
     match course {
         Course::Stay(until) => {
             if asked.has_earlier() {
-                // (earlier files are read first, each over its own connection)
+                // (earlier files are read before the current file is opened, each over its own
+                // connection)
                 drop(connection);
                 return run_at(asked, files, path, is_first, false, clock, until, left);
             }
@@ -550,7 +556,8 @@ fn turn<D: OfficeFiles + NamedFiles, C: Clock + Drop>(
     }
 }
 
-// Returns how many seconds are left of the requested duration, if one was requested.
+// Returns the remaining seconds of the command's requested duration, or `None` if no duration was
+// requested.
 fn left_of(rt: &HostRuntime, lasts: Option<u64>, begun: Option<Instant>) -> Option<u64> {
     let seconds = lasts?;
     let passed = match begun {
@@ -563,7 +570,7 @@ fn left_of(rt: &HostRuntime, lasts: Option<u64>, begun: Option<Instant>) -> Opti
     Some(seconds.saturating_sub(passed))
 }
 
-/// Polls devices on a schedule, serves HTTP, and begins a new file in each period.
+/// Polls devices on a schedule, serves HTTP, and begins a new file each month or year.
 pub(crate) fn run_by_periods<'a, D: OfficeFiles + NamedFiles>(
     rt: &HostRuntime,
     files: &D,

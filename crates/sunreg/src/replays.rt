@@ -1,4 +1,4 @@
-//! Replays scripts over a store in memory, or over an office's file.
+//! Executes scripts over a store in memory, or over an office's file.
 use file_commands::open_in;
 use interval_core::Zone;
 use kept_books::KeptBooks;
@@ -7,7 +7,7 @@ use script_run::{replay, replay_books};
 use std::io;
 use stored_files::{Databases, Ending, Failure, ending_of};
 
-/// Replays the script on standard input over a store in memory, whose days are those of a zone.
+/// Executes the script on standard input over a store in memory, with the days of a time zone.
 pub(crate) fn replay_memory<'a>(rt: &HostRuntime, zone: &'a str) -> Ending<'a> {
     let Ok(read) = Zone::read(zone) else {
         return Ending::NoZone(zone);
@@ -17,7 +17,7 @@ pub(crate) fn replay_memory<'a>(rt: &HostRuntime, zone: &'a str) -> Ending<'a> {
     ending_of(run.status)
 }
 
-/// Replays the script on standard input over the office in the database at a path.
+/// Executes the script on standard input over the office in the database at a path.
 pub(crate) fn replay_file<'a, D: Databases>(
     rt: &HostRuntime,
     files: &D,

@@ -1,4 +1,4 @@
-//! Prints reports on a register.
+//! Prints reports on the energy of an accounting register.
 use crate::offices::{OWN_HOST, over_office};
 use command_words::FormWords;
 use file_commands::{OfficeFiles, Opening, form_of, range_of, statement_of};
@@ -6,14 +6,14 @@ use office_program::NamedFiles;
 use stored_files::Ending;
 use stored_office::{Task, ending_of_done};
 
-// Returns whether the options request no particular form.
+// Returns whether the options leave all settings of a report's form at their defaults.
 fn is_plain(words: &FormWords<'_>) -> bool {
     let has_range = words.from.is_some() || words.till.is_some();
     let has_layout = words.period.is_some() || words.unit.is_some() || words.format.is_some();
     !has_range && !has_layout
 }
 
-// Executes a task that prints a report.
+// Executes a task that prints a report on an office's file.
 fn report_by<'a, D: OfficeFiles + NamedFiles>(
     rt: &HostRuntime,
     files: &D,
@@ -24,7 +24,8 @@ fn report_by<'a, D: OfficeFiles + NamedFiles>(
     ending_of_done(over_office(rt, &readable, path, task), OWN_HOST, 0)
 }
 
-/// Prints the energy of a register, by default by days, or a statement of the register's meters.
+/// Prints the energy of an accounting register, by default by days, or prints a statement of the
+/// register's meters.
 pub(crate) fn report<'a, D: OfficeFiles + NamedFiles>(
     rt: &HostRuntime,
     files: &D,

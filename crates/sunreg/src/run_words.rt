@@ -1,19 +1,19 @@
-//! Returns the settings of a run from its options, and the addresses of its devices.
+//! Converts the options of the command `run` to its settings and its devices' addresses.
 use command_words::Device;
 use office_events::Name;
 use office_running::{Descriptors, Settings, Site};
 use std::net::{SocketAddr, ToSocketAddrs};
 use stored_files::Failure;
 
-/// The file descriptors that every program has (POSIX, unistd.h).
+/// The file descriptor of standard output (POSIX, unistd.h).
 const STANDARD_OUTPUT: i32 = 1;
 
 pub(crate) const STANDARD_ERROR: i32 = 2;
 
-/// The bytes in a megabyte.
+/// The number of bytes in a megabyte.
 const MEGABYTE: u64 = 1_000_000;
 
-/// Returns the settings of a run that serves HTTP on a port of this machine only.
+/// Returns the settings of the command `run`, which serves HTTP on a port of this machine only.
 pub(crate) fn settings_of<'n>(
     listen: u16,
     every: u32,
@@ -54,7 +54,7 @@ pub(crate) fn bare_host(host: &str) -> &str {
     }
 }
 
-// Returns a device with the first address of its host.
+// Returns a device of the arguments with the first IP address of its host.
 fn site_of<'a>(rt: &HostRuntime, device: Device<'a>) -> Result<Site, Failure<'a>> {
     let Device { name, host, port } = device;
     let Ok(mut addresses) = (bare_host(host), port).to_socket_addrs(rt) else {
@@ -69,8 +69,8 @@ fn site_of<'a>(rt: &HostRuntime, device: Device<'a>) -> Result<Site, Failure<'a>
     }
 }
 
-/// Returns the devices with the addresses of their hosts. The names of the hosts are looked up
-/// once, at the beginning.
+/// Returns the devices of the arguments with the IP addresses of their hosts. Host names are looked
+/// up once, when the command begins.
 pub(crate) fn sites_of<'a>(
     rt: &HostRuntime,
     devices: &[Device<'a>],

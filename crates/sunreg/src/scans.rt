@@ -11,17 +11,17 @@ use stored_files::{Ending, Failure, ending_of};
 use sun_chain::Model;
 use sunspec_text::{ScanForm, Site, scan_text};
 
-/// The most seconds for connecting to each address of a host.
+/// The timeout for connecting to each address of a host, in seconds.
 const PATIENCE: u64 = 5;
 
-/// The most seconds for a scan.
+/// The maximum duration of a scan, in seconds.
 const LONGEST: u64 = 600;
 
-/// The greatest length in bytes of a device's name in the lines that set a device up. The names of
-/// its registers are longer, and must fit too.
+/// The greatest length, in bytes, of a device's name in the lines that set the device up. The names
+/// of the device's accounting registers are longer, and must not be too long either.
 const MOST_NAME: usize = 9;
 
-/// The address of a device, and its timeout.
+/// The address of a device to scan, and the timeout of its responses.
 #[derive(Clone, Copy)]
 pub(crate) struct Target<'a> {
     pub(crate) host: &'a str,
@@ -30,7 +30,7 @@ pub(crate) struct Target<'a> {
     pub(crate) timeout: u32,
 }
 
-// Shows on a terminal which model the scan is reading.
+// A progress display on a terminal, which shows the SunSpec model that the scan is reading.
 #[derive(Clone, Copy)]
 struct Terminal<'a> {
     rt: &'a HostRuntime,
@@ -47,8 +47,8 @@ impl ScanObserver for Terminal<'_> {
     }
 }
 
-/// Connects to a device at the first address of its host that accepts. Reads from the link time out
-/// after `seconds`.
+/// Connects to a device at the first address of its host that accepts the connection. Reads from
+/// the link time out after `seconds`.
 pub(crate) fn connect<'a, R: Net>(
     net: &R,
     host: &'a str,
@@ -74,8 +74,8 @@ pub(crate) fn connect<'a, R: Net>(
     Err(Failure::Unconnected { host, port })
 }
 
-// Returns the form for lines that set up a device with this name. `None` if the name is invalid, or
-// leaves no room for the names of the device's registers.
+// Returns the output form of a scan that prints the lines to set up a device. Returns `None` if the
+// device's name is invalid, or too long for the names of its accounting registers.
 fn setup_form<'d>(device: &'d str, target: Target<'_>) -> Option<ScanForm<'d>> {
     if device.len() > MOST_NAME || Name::new(device.as_bytes()).is_none() {
         return None;
@@ -87,8 +87,8 @@ fn setup_form<'d>(device: &'d str, target: Target<'_>) -> Option<ScanForm<'d>> {
     }))
 }
 
-/// Prints the SunSpec models of a device, or their point list, or the lines that set up the device
-/// under a name.
+/// Scans a device, and prints its SunSpec models, their point list, or the lines that set up the
+/// device under a name.
 pub(crate) fn scan<'a>(
     rt: &HostRuntime,
     target: Target<'a>,

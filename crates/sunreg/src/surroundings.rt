@@ -1,11 +1,11 @@
-//! The files and devices that a command over an office's file may use.
+//! The files and devices that a command over an office's file can access.
 use command_words::{CommandLine, Device};
 use file_commands::{Files, OfficeFiles, Opening};
 use sqlite::{Connection, FileFrom, FileStore, Unknown};
 use stored_files::{Databases, FileFault};
 
-/// The databases, and the addresses of the devices whose counters are read. A line of input may
-/// name a file, which is then a file of the system.
+/// The source of files for a command, and the addresses of the devices whose counters the command
+/// reads. An input line may name a file of the operating system.
 #[derive(Clone, Copy)]
 pub(crate) struct Surroundings<'r> {
     pub(crate) rt: &'r HostRuntime,
@@ -14,7 +14,7 @@ pub(crate) struct Surroundings<'r> {
 }
 
 impl<'r> Surroundings<'r> {
-    /// Returns the files and devices for a command, with the files of the system.
+    /// Returns the devices in a command's arguments, with the files of the operating system.
     pub(crate) fn of(rt: &'r HostRuntime, line: &'r CommandLine<'r>) -> Surroundings<'r> {
         let places = match line {
             CommandLine::Enter { devices, .. } => devices.as_slice(),

@@ -4,7 +4,7 @@ use std::io::{IsTerminal, Write};
 const WAITS: &[u8] =
     b"sunreg: reading a script from this terminal; end it with Ctrl-D, or see sunreg --help\n";
 
-/// If standard input is a terminal, reports that the program waits for a script.
+/// Reports that the program waits for a script, if standard input is a terminal.
 pub(crate) fn say_waiting(rt: &HostRuntime) {
     if rt.stdin().is_terminal() {
         let mut errors = rt.stderr();

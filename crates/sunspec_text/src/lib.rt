@@ -1,5 +1,5 @@
-//! Prints the chain of SunSpec models in a device's words, from lines of text or from a live
-//! device. Also prints the plan of a point list.
+//! Prints the chain of SunSpec models in a device's words, which come from lines of text or from a
+//! live device. Also prints the read plan of a point list.
 #![tactic(auto)]
 
 mod chains;

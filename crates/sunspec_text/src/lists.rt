@@ -1,4 +1,4 @@
-//! Prints the plan of a point list, the fewest reads that cover it.
+//! Prints the read plan of a point list: the fewest Modbus reads that cover all points.
 
 mod list_printout;
 mod plan_printout;

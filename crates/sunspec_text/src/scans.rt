@@ -1,4 +1,4 @@
-//! Prints the chain of models of a live device.
+//! Prints the chain of SunSpec models of a live device.
 
 mod scan_printout;
 mod setup_lines;

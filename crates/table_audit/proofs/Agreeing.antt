@@ -1,4 +1,5 @@
--- Rows that agree with a check of all entries are lawful, and no others are.
+-- Lemmas that a meter's rows are those of a lawful journal if and only if they agree with a check
+-- of all entries.
 use Rattle.std.proofs.Common.{◌≡◌, ℕ, ◌+◌, ◌-◌, ◌<◌, List, [], ◌∷◌, ◌++◌, reverse, take, drop, length, get_or, Option, Some, None, MatchOption, Err, refl, sym, ap, subst, ◌∙◌, arith}
 use Rattle.std.proofs.lemmas.List.{reverse-append, take_all, take-append-drop, append_cancel_right}
 use Rattle.energy_core.specs.declared.entries.Last.{Last}
@@ -16,13 +17,14 @@ use Rattle.meter_audit.proofs.Apart.{same_head, told_more}
 use Rattle.store_tables.specs.declared.meters.rows.InstallationRow.{InstallationRow}
 use Rattle.table_audit.specs.Lawful.{last_shown, IsOpenedBy, tables_from, IsLawful, RestAgrees}
 
--- ---- one row after another
+-- ---- splitting a meter's entry rows at an index
 
 pub gone_more : (meter : Installed) (rows : List TableRow) (i : ℕ) (d : TableRow) (new : Progress) → i < length rows
     → HasGone meter (get_or rows i d ∷ reverse (take i rows)) [] new → HasGone meter (reverse (take (i + 1) rows)) [] new
 gone_more meter rows i d new lt gone = subst (λ (told : List TableRow). HasGone meter told [] new) (sym (told_more rows i d lt)) gone
 
--- A row is between the later rows and the earlier ones, with the latest first.
+-- If index `i` is in a list of rows, then the reversed list is the rows after `i`, row `i`, and the
+-- rows before `i`.
 split_at : (rows : List TableRow) (i : ℕ) (d : TableRow) → i < length rows
     → reverse rows ≡ reverse (drop (i + 1) rows) ++ get_or rows i d ∷ reverse (take i rows)
 split_at rows i d lt =
@@ -42,7 +44,8 @@ pub refused_so : RefusedIsNotFine → (meter : Installed) (rows : List TableRow)
 refused_so law meter rows i d old new o fault may lt gone is goes =
     refused_there law meter rows i d old fault may lt gone (subst (GoesOver meter old (get_or rows i d) new) is goes)
 
--- The rows after the first.
+-- If a list's first row is dropped, then taking the length minus one of the rest takes all of the
+-- rest.
 pub all_later : (rows : List TableRow) → take (length rows - 1) (drop 1 rows) ≡ drop 1 rows
 all_later [] = refl
 all_later (row ∷ rows) = take_all (length (row ∷ rows) - 1) rows (omega (arith))
@@ -53,7 +56,7 @@ where_some P Q o a is h = subst (λ q. MatchOption q P Q) is h
 pub where_none : {A : Type 0} (P : Type 0) (Q : A → Type 0) (o : Option A) → o ≡ None → MatchOption o P Q → P
 where_none P Q o is h = subst (λ q. MatchOption q P Q) is h
 
--- ---- the opening
+-- ---- the opening entry of a meter
 
 abbrev meter_with : (range ceiling : ℕ) → Last → Installed
 meter_with range ceiling opening = record { range = range; ceiling = ceiling; opening = opening }
@@ -61,7 +64,8 @@ meter_with range ceiling opening = record { range = range; ceiling = ceiling; op
 pub shows_itself : (row : TableRow) (last : Last) → row ≡ opening_row last → row ≡ opening_row (last_shown row)
 shows_itself row last is = let same : last_shown row ≡ last = ap last_shown is in is ∙ ap opening_row (sym same)
 
--- One row opens only one meter with a range and a ceiling.
+-- If two meters have the same opening row, counter range and ceiling, then the two meters are
+-- equal.
 same_meter : (range ceiling : ℕ) (row : TableRow) (m n : Installed) → IsOpenedBy range ceiling row m → IsOpenedBy range ceiling row n → m ≡ n
 same_meter range ceiling row m n h g =
     let opening : m.opening ≡ n.opening = ap last_shown (sym h.opening_is ∙ g.opening_is) in
@@ -75,7 +79,7 @@ opening_last entries opening later last first is =
     ap (λ (rs : List TableRow). reverse rs) first ∙ reverse-append (opening ∷ []) later
     ∙ ap (λ (r : TableRow). reverse later ++ r ∷ []) is
 
--- The same rows, opened by the same meter.
+-- The meter's rows are fine, and the first of its entries is the opening of this meter.
 record HasOpened (range : ℕ) (row : InstallationRow) (voids : List ℕ) (entries : List TableRow) (shares : List Share) (meter : Installed)
     (later : List TableRow) : Type 0 where
   fine : AreFine meter (tables_from entries shares row)
@@ -108,7 +112,7 @@ pub no_entry : (range : ℕ) (row : InstallationRow) (voids : List ℕ) (entries
 no_entry range row voids entries shares none lawful =
     let both : [] ≡ lawful.opening ∷ lawful.later = sym none ∙ lawful.first in absurd (cc)
 
--- If the rows after the opening are not those of fitting lines, they are not lawful.
+-- If no journal gives the entries after the opening, then the meter's rows are not lawful.
 pub not_told : (range : ℕ) (row : InstallationRow) (voids : List ℕ) (entries : List TableRow) (shares : List Share) (meter : Installed)
     (opening : TableRow) (later : List TableRow) → entries ≡ opening ∷ later → IsOpenedBy range row.ceiling opening meter
     → (AreTold meter (reverse later) → ⊥) → IsLawful range row voids entries shares → ⊥
@@ -123,7 +127,7 @@ not_told range row voids entries shares meter opening later first opened none la
       told_is = append_cancel_right (reverse later) (later_rows meter rows) (opening_row meter.opening ∷ []) both;
     })
 
--- ---- after all entries
+-- ---- a meter's rows after the check of all its entries
 
 pub rest_is_lawful : FinishedIsFine → (range : ℕ) (row : InstallationRow) (voids : List ℕ) (entries : List TableRow) (shares : List Share)
     (meter : Installed) (opening : TableRow) (later : List TableRow) (progress : Progress)

@@ -1,4 +1,4 @@
--- What the queries show of rows, for any values of their columns.
+-- Lemmas on the result rows of the audit's SQL queries, for rows with any column values.
 use Rattle.std.proofs.Common.{◌≡◌, ℕ, true, ◌&&◌, List, [], ◌∷◌, IsPermutation, refl, sym, ap, subst, ◌∙◌, map-id}
 use Rattle.std.specs.Ordering.{is_gt}
 use Rattle.std.proofs.lemmas.List.Sorted.{IsPermutation-refl}
@@ -27,7 +27,7 @@ use Rattle.table_audit.specs.Looking.{itself}
 use Rattle.table_audit.specs.Showing.{intervals_tree, is_text, is_of, InOrder, InPlace, installation_shown, range_shown, entry_shown, void_shown, share_shown}
 use Rattle.table_audit.proofs.SqlTexts as text
 
--- A column is compared with a text.
+-- SQL's binary comparison of a value with a text is true if and only if the value is this text.
 text_test : (v : Value) (t : List ℕ) → is_true (binary (Compare Eq Binary) v (Text t)) ≡ is_text t v
 unfolding binary value_cmp
 text_test Null t = refl
@@ -78,6 +78,6 @@ installation_rows old new content xs rows has are h =
     (λ m n x y le. sym (ap is_gt (then-Equal (value_cmp (column x 0) (column y 0)))) ∙ le)
     old new text.installation_rows text.installation_names content xs rows (tree_at books_schema.tables 4 installations_table refl) has are text.installation_rows_is text.installation_rows_unlisted text.installation_rows_plain h
 
--- The rows of a table are its content.
+-- If a query shows each row unchanged, then it returns all rows of its table.
 pub all_rows : (content : Content) (tree : ℕ) → HasRows tree itself (content tree) content
 all_rows content tree = subst (λ rows. IsPermutation rows (content tree)) (sym (map-id (content tree))) (IsPermutation-refl (content tree))

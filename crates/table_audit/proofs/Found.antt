@@ -1,4 +1,5 @@
--- The values that were read of a meter's rows decide whether the rows are fine.
+-- Lemmas that a meter's rows are fine if and only if the values read from them are those of a
+-- lawful journal.
 use Rattle.std.proofs.Common.{◌≡◌, ◌↔◌, ℕ, Bool, false, List, [], ◌∷◌, Option, Some, None, Result, Ok, Err, Vec, IfOk, IsTrue, sym, ap, subst, ◌∙◌}
 use Rattle.interval_core.specs.declared.shares.Share.{Share}
 use Rattle.meter_audit.specs.declared.rows.TableRow.{TableRow}
@@ -12,11 +13,11 @@ use Rattle.table_audit.specs.Reading.{entry_in, place_in, share_in, range_in, al
 use Rattle.table_audit.specs.Lawful.{IsLawful}
 use Rattle.table_audit.specs.Fine.{IsFine}
 
--- A property that never holds.
+-- If a property is impossible, then the Boolean false decides this property.
 pub never : (P : Type 0) → (P → ⊥) → IsTrue false ↔ P
 never P none = (λ f. absurd (let e : false ≡ Rattle.std.proofs.Common.true = f in cc), λ h. absurd (none h))
 
--- A result for one property is a result for an equivalent property.
+-- If a Boolean decides a property, then it also decides an equivalent property.
 pub told_by : {E P Q : Type 0} (r : Result Bool E) → IfOk r (λ b. IsTrue b ↔ P) → ((b : Bool) → IsTrue b ↔ P → IsTrue b ↔ Q)
     → IfOk r (λ b. IsTrue b ↔ Q)
 told_by (Ok b) h both = both b h
@@ -25,7 +26,7 @@ told_by (Err e) h both = tt
 pub told_too : {E P Q : Type 0} (r : Result Bool E) → IfOk r (λ b. IsTrue b ↔ P) → (P → Q) → (Q → P) → IfOk r (λ b. IsTrue b ↔ Q)
 told_too r h to from = told_by r h (λ b same. (λ is. to (same.0 is), λ q. same.1 (from q)))
 
--- Rows that were read completely.
+-- If parsing the rows returned values, then these are the values of all given rows.
 pub what_was_read : {X Z : Type 0} (read : Row → Result X RowFault) (given rows : List Row) (o : Option (Vec X Z)) (found : Vec X Z)
     → given ≡ rows → o ≡ Some found → AreRead read given o → all_in read rows ≡ Ok found.items
 what_was_read read given rows o found same is h = ap (all_in read) (sym same) ∙ subst (AreRead read given) is h
@@ -78,7 +79,8 @@ module _ (row : InstallationRow) (rows : MeterRows) where
         (subst (λ n. IsLawful n row fine.voids fine.entries fine.shares) same_range fine.lawful)))),
   )
 
-  -- The result for values that were passed on as slices.
+  -- If slices have the same items as the values read from a meter's rows, then they are lawful
+  -- exactly if the rows are fine.
   pub fine_found : (range : ℕ) (voids named vs : List ℕ) (entries es : List TableRow) (shares ss : List Share) (b : Bool)
       → named ≡ voids → vs ≡ voids → es ≡ entries → ss ≡ shares
       → all_in range_in rows.ranges.items ≡ Ok (range ∷ []) → all_in place_in rows.voids.items ≡ Ok voids

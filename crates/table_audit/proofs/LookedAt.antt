@@ -1,4 +1,4 @@
--- The rows of `installations` that the audit has read, one after another.
+-- Lemmas on the findings and counts after the audit of the first rows of `installations`.
 use Rattle.std.proofs.Common.{◌≡◌, ◌+◌, ◌<◌, ◌≤◌, ℕ, suc, List, [], ◌∷◌, ◌++◌, take, length, get_or, refl, sym, ap, subst, ◌∙◌, arith}
 use Rattle.std.specs.List.{AllByRecursion}
 use Rattle.std.proofs.lemmas.List.{take_all, take_more, length-map, length-take-le, map-append}
@@ -9,7 +9,7 @@ use Rattle.table_audit.specs.declared.findings.Counts.{Counts}
 use Rattle.table_audit.specs.declared.findings.Findings.{Findings}
 use Rattle.table_audit.specs.Meters.{LookedAt, row_of, IsLookedUp, IsFineAt, AreFineFrom, none_counted, counted, counted_from, TellsRow, TellsRows}
 
--- ---- one more row
+-- ---- the audit of one more row of `installations`
 
 pub all_more : {X : Type 0} (P : X → Type 0) (xs : List X) (x : X) → AllByRecursion P xs → P x → AllByRecursion P (xs ++ x ∷ [])
 all_more P [] x all one = (one, tt)
@@ -38,7 +38,7 @@ counted_more : (counts : Counts) (xs : List LookedAt) (x : LookedAt) → counted
 counted_more counts [] x = refl
 counted_more counts (y ∷ ys) x = counted_more (counted y.rows counts) ys x
 
--- ---- the report
+-- ---- the findings after the audit of all rows
 
 pub none_few : (found : Findings) → found.first.items ≡ [] → length found.first.items ≤ MOST
 none_few found none = let long : length found.first.items ≡ 0 = ap length none in omega (arith, long)

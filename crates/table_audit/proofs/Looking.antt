@@ -1,4 +1,4 @@
--- A query after the check that the database is open, and one look-up after another.
+-- Lemmas on an SQL query after the check that the database is open, and on consecutive queries.
 use Rattle.std.proofs.Common.{◌≡◌, ◌⊎◌, inl, inr, false, Ok, Err, Result, IfOk, IsErrAnd, IsTrue, refl, sym, subst, ◌∙◌, arith}
 use Rattle.sqlite.specs.Store.{Ghosts}
 use Rattle.sqlite.specs.Held.{Held, state}
@@ -13,7 +13,7 @@ use Rattle.store_tables.proofs.Failures.{still_goes, goes_then, went_on, later_f
 use Rattle.store_tables.proofs.StepLemmas.{kept_then}
 use Rattle.table_audit.specs.Looking.{HoldsTables, OnlyLooks, Finds}
 
--- ---- look-ups, one after another
+-- ---- consecutive SQL queries
 
 module _ {S : Type 0} (g : Ghosts S) where
   pub holds_on : (old new : Held S) (content : Content) → OnlyLooks g old new → HoldsTables g old content → HoldsTables g new content
@@ -33,7 +33,7 @@ module _ {S : Type 0} (g : Ghosts S) where
 
 -- ---- a query after the check that the database is open
 
--- The check was Ok: the visible rows are the committed rows.
+-- After a successful check, the database is open and queries see exactly the committed rows.
 pub record Touched {S : Type 0} (g : Ghosts S) (old mid : Held S) : Type 0 where
   pub mode : mid.in_transaction ≡ false
   pub opened : HasCleanDisk (state g mid) → IsTrue (state g mid).is_open × ((state g mid).now ≡ (state g mid).committed)
@@ -54,7 +54,7 @@ module _ {S : Type 0} (g : Ghosts S) (old mid : Held S) where
     goes = λ content holds clean. went_on (state g old) (state g mid) (λ _. ⊥) clean survives;
   }
 
-  -- The check failed.
+  -- If the check that the database is open fails, then the query fails with the error of the check.
   pub not_touched : {A : Type 0} (e : Error) (r : Result A RowFault) (Says : Content → A → Type 0)
       → mid.in_transaction ≡ false → (HasCleanDisk (state g mid) → KeepsCommit (state g old) (state g mid)) → Survives (state g old) (state g mid) (λ _. ⊥)
       → (HasCleanDisk (state g mid) → IsStoreError (state g old) (state g mid) e) → IsErrAnd r (λ d. d ≡ Sql e) → Finds g old mid r Says
@@ -95,7 +95,7 @@ module _ {S : Type 0} (g : Ghosts S) (old mid : Held S) where
                 goes_then (state g old) (state g mid) (state g new) (first.goes content holds (asks.clean clean)) (went_on (state g mid) (state g new) (λ _. ⊥) clean (asks.survives content s));
           }
 
-      -- The query was Ok.
+      -- If the query succeeds, then its result is true of the committed tables.
       pub asked : {A : Type 0} (a : A) (Says : Content → A → Type 0)
           → (HasCleanDisk (state g new) → (content : Content) → AreTables (state g mid).now content → Says content a)
           → Finds g old new (Ok a) Says
@@ -105,7 +105,7 @@ module _ {S : Type 0} (g : Ghosts S) (old mid : Held S) where
         looks = looks_asked;
       }
 
-      -- The query failed.
+      -- If the query fails, then its error is one of the allowed store errors.
       pub not_asked : {A : Type 0} (e : Error) (r : Result A RowFault) (Says : Content → A → Type 0)
           → (HasCleanDisk (state g new) → (content : Content) → AreTables (state g mid).now content → IsStoreError (state g mid) (state g new) e)
           → IsErrAnd r (λ d. d ≡ Sql e) → Finds g old new r Says
@@ -119,13 +119,13 @@ module _ {S : Type 0} (g : Ghosts S) (old mid : Held S) where
         looks = looks_asked;
       }
 
--- ---- one look-up after another
+-- ---- the result of two consecutive queries
 
 both_ok : {B : Type 0} {P Q : B → Type 0} (r : Result B RowFault) → ((b : B) → P b → Q b) → IfOk r P → IfOk r Q
 both_ok (Ok b) f h = f b h
 both_ok (Err e) f h = tt
 
--- The first answer, and the answer of a query after it.
+-- After two consecutive queries, both results are true of the same committed tables.
 pub finds_then : {S A B : Type 0} (g : Ghosts S) (old mid new : Held S) (a : A) (r : Result B RowFault) (P : Content → A → Type 0) (Q R : Content → B → Type 0)
     → Finds g old mid (Ok a) P → Finds g mid new r Q → ((content : Content) (b : B) → P content a → Q content b → R content b) → Finds g old new r R
 finds_then g old mid new a r P Q R one two tells = record {
@@ -138,7 +138,7 @@ finds_then g old mid new a r P Q R one two tells = record {
   looks = looks_then g old mid new one.looks two.looks;
 }
 
--- A fault is passed on.
+-- If the first of two queries fails, then both queries together fail with the error of the first.
 pub passed_on : {S A B : Type 0} (g : Ghosts S) (old new : Held S) (e : RowFault) (r : Result B RowFault) (P : Content → A → Type 0) (Q : Content → B → Type 0)
     → Finds g old new (Err e) P → IsErrAnd r (λ d. d ≡ e) → Finds g old new r Q
 passed_on g old new e (Ok b) P Q one fails = absurd fails
@@ -148,7 +148,7 @@ passed_on g old new e (Err d) P Q one fails = record {
   looks = one.looks;
 }
 
--- A weaker answer.
+-- If a query result has a property, then it also has each property that follows from this property.
 pub made : {S A B : Type 0} (g : Ghosts S) (old new : Held S) (a : A) (b : B) (P : Content → A → Type 0) (Q : Content → B → Type 0)
     → Finds g old new (Ok a) P → ((content : Content) → P content a → Q content b) → Finds g old new (Ok b) Q
 made g old new a b P Q one tells = record {
@@ -157,7 +157,7 @@ made g old new a b P Q one tells = record {
   looks = one.looks;
 }
 
--- ---- no query, or out of memory
+-- ---- calls without a query, or with memory that ran out
 
 module _ {S : Type 0} (g : Ghosts S) (held : Held S) where
   not_looked : OnlyLooks g held held
@@ -184,7 +184,7 @@ module _ {S : Type 0} (g : Ghosts S) (held : Held S) where
     looks = not_looked;
   }
 
--- Memory ran out after an answer.
+-- If memory runs out after a successful query, then the resulting error is allowed.
 pub cut_off : {S A B : Type 0} (g : Ghosts S) (old new : Held S) (a : A) (P : Content → A → Type 0) (Q : Content → B → Type 0)
     → Finds g old new (Ok a) P → Finds g old new (Err (Sql want_of_memory)) Q
 cut_off g old new a P Q one = record {

@@ -1,4 +1,5 @@
--- What the queries show of polls and outcomes, for any values of their columns.
+-- Lemmas on the result rows of the audit's queries for polls and outcomes, for rows with any column
+-- values.
 use Rattle.std.proofs.Common.{◌≡◌, ℤ, Bool, true, false, ◌&&◌, List, [], ◌∷◌, refl, sym, ap, ◌∙◌}
 use Rattle.std.specs.Ordering.{is_gt}
 use Rattle.sqlite.specs.declared.types.Value.TheVariants.{Int}

@@ -1,4 +1,4 @@
--- One run of polls after another.
+-- Lemmas on the audit of consecutive runs of polls.
 use Rattle.std.proofs.Common.{◌≡◌, ◌⊎◌, inl, inr, ◌<◌, ◌≤◌, ◌+◌, ◌*◌, ◌/◌, ◌%◌, ◌^◌, ◌-◌, ℕ, suc, min, Bool, false, List, [], ◌∷◌, ◌++◌, length, refl, sym, ap, subst, ◌∙◌, arith}
 use Rattle.std.proofs.lemmas.Grind.{div_ceil_times}
 use Rattle.std.proofs.lemmas.List.{length-append}
@@ -35,7 +35,8 @@ stopped_full [] found none = absurd none
 stopped_full (x ∷ []) found stops = stops.1
 stopped_full (x ∷ y ∷ ys) found stops = stopped_full (y ∷ ys) found stops
 
--- These runs were read, and their differences were reported.
+-- The state of a loop after the first `n` runs of polls: the rows of these runs were read, and
+-- their differences were reported.
 pub record IsSoFar (last n : ℕ) (old new : Findings) (content : Content) : Type 0 where
   pub runs : List RunRows
   pub long : length runs ≡ n
@@ -101,7 +102,7 @@ up_to_stop last n old mid new content goes_on before one stopped =
     tells_runs_so last old new content (before.runs ++ one.rows ∷ []) (more_theirs last n old mid new content goes_on before one)
     (more_told last n old mid new content goes_on before one) (inr (stops_last before.runs one.rows new (one.stops stopped)))
 
--- ---- how many runs there are up to the last poll
+-- ---- the number of runs of polls up to the last poll
 
 pub runs_reach : (last runs : ℕ) → runs ≡ last / RUN + min 1 (last % RUN) → last ≤ runs * RUN
 runs_reach last runs is = let times = div_ceil_times last RUN (omega arith) in subst (λ (n : ℕ). last ≤ n * RUN) (sym is) times.0

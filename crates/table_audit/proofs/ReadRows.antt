@@ -1,4 +1,4 @@
--- Rows that are read one after another.
+-- Lemmas on parsing the result rows of a query one by one.
 use Rattle.std.proofs.Common.{◌≡◌, ℕ, zero, suc, ◌+◌, ◌<◌, ◌≤◌, List, [], ◌∷◌, ◌++◌, length, take, get_or, Result, Ok, Err, refl, sym, ap, ◌∙◌, arith}
 use Rattle.std.proofs.lemmas.List.{take_more, take_all}
 use Rattle.sqlite.specs.Order.{Row}
@@ -8,7 +8,8 @@ use Rattle.store_tables.proofs.ReadLemmas.{ok_is, then_read}
 use Rattle.table_audit.specs.Reading.{all_in}
 
 module _ {X : Type 0} (read : Row → Result X RowFault) where
-  -- The rows and one more.
+  -- If a valid row is appended to a list of valid rows, then its value is appended to the parsed
+  -- values.
   read_more : (rows : List Row) (row : Row) (xs : List X) (x : X) → all_in read rows ≡ Ok xs → read row ≡ Ok x
       → all_in read (rows ++ row ∷ []) ≡ Ok (xs ++ x ∷ [])
   read_more [] row xs x h g =
@@ -25,7 +26,7 @@ module _ {X : Type 0} (read : Row → Result X RowFault) where
       → read (get_or rows i d) ≡ Ok x → all_in read (take (i + 1) rows) ≡ Ok (xs ++ x ∷ [])
   next_read rows i d xs x lt h g = ap (all_in read) (take_more rows i d lt) ∙ read_more (take i rows) (get_or rows i d) xs x h g
 
-  -- A row that can't be read.
+  -- If parsing fails for one row, then parsing all rows fails.
   pub unread : (rows : List Row) (i : ℕ) (d : Row) (e : RowFault) → i < length rows → read (get_or rows i d) ≡ Err e
       → (xs : List X) → all_in read rows ≡ Ok xs → ⊥
   unread [] i d e lt g xs h = absurd (omega (arith, lt))
@@ -37,11 +38,11 @@ module _ {X : Type 0} (read : Row → Result X RowFault) where
       let two = then_read (all_in read rows) _ xs one.2 in
       unread rows i d e (omega (arith, lt)) g two.0 two.1
 
-  -- All rows.
+  -- If a list has at most `i` rows, then parsing its first `i` rows gives the values of all rows.
   pub all_read : (rows : List Row) (i : ℕ) (xs : List X) → length rows ≤ i → all_in read (take i rows) ≡ Ok xs → all_in read rows ≡ Ok xs
   all_read rows i xs le h = ap (all_in read) (sym (take_all i rows le)) ∙ h
 
-  -- One value is read from one row.
+  -- If parsing a list of rows gives exactly one value, then the list has exactly one row.
   pub read_one : (rows : List Row) (x : X) → all_in read rows ≡ Ok (x ∷ []) → length rows ≡ 1
   read_one [] x h = let f : [] ≡ x ∷ [] = ok_is h in absurd (cc)
   read_one (row ∷ []) x h = refl

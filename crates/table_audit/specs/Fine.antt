@@ -1,4 +1,4 @@
--- When the rows of a meter are fine, which means that an audit finds no difference in them.
+-- Defines when a meter's rows are fine, which means that an audit finds no difference in them.
 use Rattle.std.specs.Prelude.{◌≡◌, ◌↔◌, ℕ, Bool, List, [], ◌∷◌, Ok, IsTrue}
 use Rattle.interval_core.specs.declared.shares.Share.{Share}
 use Rattle.meter_audit.specs.declared.rows.TableRow.{TableRow}
@@ -9,8 +9,8 @@ use Rattle.store_tables.specs.Content.{Content}
 use Rattle.table_audit.specs.Lawful.{IsLawful}
 use Rattle.table_audit.specs.Showing.{AreRowsOf}
 
--- Each row has values in their ranges, and the meter has exactly one range of its counter. The rows
--- are those that a lawful journal of the meter gives.
+-- All values in the meter's rows are in their ranges, and the meter has exactly one counter range.
+-- The rows are exactly those that a lawful journal of the meter produces.
 pub record IsFine (installation : InstallationRow) (rows : MeterRows) : Type 0 where
   pub range : ℕ
   pub voids : List ℕ
@@ -22,7 +22,8 @@ pub record IsFine (installation : InstallationRow) (rows : MeterRows) : Type 0 w
   pub shares_read : all_in share_in rows.intervals.items ≡ Ok shares
   pub lawful : IsLawful range installation voids entries shares
 
--- `fine` is true if and only if the rows that the tables have for the meter are fine.
+-- `fine` is true if and only if the meter's rows in the tables are the rows that a lawful journal
+-- produces.
 pub record TellsFine (meter : List ℕ) (installation : InstallationRow) (content : Content)
     (fine : Bool) : Type 0 where
   pub rows : MeterRows

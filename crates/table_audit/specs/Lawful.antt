@@ -1,5 +1,5 @@
--- When the values that an audit read of a meter are those of a lawful journal. A journal is lawful
--- if the rules accept each line after those before it.
+-- Defines when the values that an audit read for a meter are those that a lawful journal produces.
+-- A journal is lawful if the rules accept each line after the earlier lines.
 use Rattle.std.specs.Prelude.{◌≡◌, ℕ, Bool, true, nat_lt, nat_le, ◌&&◌, List, [], ◌∷◌, reverse, length}
 use Rattle.energy_core.specs.declared.entries.Last.{Last}
 use Rattle.interval_core.specs.declared.shares.Share.{Share}
@@ -13,28 +13,30 @@ use Rattle.meter_audit.specs.Passing.{MayBeChecked}
 use Rattle.store_tables.specs.declared.meters.rows.LastRow.{LastRow}
 use Rattle.store_tables.specs.declared.meters.rows.InstallationRow.{InstallationRow}
 
--- `meter` has this range and ceiling, and `row` is the row of its opening.
+-- `meter` has the counter range `range` and the power limit `ceiling`, and its opening entry is
+-- `row`.
 pub record IsOpenedBy (range ceiling : ℕ) (row : TableRow) (meter : Installed) : Type 0 where
   pub range_is : meter.range ≡ range
   pub ceiling_is : meter.ceiling ≡ ceiling
   pub opening_is : row ≡ opening_row meter.opening
 
--- The state of the counter at an opening.
+-- The timestamp, raw counter value and scale factor of an opening entry.
 abbrev pub last_shown : TableRow → Last
 last_shown row = record { at = row.moment; raw = row.raw; sf = row.sf }
 
--- Whether the indices rise, are greater than `after`, and are at most `most`.
+-- Whether the indices in a list are strictly increasing, greater than `after`, and at most `most`.
 abbrev pub rises : (after most : ℕ) → List ℕ → Bool
 rises after most [] = true
 rises after most (place ∷ places) =
     nat_lt after place && nat_le place most && rises place most places
 
--- The state of the counter in the columns of an installation's last entry.
+-- The timestamp, raw counter value and scale factor in the last-entry columns of an `installations`
+-- row.
 abbrev pub last_in : LastRow → Last
 last_in last = record { at = last.moment; raw = last.raw; sf = last.sf }
 
--- The tables of a meter, from its entries in order of index, its interval rows and its
--- installation.
+-- Builds the tables of a meter from its entries in order of index, its interval rows and its
+-- `installations` row.
 abbrev pub tables_from : List TableRow → List Share → InstallationRow → Tables
 tables_from entries shares row = record {
   entries = reverse entries;
@@ -44,8 +46,9 @@ tables_from entries shares row = record {
   ended = row.is_ended;
 }
 
--- The values are those of a lawful journal of a meter, which the first entry opens. Each void is of
--- a later entry, and no entry has two voids.
+-- The values read for a meter are those that a lawful journal produces. This journal begins with
+-- the meter's opening entry. Each void record names an entry after the opening, and no entry has
+-- two void records.
 pub record IsLawful (range : ℕ) (row : InstallationRow) (voids : List ℕ)
     (entries : List TableRow) (shares : List Share) : Type 0 where
   pub opening : TableRow
@@ -57,14 +60,15 @@ pub record IsLawful (range : ℕ) (row : InstallationRow) (voids : List ℕ)
   pub fine : AreFine meter (tables_from entries shares row)
   pub named : rises 1 (length entries) voids ≡ true
 
--- The last entry, the total energy and the closing of the installation are those with which a check
--- of all entries ends.
+-- The last entry, total energy and closed flag in the `installations` row equal those that checking
+-- all entries gives.
 pub record StandsThere (row : InstallationRow) (check : Check) : Type 0 where
   pub last : last_in row.last ≡ check.last
   pub total : row.last.total ≡ check.total
   pub ended : row.is_ended ≡ check.is_ended
 
--- The voids, the interval rows and the installation agree with a check of all entries.
+-- The void records, interval rows and `installations` row of a meter agree with the result of
+-- checking all its entries.
 pub record RestAgrees (progress : Progress) (row : InstallationRow) (voids : List ℕ) (last : ℕ)
     (shares : List Share) : Type 0 where
   pub named : rises 1 last voids ≡ true

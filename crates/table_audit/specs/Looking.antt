@@ -1,4 +1,4 @@
--- Queries over any tables, whether or not they encode lawful records.
+-- Contracts of queries that assume nothing about the contents of the tables.
 use Rattle.std.specs.Prelude.{◌≡◌, false, Result, IfOk, IfErr, IsTrue}
 use Rattle.sqlite.specs.Order.{Row}
 use Rattle.sqlite.specs.Tree.{Trees}
@@ -9,19 +9,19 @@ use Rattle.store_tables.specs.declared.faults.RowFault.{RowFault}
 use Rattle.store_tables.specs.Content.{Content, AreTables}
 use Rattle.store_tables.specs.Failing.{IsFault, StateAfterCall}
 
--- The query shows the row as the table has it.
+-- The result row of a query that returns all columns of a table row unchanged.
 abbrev pub itself : Row → Row
 itself row = row
 
 module _ {S : Type 0} (g : Ghosts S) where
-  -- The committed database has these tables. This needs an open connection, and a database that
-  -- gave back what was written to it.
+  -- If the connection is open and the disk returned what was written to it, then the committed
+  -- tables have the content `content`.
   unfoldable pub HoldsTables : Held S → Content → Type 0
   HoldsTables h content =
       HasCleanDisk (state g h) → IsTrue (state g h).is_open
       → AreTables (state g h).committed content
 
-  -- A look-up outside a transaction. It commits nothing, and adds no state that a crash can leave.
+  -- A query outside a transaction. It commits nothing, and adds no state that a crash can leave.
   pub record OnlyLooks (old new : Held S) : Type 0 where
     pub clean : HasCleanDisk (state g new) → HasCleanDisk (state g old)
     pub mode : old.in_transaction ≡ false → new.in_transaction ≡ false
@@ -32,9 +32,9 @@ module _ {S : Type 0} (g : Ghosts S) where
     pub goes : (content : Content) → HoldsTables old content → HasCleanDisk (state g new)
         → StateAfterCall (state g old) (state g new)
 
--- What a query finds, if the database gave back what was written to it. An Ok answer is what the
--- tables have. An error has one of the causes of `IsStoreError`, and `Damaged` is never reported. A
--- query changes nothing.
+-- The contract of a query, if the disk returned what was written to it. On Ok, the result is true
+-- of the tables. On Err, the error satisfies `IsStoreError` and is never `Damaged`. The query
+-- changes nothing.
 pub record Finds {S A : Type 0} (g : Ghosts S) (old new : Held S) (result : Result A RowFault)
     (Says : Content → A → Type 0) : Type 0 where
   pub answer : (content : Content) → HoldsTables g old content → HasCleanDisk (state g new)

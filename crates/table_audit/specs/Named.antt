@@ -1,5 +1,5 @@
--- The findings of all meters, after the differences of one meter were added. A finding is a
--- difference with the name of its meter.
+-- Defines how an audit adds a meter's differences to its findings. A finding is a difference with a
+-- meter's name.
 use Rattle.std.specs.Prelude.{◌≡◌, ◌+◌, ◌-◌, ℕ, List, ◌++◌, map, take, length, Some, None, string_bytes}
 use Rattle.std.specs.List.{AllByRecursion}
 use Rattle.table_audit.specs.declared.differences.Difference.{Difference}
@@ -11,11 +11,12 @@ use Rattle.table_audit.specs.Meters.{up_to_most}
 abbrev pub difference_of : Finding → Difference
 difference_of finding = finding.difference
 
--- The finding has the name of this meter.
+-- The finding has the meter name `meter`, given as bytes.
 abbrev pub IsUnder : (meter : List ℕ) → Finding → Type 0
 IsUnder meter finding = (name : _) × (finding.meter ≡ Some name) × (string_bytes name ≡ meter)
 
--- The differences of a meter are added as findings with its name. At most `MOST` findings are kept.
+-- The differences of a meter are added to the findings, with the meter's name. At most `MOST`
+-- findings are stored.
 pub record KeepsFirst (meter : List ℕ) (differences : List Difference) (old new : Findings) :
     Type 0 where
   pub added : List Finding
@@ -23,12 +24,12 @@ pub record KeepsFirst (meter : List ℕ) (differences : List Difference) (old ne
   pub named : AllByRecursion (IsUnder meter) added
   pub kept : new.first.items ≡ take MOST (old.first.items ++ added)
 
--- The finding of a difference that belongs to no meter.
+-- Builds a finding without a meter's name from a difference.
 abbrev pub of_none : Difference → Finding
 of_none difference = record { meter = None; difference = difference }
 
--- Differences that belong to no meter are added as findings. At most `MOST` findings are kept, and
--- further ones are counted.
+-- Differences that belong to no meter are added to the findings. At most `MOST` findings are
+-- stored, and further findings are only counted.
 pub record IsTold (differences : List Difference) (old new : Findings) : Type 0 where
   pub kept : new.first.items ≡ take MOST (old.first.items ++ map of_none differences)
   pub more : new.more

@@ -1,4 +1,4 @@
--- The differences of the polls of a run, in order. A run is `RUN` consecutive numbers of polls.
+-- Defines the differences of one run of polls, in order. A run has `RUN` consecutive poll numbers.
 use Rattle.std.specs.Prelude.{ℕ, suc, min, ◌+◌, ◌-◌, ◌*◌, ◌==◌, Bool, false, nat_lt, nat_le, ◌&&◌, List, [], ◌∷◌, ◌++◌, Option, Some, None, Result, Ok, Err, if◌then◌else◌, unwrap_or}
 use Rattle.std.specs.List.{list_any}
 use Rattle.std.specs.Option.{option_map_or}
@@ -16,97 +16,105 @@ use Rattle.table_audit.specs.declared.poll_rows.PollRow.{PollRow}
 use Rattle.table_audit.specs.declared.poll_rows.RunRows.{RunRows}
 use Rattle.table_audit.specs.declared.poll_rows.TheConstants.{RUN}
 
--- The first number of the run with this index, which begins at 0.
+-- The first poll number of a run of polls. A run has `RUN` consecutive numbers, and the first run
+-- has the index 0.
 abbrev pub first_number : (run : ℕ) → ℕ
 first_number run = run * RUN + 1
 
--- The last number of a run, at most `last`, which is the last number of all polls.
+-- The last poll number of a run of polls, at most `last`, which is the greatest number of all
+-- polls.
 abbrev pub last_number : (run last : ℕ) → ℕ
 last_number run last = min last ((run + 1) * RUN)
 
--- The differences that each row has, one row after another.
+-- The concatenated results of `differs` for all rows, in order.
 abbrev pub each_of : (Row → List Difference) → List Row → List Difference
 each_of differs [] = []
 each_of differs (row ∷ rows) = differs row ++ each_of differs rows
 
--- ---- values
+-- ---- rows of polls and outcomes with values out of range
 
--- The number of a poll in the first column, if it is in range.
+-- The poll number in the first column of a row, or None if the number is out of range.
 abbrev pub number_in : Row → Option ℕ
 number_in row = whole_in 1 greatest_place (column row 0)
 
--- If a row can't be read, the difference `fault` with its number, or with 0 if even this is out of
--- range.
+-- If a row can't be read, the difference with the cause `fault`. It has the row's poll number, or 0
+-- if the number is out of range.
 abbrev pub unread : {X : Type 0} → PollFault → Row → Result X RowFault → List Difference
 unread fault row (Ok read) = []
 unread fault row (Err why) = Poll (unwrap_or (number_in row) 0) fault ∷ []
 
--- The difference of a poll's row with a value out of its range, if there is one.
+-- The difference of a `polls` row that has a value out of its range, or an empty list.
 abbrev pub unread_poll : Row → List Difference
 unread_poll row = unread OutOfRange row (poll_in row)
 
--- The difference of an outcome's row with a value out of its range, if there is one.
+-- The difference of an `outcomes` row that has a value out of its range, or an empty list.
 abbrev pub unread_outcome : Row → List Difference
 unread_outcome row = unread EndOutOfRange row (outcome_in row)
 
--- ---- numbers
+-- ---- missing and disordered poll numbers
 
--- The number of a poll, even if another value of its row can't be read.
+-- The poll number of a `polls` row. It exists if the row was read, or if only another column could
+-- not be read.
 abbrev pub number_by : Row → Result PollRow RowFault → Option ℕ
 number_by row (Ok poll) = Some poll.number
 number_by row (Err why) = number_in row
 
--- The number of a poll's row. Its other values may be out of range.
+-- The poll number of a `polls` row, whose other columns may be out of range.
 abbrev pub number_of : Row → Option ℕ
 number_of row = number_by row (poll_in row)
 
--- The difference that the numbers from `next` to `below` - 1 are missing, if there are any.
+-- The difference that no poll has a number from `next` to `below` - 1. The list is empty if there
+-- is no such number.
 abbrev pub gap : (next below : ℕ) → List Difference
 gap next below = if nat_lt next below then NoPolls next (below - 1) ∷ [] else []
 
--- Whether `number` is from `next` to `last`.
+-- Whether the poll number `number` is from `next` to `last`.
 abbrev pub rises : (next last number : ℕ) → Bool
 rises next last number = nat_le next number && nat_le number last
 
--- The differences that a number shows when `next` is expected. Either numbers before it are
--- missing, or it is out of order.
+-- The differences that a poll number adds if `next` is the expected number. Either earlier numbers
+-- are missing, or the poll number is out of order.
 abbrev pub told_at : (next last number : ℕ) → List Difference
 told_at next last number =
     if rises next last number then gap next number else Poll number OutOfOrder ∷ []
 
--- The number that is expected after `number`. A number out of order changes nothing.
+-- The poll number that is expected after `number`. If `number` is out of order, the expected number
+-- stays `next`.
 abbrev pub next_after : (next last number : ℕ) → ℕ
 next_after next last number = if rises next last number then number + 1 else next
 
--- The differences that the number of a row shows, if the row has a number.
+-- The differences that a `polls` row adds if `next` is the expected poll number. A row without a
+-- number adds none.
 abbrev pub told_by : (next last : ℕ) → Option ℕ → List Difference
 told_by next last None = []
 told_by next last (Some number) = told_at next last number
 
--- The number that is expected after the number of a row, if the row has a number.
+-- The poll number that is expected after a `polls` row. After a row without a number, `next` is
+-- still expected.
 abbrev pub after_by : (next last : ℕ) → Option ℕ → ℕ
 after_by next last None = next
 after_by next last (Some number) = next_after next last number
 
--- The differences of the rows' numbers: those missing from `next` to `last`, and those out of
--- order.
+-- The differences of the poll numbers in the rows: numbers from `next` to `last` that are missing,
+-- and numbers out of order.
 abbrev pub order_of : (next last : ℕ) → List Row → List Difference
 order_of next last [] = gap next (last + 1)
 order_of next last (row ∷ rows) =
     told_by next last (number_of row)
     ++ order_of (after_by next last (number_of row)) last rows
 
--- ---- outcomes
+-- ---- outcomes that are earlier than their polls
 
--- Whether the row is of the outcome's poll, and the poll started no later than the outcome. If the
--- row can't be read, its number alone decides.
+-- Whether an outcome belongs to the poll in a row, and the poll started no later than the outcome's
+-- timestamp. If the row can't be read, only the poll number is compared.
 abbrev pub began_by : OutcomeRow → Row → Result PollRow RowFault → Bool
 began_by outcome row (Ok poll) =
     (poll.number == outcome.poll) && nat_le poll.started outcome.moment
 began_by outcome row (Err why) =
     option_map_or (λ number. number == outcome.poll) (number_in row) false
 
--- Whether the row is of the outcome's poll, and the poll started no later than the outcome.
+-- Whether an outcome belongs to the poll in the `polls` row, and the poll started no later than the
+-- outcome's timestamp.
 abbrev pub began : OutcomeRow → Row → Bool
 began outcome row = began_by outcome row (poll_in row)
 
@@ -115,29 +123,31 @@ early_by polls (Ok outcome) =
     if list_any (began outcome) polls then [] else Poll outcome.poll EndedBefore ∷ []
 early_by polls (Err why) = []
 
--- The difference of an outcome that has no poll, or is earlier than the start of its poll.
+-- The difference of an outcome that has no poll, or has an earlier timestamp than its poll. The
+-- list is empty if the outcome is in order.
 abbrev pub early : (polls : List Row) → Row → List Difference
 early polls row = early_by polls (outcome_in row)
 
--- ---- all differences
+-- ---- all differences in a run of polls
 
--- The differences of a run's rows with values out of range.
+-- The differences of all rows with values out of range, in one run of poll numbers.
 abbrev pub values_of : RunRows → List Difference
 values_of rows =
     each_of unread_poll rows.polls.items ++ each_of unread_outcome rows.outcomes.items
 
--- The differences of a run's order: missing numbers, numbers out of order, and outcomes earlier
--- than their polls.
+-- The differences in the numbers and timestamps of a run of polls: missing numbers, numbers out of
+-- order, and outcomes earlier than their polls.
 abbrev pub turns_of : (run last : ℕ) → RunRows → List Difference
 turns_of run last rows =
     order_of (first_number run) (last_number run last) rows.polls.items
     ++ each_of (early rows.polls.items) rows.outcomes.items
 
--- All differences of a run of polls.
+-- All differences of one run of polls: first values out of range, then missing or disordered poll
+-- numbers, then outcomes earlier than their polls.
 abbrev pub differences_of_run : (run last : ℕ) → RunRows → List Difference
 differences_of_run run last rows = values_of rows ++ turns_of run last rows
 
--- All differences of several runs, one run after another, beginning with index `run`.
+-- All differences of consecutive runs of polls, beginning with the run at index `run`.
 abbrev pub differences_of_runs : (run last : ℕ) → List RunRows → List Difference
 differences_of_runs run last [] = []
 differences_of_runs run last (rows ∷ others) =

@@ -1,4 +1,4 @@
--- Readers of the rows of `polls` and `outcomes`.
+-- Parses rows of the tables `polls` and `outcomes`.
 use Rattle.std.specs.Prelude.{ℕ, ◌==◌, ◌-◌, min, Result, Ok, if◌then◌else◌}
 use Rattle.sqlite.specs.Order.{Row, column}
 use Rattle.store_tables.specs.declared.faults.RowFault.{RowFault}
@@ -7,11 +7,13 @@ use Rattle.store_tables.specs.Limits.{greatest_place, latest_moment}
 use Rattle.table_audit.specs.declared.poll_rows.OutcomeRow.{OutcomeRow}
 use Rattle.table_audit.specs.declared.poll_rows.PollRow.{PollRow}
 
--- The greatest count of Modbus registers in a read from this address.
+-- The greatest count of Modbus registers in one read from `address`: at most 125, and none past
+-- address 65535.
 abbrev pub greatest_count : (address : ℕ) → ℕ
 greatest_count address = min 125 (65536 - address)
 
--- The number and the start of a poll, if all its numeric columns are in their ranges.
+-- Parses the number and the start time of a poll. All numeric columns of its row must be in their
+-- ranges.
 abbrev pub poll_in : Row → Result PollRow RowFault
 poll_in row =
     and_then (or_damaged (whole_in 1 greatest_place (column row 0))) (λ number.
@@ -23,17 +25,19 @@ poll_in row =
     and_then (or_damaged (whole_in 1 (greatest_count address) (column row 6))) (λ count.
     Ok (record { number = number; started = started }))))))))
 
--- The least code of a kind of outcome. The code of an exception is that of the device. A malformed
--- response has codes 1 to 5, a lost poll 1 to 4, and any other outcome 0.
+-- The least valid code of an outcome kind. The code is the device's code for an exception, 1 to 5
+-- for a malformed response, 1 to 4 for a lost poll, and 0 otherwise.
 abbrev pub least_code : (kind : ℕ) → ℕ
 least_code kind = if kind == 4 then 1 else if kind == 5 then 1 else 0
 
--- The greatest code of a kind of outcome.
+-- The greatest valid code of an outcome kind. Kind 2 is an exception, kind 4 a malformed response,
+-- and kind 5 a lost poll.
 abbrev pub greatest_code : (kind : ℕ) → ℕ
 greatest_code kind =
     if kind == 2 then 255 else if kind == 4 then 5 else if kind == 5 then 4 else 0
 
--- The poll and the time of an outcome, if all its columns are in their ranges.
+-- Parses the poll number and the timestamp of an outcome. All columns of its row must be in their
+-- ranges.
 abbrev pub outcome_in : Row → Result OutcomeRow RowFault
 outcome_in row =
     and_then (or_damaged (whole_in 1 greatest_place (column row 0))) (λ poll.

@@ -1,4 +1,4 @@
--- Queries for a run of polls, over any tables.
+-- Defines the results of queries for a run of polls, over tables with any content.
 use Rattle.std.specs.Prelude.{◌≡◌, ℕ, ℤ, pos, negsuc, ◌+◌, ◌*◌, ◌==◌, Bool, false, ◌&&◌, List, [], ◌∷◌, if◌then◌else◌}
 use Rattle.std.specs.Ordering.{is_gt}
 use Rattle.sqlite.specs.Collation.TheVariants.{Binary}
@@ -15,25 +15,26 @@ use Rattle.table_audit.specs.Showing.{InPlace}
 use Rattle.table_audit.specs.declared.poll_rows.RunRows.{RunRows}
 use Rattle.table_audit.specs.declared.poll_rows.TheConstants.{RUN}
 
--- The tree number of the table `polls`.
+-- The number of the B-tree that stores the table `polls`.
 abbrev pub polls_tree : ℕ
 polls_tree = 11
 
--- The tree number of the table `outcomes`.
+-- The number of the B-tree that stores the table `outcomes`.
 abbrev pub outcomes_tree : ℕ
 outcomes_tree = 13
 
--- ---- the numbers of a run
+-- ---- the poll numbers in a run of polls
 
 -- The least 64-bit integer, which is the least integer in SQLite.
 abbrev pub least_number : ℤ
 least_number = negsuc 9223372036854775807
 
--- The least number of a run. The first run includes all numbers below 1.
+-- The least poll number in the run of polls at index `run`. The run at index 0 includes all poll
+-- numbers below 1.
 abbrev pub low_of : (run : ℕ) → ℤ
 low_of run = if run == 0 then least_number else pos (run * RUN + 1)
 
--- The greatest number of a run.
+-- The greatest poll number in the run of polls at index `run`.
 abbrev pub high_of : (run : ℕ) → ℤ
 high_of run = pos ((run + 1) * RUN)
 
@@ -45,49 +46,49 @@ is_from low v = is_true (binary (Compare Ge Binary) v (Int low))
 abbrev pub is_up_to : (high : ℤ) → Value → Bool
 is_up_to high v = is_true (binary (Compare Le Binary) v (Int high))
 
--- Whether the number in the first column is from `low` to `high`.
+-- Whether the value in the row's first column is from `low` to `high`, as SQL compares values.
 abbrev pub is_between : (low high : ℤ) → Row → Bool
 is_between low high row = is_from low (column row 0) && is_up_to high (column row 0)
 
--- Whether the number of the row is in this run.
+-- Whether the poll number in the row's first column belongs to the run at index `run`.
 abbrev pub is_in_run : (run : ℕ) → Row → Bool
 is_in_run run row = is_between (low_of run) (high_of run) row
 
--- The order of rows by descending numbers, as SQL compares values.
+-- The descending order of rows by their first column, as SQL compares values.
 abbrev pub FromLast : Row → Row → Type 0
 FromLast row later = is_gt (value_cmp (column later 0) (column row 0)) ≡ false
 
--- ---- the columns that the queries show
+-- ---- the columns of result rows for polls and outcomes
 
 abbrev pub number_shown : Row → Row
 number_shown row = column row 0 ∷ []
 
--- The result row that shows a poll: its number, the columns after the device's name, and that name
--- last.
+-- The result row of a query for a poll. It has the poll's number, the columns after the device's
+-- name, and last the device's name.
 abbrev pub poll_shown : Row → Row
 poll_shown row =
     column row 0 ∷ column row 3 ∷ column row 4 ∷ column row 5 ∷ column row 6 ∷ column row 7
     ∷ column row 8 ∷ column row 2 ∷ []
 
--- The result row that shows an outcome.
+-- The result row of a query for an outcome: its poll's number, timestamp, kind and code.
 abbrev pub outcome_shown : Row → Row
 outcome_shown row = column row 0 ∷ column row 2 ∷ column row 3 ∷ column row 4 ∷ []
 
--- The query shows the greatest number of a poll, or no row without polls.
+-- The query returns the greatest poll number in the tables, or no row if there is no poll.
 abbrev pub ShowsLast : Content → List Row → Type 0
 ShowsLast content rows = ShowsFirst every FromLast number_shown (content polls_tree) rows
 
--- The query shows the polls of a run, in order of their numbers.
+-- The query returns a run of polls, in ascending order of their numbers.
 abbrev pub ShowsPolls : (run : ℕ) → Content → List Row → Type 0
 ShowsPolls run content rows =
     Shows (is_in_run run) InPlace poll_shown (content polls_tree) rows
 
--- The query shows the outcomes of a run's polls, in order of their numbers.
+-- The query returns the outcomes of a run of polls, in ascending order of poll numbers.
 abbrev pub ShowsOutcomes : (run : ℕ) → Content → List Row → Type 0
 ShowsOutcomes run content rows =
     Shows (is_in_run run) InPlace outcome_shown (content outcomes_tree) rows
 
--- These are the rows that the tables have for a run of polls.
+-- `rows` are all rows of `polls` and `outcomes` in the tables with poll numbers of the run.
 pub record AreRowsOfRun (run : ℕ) (content : Content) (rows : RunRows) : Type 0 where
   pub polls : ShowsPolls run content rows.polls.items
   pub outcomes : ShowsOutcomes run content rows.outcomes.items

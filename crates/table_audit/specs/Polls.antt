@@ -1,4 +1,4 @@
--- When the polls in the tables are fine, and which differences an audit reports.
+-- Defines when the polls in the tables are fine, and which differences of polls an audit reports.
 use Rattle.std.specs.Prelude.{⊤, ◌≡◌, ◌≤◌, ◌↔◌, ◌⊎◌, ◌+◌, ◌*◌, ◌==◌, ℕ, suc, Bool, true, false, nat_lt, nat_le, ◌&&◌, List, [], ◌∷◌, length, Option, Ok, Result, MatchResult, unwrap_or}
 use Rattle.std.specs.List.{list_all, list_any}
 use Rattle.sqlite.specs.Order.{Row}
@@ -20,24 +20,25 @@ use Rattle.table_audit.specs.declared.poll_rows.PollRow.{PollRow}
 use Rattle.table_audit.specs.declared.poll_rows.RunRows.{RunRows}
 use Rattle.table_audit.specs.declared.poll_rows.TheConstants.{RUN}
 
--- ---- fine
+-- ---- polls without a difference
 
--- Each number from `next` to `last` has a poll, and there is no other poll.
+-- The polls have exactly the numbers from `next` to `last`, in ascending order.
 abbrev pub are_numbered : (next last : ℕ) → List PollRow → Bool
 are_numbered next last [] = nat_lt last next
 are_numbered next last (poll ∷ polls) =
     (poll.number == next) && nat_le next last && are_numbered (next + 1) last polls
 
--- Whether the poll is that of the outcome, and started no later than the outcome.
+-- Whether an outcome belongs to a poll, and the poll started no later than the outcome's timestamp.
 abbrev pub is_begun : OutcomeRow → PollRow → Bool
 is_begun outcome poll = (poll.number == outcome.poll) && nat_le poll.started outcome.moment
 
--- Whether one of the polls is that of the outcome, and started no later than the outcome.
+-- Whether an outcome belongs to one of the polls, and this poll started no later than the outcome's
+-- timestamp.
 abbrev pub has_begun : List PollRow → OutcomeRow → Bool
 has_begun polls outcome = list_any (is_begun outcome) polls
 
--- A run of polls is fine. Its rows have values in their ranges, no number is missing, and no poll
--- ended before its start.
+-- The rows of a run of polls are fine. All values are in range, no poll number is missing, and no
+-- poll ended before its start.
 pub record IsFineRun (run last : ℕ) (rows : RunRows) : Type 0 where
   pub polls : List PollRow
   pub outcomes : List OutcomeRow
@@ -46,25 +47,27 @@ pub record IsFineRun (run last : ℕ) (rows : RunRows) : Type 0 where
   pub numbered : are_numbered (first_number run) (last_number run last) polls ≡ true
   pub begun : list_all (has_begun polls) outcomes ≡ true
 
--- The rows that the tables have for consecutive runs of polls, beginning with index `run`.
+-- The list has the rows of consecutive runs of polls in the tables, beginning with the run at index
+-- `run`.
 abbrev pub AreRuns : Content → (run : ℕ) → List RunRows → Type 0
 AreRuns content run [] = ⊤
 AreRuns content run (rows ∷ others) =
     AreRowsOfRun run content rows × AreRuns content (suc run) others
 
--- Consecutive runs of polls are fine, beginning with index `run`.
+-- The rows of consecutive runs of polls are fine, beginning with the run at index `run`.
 abbrev pub AreFineRuns : (run last : ℕ) → List RunRows → Type 0
 AreFineRuns run last [] = ⊤
 AreFineRuns run last (rows ∷ others) = IsFineRun run last rows × AreFineRuns (suc run) last others
 
--- ---- the report
+-- ---- the findings of an audit of polls
 
--- The audit may end after these rows: the run has no poll, and `MOST` differences are kept.
+-- The audit may end after the run of polls with these rows. The run has no poll, and `MOST`
+-- differences are already stored.
 abbrev pub Stops : RunRows → Findings → Type 0
 Stops rows found = (rows.polls.items ≡ []) × (MOST ≤ length found.first.items)
 
--- The audit of one run reports its differences. It ends the audit only if `Stops` is true of the
--- run.
+-- The audit of one run of polls reports the run's differences. If `goes_on` is false, the audit
+-- ends, and `Stops` is true of the run.
 pub record TellsRun (run last : ℕ) (old new : Findings) (content : Content) (goes_on : Bool) :
     Type 0 where
   pub rows : RunRows
@@ -72,15 +75,14 @@ pub record TellsRun (run last : ℕ) (old new : Findings) (content : Content) (g
   pub told : IsTold (differences_of_run run last rows) old new
   pub stops : goes_on ≡ false → Stops rows new
 
--- The audit may end after the last of these runs.
+-- The audit may end after the last run of polls in the list, because `Stops` is true of this run.
 abbrev pub StopsAfter : List RunRows → Findings → Type 0
 StopsAfter [] found = ⊥
 StopsAfter (rows ∷ []) found = Stops rows found
 StopsAfter (rows ∷ next ∷ others) found = StopsAfter (next ∷ others) found
 
--- The audit of all runs, from the first run to that of the last poll. It may end earlier, after a
--- run without polls, if `MOST` differences are kept. There is no difference if and only if all runs
--- are fine.
+-- The audit of all polls, in runs of `RUN` consecutive numbers. It finds no difference if and only
+-- if all runs are fine. It may end after a run without polls once `MOST` differences are stored.
 pub record TellsRuns (last : ℕ) (old new : Findings) (content : Content) : Type 0 where
   pub runs : List RunRows
   pub theirs : AreRuns content 0 runs
@@ -89,30 +91,30 @@ pub record TellsRuns (last : ℕ) (old new : Findings) (content : Content) : Typ
   pub told : (new.first.items ≡ [])
       ↔ ((old.first.items ≡ []) × AreFineRuns 0 last runs × (last ≤ length runs * RUN))
 
--- The counts with the number of polls set to `polls`.
+-- The counts of an audit, with the number of polls set to `polls`.
 abbrev pub with_polls : ℕ → Counts → Counts
 with_polls polls counts = record counts { polls = polls }
 
--- The findings with the number of polls set to `polls`.
+-- The findings of an audit, with the number of polls in its counts set to `polls`.
 abbrev pub counting_polls : ℕ → Findings → Findings
 counting_polls polls found = record found { counts = with_polls polls found.counts }
 
--- The audit up to the last number that a query found, or 0 without polls. A last number out of
--- range is reported as a difference.
+-- The audit of all polls up to the greatest poll number that a query found, or 0 without polls. If
+-- the greatest number is out of range, this is reported as a difference.
 abbrev pub TellsUpTo : Result (Option ℕ) RowFault → (old new : Findings) → Content → Type 0
 TellsUpTo found old new content =
     MatchResult found
     (λ last. TellsRuns (unwrap_or last 0) (counting_polls (unwrap_or last 0) old) new content)
     (λ _. new.first.items ≡ [] → ⊥)
 
--- The audit of all polls, up to the greatest number of a poll. The schema excludes an outcome
--- without a poll.
+-- The audit of all polls in the tables, up to the greatest poll number. The SQL schema excludes an
+-- outcome without a poll.
 pub record TellsPolls (old new : Findings) (content : Content) : Type 0 where
   pub rows : List Row
   pub shown : ShowsLast content rows
   pub tells : TellsUpTo (first_in 1 greatest_place rows) old new content
 
--- The audit of all tables: first the meters, then the polls.
+-- The audit of all tables of a file: first the meters, then the polls.
 pub record TellsTables (content : Content) (found : Findings) : Type 0 where
   pub meters : Findings
   pub told : TellsMeters content meters

@@ -1,4 +1,4 @@
--- Readers of the rows of a meter.
+-- Parses the rows that the tables have for a meter.
 use Rattle.std.specs.Prelude.{◌≡◌, ℕ, ◌==◌, Bool, List, [], ◌∷◌, Option, Some, None, Result, Ok, Vec, String, if◌then◌else◌}
 use Rattle.std.specs.Prelude.{IsUtf8, string_bytes}
 use Rattle.std.specs.List.{list_any}
@@ -15,7 +15,7 @@ use Rattle.store_tables.specs.declared.faults.RowFault.{RowFault}
 use Rattle.store_tables.specs.Columns.{whole_in, within, or_damaged, and_then}
 use Rattle.store_tables.specs.Limits.{greatest_place, latest_moment}
 
--- The kind of an entry that has this number in the table, if there is one.
+-- The entry kind with the number `n` in the tables, or None if no kind has this number.
 abbrev pub kind_of : ℕ → Option RowKind
 kind_of n =
     if n == 1 then Some Opening else
@@ -25,16 +25,17 @@ kind_of n =
     if n == 5 then Some Reset else
     if n == 6 then Some Rescale else None
 
--- The kind of an entry whose number a value has, if there is one.
+-- Parses the kind of a meter entry from the value of a column. The result is None if no kind has
+-- this value.
 abbrev pub kind_in : Value → Option RowKind
 kind_in v = option_and_then kind_of (whole_in 1 6 v)
 
--- Whether the entry at index `place` has one of these voids.
+-- Whether `voids`, the indices of voided entries, contains the index `place`.
 abbrev pub is_named : (voids : List ℕ) → (place : ℕ) → Bool
 is_named voids place = list_any (λ v. v == place) voids
 
--- The entry that a result row shows, and whether one of these voids is of it. A column out of its
--- range is damage.
+-- Parses a meter entry from a result row. If `voids` contains the entry's index, the entry is
+-- voided. If a column is out of its range, the result is the fault for damage.
 abbrev pub entry_in : (voids : List ℕ) → Row → Result TableRow RowFault
 entry_in voids row =
     and_then (or_damaged (whole_in 1 greatest_place (column row 0))) (λ place.
@@ -55,36 +56,39 @@ entry_in voids row =
       is_voided = is_named voids place;
     }))))))))
 
--- The index of the voided entry that a result row shows. An index out of its range is damage.
+-- Parses the index of a voided entry from a result row. If the index is out of its range, the
+-- result is the fault for damage.
 abbrev pub place_in : Row → Result ℕ RowFault
 place_in row = or_damaged (whole_in 1 greatest_place (column row 0))
 
--- The energy of the quarter hour that a result row shows. A column out of its range is damage.
+-- Parses the start and the energy of a quarter hour from a result row. If a column is out of its
+-- range, the result is the fault for damage.
 abbrev pub share_in : Row → Result Share RowFault
 share_in row =
     and_then (or_damaged (whole_in 0 latest_moment (column row 0))) (λ start.
     and_then (or_damaged (whole_in 0 MAX_TOTAL (column row 1))) (λ mwh.
     Ok (record { start = start; mwh = mwh })))
 
--- The range of the counter that a result row shows. A range that the store does not allow is
--- damage.
+-- Parses a counter's range from a result row. If the store does not allow the range, the result is
+-- the fault for damage.
 abbrev pub range_in : Row → Result ℕ RowFault
 range_in row = or_damaged (whole_in MIN_RANGE MAX_RANGE (column row 0))
 
--- The values that all rows show. If one row can't be read, the result is damage.
+-- Parses all rows with `read`. If `read` fails for a row, the result is the error of `read`.
 abbrev pub all_in : {X : Type 0} → (Row → Result X RowFault) → List Row
     → Result (List X) RowFault
 all_in read [] = Ok []
 all_in read (row ∷ rows) =
     and_then (read row) (λ x. and_then (all_in read rows) (λ xs. Ok (x ∷ xs)))
 
--- All rows were read, or the result is None because one of them can't be read.
+-- The result has the values that `read` returns for all rows, or is None because `read` fails for
+-- one of the rows.
 abbrev pub AreRead : {X Z : Type 0} → (Row → Result X RowFault) → List Row → Option (Vec X Z)
     → Type 0
 AreRead {X} read rows None = (xs : List X) → all_in read rows ≡ Ok xs → ⊥
 AreRead read rows (Some found) = all_in read rows ≡ Ok found.items
 
--- The text of a column was read, or the result is None because the column has no UTF-8 text.
+-- The result is the UTF-8 text of a column, or None because the column has no UTF-8 text.
 abbrev pub IsTextIn : {Z : Type 0} → Value → Option (String Z) → Type 0
 IsTextIn v None = (text : List ℕ) → IsUtf8 text → v ≡ Text text → ⊥
 IsTextIn v (Some text) = v ≡ Text (string_bytes text)

@@ -1,8 +1,9 @@
--- The reports of an audit of one meter.
+-- Defines what an audit adds to its list of differences for one meter.
 use Rattle.std.specs.Prelude.{◌≡◌, ◌<◌, Bool, true, false, length}
 use Rattle.table_audit.specs.declared.differences.Differences.{Differences}
 
--- Fine rows add no difference. After rows that are not fine, at least one difference is kept.
+-- If a meter's rows are fine, then their audit adds no difference. After an audit of other rows,
+-- the list has at least one difference.
 abbrev pub Tells : (fine : Bool) → (old new : Differences) → Type 0
 Tells true old new = new ≡ old
 Tells false old new = 0 < length new.first.items

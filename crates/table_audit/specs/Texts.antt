@@ -1,5 +1,5 @@
--- The printed lines of an audit: one for each difference, and a last line. Each definition
--- `with_..` appends to a text.
+-- Defines the printed lines of an audit: one line for each difference, and a last line. Each
+-- definition `with_..` appends text to a given text.
 use Rattle.std.specs.Prelude.{◌+◌, ℕ, ◌==◌, Bool, true, false, List, [], ◌∷◌, ◌++◌, length, Option, Some, None, if◌then◌else◌}
 use Rattle.std.specs.Prelude.{codes, decimal, String, string_bytes}
 use Rattle.std.specs.Fmt.{signed_decimal}
@@ -21,9 +21,9 @@ use Rattle.table_audit.specs.declared.findings.Finding.{Finding}
 use Rattle.table_audit.specs.declared.findings.Findings.{Findings}
 use Rattle.table_audit.specs.Meters.{up_to_most}
 
--- ---- a difference
+-- ---- the printed text of a difference
 
--- The name of a table in SQL.
+-- The SQL name of a table that has rows of meters.
 abbrev pub table_name : Table → List ℕ
 table_name table.Installations = codes "installations"
 table_name table.Ranges = codes "ranges"
@@ -31,8 +31,8 @@ table_name table.Entries = codes "entries"
 table_name table.Voids = codes "voids"
 table_name table.Intervals = codes "intervals"
 
--- Appends why an entry may not follow the entry before it. Causes and faults are printed as their
--- numbers.
+-- Appends the reason why the rules for entries reject a meter entry after the earlier entries. Some
+-- reasons are printed as numbers.
 abbrev pub with_cause : List ℕ → RowFault → List ℕ
 with_cause text (cause.Place wanted) = text ++ codes "the next place is " ++ decimal wanted
 with_cause text cause.OpenedAgain = text ++ codes "the meter was opened before"
@@ -49,7 +49,7 @@ with_cause text (cause.Rolls wanted) =
 with_cause text (cause.Refused why) =
     text ++ codes "it would be refused, fault " ++ decimal (fault_number why)
 
--- Appends how the energy of a quarter hour differs.
+-- Appends how the interval row of a quarter hour differs from the meter's entries.
 abbrev pub with_interval : List ℕ → IntervalFault → List ℕ
 with_interval text (fault.Missing start wanted) =
     text ++ codes "interval " ++ decimal start ++ codes " has no row, entries give "
@@ -61,18 +61,18 @@ with_interval text (fault.Differs start has wanted) =
     text ++ codes "interval " ++ decimal start ++ codes " has " ++ decimal has
     ++ codes ", entries give " ++ decimal wanted
 
--- Appends the state of a counter: its timestamp, its value, and its scale factor.
+-- Appends the prefix `before`, then a counter's timestamp, raw value and scale factor.
 abbrev pub with_stand : List ℕ → (before : List ℕ) → Last → List ℕ
 with_stand text before last =
     text ++ before ++ decimal last.at ++ codes " " ++ decimal last.raw ++ codes " "
     ++ signed_decimal last.sf
 
--- Appends whether the entries close the meter.
+-- Appends the text for a closed flag that disagrees with the meter's entries.
 abbrev pub with_ended : List ℕ → Bool → List ℕ
 with_ended text true = text ++ codes "is not ended, entries end it"
 with_ended text false = text ++ codes "is ended, entries don't end it"
 
--- Appends how a poll differs, with its number.
+-- Appends the number of a poll, and how the poll differs from valid polls.
 abbrev pub with_poll : List ℕ → (poll : ℕ) → PollFault → List ℕ
 with_poll text poll of_poll.OutOfRange =
     text ++ codes "poll " ++ decimal poll ++ codes " has a value that none may have"
@@ -83,14 +83,14 @@ with_poll text poll of_poll.OutOfOrder =
 with_poll text poll of_poll.EndedBefore =
     text ++ codes "poll " ++ decimal poll ++ codes " outcome comes before the poll"
 
--- Appends a range of numbers without polls.
+-- Appends that no polls have the numbers from `first` to `last`.
 abbrev pub with_missing : List ℕ → (first last : ℕ) → List ℕ
 with_missing text first last =
     if first == last then text ++ codes "poll " ++ decimal first ++ codes " is missing"
     else text ++ codes "polls " ++ decimal first ++ codes " to " ++ decimal last
     ++ codes " are missing"
 
--- Appends the text of a difference.
+-- Appends the printed text of a difference that an audit found.
 abbrev pub with_difference : List ℕ → Difference → List ℕ
 with_difference text (difference.OutOfRange name) =
     text ++ codes "has a row in " ++ table_name name ++ codes " with a value that none may have"
@@ -113,14 +113,15 @@ with_difference text (difference.Ended wanted) = with_ended text wanted
 with_difference text (difference.NoPolls first last) = with_missing text first last
 with_difference text (difference.Poll poll of_it) = with_poll text poll of_it
 
--- ---- lines
+-- ---- the printed lines of an audit
 
--- Appends the name of the finding's meter, if it has one.
+-- Appends the name of the finding's meter, if the finding has a name.
 abbrev pub with_meter : {Z : Type 0} → List ℕ → Option (String Z) → List ℕ
 with_meter text None = text
 with_meter text (Some name) = text ++ codes "meter " ++ string_bytes name ++ codes " "
 
--- Appends the line of a finding.
+-- Appends the printed line of a finding: the name of its meter, if it has a name, and its
+-- difference.
 abbrev pub with_line : List ℕ → Finding → List ℕ
 with_line text finding =
     with_difference (with_meter text finding.meter) finding.difference ++ codes "\n"
@@ -129,29 +130,29 @@ abbrev pub with_lines : List ℕ → List Finding → List ℕ
 with_lines text [] = text
 with_lines text (finding ∷ findings) = with_lines (with_line text finding) findings
 
--- Appends how many differences have no line, if there are any.
+-- Appends the number of differences beyond the printed ones, if it is not 0.
 abbrev pub with_more : List ℕ → ℕ → List ℕ
 with_more text more =
     if more == 0 then text else text ++ codes "and " ++ decimal more ++ codes " more\n"
 
--- Appends the last line for fine tables, with the counts of rows.
+-- Appends the last line of an audit without differences, with the counts of rows.
 abbrev pub with_counts : List ℕ → Counts → List ℕ
 with_counts text counts =
     text ++ codes "fine: " ++ decimal counts.meters ++ codes " meters, "
     ++ decimal counts.entries ++ codes " entries, " ++ decimal counts.intervals
     ++ codes " intervals, " ++ decimal counts.polls ++ codes " polls\n"
 
--- Appends the last line for tables with differences.
+-- Appends the last line of an audit with differences, which has their number.
 abbrev pub with_total : List ℕ → ℕ → List ℕ
 with_total text all = text ++ decimal all ++ codes " differences\n"
 
--- Appends the last line: that all is fine, or how many differences there are.
+-- Appends the last line of an audit: `fine` with the counts of rows, or the number of differences.
 abbrev pub with_end : List ℕ → Findings → List ℕ
 with_end text found =
     if length found.first.items == 0 then with_counts text found.counts
     else with_total text (up_to_most (length found.first.items + found.more))
 
--- Appends all lines of an audit.
+-- Appends all printed lines of an audit.
 abbrev pub with_findings : List ℕ → Findings → List ℕ
 with_findings text found =
     with_end (with_more (with_lines text found.first.items) found.more) found

@@ -1,4 +1,4 @@
-//! The audit of one meter's rows.
+//! Audits the rows of one meter in a file's tables.
 ghost use Rattle.std.specs.Prelude.{◌≡◌, ◌≤◌, ◌↔◌, false, length, IsTrue, IfOk, OnOk};
 ghost use Rattle.table_audit.specs.Looking.{Finds};
 ghost use Rattle.table_audit.specs.Fine.{IsFine, TellsFine};
@@ -13,8 +13,8 @@ use sqlite::{Alter, Connection, Error, ErrorCode};
 use std::alloc::{AllocError, Global};
 use store_tables::{InstallationRow, RowFault};
 
-/// Returns whether the rows of a meter are those of a lawful journal, and adds the differences to
-/// `found`.
+/// Returns whether a meter's rows are the rows that a lawful journal of the meter produces. Adds
+/// each difference to `found`.
 pub fn audit_rows(
     alloc: Global,
     installation: &InstallationRow,
@@ -53,8 +53,8 @@ pub fn audit_rows(
     )
 }
 
-/// Returns whether the tables have the rows of a lawful journal for the meter of this installation,
-/// and reports the differences. Memory holds all rows of the meter.
+/// Queries a meter's rows, and returns whether they are the rows that a lawful journal produces.
+/// Adds each difference to `found`. Memory holds all rows of the meter at once.
 pub fn audit_meter<S: Alter>(
     alloc: Global,
     conn: &mut Connection<S>,

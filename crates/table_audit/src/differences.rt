@@ -1,11 +1,12 @@
-//! The differences that an audit reports: places where tables are not those of a lawful office.
+//! The differences that an audit reports between a file's tables and those that the program would
+//! write.
 ghost use Rattle.std.specs.Prelude.{◌≡◌, ◌<◌, ◌≤◌, [], length, OnOk};
 
 use energy_core::Last;
 use meter_audit::{IntervalFault, RowFault};
 use std::alloc::{AllocError, Global};
 
-/// A table that has rows of meters.
+/// An SQL table whose rows belong to meters.
 #[derive(Clone, Copy, Debug, PartialEq, Eq)]
 pub enum Table {
     Installations,
@@ -18,51 +19,55 @@ pub enum Table {
 /// How a poll in the tables differs from the polls that an office records.
 #[derive(Clone, Copy, Debug, PartialEq, Eq)]
 pub enum PollFault {
-    /// The poll has a value out of its range.
+    /// The row of the poll has a value out of its range.
     OutOfRange,
-    /// The outcome of the poll has a value out of its range.
+    /// The row of the poll's outcome has a value out of its range.
     EndOutOfRange,
-    /// The number of the poll is not above that of the poll before it, or is past the last number.
+    /// The poll's number is not greater than the previous poll's number, or exceeds the last
+    /// number.
     OutOfOrder,
-    /// The outcome is earlier than the start of the poll.
+    /// The poll's outcome is earlier than the poll's start.
     EndedBefore,
 }
 
-/// How the rows of a meter differ from those of a lawful journal, or a poll from the polls that an
-/// office records.
+/// A difference that an audit reports. A meter's rows differ from those of a lawful journal, or a
+/// poll differs from the polls that an office records.
 #[derive(Clone, Copy, Debug, PartialEq, Eq)]
 pub enum Difference {
-    /// A row of the table has a value out of its range.
+    /// A row of the meter in the given table has a value out of its range.
     OutOfRange(Table),
-    /// The row of `installations` at this index names no meter.
+    /// The row of `installations` at the index `place` names no meter.
     Unnamed { place: u64 },
-    /// The index of the installation is not the next index.
+    /// A row of `installations` has the index `has`, but `wanted` is the next index.
     Installation { has: u64, wanted: u64 },
     /// The meter has no entry, or its first entry is not a lawful opening.
     NotOpened,
-    /// The rules do not accept the entry after the entry before it.
+    /// The rules for meter entries reject the entry at index `place`, given the earlier entries.
     Entry { place: u64, fault: RowFault },
-    /// A void is of no entry after the opening, or of an entry that has another void.
+    /// A void record names no entry after the opening, or names an entry that already has a void
+    /// record.
     Void { place: u64 },
-    /// The energy of a quarter hour differs from that of the entries.
+    /// The stored energy of a quarter hour differs from the energy that the meter's entries give.
     Interval(IntervalFault),
-    /// The installation has another last entry than the one that follows from the entries.
+    /// The row of `installations` has the last entry `has`, but checking the meter's entries gives
+    /// the last entry `wanted`.
     Last { has: Last, wanted: Last },
-    /// The installation has another total energy than the one that follows from the entries, in
-    /// mWh.
+    /// The row of `installations` has the total energy `has`, but checking the meter's entries
+    /// gives the total `wanted`, both in mWh.
     Total { has: u64, wanted: u64 },
-    /// The installation and the entries disagree on whether the meter was closed.
+    /// The closed flag in the row of `installations` is wrong: checking the meter's entries gives
+    /// `wanted`.
     Ended { wanted: bool },
     /// No poll has one of the numbers from `first` to `last`.
     NoPolls { first: u64, last: u64 },
-    /// The poll with this number differs. A number below 1 is reported as 0.
+    /// The poll with the number `poll` has a fault. A number out of range is reported as 0.
     Poll { poll: u64, fault: PollFault },
 }
 
-/// The greatest number of differences that an audit keeps. Further ones are counted.
+/// The greatest number of differences that an audit stores. Further differences are only counted.
 pub const MOST: usize = 100;
 
-/// The first differences of an audit, and how many more there are.
+/// The first differences of an audit, and the number of further differences.
 #[derive(Debug, Drop)]
 pub struct Differences {
     pub first: Vec<Difference>,
@@ -70,7 +75,7 @@ pub struct Differences {
 }
 
 impl Differences {
-    /// Creates an empty list.
+    /// Creates an empty list of differences.
     pub fn new(alloc: Global) -> Differences
         ensures none { result.first.items ≡ [] }
         ensures more { result.more ≡ 0 }
@@ -81,7 +86,7 @@ impl Differences {
         }
     }
 
-    /// Keeps a difference, or counts it if `MOST` are kept.
+    /// Appends a difference, or only counts it if the list already has `MOST` differences.
     pub fn push(&mut self, difference: Difference) -> Result<(), AllocError>
         requires few { length self.old.first.items ≤ MOST }
         ensures told { OnOk result (0 < length self.new.first.items) }

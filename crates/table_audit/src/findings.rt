@@ -1,4 +1,5 @@
-//! The findings of an audit of all tables.
+//! The findings of an audit of all tables: each difference that was found, with the name of its
+//! meter.
 ghost use Rattle.std.specs.Prelude.{◌≡◌, ◌≤◌, ◌+◌, ◌-◌, ◌++◌, ◌∷◌, [], length, take, IsTrue, ◌↔◌};
 ghost use Rattle.std.specs.Prelude.{IfOk, OnOk, Some, None};
 ghost use Rattle.table_audit.specs.Named.{IsUnder};
@@ -10,12 +11,13 @@ use std::alloc::{AllocError, Global};
 /// A difference that an audit found, with the name of its meter.
 #[derive(Debug, Drop)]
 pub struct Finding {
-    /// The meter's name. None if a row of `installations` names no meter, or if a poll differs.
+    /// The name of the meter. It is None if the finding is about a poll, or about a row of
+    /// `installations` without a name.
     pub meter: Option<String>,
     pub difference: Difference,
 }
 
-/// How many rows the audit read.
+/// The numbers of rows that an audit read.
 #[derive(Clone, Copy, Debug, PartialEq, Eq)]
 pub struct Counts {
     pub meters: u64,
@@ -24,7 +26,7 @@ pub struct Counts {
     pub polls: u64,
 }
 
-/// The first findings of an audit, how many more there are, and how many rows the audit read.
+/// The first findings of an audit, the number of further findings, and the numbers of rows read.
 #[derive(Debug, Drop)]
 pub struct Findings {
     pub first: Vec<Finding>,
@@ -37,7 +39,7 @@ impl Findings {
     ghost use Rattle.table_audit.specs.Named.{KeepsFirst, IsTold};
     ghost use Rattle.table_audit.specs.Polls.{counting_polls};
 
-    /// Creates an empty list.
+    /// Creates an empty list of findings, with all counts 0.
     pub(crate) fn new(alloc: Global) -> Findings
         ensures none { result.first.items ≡ [] }
         ensures more { result.more ≡ 0 }
@@ -62,7 +64,7 @@ impl Findings {
         self.first.is_empty()
     }
 
-    /// Keeps a finding, or counts it if `MOST` are kept.
+    /// Appends a finding, or only counts it if the list already has `MOST` findings.
     pub(crate) fn push(&mut self, finding: Finding) -> Result<(), AllocError>
         requires few { length self.old.first.items ≤ MOST }
         ensures kept { OnOk result (self.new.first.items
@@ -81,7 +83,8 @@ impl Findings {
         Ok(())
     }
 
-    /// Adds the differences of a meter as findings with its name, and how many more there are.
+    /// Appends the differences of a meter as findings with its name, and adds the number of its
+    /// further differences.
     pub(crate) fn tell(
         &mut self,
         alloc: Global,
@@ -106,7 +109,7 @@ impl Findings {
         Ok(())
     }
 
-    /// Adds differences that belong to no meter.
+    /// Appends differences that belong to no meter as findings without a name.
     pub(crate) fn tell_all(&mut self, found: &[Difference]) -> Result<(), AllocError>
         requires few { length self.old.first.items ≤ MOST }
         ensures told { OnOk result (IsTold found.now self.old self.new) }
@@ -119,7 +122,7 @@ impl Findings {
         Ok(())
     }
 
-    /// Counts the rows of a meter.
+    /// Adds a meter, its entries and its interval rows to the counts.
     pub(crate) fn count(&mut self, rows: &MeterRows)
         ensures counts { self.new.counts ≡ counted (Some rows.now) self.old.counts }
         ensures first { self.new.first ≡ self.old.first }
@@ -134,7 +137,7 @@ impl Findings {
         };
     }
 
-    /// Counts a row of `installations` that names no meter.
+    /// Adds a row of `installations` that has no meter's name to the counts.
     pub(crate) fn count_unnamed(&mut self)
         ensures counts { self.new.counts ≡ counted None self.old.counts }
         ensures first { self.new.first ≡ self.old.first }
@@ -150,7 +153,7 @@ impl Findings {
     }
 }
 
-/// Returns the finding of a meter's difference.
+/// Builds a finding from a difference and the name of the meter in which the audit found it.
 fn under(alloc: Global, meter: &str, difference: &Difference) -> Result<Finding, AllocError>
     ensures meter { IfOk result (IsUnder meter.now) }
     ensures difference { IfOk result (λ finding. finding.difference ≡ difference.now) }
@@ -162,7 +165,7 @@ fn under(alloc: Global, meter: &str, difference: &Difference) -> Result<Finding,
     })
 }
 
-/// Returns the finding of a difference that belongs to no meter.
+/// Builds a finding without a meter's name from a difference.
 fn alone(difference: &Difference) -> Finding
     ensures meter { result.meter ≡ None }
     ensures difference { result.difference ≡ difference.now }

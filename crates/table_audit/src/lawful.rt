@@ -1,4 +1,4 @@
-//! The comparison of a meter's rows with the rows that follow from its entries.
+//! Compares a meter's rows with the rows that follow from the meter's entries.
 ghost use Rattle.std.specs.Prelude.{◌≡◌, ◌<◌, ◌≤◌, ◌^◌, ◌↔◌, [], All, reverse, length, true};
 ghost use Rattle.std.specs.Prelude.{IsTrue, IsNone, IfSome, IfOk, OnOk, MatchOption};
 ghost use Rattle.meter_audit.specs.Fitting.{AreTold};
@@ -19,7 +19,8 @@ use meter_journal::Installed;
 use std::alloc::{AllocError, Global};
 use store_tables::InstallationRow;
 
-/// Checks the entries after an opening, up to the first entry that the rules refuse.
+/// Checks a meter's entries after its opening, up to the first entry that the rules for entries
+/// reject.
 fn go_over(
     meter: &Installed,
     progress: &mut Progress,
@@ -44,7 +45,7 @@ fn go_over(
     Ok(None)
 }
 
-/// Reports each entry that the rules refuse, from the first on.
+/// Reports each meter entry that the rules for entries reject, beginning with the first.
 fn tell_refused(
     meter: &Installed,
     progress: &mut Progress,
@@ -74,7 +75,8 @@ fn tell_refused(
     Ok(())
 }
 
-/// Returns the first index that is not greater than the one before it, or is not from 2 to `last`.
+/// Returns the first index in `places` that is not greater than the previous index, or is not from
+/// 2 to `last`.
 fn first_astray(last: u64, places: &[u64]) -> Option<u64>
     ensures { IsNone result ↔ (agreeing.rises 1 last places.now ≡ true) }
 {
@@ -88,8 +90,8 @@ fn first_astray(last: u64, places: &[u64]) -> Option<u64>
     None
 }
 
-/// Reports the first void that is of no entry, or of an entry with another void. Returns whether
-/// there is no such void.
+/// Reports the first void record that names no entry after the opening, or names an entry twice.
+/// Returns whether no such void record exists.
 fn tell_voids(last: u64, voids: &[u64], found: &mut Differences) -> Result<bool, AllocError>
     requires few { length found.old.first.items ≤ MOST }
     ensures named { IfOk result (λ named. IsTrue named ↔ (agreeing.rises 1 last voids.now ≡ true)) }
@@ -105,7 +107,8 @@ fn tell_voids(last: u64, voids: &[u64], found: &mut Differences) -> Result<bool,
     }
 }
 
-/// Reports each difference between interval rows, in order.
+/// Reports each difference between the expected interval rows `wanted` and the stored rows `has`,
+/// in order.
 fn tell_each(wanted: &[Share], has: &[Share], found: &mut Differences) -> Result<(), AllocError>
     requires told { 0 < length found.old.first.items }
     requires few { length found.old.first.items ≤ MOST }
@@ -127,8 +130,8 @@ fn tell_each(wanted: &[Share], has: &[Share], found: &mut Differences) -> Result
     Ok(())
 }
 
-/// Reports each difference between the interval rows and those that follow from the entries.
-/// Returns whether there is none.
+/// Reports each difference between the stored interval rows and those that follow from the meter's
+/// entries. Returns whether no difference exists.
 fn tell_intervals(
     wanted: &[Share],
     has: &[Share],
@@ -149,8 +152,8 @@ fn tell_intervals(
     Ok(false)
 }
 
-/// Reports the last entry that the entries give, if the installation has another. Returns whether
-/// the two agree.
+/// Reports that a meter's stored last entry `has` differs from the last entry `wanted` that follows
+/// from its entries. If the two are equal, `wanted` is None. Returns whether they are equal.
 fn tell_last(has: Last, wanted: Option<Last>, found: &mut Differences) -> Result<bool, AllocError>
     requires few { length found.old.first.items ≤ MOST }
     ensures none { IfOk result (λ same. IsTrue same ↔ IsNone wanted) }
@@ -164,8 +167,9 @@ fn tell_last(has: Last, wanted: Option<Last>, found: &mut Differences) -> Result
     Ok(false)
 }
 
-/// Reports the total energy that the entries give, if the installation has another. Returns whether
-/// the two agree.
+/// Reports that a meter's stored total energy `has` differs from the total `wanted` that follows
+/// from its entries, both in mWh. If the two are equal, `wanted` is None. Returns whether they are
+/// equal.
 fn tell_total(has: u64, wanted: Option<u64>, found: &mut Differences) -> Result<bool, AllocError>
     requires few { length found.old.first.items ≤ MOST }
     ensures none { IfOk result (λ same. IsTrue same ↔ IsNone wanted) }
@@ -179,8 +183,8 @@ fn tell_total(has: u64, wanted: Option<u64>, found: &mut Differences) -> Result<
     Ok(false)
 }
 
-/// Reports whether the entries close the meter, if the installation disagrees. Returns whether the
-/// two agree.
+/// Reports that a meter's stored closed flag differs from the flag `wanted` that follows from its
+/// entries. If the two are equal, `wanted` is None. Returns whether they are equal.
 fn tell_ended(wanted: Option<bool>, found: &mut Differences) -> Result<bool, AllocError>
     requires few { length found.old.first.items ≤ MOST }
     ensures none { IfOk result (λ same. IsTrue same ↔ IsNone wanted) }
@@ -194,8 +198,8 @@ fn tell_ended(wanted: Option<bool>, found: &mut Differences) -> Result<bool, All
     Ok(false)
 }
 
-/// Reports each difference between an installation and the result of checking its entries. Returns
-/// whether there is none.
+/// Reports each difference between a row of `installations` and the result of checking the meter's
+/// entries. Returns whether no difference exists.
 fn tell_standing(
     check: &Check,
     row: &InstallationRow,
@@ -224,8 +228,8 @@ fn tell_standing(
     Ok(last && total && ended)
 }
 
-/// Reports each difference of voids, interval rows and installation from the result of checking the
-/// entries. Returns whether there is none.
+/// Reports where a meter's void records, interval rows or `installations` row differ from the
+/// result of checking the meter's entries. Returns whether no difference exists.
 fn tell_rest(
     progress: &Progress,
     row: &InstallationRow,
@@ -246,8 +250,8 @@ fn tell_rest(
     Ok(named && same && stands)
 }
 
-/// Returns whether the values that were read of a meter are those of a lawful journal, and adds the
-/// differences to `found`.
+/// Returns whether the values read for a meter are the values that a lawful journal produces. Adds
+/// each difference to `found`.
 pub(crate) fn audit_read(
     alloc: Global,
     range: u64,

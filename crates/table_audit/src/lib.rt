@@ -1,5 +1,5 @@
-//! An audit of a file's tables: whether each meter has the rows of a lawful journal, and whether
-//! the polls are complete and in order. The writer of the tables may be any program.
+//! Audits a file's tables. An audit checks that each meter has the rows of a lawful journal, and
+//! that the polls are complete and in order. The tables may have been written by any program.
 #![tactic(auto)]
 
 mod audit;

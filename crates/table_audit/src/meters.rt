@@ -1,4 +1,4 @@
-//! The audit of all meters.
+//! Audits the rows of all meters in a file's tables.
 ghost use Rattle.std.specs.Prelude.{◌≡◌, ◌≤◌, ◌↔◌, [], false, length, IsTrue, IfOk, OnOk, Some, None};
 ghost use Rattle.table_audit.specs.Looking.{Finds};
 ghost use Rattle.table_audit.specs.Meters.{IsFineMeter, TellsRow, TellsRows, TellsMeters, counted};
@@ -14,7 +14,8 @@ use sqlite::{Alter, Connection, Error, ErrorCode, Row};
 use std::alloc::{AllocError, Global};
 use store_tables::RowFault;
 
-/// Reports an installation whose index is not the next one. Returns whether it is the next one.
+/// Reports that a row of `installations` has the index `has`, if `wanted` is the next index and the
+/// two differ. Returns whether they are equal.
 fn tell_place(has: u64, wanted: u64, found: &mut Differences) -> Result<bool, AllocError>
     requires few { length found.old.first.items ≤ MOST }
     ensures placed { IfOk result (λ placed. IsTrue placed ↔ (has ≡ wanted)) }
@@ -28,8 +29,8 @@ fn tell_place(has: u64, wanted: u64, found: &mut Differences) -> Result<bool, Al
     Ok(false)
 }
 
-/// Returns whether a row of `installations` has the index `place` and its meter's rows are fine.
-/// Reports the differences.
+/// Returns whether a row of `installations` has the index `place`, and the meter's other rows agree
+/// with a lawful journal. Reports each difference.
 fn audit_installation(
     alloc: Global,
     place: u64,
@@ -116,7 +117,7 @@ fn audit_row<S: Alter>(
     }
 }
 
-/// Audits these rows of `installations`, and the rows of their meters.
+/// Audits several rows of `installations`, and the rows of their meters.
 fn audit_rows_of<S: Alter>(
     alloc: Global,
     conn: &mut Connection<S>,
@@ -133,9 +134,9 @@ fn audit_rows_of<S: Alter>(
     Ok(findings)
 }
 
-/// Audits whether the tables have the rows of a lawful journal for each meter. Returns the
-/// differences, and how many rows were read. Memory holds the rows of one meter at a time, and
-/// those of `installations`.
+/// Audits whether each meter in the tables has the rows of a lawful journal. Returns the
+/// differences and the numbers of rows read. Memory holds all rows of `installations`, and the rows
+/// of one meter at a time.
 pub fn audit_meters<S: Alter>(alloc: Global, conn: &mut Connection<S>) -> Result<Findings, RowFault>
     requires mode { conn.old.in_transaction ≡ false }
     ensures finds { Finds S.Store conn.old conn.new result TellsMeters }

@@ -1,4 +1,4 @@
-//! The meter that an opening installs.
+//! Builds the installed meter from its opening entry.
 ghost use Rattle.std.specs.Prelude.{◌≡◌, ◌↔◌, IsTrue, IsSome, IfSome};
 ghost use Rattle.meter_journal.specs.declared.lines.Installed.{Installed as TheMeter};
 ghost use Rattle.meter_audit.specs.Rows.{opening_row};
@@ -9,7 +9,7 @@ use energy_core::{Last, MAX_CEILING, MAX_SCALE, MIN_SCALE, Ranged};
 use meter_audit::{RowKind, TableRow};
 use meter_journal::Installed;
 
-/// Returns whether a row is an opening.
+/// Returns whether a row of a meter's entries is a valid opening entry.
 fn is_opening(row: &TableRow) -> bool
     ensures { IsTrue result ↔ (row.now ≡ opening_row (last_shown row.now)) }
 {
@@ -20,7 +20,7 @@ fn is_opening(row: &TableRow) -> bool
         && !row.is_voided
 }
 
-/// Returns whether the range, the ceiling and the opening of a meter are in their ranges.
+/// Returns whether a meter's counter range, ceiling and opening have valid values.
 fn may_be_checked(meter: &Installed) -> bool
     ensures { IsTrue result ↔ MayBeChecked meter.now }
 {
@@ -32,8 +32,8 @@ fn may_be_checked(meter: &Installed) -> bool
         && meter.opening.sf <= MAX_SCALE
 }
 
-/// Returns the meter that an opening installs with this range and ceiling, if its numbers are in
-/// their ranges.
+/// Builds the meter that the opening entry `row` installs. Returns None if the entry is no opening
+/// or has invalid values.
 pub(crate) fn opened(range: u64, ceiling: u64, row: &TableRow) -> Option<Installed>
     ensures may { IfSome result MayBeChecked }
     ensures opened { IfSome result (IsOpenedBy range ceiling row.now) }

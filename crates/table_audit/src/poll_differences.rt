@@ -1,4 +1,4 @@
-//! The differences of the polls of a run, in order. A run is `RUN` consecutive numbers of polls.
+//! Finds the differences of one run of polls, in order. A run is `RUN` consecutive poll numbers.
 ghost use Rattle.std.specs.Prelude.{◌≡◌, ◌≤◌, ◌<◌, ◌^◌, ◌++◌, ◌∷◌, [], true, IsTrue, IfOk, OnOk};
 ghost use Rattle.std.specs.List.{list_any};
 ghost use Rattle.store_tables.specs.Limits.{greatest_place};
@@ -11,9 +11,9 @@ use sqlite::Row;
 use std::alloc::{AllocError, Global};
 use store_tables::{GREATEST_PLACE, whole};
 
-// ---- values
+// ---- rows of polls and outcomes with values out of range
 
-/// Reads the number of a poll from the first column, if the number is in range.
+/// Reads the poll number in the first column of a row. Returns None if the number is out of range.
 fn number(row: &Row) -> Option<u64>
     ensures { result ≡ differing.number_in row.now }
 {
@@ -23,7 +23,7 @@ fn number(row: &Row) -> Option<u64>
     }
 }
 
-/// Adds a difference of a poll to `found`.
+/// Appends the fault of a poll to the differences in `found`.
 fn put(found: &mut Vec<Difference>, poll: u64, fault: PollFault) -> Result<(), AllocError>
     ensures { OnOk result (found.new.items ≡ found.old.items ++ Difference.Poll poll fault ∷ []) }
 {
@@ -31,7 +31,7 @@ fn put(found: &mut Vec<Difference>, poll: u64, fault: PollFault) -> Result<(), A
     Ok(())
 }
 
-/// Reports a poll with a value out of its range.
+/// Reports a row of `polls` if it has a value out of its range.
 fn put_unread_poll(row: &Row, found: &mut Vec<Difference>) -> Result<(), AllocError>
     ensures { OnOk result (found.new.items ≡ found.old.items ++ differing.unread_poll row.now) }
 {
@@ -41,7 +41,7 @@ fn put_unread_poll(row: &Row, found: &mut Vec<Difference>) -> Result<(), AllocEr
     }
 }
 
-/// Reports an outcome with a value out of its range.
+/// Reports a row of `outcomes` if it has a value out of its range.
 fn put_unread_outcome(row: &Row, found: &mut Vec<Difference>) -> Result<(), AllocError>
     ensures { OnOk result (found.new.items ≡ found.old.items ++ differing.unread_outcome row.now) }
 {
@@ -51,7 +51,7 @@ fn put_unread_outcome(row: &Row, found: &mut Vec<Difference>) -> Result<(), Allo
     }
 }
 
-/// Reports each poll with a value out of its range.
+/// Reports each row of `polls` that has a value out of its range.
 fn put_unread_polls(rows: &[Row], found: &mut Vec<Difference>) -> Result<(), AllocError>
     ensures { OnOk result (found.new.items
         ≡ found.old.items ++ differing.each_of differing.unread_poll rows.now) }
@@ -62,7 +62,7 @@ fn put_unread_polls(rows: &[Row], found: &mut Vec<Difference>) -> Result<(), All
     Ok(())
 }
 
-/// Reports each outcome with a value out of its range.
+/// Reports each row of `outcomes` that has a value out of its range.
 fn put_unread_outcomes(rows: &[Row], found: &mut Vec<Difference>) -> Result<(), AllocError>
     ensures { OnOk result (found.new.items
         ≡ found.old.items ++ differing.each_of differing.unread_outcome rows.now) }
@@ -73,9 +73,9 @@ fn put_unread_outcomes(rows: &[Row], found: &mut Vec<Difference>) -> Result<(), 
     Ok(())
 }
 
-// ---- numbers
+// ---- missing and disordered poll numbers
 
-/// Reads the number of a poll. Its other values may be out of range.
+/// Reads the poll number of a `polls` row, whose other columns may be out of range.
 fn number_of(row: &Row) -> Option<u64>
     ensures { result ≡ differing.number_of row.now }
 {
@@ -85,7 +85,7 @@ fn number_of(row: &Row) -> Option<u64>
     }
 }
 
-/// Reports the numbers from `next` to `below` - 1 as missing, if there are any.
+/// Reports the poll numbers from `next` to `below` - 1 as missing, if there are any.
 fn put_gap(next: u64, below: u64, found: &mut Vec<Difference>) -> Result<(), AllocError>
     ensures { OnOk result (found.new.items ≡ found.old.items ++ differing.gap next below) }
 {
@@ -96,8 +96,8 @@ fn put_gap(next: u64, below: u64, found: &mut Vec<Difference>) -> Result<(), All
     Ok(())
 }
 
-/// Reports the missing numbers before a number, or that the number is out of order. Returns the
-/// number that is expected after it.
+/// Reports the poll numbers that are missing before a poll's number, or reports that the poll's
+/// number is out of order. Returns the number that the next poll should have.
 fn put_number(
     next: u64,
     last: u64,
@@ -117,8 +117,8 @@ fn put_number(
     Ok(next)
 }
 
-/// Reports the missing numbers before the number of a row, or that this number is out of order.
-/// Returns the number that is expected after it.
+/// Reports the poll numbers that are missing before the number in a row of `polls`, or reports that
+/// this number is out of order. Returns the number that the next poll should have.
 fn put_row(next: u64, last: u64, row: &Row, found: &mut Vec<Difference>) -> Result<u64, AllocError>
     requires last { last ≤ greatest_place }
     ensures put { OnOk result (found.new.items
@@ -132,7 +132,8 @@ fn put_row(next: u64, last: u64, row: &Row, found: &mut Vec<Difference>) -> Resu
     }
 }
 
-/// Reports each missing number from `first` to `last`, and each number that is out of order.
+/// Reports each poll number from `first` to `last` that no row has, and each poll number that is
+/// out of order.
 fn put_order(
     first: u64,
     last: u64,
@@ -150,10 +151,10 @@ fn put_order(
     put_gap(next, last + 1, found)
 }
 
-// ---- outcomes
+// ---- outcomes of polls
 
-/// Returns whether a row is of the outcome's poll, and the poll started no later than the outcome.
-/// If the row can't be read, its number alone decides.
+/// Returns whether a row is the outcome's poll, and that poll started no later than the outcome's
+/// timestamp. If the row can't be read, its poll number alone decides.
 fn began(outcome: &OutcomeRow, row: &Row) -> bool
     ensures { result ≡ differing.began outcome.now row.now }
 {
@@ -163,8 +164,8 @@ fn began(outcome: &OutcomeRow, row: &Row) -> bool
     }
 }
 
-/// Returns what `began` returns for one row: the row at the position that the outcome's poll has if
-/// no number is missing.
+/// Returns whether an outcome belongs to the poll in the row at the likely index, and the poll
+/// started no later than the outcome. If no poll number is missing, the likely index is right.
 fn began_there(first: u64, polls: &[Row], outcome: &OutcomeRow) -> bool
     ensures { IsTrue result → list_any (differing.began outcome.now) polls.now ≡ true }
 {
@@ -175,7 +176,8 @@ fn began_there(first: u64, polls: &[Row], outcome: &OutcomeRow) -> bool
     false
 }
 
-/// Returns whether one of these polls is that of the outcome and started no later than the outcome.
+/// Returns whether an outcome belongs to one of the polls, and this poll started no later than the
+/// outcome's timestamp.
 fn began_anywhere(polls: &[Row], outcome: &OutcomeRow) -> bool
     ensures { result ≡ list_any (differing.began outcome.now) polls.now }
 {
@@ -187,7 +189,8 @@ fn began_anywhere(polls: &[Row], outcome: &OutcomeRow) -> bool
     false
 }
 
-/// Returns the result of `began_anywhere`. Tries the likely position of the poll first.
+/// Returns whether an outcome belongs to one of the polls, and this poll started no later than the
+/// outcome. Tries the row at the likely index first, because a search through all rows is slow.
 fn has_begun(first: u64, polls: &[Row], outcome: &OutcomeRow) -> bool
     ensures { result ≡ list_any (differing.began outcome.now) polls.now }
 {
@@ -197,7 +200,7 @@ fn has_begun(first: u64, polls: &[Row], outcome: &OutcomeRow) -> bool
     began_anywhere(polls, outcome)
 }
 
-/// Reports an outcome that is earlier than the start of its poll, or has no poll.
+/// Reports an outcome if it has no poll, or is earlier than the start of its poll.
 fn put_early(
     first: u64,
     polls: &[Row],
@@ -215,7 +218,7 @@ fn put_early(
     put(found, outcome.poll, PollFault::EndedBefore)
 }
 
-/// Reports each outcome that is earlier than the start of its poll, or has no poll.
+/// Reports each outcome if no row has its poll, or if it is earlier than the start of its poll.
 fn put_each_early(
     first: u64,
     polls: &[Row],
@@ -231,9 +234,9 @@ fn put_each_early(
     Ok(())
 }
 
-// ---- all differences
+// ---- all differences in a run of polls
 
-/// Reports the rows of a run that have values out of range.
+/// Reports the rows of a run of polls that have values out of range.
 fn put_values(rows: &RunRows, found: &mut Vec<Difference>) -> Result<(), AllocError>
     ensures { OnOk result (found.new.items ≡ found.old.items ++ differing.values_of rows.now) }
 {
@@ -241,7 +244,7 @@ fn put_values(rows: &RunRows, found: &mut Vec<Difference>) -> Result<(), AllocEr
     put_unread_outcomes(rows.outcomes.as_slice(), found)
 }
 
-/// Returns the differences of a run of polls. `last` is the last number of all polls.
+/// Returns the differences of a run of polls. `last` is the greatest number of all polls.
 pub(crate) fn run_differences(
     alloc: Global,
     run: u64,
@@ -258,8 +261,8 @@ pub(crate) fn run_differences(
     Ok(found)
 }
 
-/// Reports the missing numbers of a run, the numbers out of order, and the outcomes that are
-/// earlier than their polls.
+/// Reports the missing poll numbers of a run, the numbers out of order, and the outcomes earlier
+/// than their polls.
 fn put_turns(
     run: u64,
     last: u64,

@@ -1,4 +1,5 @@
-//! Queries for polls and outcomes by runs of numbers. A run is `RUN` consecutive numbers of polls.
+//! Queries polls and their outcomes, one run of polls at a time. A run has `RUN` consecutive poll
+//! numbers.
 ghost use Rattle.std.specs.Prelude.{◌≡◌, ◌<◌, ◌^◌, false};
 ghost use Rattle.sqlite.specs.declared.types.Value.TheVariants.{Int};
 ghost use Rattle.store_tables.specs.Answer.{every};
@@ -12,7 +13,8 @@ use sqlite::types::Value;
 use sqlite::{Alter, Connection, Error, Row, params};
 use store_tables::{RowFault, check_open, number};
 
-/// Returns the least number of a run as an SQL integer. The first run includes all numbers below 1.
+/// Returns the least poll number of a run of polls as an SQL integer. The first run includes all
+/// numbers below 1.
 fn low(run: u64) -> Value
     requires { run < 2 ^ 50 }
     ensures { result ≡ Int (showing.low_of run) }
@@ -23,7 +25,7 @@ fn low(run: u64) -> Value
     number(run * RUN + 1)
 }
 
-/// Returns the greatest number of a run as an SQL integer.
+/// Returns the greatest poll number of a run of polls as an SQL integer.
 fn high(run: u64) -> Value
     requires { run < 2 ^ 50 }
     ensures { result ≡ Int (showing.high_of run) }
@@ -31,7 +33,7 @@ fn high(run: u64) -> Value
     number((run + 1) * RUN)
 }
 
-/// Queries the greatest number of a poll.
+/// Queries the greatest poll number in the tables.
 fn ask_last<S: Alter>(conn: &mut Connection<S>) -> Result<Vec<Row>, Error>
     ensures asks { Asks S.Store conn.old conn.new }
     ensures shows { TellsRows S.Store conn.old conn.new showing.polls_tree itself result
@@ -40,7 +42,7 @@ fn ask_last<S: Alter>(conn: &mut Connection<S>) -> Result<Vec<Row>, Error>
     conn.query_all("SELECT poll FROM polls ORDER BY poll DESC LIMIT 1", &[])
 }
 
-/// Queries the polls of a run, in order of their numbers.
+/// Queries the polls of a run, in ascending order of their numbers.
 fn ask_polls<S: Alter>(conn: &mut Connection<S>, run: u64) -> Result<Vec<Row>, Error>
     requires { run < 2 ^ 50 }
     ensures asks { Asks S.Store conn.old conn.new }
@@ -55,7 +57,7 @@ fn ask_polls<S: Alter>(conn: &mut Connection<S>, run: u64) -> Result<Vec<Row>, E
     )
 }
 
-/// Queries the outcomes of a run's polls, in order of their numbers.
+/// Queries the outcomes of the polls in a run, in ascending order of poll numbers.
 fn ask_outcomes<S: Alter>(conn: &mut Connection<S>, run: u64) -> Result<Vec<Row>, Error>
     requires { run < 2 ^ 50 }
     ensures asks { Asks S.Store conn.old conn.new }
@@ -70,8 +72,8 @@ fn ask_outcomes<S: Alter>(conn: &mut Connection<S>, run: u64) -> Result<Vec<Row>
     )
 }
 
-/// Queries the greatest number of a poll. The first column of the first row has the number, if
-/// there is a poll.
+/// Queries the greatest poll number in the tables. The result row has this number in its first
+/// column. If the tables have no polls, there is no result row.
 pub fn last_poll<S: Alter>(conn: &mut Connection<S>) -> Result<Vec<Row>, RowFault>
     requires { conn.old.in_transaction ≡ false }
     ensures { Finds S.Store conn.old conn.new result
@@ -82,7 +84,7 @@ pub fn last_poll<S: Alter>(conn: &mut Connection<S>) -> Result<Vec<Row>, RowFaul
     Ok(rows)
 }
 
-/// Queries the polls of a run, after the check that the database is open.
+/// Queries the polls of a run, after checking that the database is open.
 fn polls<S: Alter>(conn: &mut Connection<S>, run: u64) -> Result<Vec<Row>, RowFault>
     requires mode { conn.old.in_transaction ≡ false }
     requires run { run < 2 ^ 50 }
@@ -94,7 +96,7 @@ fn polls<S: Alter>(conn: &mut Connection<S>, run: u64) -> Result<Vec<Row>, RowFa
     Ok(rows)
 }
 
-/// Queries the outcomes of a run's polls, after the check that the database is open.
+/// Queries the outcomes of the polls in a run, after checking that the database is open.
 fn outcomes<S: Alter>(conn: &mut Connection<S>, run: u64) -> Result<Vec<Row>, RowFault>
     requires mode { conn.old.in_transaction ≡ false }
     requires run { run < 2 ^ 50 }
@@ -106,7 +108,7 @@ fn outcomes<S: Alter>(conn: &mut Connection<S>, run: u64) -> Result<Vec<Row>, Ro
     Ok(rows)
 }
 
-/// Queries the rows of a run of polls.
+/// Queries the polls of a run and their outcomes. `run` is the index of the run of polls, from 0.
 pub fn run_rows<S: Alter>(conn: &mut Connection<S>, run: u64) -> Result<RunRows, RowFault>
     requires mode { conn.old.in_transaction ≡ false }
     requires run { run < 2 ^ 50 }

@@ -1,4 +1,4 @@
-//! Readers of the rows of `polls` and `outcomes`.
+//! Parses rows of the tables `polls` and `outcomes`.
 ghost use Rattle.std.specs.Prelude.{◌≡◌, ◌≤◌};
 ghost use Rattle.table_audit.specs.PollReading as values;
 
@@ -6,8 +6,8 @@ use crate::poll_rows::{OutcomeRow, PollRow};
 use sqlite::Row;
 use store_tables::{GREATEST_PLACE, LATEST_MOMENT, RowFault, whole};
 
-/// Returns the greatest count of a read from `address`: at most 125 Modbus registers, none past
-/// address 65535.
+/// Returns the greatest count of Modbus registers in one read from `address`: at most 125, and none
+/// past address 65535.
 fn room(address: u64) -> u64
     requires { address ≤ 65535 }
     ensures { result ≡ values.greatest_count address }
@@ -16,7 +16,7 @@ fn room(address: u64) -> u64
     if left < 125 { left } else { 125 }
 }
 
-/// Returns the least code of a kind of outcome.
+/// Returns the least valid code of an outcome kind, such as 1 for a lost poll.
 fn least_code(kind: u64) -> u64
     ensures { result ≡ values.least_code kind }
 {
@@ -26,7 +26,7 @@ fn least_code(kind: u64) -> u64
     }
 }
 
-/// Returns the greatest code of a kind of outcome.
+/// Returns the greatest valid code of an outcome kind, such as 255 for an exception.
 fn greatest_code(kind: u64) -> u64
     ensures { result ≡ values.greatest_code kind }
 {
@@ -38,7 +38,7 @@ fn greatest_code(kind: u64) -> u64
     }
 }
 
-/// Reads a poll. All its numeric columns must be in their ranges.
+/// Parses a row of `polls`. All its numeric columns must be in their ranges.
 pub(crate) fn poll(row: &Row) -> Result<PollRow, RowFault>
     ensures { result ≡ values.poll_in row.now }
 {
@@ -52,7 +52,7 @@ pub(crate) fn poll(row: &Row) -> Result<PollRow, RowFault>
     Ok(PollRow { number, started })
 }
 
-/// Reads an outcome. All its columns must be in their ranges.
+/// Parses a row of `outcomes`. All its columns must be in their ranges.
 pub(crate) fn outcome(row: &Row) -> Result<OutcomeRow, RowFault>
     ensures { result ≡ values.outcome_in row.now }
 {

@@ -1,4 +1,4 @@
-//! The audit of polls and their outcomes, and of all tables.
+//! Audits polls and their outcomes, and all tables of a file.
 ghost use Rattle.std.specs.Prelude.{◌≡◌, ◌≤◌, ◌<◌, ◌^◌, [], false, length, IfOk, IfErr, OnOk};
 ghost use Rattle.store_tables.specs.Limits.{greatest_place};
 ghost use Rattle.store_tables.specs.Failing.{want_of_memory};
@@ -17,7 +17,8 @@ use sqlite::{Alter, Connection, Error, ErrorCode};
 use std::alloc::{AllocError, Global};
 use store_tables::{GREATEST_PLACE, RowFault, first_whole};
 
-/// Reports the differences of a run's rows. Returns whether the audit continues with the next run.
+/// Reports the differences in the rows of a run of polls. Returns whether the audit continues with
+/// the next run.
 fn audit_rows_of(
     alloc: Global,
     run: u64,
@@ -38,8 +39,8 @@ fn audit_rows_of(
     Ok(rows.polls.len() > 0 || findings.first.len() < MOST)
 }
 
-/// Reports the differences of a run of polls. Returns whether the audit continues with the next
-/// run.
+/// Queries a run of polls and reports its differences. Returns whether the audit continues with the
+/// next run.
 fn audit_run<S: Alter>(
     alloc: Global,
     conn: &mut Connection<S>,
@@ -62,9 +63,9 @@ fn audit_run<S: Alter>(
     }
 }
 
-/// Reports the differences of all runs up to that of the last poll. Once `MOST` differences are
-/// kept, the audit ends after the first run without polls. So it ends soon even if a damaged file
-/// has a very large last number.
+/// Reports the differences of all polls, in runs of `RUN` consecutive poll numbers. After `MOST`
+/// differences are stored, the audit ends at the first run without polls. This bounds the time for
+/// a damaged file with a very large poll number.
 fn audit_runs<S: Alter>(
     alloc: Global,
     conn: &mut Connection<S>,
@@ -88,7 +89,7 @@ fn audit_runs<S: Alter>(
     Ok(())
 }
 
-/// Reports the differences of all polls.
+/// Reports the differences of all polls in the tables.
 fn audit_polls<S: Alter>(
     alloc: Global,
     conn: &mut Connection<S>,
@@ -109,7 +110,7 @@ fn audit_polls<S: Alter>(
     audit_runs(alloc, conn, last, findings)
 }
 
-/// Reports that the greatest number of a poll is out of its range.
+/// Reports that the greatest poll number in the tables is out of its range.
 fn tell_last(findings: &mut Findings) -> Result<(), RowFault>
     requires few { length findings.old.first.items ≤ MOST }
     ensures told { OnOk result (findings.new.first.items ≡ [] → ⊥) }
@@ -130,9 +131,10 @@ fn tell_last(findings: &mut Findings) -> Result<(), RowFault>
     }
 }
 
-/// Audits all tables: whether each meter has the rows of a lawful journal, and whether no poll is
-/// missing or ended before its start. Returns the differences, and how many rows were read. Memory
-/// holds the rows of one meter or of one run of polls at a time, and those of `installations`.
+/// Audits all tables. An audit checks that each meter has the rows of a lawful journal, that no
+/// poll is missing, and that no poll ended before its start. Returns the differences and the
+/// numbers of rows read. Memory holds all rows of `installations`, and the rows of one meter or one
+/// run of polls at a time.
 pub fn audit_tables<S: Alter>(alloc: Global, conn: &mut Connection<S>) -> Result<Findings, RowFault>
     requires mode { conn.old.in_transaction ≡ false }
     ensures finds { Finds S.Store conn.old conn.new result said.TellsTables }

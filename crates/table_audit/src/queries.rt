@@ -1,4 +1,4 @@
-//! Queries for the rows of a meter.
+//! SQL queries for the rows of a meter.
 ghost use Rattle.std.specs.Prelude.{◌≡◌, false};
 ghost use Rattle.store_tables.specs.Answer.{AnyOrder, every};
 ghost use Rattle.store_tables.specs.Asking.{Asks, TellsRows, Shows};
@@ -11,7 +11,7 @@ use crate::rows::MeterRows;
 use sqlite::{Alter, Connection, Error, Row, params};
 use store_tables::{RowFault, check_open};
 
-/// Queries the installations, in order of index.
+/// Queries all rows of `installations`, in order of their index.
 fn ask_installations<S: Alter>(conn: &mut Connection<S>) -> Result<Vec<Row>, Error>
     ensures asks { Asks S.Store conn.old conn.new }
     ensures shows { TellsRows S.Store conn.old conn.new meter_tree.installations itself result
@@ -23,7 +23,7 @@ fn ask_installations<S: Alter>(conn: &mut Connection<S>) -> Result<Vec<Row>, Err
     )
 }
 
-/// Queries the range of a meter.
+/// Queries the range of a meter's counter.
 fn ask_range<S: Alter>(conn: &mut Connection<S>, meter: &str) -> Result<Vec<Row>, Error>
     ensures asks { Asks S.Store conn.old conn.new }
     ensures shows { TellsRows S.Store conn.old conn.new meter_tree.ranges itself result
@@ -35,7 +35,7 @@ fn ask_range<S: Alter>(conn: &mut Connection<S>, meter: &str) -> Result<Vec<Row>
     )
 }
 
-/// Queries the entries of a meter, in order of index.
+/// Queries the entries of a meter, in order of their index.
 fn ask_entries<S: Alter>(conn: &mut Connection<S>, meter: &str) -> Result<Vec<Row>, Error>
     ensures asks { Asks S.Store conn.old conn.new }
     ensures shows { TellsRows S.Store conn.old conn.new entry_tree.entries itself result
@@ -47,7 +47,7 @@ fn ask_entries<S: Alter>(conn: &mut Connection<S>, meter: &str) -> Result<Vec<Ro
     )
 }
 
-/// Queries the voids of a meter's entries, in order of index.
+/// Queries the void records of a meter, in order of the voided entries' indices.
 fn ask_voids<S: Alter>(conn: &mut Connection<S>, meter: &str) -> Result<Vec<Row>, Error>
     ensures asks { Asks S.Store conn.old conn.new }
     ensures shows { TellsRows S.Store conn.old conn.new entry_tree.voids itself result
@@ -59,7 +59,7 @@ fn ask_voids<S: Alter>(conn: &mut Connection<S>, meter: &str) -> Result<Vec<Row>
     )
 }
 
-/// Queries the energy of a meter by quarter hours, in order of their starts.
+/// Queries the energy of a meter by quarter hours, in ascending order.
 fn ask_intervals<S: Alter>(conn: &mut Connection<S>, meter: &str) -> Result<Vec<Row>, Error>
     ensures asks { Asks S.Store conn.old conn.new }
     ensures shows { TellsRows S.Store conn.old conn.new showing.intervals_tree itself result
@@ -71,7 +71,8 @@ fn ask_intervals<S: Alter>(conn: &mut Connection<S>, meter: &str) -> Result<Vec<
     )
 }
 
-/// Queries the installations in order of index, after the check that the database is open.
+/// Queries all rows of `installations` in order of their index, after checking that the database is
+/// open.
 pub fn installations<S: Alter>(conn: &mut Connection<S>) -> Result<Vec<Row>, RowFault>
     requires { conn.old.in_transaction ≡ false }
     ensures { Finds S.Store conn.old conn.new result
@@ -82,7 +83,7 @@ pub fn installations<S: Alter>(conn: &mut Connection<S>) -> Result<Vec<Row>, Row
     Ok(rows)
 }
 
-/// Queries the range of a meter, after the check that the database is open.
+/// Queries the range of a meter's counter, after checking that the database is open.
 fn range<S: Alter>(conn: &mut Connection<S>, meter: &str) -> Result<Vec<Row>, RowFault>
     requires { conn.old.in_transaction ≡ false }
     ensures { Finds S.Store conn.old conn.new result
@@ -93,7 +94,7 @@ fn range<S: Alter>(conn: &mut Connection<S>, meter: &str) -> Result<Vec<Row>, Ro
     Ok(rows)
 }
 
-/// Queries the entries of a meter, after the check that the database is open.
+/// Queries the entries of a meter, after checking that the database is open.
 fn entries<S: Alter>(conn: &mut Connection<S>, meter: &str) -> Result<Vec<Row>, RowFault>
     requires { conn.old.in_transaction ≡ false }
     ensures { Finds S.Store conn.old conn.new result
@@ -104,7 +105,7 @@ fn entries<S: Alter>(conn: &mut Connection<S>, meter: &str) -> Result<Vec<Row>, 
     Ok(rows)
 }
 
-/// Queries the voids of a meter's entries, after the check that the database is open.
+/// Queries the void records of a meter, after checking that the database is open.
 fn voids<S: Alter>(conn: &mut Connection<S>, meter: &str) -> Result<Vec<Row>, RowFault>
     requires { conn.old.in_transaction ≡ false }
     ensures { Finds S.Store conn.old conn.new result
@@ -115,7 +116,7 @@ fn voids<S: Alter>(conn: &mut Connection<S>, meter: &str) -> Result<Vec<Row>, Ro
     Ok(rows)
 }
 
-/// Queries the energy of a meter by quarter hours, after the check that the database is open.
+/// Queries the energy of a meter by quarter hours, after checking that the database is open.
 fn intervals<S: Alter>(conn: &mut Connection<S>, meter: &str) -> Result<Vec<Row>, RowFault>
     requires { conn.old.in_transaction ≡ false }
     ensures { Finds S.Store conn.old conn.new result
@@ -126,7 +127,7 @@ fn intervals<S: Alter>(conn: &mut Connection<S>, meter: &str) -> Result<Vec<Row>
     Ok(rows)
 }
 
-/// Queries all rows of a meter.
+/// Queries a meter's rows: its counter range, entries, void records and interval rows.
 pub fn meter_rows<S: Alter>(conn: &mut Connection<S>, meter: &str) -> Result<MeterRows, RowFault>
     requires { conn.old.in_transaction ≡ false }
     ensures { Finds S.Store conn.old conn.new result (showing.AreRowsOf meter.now) }

@@ -1,4 +1,4 @@
-//! Readers of the rows of a meter.
+//! Parses the rows that the tables have for a meter.
 ghost use Rattle.std.specs.Prelude.{◌≡◌, ◌↔◌, ◌<◌, ◌^◌, ◌∷◌, [], All, IfOk, IfErr, IfSome};
 ghost use Rattle.sqlite.specs.Order.{column};
 ghost use Rattle.store_tables.specs.Columns.{or_damaged};
@@ -15,7 +15,7 @@ use store_tables::{
     GREATEST_PLACE, InstallationRow, LATEST_MOMENT, LastRow, RowFault, scale, whole,
 };
 
-/// Reads the kind of an entry from the column at index `at`.
+/// Parses the kind of a meter entry from the column at index `at`.
 fn kind(row: &Row, at: usize) -> Result<RowKind, RowFault>
     ensures { result ≡ or_damaged (values.kind_in (column row.now at)) }
 {
@@ -30,14 +30,14 @@ fn kind(row: &Row, at: usize) -> Result<RowKind, RowFault>
     }
 }
 
-/// Returns whether the entry at index `place` has one of these voids.
+/// Returns whether `voids`, the indices of voided entries, contains the index `place`.
 fn is_named(voids: &[u64], place: u64) -> bool
     ensures { result ≡ values.is_named voids.now place }
 {
     voids.iter().any(|v| *v == place)
 }
 
-/// Reads an entry. `voids` are the indices of the voided entries.
+/// Parses a meter entry from a result row. `voids` has the indices of the meter's voided entries.
 fn entry(row: &Row, voids: &[u64]) -> Result<TableRow, RowFault>
     ensures read { result ≡ values.entry_in voids.now row.now }
     ensures place { IfOk result (λ entry. entry.place < 2 ^ 63) }
@@ -62,14 +62,14 @@ fn entry(row: &Row, voids: &[u64]) -> Result<TableRow, RowFault>
     })
 }
 
-/// Reads the index of a voided entry.
+/// Parses the index of a voided entry from a result row.
 fn place(row: &Row) -> Result<u64, RowFault>
     ensures { result ≡ values.place_in row.now }
 {
     whole(row, 0, 1, GREATEST_PLACE)
 }
 
-/// Reads the energy of a quarter hour.
+/// Parses the start and the energy of a quarter hour from a result row.
 fn share(row: &Row) -> Result<Share, RowFault>
     ensures { result ≡ values.share_in row.now }
 {
@@ -78,7 +78,7 @@ fn share(row: &Row) -> Result<Share, RowFault>
     Ok(Share { start, mwh })
 }
 
-/// Reads the range of a meter's counter, or None if the meter does not have exactly one valid
+/// Parses the range of a meter's counter. Returns None unless the meter has exactly one valid
 /// range.
 pub fn range(rows: &[Row]) -> Option<u64>
     ensures { (n : _) → (values.all_in values.range_in rows.now ≡ Ok (n ∷ [])) ↔ (result ≡ Some n) }
@@ -92,7 +92,7 @@ pub fn range(rows: &[Row]) -> Option<u64>
     }
 }
 
-/// Reads entries in order, or returns None if one can't be read.
+/// Parses a meter's entries in order. Returns None if a row is invalid.
 pub fn entries(
     alloc: Global,
     rows: &[Row],
@@ -112,7 +112,7 @@ pub fn entries(
     Ok(Some(found))
 }
 
-/// Reads the indices of voided entries, or returns None if one can't be read.
+/// Parses the indices of a meter's voided entries. Returns None if a row is invalid.
 pub fn places(alloc: Global, rows: &[Row]) -> Result<Option<Vec<u64>>, AllocError>
     ensures { IfOk result (values.AreRead values.place_in rows.now) }
 {
@@ -126,7 +126,7 @@ pub fn places(alloc: Global, rows: &[Row]) -> Result<Option<Vec<u64>>, AllocErro
     Ok(Some(found))
 }
 
-/// Reads the energy of quarter hours, or returns None if one can't be read.
+/// Parses the energies of quarter hours. Returns None if a row is invalid.
 pub(crate) fn shares(alloc: Global, rows: &[Row]) -> Result<Option<Vec<Share>>, AllocError>
     ensures { IfOk result (values.AreRead values.share_in rows.now) }
 {
@@ -150,7 +150,7 @@ fn flag(row: &Row, at: usize) -> Result<bool, RowFault>
     }
 }
 
-/// Reads the last entry and the total energy of an installation.
+/// Parses the last entry and the total energy in a row of `installations`.
 fn last(row: &Row) -> Result<LastRow, RowFault>
     ensures { result ≡ last_in row.now }
 {
@@ -166,7 +166,7 @@ fn last(row: &Row) -> Result<LastRow, RowFault>
     })
 }
 
-/// Reads all columns of an installation except its names.
+/// Parses all columns of an `installations` row except the names of the meter and of the register.
 pub fn installation(row: &Row) -> Result<InstallationRow, RowFault>
     ensures { result ≡ installation_in row.now }
 {
@@ -182,7 +182,8 @@ pub fn installation(row: &Row) -> Result<InstallationRow, RowFault>
     })
 }
 
-/// Reads the name of an installation's meter, or returns None if the row has none.
+/// Reads the meter's name in a row of `installations`. Returns None if the column has no UTF-8
+/// text.
 pub(crate) fn name(row: &Row) -> Result<Option<String>, RowFault>
     ensures text { IfOk result (values.IsTextIn (column row.now 1)) }
     ensures fault { IfErr result (λ fault. fault ≡ RowFault.Sql want_of_memory) }

@@ -1,9 +1,9 @@
-//! The rows of a meter, as the queries show them.
+//! The result rows of an audit's queries for one meter.
 
 use sqlite::Row;
 
-/// The rows of a meter as the queries show them: entries and voids in order of index, intervals in
-/// order of their starts.
+/// The result rows of the queries for one meter. Entries and void records are in order of entry
+/// index, and intervals are in order of their starts.
 #[derive(Drop)]
 pub struct MeterRows {
     pub ranges: Vec<Row>,

@@ -1,4 +1,4 @@
-//! The printed lines of an audit.
+//! Writes the printed lines of an audit.
 ghost use Rattle.std.specs.Prelude.{◌≡◌, ◌++◌, OnOk, codes, decimal};
 ghost use Rattle.std.specs.Fmt.{signed_decimal};
 ghost use Rattle.table_audit.specs.Texts as say;
@@ -10,7 +10,7 @@ use itoa::Buffer;
 use meter_audit::{IntervalFault, RowFault};
 use std::alloc::AllocError;
 
-// ---- pieces; each leaves a part of its text if memory runs out
+// ---- parts of a printed line; if memory runs out, the text is incomplete
 
 fn put(text: &mut Vec<u8>, bytes: &[u8]) -> Result<(), AllocError>
     ensures { OnOk result (text.new.items ≡ text.old.items ++ bytes.now) }
@@ -40,7 +40,7 @@ fn put_scale(text: &mut Vec<u8>, before: &[u8], sf: i16) -> Result<(), AllocErro
     put_word(text, before, buffer.format(sf).as_bytes())
 }
 
-// ---- a difference
+// ---- the printed text of a difference
 
 fn table_name(table: Table) -> &'static [u8]
     ensures { result.now ≡ say.table_name table }
@@ -54,7 +54,7 @@ fn table_name(table: Table) -> &'static [u8]
     }
 }
 
-/// Appends why an entry may not follow the entry before it.
+/// Appends the reason why the rules for entries reject a meter entry after the earlier entries.
 fn put_cause(text: &mut Vec<u8>, cause: RowFault) -> Result<(), AllocError>
     ensures { OnOk result (text.new.items ≡ say.with_cause text.old.items cause) }
 {
@@ -100,7 +100,7 @@ fn put_interval(text: &mut Vec<u8>, fault: IntervalFault) -> Result<(), AllocErr
     }
 }
 
-/// Appends the state of a counter: its timestamp, its value, and its scale factor.
+/// Appends the prefix `before`, then a counter's timestamp, raw value and scale factor.
 fn put_stand(text: &mut Vec<u8>, before: &[u8], last: Last) -> Result<(), AllocError>
     ensures { OnOk result (text.new.items ≡ say.with_stand text.old.items before.now last) }
 {
@@ -189,7 +189,7 @@ fn put_difference(text: &mut Vec<u8>, difference: Difference) -> Result<(), Allo
     }
 }
 
-// ---- lines
+// ---- the printed lines of an audit
 
 fn put_meter(text: &mut Vec<u8>, meter: &Option<String>) -> Result<(), AllocError>
     ensures { OnOk result (text.new.items ≡ say.with_meter text.old.items meter.now) }
@@ -251,8 +251,8 @@ fn put_end(text: &mut Vec<u8>, found: &Findings) -> Result<(), AllocError>
     put(text, b" differences\n")
 }
 
-/// Appends the text of an audit: a line for each kept difference, how many more there are, and a
-/// last line. Out of memory leaves a part of the text.
+/// Appends the printed text of an audit: one line for each stored difference, the number of further
+/// differences, and a last line. If memory runs out, the text is incomplete.
 pub fn put_findings(text: &mut Vec<u8>, found: &Findings) -> Result<(), AllocError>
     ensures { OnOk result (text.new.items ≡ say.with_findings text.old.items found.now) }
 {

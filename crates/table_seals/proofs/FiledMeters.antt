@@ -1,4 +1,4 @@
--- Meters that are kept of a file, one after another.
+-- Lemmas on the list of a file's meters, which is built row by row from `installations`.
 use Rattle.std.proofs.Common.{◌≡◌, ℕ, ◌+◌, ◌<◌, List, [], ◌∷◌, ◌++◌, take, length, get_or, drop, Some, sym, ap, subst, ◌∙◌, arith}
 use Rattle.std.proofs.lemmas.List.{take_more}
 use Rattle.meter_audit.specs.declared.rows.TableRow.{TableRow}
@@ -7,7 +7,7 @@ use Rattle.store_tables.specs.Content.{Content}
 use Rattle.table_seals.specs.declared.filed.FiledMeter.{FiledMeter}
 use Rattle.table_seals.specs.Filing.{FilesRow, AreFiled}
 
--- The first of some rows, and the rows after it.
+-- If a list begins with `row`, then the list consists of `row` and the rows after `row`.
 pub opened_by : (rows : List TableRow) (row : TableRow) → 0 < length rows → row ≡ get_or rows 0 row → rows ≡ row ∷ drop 1 rows
 opened_by [] row lt is = absurd (omega (arith, lt))
 opened_by (first ∷ rows) row lt is = ap (λ (r : TableRow). r ∷ rows) (sym is)

@@ -1,4 +1,4 @@
--- Files without lines, one after another.
+-- Lemmas on files for which the check of files reports no difference.
 use Rattle.std.proofs.Common.{◌≡◌, ℕ, ◌+◌, ◌-◌, ◌≤◌, Bool, true, false, cond, List, [], ◌∷◌, ◌++◌, length, Some, None, refl, sym, ap, subst, ◌∙◌, inl, inr, arith}
 use Rattle.std.specs.Prelude.{string_bytes, nat_le}
 use Rattle.std.specs.List.{AllByRecursion, filter, find, flat_map}
@@ -13,19 +13,19 @@ use Rattle.table_seals.specs.Joins.{Known, known_with, is_meter, joins_by, joins
 use Rattle.table_seals.specs.JoinLaws.{EachGoesOn, IsOfMeters, IsOneMeter, JoinedFilesAreOne, MeterGoesOn, energy_of, known_with_all, named}
 use Rattle.table_seals.proofs.Joined.{joined_meters_go_on}
 
--- ---- lists
+-- ---- lists of the meters in several files
 
 no_parts : {X : Type 0} (xs ys : List X) → xs ++ ys ≡ [] → (xs ≡ []) × (ys ≡ [])
 no_parts [] ys h = (refl, h)
 no_parts (x ∷ xs) ys h = absurd (cc)
 
--- ---- meters that pass a test
+-- ---- the meters of a list that pass a test
 
 module _ (passes : FiledMeter → Bool) where
   abbrev passing : List FiledMeter → List FiledMeter
   passing meters = filter passes meters
 
-  -- The search finds the first of the list.
+  -- If the meters that pass a test begin with `old`, then a search with this test finds `old`.
   pub first_found : (meters older : List FiledMeter) (old : FiledMeter) → passing meters ≡ old ∷ older → find passes meters ≡ Some old
   first_found [] older old h = absurd (cc)
   first_found (meter ∷ meters) older old h =
@@ -37,7 +37,8 @@ module _ (passes : FiledMeter → Bool) where
         | inr off ↦ cond-false _ _ _ off ∙ first_found meters older old (sym (cond-false _ _ _ off) ∙ h)
       ]
 
-  -- A property of all is a property of the first, and the first passes.
+  -- If all meters in a list have a property, then the first meter that passes the test has this
+  -- property.
   pub first_holds : (P : FiledMeter → Type 0) (meters older : List FiledMeter) (new : FiledMeter) → passing meters ≡ new ∷ older
       → AllByRecursion P meters → P new × (passes new ≡ true)
   first_holds P [] older new h all = absurd (cc)
@@ -50,14 +51,15 @@ module _ (passes : FiledMeter → Bool) where
         | inr off ↦ first_holds P meters older new (sym (cond-false _ _ _ off) ∙ h) all.1
       ]
 
--- None of the meters has a line.
+-- If the check of files reports no difference for a list of meters, then it reports none for each
+-- meter in the list.
 nothing_of_each : (known meters : List FiledMeter) → flat_map (joins_of known) meters ≡ [] → AllByRecursion (λ new. joins_of known new ≡ []) meters
 nothing_of_each known [] h = tt
 nothing_of_each known (meter ∷ meters) h =
     let parts = no_parts (joins_of known meter) (flat_map (joins_of known) meters) h in
     (parts.0, nothing_of_each known meters parts.1)
 
--- ---- energies
+-- ---- the total energy of a meter in several files
 
 same_name : (name : List ℕ) (meter : FiledMeter) → is_meter name meter ≡ true → string_bytes meter.meter ≡ name
 same_name name meter h = (bytes_eq-Decides (string_bytes meter.meter) name).0 h
@@ -96,9 +98,10 @@ energies_stay most name (meter ∷ meters) h =
           subst (λ ms. energy_of ms ≤ most) (sym (cond-false _ _ _ off)) (energies_stay most name meters stays)
     ]
 
--- ---- one more file
+-- ---- adding one more file of the office
 
--- The next file has one meter of a name, or none.
+-- After a file with at most one meter of a name is added, the meters of this name still continue
+-- from file to file.
 one_more : (name : List ℕ) (known next : Known) (new old : List FiledMeter) → IsOfMeters next → joins_between known next ≡ []
     → IsOneMeter name known → named name next.meters ≡ new → named name known.meters ≡ old → length new ≤ 1
     → EachGoesOn (new ++ old) × (energy_of (new ++ old) ≤ MAX_TOTAL)
@@ -144,7 +147,7 @@ all_are_one name known (next ∷ later) of nothing one =
     let parts = no_parts (joins_between known next) (joins_of_all (known_with known next) later) nothing in
     all_are_one name (known_with known next) later of.1 parts.1 (next_is_one name known next of.0 parts.0 one)
 
--- ---- the first file
+-- ---- the first file of the office
 
 first_one : (name : List ℕ) (first : Known) (meters : List FiledMeter) → IsOfMeters first → named name first.meters ≡ meters → length meters ≤ 1
     → EachGoesOn meters × (energy_of meters ≤ MAX_TOTAL)

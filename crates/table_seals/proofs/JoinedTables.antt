@@ -1,4 +1,4 @@
--- The tables of files without lines.
+-- Lemmas on the tables of files for which the check of files reports no difference.
 use Rattle.std.proofs.Common.{◌≡◌, ◌+◌, List, [], ◌∷◌, ◌++◌, refl, sym, ap, subst, ◌∙◌, arith}
 use Rattle.std.specs.List.{AllByRecursion}
 use Rattle.energy_core.specs.declared.entries.Last.{Last}
@@ -16,7 +16,7 @@ use Rattle.table_seals.specs.Filing.{standing_in}
 use Rattle.table_seals.specs.JoinLaws.{EachGoesOn, FiledMetersAreTold, IsToldBy, JoinedFilesAreLawful, energy_of, in_file, in_files}
 use Rattle.table_seals.proofs.Read.{same_read}
 
--- ---- one meter of a file
+-- ---- the tables of one meter in one file
 
 same_head : (a b : TableRow) (rows others : List TableRow) → a ∷ rows ≡ b ∷ others → a ≡ b
 same_head a b rows others h = cc
@@ -51,9 +51,9 @@ filed_meters_are_told row rows installation filed read fine so =
       },
     )
 
--- ---- meters, the oldest first
+-- ---- the files of one meter, the oldest file first
 
--- The last of these files.
+-- The latest file in a list of the files of a meter.
 abbrev latest : InFile → List InFile → InFile
 latest first [] = first
 latest first (next ∷ later) = latest next later
@@ -72,7 +72,7 @@ told_more : (old : Tables) (later : List InFile) (new : InFile) → (told_by_all
 told_more old [] new = refl
 told_more old (next ∷ later) new = told_more (told_by_both old next.tables) later new
 
--- Files, the oldest first, that continue up to that of a meter.
+-- Up to the file of `meter`, the files of a meter continue each other, the oldest file first.
 record GoesUpTo (tables : FiledMeter → Tables) (meter : FiledMeter) (meters : List FiledMeter) : Type 0 where
   pub first : InFile
   pub later : List InFile

@@ -1,4 +1,4 @@
--- The polls that were read have all numbers from 1.
+-- Lemmas that polls have consecutive numbers from 1 if they were read without a fault.
 use Rattle.std.proofs.Common.{◌≡◌, ℕ, suc, ◌+◌, ◌<◌, ◌≤◌, ◌==◌, Bool, true, false, nat_le, List, [], ◌∷◌, ◌++◌, length, if◌then◌else◌, Option, Some, None, Result, Ok, Err, refl, sym, ap, subst, ◌∙◌, arith}
 use Rattle.std.specs.Prelude.{⊤}
 use Rattle.std.specs.List.{fold}
@@ -99,7 +99,7 @@ numbered_after (rows ∷ runs) done polls h is =
 pub numbered : (runs : List RunRows) (polls : List ReadPoll) → polls_of runs ≡ Some polls → AreNumbered 1 polls
 numbered runs polls is = numbered_after runs [] polls tt is
 
--- ---- the text of all polls
+-- ---- the text of all polls that were read
 
 pub all_then : (k last : ℕ) (polls : List ReadPoll) → AreNumbered k polls → k + length polls ≤ last + 1 → polls_text_then last [] polls ≡ polls_text polls
 all_then k last [] h le = refl

@@ -1,4 +1,4 @@
--- Polls of a run, one row after another.
+-- Lemmas on reading the polls of a run row by row, and appending their texts.
 use Rattle.std.proofs.Common.{◌≡◌, ℕ, suc, ◌+◌, ◌<◌, ◌≤◌, Bool, true, false, List, [], ◌∷◌, ◌++◌, length, drop, get_or, Option, Some, None, refl, sym, ap, ◌∙◌, append_assoc, arith}
 use Rattle.std.proofs.lemmas.List.{append-nil, length-append, drop_more, drop_all}
 use Rattle.std.proofs.lemmas.Grind.{flat_map-append}
@@ -17,7 +17,8 @@ one_before : (done : List ReadPoll) (poll : ReadPoll) (more : Option (List ReadP
 one_before done poll None = refl
 one_before done poll (Some more) = ap (λ (ps : List ReadPoll). let o : Option (List ReadPoll) = Some ps in o) (sym (append_assoc done (poll ∷ []) more))
 
--- The polls of the first rows were read, and their text was appended.
+-- The state of a loop after the first rows of a run of polls. The polls in these rows were read,
+-- and their texts were appended.
 pub record RowsSoFar (last : ℕ) (hidden : List ℕ) (first next : ℕ) (all outcomes rows left : List Row) (old new old_pending new_pending : List ℕ) : Type 0 where
   pub done : List ReadPoll
   pub read : polls_in first all outcomes ≡ after done (polls_in next rows left)
@@ -35,7 +36,7 @@ no_rows_yet last hidden first all outcomes old old_pending = record {
   pending = sym (append-nil old_pending);
 }
 
--- The rows from an index begin with the row at that index.
+-- If index `i` is in a list, then dropping the first `i` rows leaves row `i` and the rows after it.
 rows_from : (rows : List Row) (i : ℕ) (row : Row) → i < length rows → row ≡ get_or rows i row → drop i rows ≡ row ∷ drop (i + 1) rows
 rows_from rows i row lt is = drop_more rows i row lt ∙ ap (λ (r : Row). r ∷ drop (i + 1) rows) (sym is)
 
@@ -81,7 +82,7 @@ module _ (last : ℕ) (hidden : List ℕ) (first next i : ℕ) (all outcomes lef
             ∙ sym (flat_map-append pending_of before.done (poll ∷ [])));
       }
 
--- ---- after the last row
+-- ---- the polls and their texts after the last row of a run of polls
 
 left_over : (done : List ReadPoll) (next : ℕ) (rows : List Row) → (rows ≡ [] → ⊥) → after done (polls_in next [] rows) ≡ None
 left_over done next [] none = absurd (none refl)

@@ -1,4 +1,5 @@
--- What was sealed of polls stays the same.
+-- Lemmas that the text of the sealed polls is unchanged after later polls and outcomes are
+-- recorded.
 use Rattle.std.proofs.Common.{◌≡◌, ℕ, suc, ◌+◌, ◌<◌, ◌≤◌, ◌==◌, ◌||◌, ◌⊎◌, inl, inr, Bool, true, false, nat_le, List, [], ◌∷◌, ◌++◌, length, if◌then◌else◌, Option, Some, None, refl, ap, subst, ◌∙◌, append_assoc, arith}
 use Rattle.std.specs.List.{AllByRecursion}
 use Rattle.std.proofs.lemmas.Bool.Decides.{nat_tests}
@@ -11,7 +12,7 @@ use Rattle.table_seals.specs.PollReading.{ReadPoll}
 use Rattle.table_seals.specs.PollTexts.{poll_line, ending_text, unless_pending, poll_text, polls_text, text_then, polls_text_then, unless_ended, pending_of, pending_among}
 use Rattle.table_seals.proofs.PollNumbers.{AreNumbered, numbered, is_up_to, is_beyond}
 
--- ---- the polls that are listed as pending
+-- ---- the list of pending polls
 
 named_more : (xs ys : List ℕ) (n : ℕ) → is_named (xs ++ ys) n ≡ (is_named xs n || is_named ys n)
 named_more xs ys n = list_any-append (λ v. v == n) xs ys
@@ -35,7 +36,7 @@ earlier m n lt = grind (arith, nat_tests)
 same : (m n : ℕ) → m ≡ n → m == n ≡ true
 same m n is = grind (arith, nat_tests)
 
--- No poll of the list has an earlier number.
+-- If polls are numbered from `k`, then their pending numbers do not include a number below `k`.
 not_among : (k n : ℕ) (polls : List ReadPoll) → AreNumbered k polls → n < k → is_named (pending_among polls) n ≡ false
 not_among k n [] h lt = refl
 not_among k n (poll ∷ polls) h lt =
@@ -51,11 +52,11 @@ abbrev is_pending : Option Ending → Bool
 is_pending None = true
 is_pending (Some ending) = false
 
--- The numbers are those of the polls without an outcome.
+-- The list of pending numbers contains the poll's number if and only if the poll has no outcome.
 abbrev Names : List ℕ → ReadPoll → Type 0
 Names pending poll = is_named pending poll.numbers.number ≡ is_pending poll.ending
 
--- The list has no number from `k` on.
+-- The list `front` of poll numbers contains no number that is `k` or greater.
 abbrev NoneFrom : ℕ → List ℕ → Type 0
 NoneFrom k front = (n : ℕ) → k ≤ n → is_named front n ≡ false
 
@@ -90,7 +91,7 @@ names_all k front (poll ∷ polls) h none =
           (names_all (suc k) (front ++ pending_of poll) polls h.1 (front_more k front poll h.0 none)),
     )
 
--- ---- the text that the polls had
+-- ---- the text that polls had at sealing time
 
 ending_stays : (ending now : Option Ending) (b : Bool) → b ≡ is_pending ending → (ending ≡ None) ⊎ (now ≡ ending)
     → ending_text (unless_pending b now) ≡ ending_text ending

@@ -1,4 +1,4 @@
--- The values that were read are all values of the rows.
+-- Lemmas that parsing the rows of a meter returns the values in all of these rows.
 use Rattle.std.proofs.Common.{◌≡◌, ◌≢◌, ◌↔◌, ◌<◌, ◌≤◌, ℕ, Bool, true, false, List, [], ◌∷◌, take, length, sym, ap, subst, ◌∙◌, arith}
 use Rattle.std.specs.List.{list_all}
 use Rattle.sha2.specs.Sha256.{sha256}
@@ -15,7 +15,7 @@ use Rattle.table_seals.specs.Sealing.{IsSealOf}
 use Rattle.table_seals.specs.Tables.{HasTerms, HasRead, is_word}
 use Rattle.table_seals.specs.Texts.{entries_text}
 
--- ---- terms
+-- ---- the name, accounting register and ceiling of a meter
 
 pub same_text : (m n : List ℕ) → (let v : Value = Text m in v) ≡ Text n → m ≡ n
 same_text m n h = cc
@@ -38,7 +38,7 @@ pub terms_there : (row : Row) (m r : List ℕ) (c : ℕ) (meter register : List 
 terms_there row m r c meter register ceiling h p q s =
     subst (λ x. HasTerms row x register ceiling) p (subst (λ x. HasTerms row m x ceiling) q (subst (λ x. HasTerms row m r x) s h))
 
--- ---- no seal
+-- ---- meters that can't be sealed
 
 pub true_false : (b : Bool) → b ≡ true → b ≡ false → ⊥
 true_false true h g = absurd (cc)
@@ -56,7 +56,7 @@ register_no_word row rows m r c terms other seal h =
     let same = same_terms row m r c seal.meter seal.register seal.ceiling terms h.terms in
     true_false (is_word r) (ap is_word same.register_is ∙ h.register_word) other
 
--- ---- rows
+-- ---- the counter range, void records and entries of a meter
 
 same_ranges : (m n : ℕ) → m ∷ [] ≡ n ∷ [] → m ≡ n
 same_ranges m n h = cc

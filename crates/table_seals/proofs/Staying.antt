@@ -1,4 +1,5 @@
--- What stays the same of a meter's entries, for all lines that follow.
+-- Lemmas that the text of a meter's earlier entries is unchanged after later lines are added to its
+-- journal.
 use Rattle.std.proofs.Common.{◌≡◌, ℕ, ◌==◌, Bool, true, false, not, ◌&&◌, ◌||◌, List, [], ◌∷◌, ◌++◌, map, reverse, take, length, ◌+◌, Some, None, append_assoc, refl, sym, ap, subst, ◌∙◌, inl, inr}
 use Rattle.std.specs.Prelude.{ℤ}
 use Rattle.std.specs.List.{flat_map, list_any}
@@ -23,7 +24,7 @@ use Rattle.meter_audit.specs.Rows.{scale_after, table_row, opening_row, later_ro
 use Rattle.table_seals.specs.Laws.{entries_by, is_voided_at, FirstEntriesStay, VoidsStay}
 use Rattle.table_seals.specs.Texts.{entry_line, entries_text}
 
--- ---- the scale factor after a row
+-- ---- the scale factor after an entry
 
 sf_after : (stands : Bool) → Entry → ℤ → ℤ
 sf_after false e sf = sf
@@ -51,7 +52,7 @@ scale_more meter row rows =
           ∙ sym (ap (λ b. sf_after b row.entry (scale_after meter rows)) is)
     ]
 
--- A reading leaves the scale factor unchanged.
+-- After a reading, the scale factor is the same as before the reading.
 read_leaves : (k : EntryKind) (e : Entry) (stands : Bool) (sf : ℤ) → is_read k e ≡ true → sf_after stands e sf ≡ sf
 unfolding sf_after
 read_leaves k e false sf read = refl
@@ -68,9 +69,9 @@ rolls_leave last e false sf = refl
 rolls_leave last (Step at raw rolls) true sf = refl
 rolls_leave last (Change at before new scale) true sf = refl
 
--- ---- the line of a row
+-- ---- the digested line of an entry
 
--- The line does not have the rollovers of a reading.
+-- The digested line of an entry, which leaves out the rollovers of a reading.
 line_of : (sf : ℤ) (place : ℕ) (k : EntryKind) (e : Entry) (stands : Bool) → List ℕ
 line_of sf place k e stands = entry_line (table_row sf (record { place = place; kind = k; entry = e; stands = stands }))
 
@@ -88,7 +89,7 @@ second_true : (a b : Bool) → a && b ≡ true → b ≡ true
 second_true true b h = h
 second_true false b h = absurd (cc)
 
--- A row with other rollovers has the same line.
+-- The two entry rows have equal digested lines, and leave the same scale factor for later entries.
 record TellsSame (row next : EntryRow) : Type 0 where
   line : (sf : ℤ) → entry_line (table_row sf next) ≡ entry_line (table_row sf row)
   scale : (sf : ℤ) → sf_after next.stands next.entry sf ≡ sf_after row.stands row.entry sf
@@ -112,12 +113,13 @@ rolled_same last row =
           subst (TellsSame row) (sym made) (record { line = λ sf. refl; scale = λ sf. refl; place = refl; stands = refl })
     ]
 
--- ---- the lines of rows, the latest first
+-- ---- the digested lines of entries, the latest entry first
 
 abbrev pub lines_of : Installed → List EntryRow → List (List ℕ)
 lines_of meter rows = map entry_line (later_rows meter rows)
 
--- The same lines, and the same scale factor after them.
+-- The two lists of entry rows have equal digested lines, and leave the same scale factor for later
+-- entries.
 record SameLines (meter : Installed) (rows next : List EntryRow) : Type 0 where
   lines : lines_of meter next ≡ lines_of meter rows
   scale : scale_after meter next ≡ scale_after meter rows
@@ -179,7 +181,7 @@ more_lines meter (Voided named ∷ more) lines h =
     let may = all_three around.row.stands (is_read around.row.kind around.row.entry) (is_free around.next) h.0.voidable in
     (rest.0, (void_lines meter named (rows_of meter.opening (more ++ lines)) around h.0.there may.1).lines ∙ rest.1)
 
--- ---- the entries, the opening first
+-- ---- the digested text of entries, the opening first
 
 map_reverse : {A B : Type 0} (f : A → B) (xs : List A) → map f (reverse xs) ≡ reverse (map f xs)
 map_reverse f [] = refl
@@ -206,7 +208,7 @@ begins_so meter more lines h =
           ∙ ap (λ ls. ls ++ reverse all.0) (sym (entry_lines meter lines)),
     )
 
--- The same lines make the same text.
+-- If two lists of entries have equal digested lines, then the lists have equal digested texts.
 same_text : (xs ys : List TableRow) → map entry_line xs ≡ map entry_line ys → entries_text xs ≡ entries_text ys
 same_text xs ys same =
     sym (flat_map-map (λ (l : List ℕ). l) entry_line xs) ∙ ap (λ ls. flat_map (λ (l : List ℕ). l) ls) same
@@ -222,7 +224,7 @@ first_entries meter more lines well h =
     (sym (take-map entry_line (length old) now) ∙ ap (λ n. take n (map entry_line now)) (sym many)
     ∙ ap (λ ls. take (length (map entry_line old)) ls) all.1 ∙ take-append_seam (map entry_line old) all.0)
 
--- ---- voids
+-- ---- void records in a journal
 
 or_keeps : (a b c d : Bool) → (a ≡ true → c ≡ true) → (b ≡ true → d ≡ true) → (a || b) ≡ true → (c || d) ≡ true
 or_keeps a b true d f g h = refl
@@ -232,7 +234,7 @@ or_keeps false b false d f g h = g h
 abbrev at_place : ℕ → TableRow → Bool
 at_place place entry = (entry.place == place) && entry.is_voided
 
--- Rows with one voided row.
+-- Whether a list of entry rows has a voided entry at the index `place`.
 abbrev struck_at : ℕ → List EntryRow → Bool
 struck_at place rows = list_any (λ row. (row.place == place) && not row.stands) rows
 

@@ -1,4 +1,4 @@
--- The meters that are kept of a file's tables, to check whether the next file continues this one.
+-- Defines the data read about a file's meters, to check whether the next file continues this file.
 use Rattle.std.specs.Prelude.{⊤, ◌≡◌, ℕ, List, [], ◌∷◌, Option, Some, None, Ok, Vec, string_bytes}
 use Rattle.std.specs.List.{slice_get}
 use Rattle.meter_audit.specs.declared.rows.TableRow.{TableRow}
@@ -15,8 +15,8 @@ use Rattle.table_audit.specs.Showing.{ShowsInstallations}
 use Rattle.table_seals.specs.declared.filed.FiledMeter.{FiledMeter}
 use Rattle.table_seals.specs.Tables.{HasRead}
 
--- The state of the meter in an installation's row: its last entry, its total energy, and whether it
--- was closed.
+-- The state of a meter in its row of `installations`: its last entry, its total energy, and whether
+-- the meter was closed.
 abbrev pub standing_in : InstallationRow → Standing
 standing_in row = record {
   last = last_in row.last;
@@ -24,8 +24,8 @@ standing_in row = record {
   is_ended = row.is_ended;
 }
 
--- `filed` is the meter of an installation, with its names, its ceiling and its state. The opening
--- of `filed` is the meter's first entry.
+-- `filed` has the data of a meter in `installations`: its names, range, ceiling and state, and its
+-- opening entry.
 pub record IsFiledAs (row : Row) (rows : MeterRows) (filed : FiledMeter) : Type 0 where
   pub meter_is : column row 1 ≡ Text (string_bytes filed.meter)
   pub register_is : column row 2 ≡ Text (string_bytes filed.register)
@@ -39,25 +39,28 @@ pub record IsFiledAs (row : Row) (rows : MeterRows) (filed : FiledMeter) : Type 
   pub read : HasRead rows filed.installed.range voids (opening ∷ later)
   pub opened : filed.installed.opening ≡ last_shown opening
 
--- The meter is kept with the name of its file. None means that one of its values can't be read.
+-- The result has the data of the meter in a row of `installations`, with the name of its file. None
+-- means that a value can't be read.
 abbrev pub IsFiled : (file : List ℕ) → Row → MeterRows → Option FiledMeter → Type 0
 IsFiled file row rows None = (filed : FiledMeter) → IsFiledAs row rows filed → ⊥
 IsFiled file row rows (Some filed) = (filed.file.now ≡ file) × IsFiledAs row rows filed
 
--- The meter of the row is kept. If the row names no meter, none is kept.
+-- The result has the data of the meter in a row of `installations`. If the row has no meter's name,
+-- the result is None.
 abbrev pub IsFiledAt : (file : List ℕ) → Row → Option MeterRows → Option FiledMeter → Type 0
 IsFiledAt file row (Some rows) found = IsFiled file row rows found
 IsFiledAt file row None None = ⊤
 IsFiledAt file row None (Some filed) = ⊥
 
--- The meter is kept as its row of `installations` and its other rows in the tables have it.
+-- The result has the data of one meter, read from `installations` and from its rows in the other
+-- tables.
 pub record FilesRow (file : List ℕ) (content : Content) (row : Row) (found : Option FiledMeter) :
     Type 0 where
   pub rows : Option MeterRows
   pub theirs : AreTheirs content row rows
   pub is_filed : IsFiledAt file row rows found
 
--- The list has the meter of each row, in the order of the rows.
+-- The list has the data of the meter in each row of `installations`, in the order of the rows.
 abbrev pub AreFiled : (file : List ℕ) → Content → List Row → List FiledMeter → Type 0
 AreFiled file content [] [] = ⊤
 AreFiled file content (row ∷ rows) (filed ∷ others) =
@@ -65,25 +68,25 @@ AreFiled file content (row ∷ rows) (filed ∷ others) =
 AreFiled file content [] (filed ∷ others) = ⊥
 AreFiled file content (row ∷ rows) [] = ⊥
 
--- A value of a meter in one of these rows can't be read.
+-- One of these rows of `installations` has a meter with a value that can't be read.
 abbrev pub HasUnfiled : (file : List ℕ) → List Row → Content → Type 0
 HasUnfiled file rows content =
     (i : ℕ) × (row : Row) × (slice_get rows i ≡ Some row) × FilesRow file content row None
 
--- The meters of all rows are kept. None means that a value of one of them can't be read.
+-- The result has the data of the meters in all rows of `installations`. None means that a value
+-- can't be read.
 abbrev pub FilesRows : {Z : Type 0} → (file : List ℕ) → List Row → Content
     → Option (Vec FiledMeter Z) → Type 0
 FilesRows file rows content None = HasUnfiled file rows content
 FilesRows file rows content (Some filed) = AreFiled file content rows filed.items
 
--- A value of a meter in the tables can't be read.
+-- The tables have a meter with a value that can't be read.
 pub record HasUnfiledMeter (file : List ℕ) (content : Content) : Type 0 where
   pub rows : List Row
   pub shown : ShowsInstallations content rows
   pub unfiled : HasUnfiled file rows content
 
--- The meters of all rows of `installations` in the tables are kept. None means that a value of one
--- of them can't be read.
+-- The result has the data of all meters in the tables. None means that a value can't be read.
 pub record FilesMeters {Z : Type 0} (file : List ℕ) (content : Content)
     (found : Option (Vec FiledMeter Z)) : Type 0 where
   pub rows : List Row

@@ -1,5 +1,5 @@
--- Theorems about files of one office that continue each other. A line reports that a file does not
--- continue the earlier ones.
+-- Theorems about consecutive files of one office. The check of files prints a line for each
+-- difference between a file and the earlier files.
 use Rattle.std.specs.Prelude.{⊤, ◌≡◌, ◌↔◌, ◌≤◌, ◌+◌, ℕ, true, List, [], ◌∷◌, ◌++◌, length, Some, Ok, string_bytes}
 use Rattle.std.specs.List.{AllByRecursion, filter}
 use Rattle.energy_core.specs.declared.limits.TheConstants.{MAX_TOTAL}
@@ -16,37 +16,37 @@ use Rattle.table_seals.specs.declared.filed.FiledMeter.{FiledMeter}
 use Rattle.table_seals.specs.Filing.{IsFiledAs}
 use Rattle.table_seals.specs.Joins.{Known, known_with, joins_by, joins_of_all, is_meter, is_within}
 
--- The meter `old` of an earlier file continues as `new`, at the same accounting register. The
--- energy of all its files is within the limit of one meter.
+-- The meter `old` of an earlier file continues as the meter `new` at the same accounting register.
+-- The meter's total energy in all files is within the limit of one meter.
 pub record MeterGoesOn (known : List FiledMeter) (old new : FiledMeter) : Type 0 where
   pub goes_on : GoesOnAs old.installed old.standing.last old.standing.is_ended new.installed
   pub register : string_bytes new.register ≡ string_bytes old.register
   pub within : is_within known new ≡ true
 
--- Theorem: there is no line about a meter of an earlier file if and only if the meter continues in
--- the next file.
+-- Theorem: a meter of an earlier file continues in the next file if and only if the check reports
+-- no difference for it.
 abbrev pub JoinedMetersGoOn : Type 0
 JoinedMetersGoOn = (known : List FiledMeter) (old new : FiledMeter)
     → (joins_by known new (Some old) ≡ []) ↔ MeterGoesOn known old new
 
--- ---- over several files
+-- ---- the files of a meter that continues from file to file
 
--- The meters with this name, of all files that have one.
+-- The meters with the name `name`, from all files in the list.
 abbrev pub named : (name : List ℕ) → List FiledMeter → List FiledMeter
 named name meters = filter (is_meter name) meters
 
--- The total energy of these meters, in mWh.
+-- The sum of the total energies of all meters in the list, in mWh.
 abbrev pub energy_of : List FiledMeter → ℕ
 energy_of [] = 0
 energy_of (meter ∷ meters) = meter.standing.total + energy_of meters
 
--- No two meters of a file have the same name, which the key of the table ensures. Each meter has at
--- most the energy of one meter.
+-- A file has at most one meter of each name, as the table's key ensures. Each meter's total energy
+-- is within the limit of one meter.
 pub record IsOfMeters (file : Known) : Type 0 where
   pub apart : (name : List ℕ) → length (named name file.meters) ≤ 1
   pub totals : AllByRecursion (λ meter. meter.standing.total ≤ MAX_TOTAL) file.meters
 
--- Each meter continues the next one in the list, which is of an earlier file.
+-- Each meter in the list continues the next meter in the list, which comes from an earlier file.
 abbrev pub EachGoesOn : List FiledMeter → Type 0
 EachGoesOn [] = ⊤
 EachGoesOn (new ∷ []) = ⊤
@@ -54,28 +54,28 @@ EachGoesOn (new ∷ old ∷ older) =
     GoesOnAs old.installed old.standing.last old.standing.is_ended new.installed
     × EachGoesOn (old ∷ older)
 
--- The meters of a name continue through all files that have them. Their total energy is within the
+-- The meters with the name `name` continue from file to file. Their total energy is within the
 -- limit of one meter.
 pub record IsOneMeter (name : List ℕ) (known : Known) : Type 0 where
   pub goes_on : EachGoesOn (named name known.meters)
   pub energy : energy_of (named name known.meters) ≤ MAX_TOTAL
 
--- What is kept of all files: the first, and all later ones.
+-- Adds the data of all later files to the data of the earlier file.
 abbrev pub known_with_all : Known → (later : List Known) → Known
 known_with_all known [] = known
 known_with_all known (next ∷ later) = known_with_all (known_with known next) later
 
--- Theorem: if each file is one of `IsOfMeters` and there are no lines, the meters of each name are
--- one meter.
+-- Theorem: if each file satisfies `IsOfMeters` and the check reports no difference, then the meters
+-- of each name continue from file to file.
 abbrev pub JoinedFilesAreOne : Type 0
 JoinedFilesAreOne = (first : Known) (later : List Known) → IsOfMeters first
     → AllByRecursion IsOfMeters later
     → joins_of_all first later ≡ []
     → (name : List ℕ) → IsOneMeter name (known_with_all first later)
 
--- ---- the tables of several files
+-- ---- the tables of a meter in several files
 
--- The tables are fine, and their meter has the state that is kept.
+-- A meter's tables are fine in an audit, and result in the recorded state of the meter.
 pub record IsToldBy (meter : FiledMeter) (tables : Tables) : Type 0 where
   pub well : IsWellInstalled meter.installed
   pub fine : AreFine meter.installed tables
@@ -83,8 +83,8 @@ pub record IsToldBy (meter : FiledMeter) (tables : Tables) : Type 0 where
   pub total : tables.total ≡ meter.standing.total
   pub ended : tables.ended ≡ meter.standing.is_ended
 
--- Theorem: if an audit finds a file fine, each meter that is kept of it has fine tables with the
--- state that is kept.
+-- Theorem: if an audit finds a meter's rows fine, then the data read about the meter agree with its
+-- tables.
 abbrev pub FiledMetersAreTold : Type 0
 FiledMetersAreTold = (row : Row) (rows : MeterRows) (installation : InstallationRow)
     (filed : FiledMeter) → installation_in row ≡ Ok installation
@@ -94,21 +94,22 @@ FiledMetersAreTold = (row : Row) (rows : MeterRows) (installation : Installation
 abbrev pub in_file : (tables : FiledMeter → Tables) → FiledMeter → InFile
 in_file tables meter = record { meter = meter.installed; tables = tables meter }
 
--- Each meter with its tables, the oldest file first. The list of meters has the latest file first.
+-- Pairs each meter with its tables, in a list with the oldest file first. The given list of meters
+-- has the latest file first.
 abbrev pub in_files : (tables : FiledMeter → Tables) → List FiledMeter → List InFile
 in_files tables [] = []
 in_files tables (meter ∷ older) = in_files tables older ++ in_file tables meter ∷ []
 
--- All files together have the numbers of one lawful journal of the meter, from its opening in the
--- first file.
+-- All files of a meter together have the numbers of one lawful journal. This journal begins with
+-- the meter's opening in the first file.
 pub record HasOneJournal (tables : FiledMeter → Tables) (meters : List FiledMeter) : Type 0 where
   pub first : InFile
   pub later : List InFile
   pub are : in_files tables meters ≡ first ∷ later
   pub lawful : AreLawful first.meter (told_by_all first.tables later)
 
--- Theorem: suppose that the meters continue each other, that their tables are fine, and that their
--- total energy is within the limit of one meter. Then their files have one journal.
+-- Theorem: if a meter's files continue each other, then they together have one lawful journal. The
+-- tables of each file must be fine, and the total energy must be within the limit.
 abbrev pub JoinedFilesAreLawful : Type 0
 JoinedFilesAreLawful = (tables : FiledMeter → Tables) (meter : FiledMeter)
     (older : List FiledMeter) → AllByRecursion (λ m. IsToldBy m (tables m)) (meter ∷ older)

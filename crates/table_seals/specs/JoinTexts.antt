@@ -1,5 +1,5 @@
--- The printed lines about files that should continue each other: one for each difference, and a
--- last line with their number.
+-- Defines the printed lines of the check that files continue each other. There is a line for each
+-- difference, and a last line with the number of differences.
 use Rattle.std.specs.Prelude.{ℕ, ◌-◌, ◌==◌, List, [], ◌++◌, take, map, length, flat_map, if◌then◌else◌, codes, decimal, string_bytes, Vec}
 use Rattle.std.specs.Fmt.{signed_decimal}
 use Rattle.energy_core.specs.declared.entries.Last.{Last}
@@ -9,25 +9,25 @@ use Rattle.table_seals.specs.declared.join_faults.JoinFault.{JoinFault}
 use Rattle.table_seals.specs.declared.join_faults.JoinFault.TheVariants as fault
 use Rattle.table_seals.specs.Joins.{Join, OtherZone, Differs, Overlaps, Missing}
 
--- The text of a counter's state: its timestamp, its value and its scale factor.
+-- The text of a counter's timestamp, raw value and scale factor.
 abbrev pub stand : Last → List ℕ
 stand last =
     decimal last.at ++ codes " " ++ decimal last.raw ++ codes " " ++ signed_decimal last.sf
 
--- The text of a value that a meter has in a file, and of its value in the earlier file.
+-- The text that states a value in a file and the different value in the earlier file.
 abbrev pub both_say : (what : List ℕ) → (has had : List ℕ) → (old new : FiledMeter) → List ℕ
 both_say what has had old new =
     what ++ has ++ codes " in " ++ new.file.now ++ codes ", and " ++ had ++ codes " in "
     ++ old.file.now
 
--- The text of a property that a meter has in a file, and of its property in the earlier file.
+-- The text of a difference between a file and the earlier file, with the names of the two files.
 abbrev pub both_files : (before between : List ℕ) → (old new : FiledMeter) → List ℕ
 both_files before between old new = before ++ new.file.now ++ between ++ old.file.now
 
 abbrev pub one_file : (before after : List ℕ) → (new : FiledMeter) → List ℕ
 one_file before after new = before ++ new.file.now ++ after
 
--- The text that says why a meter does not continue.
+-- The text that states why a meter does not continue the meter of the earlier file.
 abbrev pub fault_text : JoinFault → (old new : FiledMeter) → List ℕ
 fault_text fault.Closed old new =
     both_files (codes "is in ") (codes ", and was closed in ") old new
@@ -44,11 +44,11 @@ fault_text fault.Opening old new =
 fault_text fault.Energy old new =
     one_file (codes "has more energy in all files up to ") (codes " than a meter may have") new
 
--- The beginning of a line: the name of its meter.
+-- The beginning of a printed line about a meter: the meter's name.
 abbrev pub meter_said : FiledMeter → List ℕ
 meter_said meter = codes "meter " ++ string_bytes meter.meter ++ codes " "
 
--- The printed line of a difference between files.
+-- The printed line of a difference between a file and the earlier files.
 abbrev pub join_line : Join → List ℕ
 join_line (OtherZone old new) =
     codes "zone is " ++ new.zone ++ codes " in " ++ new.file ++ codes ", and " ++ old.zone
@@ -63,28 +63,29 @@ join_line (Missing old file) =
     meter_said old ++ codes "is not in " ++ file ++ codes ", and is open in " ++ old.file.now
     ++ codes "\n"
 
--- The printed lines of differences, in order.
+-- The printed lines of differences between files, in order.
 abbrev pub lines_of : List Join → List (List ℕ)
 lines_of joins = map join_line joins
 
--- The text of a line, as its bytes.
+-- The bytes of a printed line.
 abbrev pub text_in : {Z : Type 0} → Vec ℕ Z → List ℕ
 text_in line = line.items
 
 abbrev pub texts_of : {Z : Type 0} → List (Vec ℕ Z) → List (List ℕ)
 texts_of lines = map text_in lines
 
--- The line that says how many more lines there are. Empty if there are none.
+-- The line with the number of omitted lines, or an empty text if no line is omitted.
 abbrev pub more_lines : ℕ → List ℕ
 more_lines more = if more == 0 then [] else codes "and " ++ decimal more ++ codes " more\n"
 
--- The last line, which says how many lines there are.
+-- The last line of the check. It has the number of differences, or says that the files continue
+-- each other.
 abbrev pub all_lines : ℕ → List ℕ
 all_lines all =
     if all == 0 then codes "joined: fine\n"
     else decimal all ++ codes " differences between files\n"
 
--- The text of a join: its first lines, how many more there are, and their number.
+-- All printed text of the check: the first lines, the number of omitted lines, and the last line.
 abbrev pub joined_text : {Z : Type 0} → List (Vec ℕ Z) → List ℕ
 joined_text lines =
     flat_map text_in (take MOST lines) ++ more_lines (length lines - MOST)

@@ -1,5 +1,6 @@
--- Whether the files of an office continue each other, so that they have one history of each meter.
--- Each file is audited separately. Of several files, the meters of the latest file are first.
+-- Defines whether the files of an office continue each other, so that each meter has one history.
+-- An audit checks each file separately. In each list of meters, the meters of the latest file come
+-- first.
 use Rattle.std.specs.Prelude.{ℕ, ◌-◌, ◌==◌, nat_lt, nat_le, Bool, true, false, not, ◌&&◌, List, [], ◌∷◌, ◌++◌, take, length, flat_map, Option, Some, None, if◌then◌else◌, bytes_eq, string_bytes}
 use Rattle.std.specs.List.{find, list_any}
 use Rattle.std.specs.Option.{option_map, option_map_or, option_to_list}
@@ -11,16 +12,16 @@ use Rattle.table_seals.specs.declared.filed.FiledOffice.{FiledOffice}
 use Rattle.table_seals.specs.declared.join_faults.JoinFault.{JoinFault}
 use Rattle.table_seals.specs.declared.join_faults.JoinFault.TheVariants.{Closed, Register, Range, Ceiling, Opening, Energy}
 
--- What is kept of one file, or of several. `file` and `zone` are the name and the time zone of the
--- latest file. `meters` begins with the `latest` meters of that file, and those of earlier files
--- follow.
+-- The data about one file or several files. `file` and `zone` are the name and the time zone of the
+-- latest file. `meters` begins with the `latest` meters of the latest file, and the meters of
+-- earlier files follow.
 pub record Known : Type 0 where
   pub file : List ℕ
   pub zone : List ℕ
   pub meters : List FiledMeter
   pub latest : ℕ
 
--- The values of what is kept of a file.
+-- Converts an executable `FiledOffice` to the logical record `Known`.
 abbrev pub known_of : FiledOffice → Known
 known_of office = record {
   file = office.file.now;
@@ -29,12 +30,12 @@ known_of office = record {
   latest = office.latest;
 }
 
--- What is kept of one file.
+-- Builds the data about one file from its name, time zone and meters.
 abbrev pub known_as : (file zone : List ℕ) → List FiledMeter → Known
 known_as file zone meters =
     record { file = file; zone = zone; meters = meters; latest = length meters }
 
--- What is kept of these files together with the next one.
+-- Adds the data about the next file to the data about the earlier files.
 abbrev pub known_with : (known next : Known) → Known
 known_with known next = record {
   file = next.file;
@@ -43,42 +44,42 @@ known_with known next = record {
   latest = length next.meters;
 }
 
--- ---- a meter of the next file
+-- ---- comparing a meter of the next file with the earlier files
 
--- Whether the meter has this name.
+-- Whether the meter has the name `name`.
 abbrev pub is_meter : (name : List ℕ) → FiledMeter → Bool
 is_meter name meter = bytes_eq (string_bytes meter.meter) name
 
--- Whether one of the meters has this name.
+-- Whether one of the meters has the name `name`.
 abbrev pub has_meter : (name : List ℕ) → List FiledMeter → Bool
 has_meter name meters = list_any (is_meter name) meters
 
--- Whether both have the same counter value, timestamp and scale factor.
+-- Whether two counter states have the same raw value, timestamp and scale factor.
 abbrev pub is_same : Last → Last → Bool
 is_same last other = (last.at == other.at) && (last.raw == other.raw) && int_eq last.sf other.sf
 
--- How much of the energy limit is left after this meter. A meter of another name uses none. None if
--- the meter exceeds the limit.
+-- The energy that remains of the limit `most`, in mWh, after a meter's total is subtracted. A meter
+-- of another name leaves the limit unchanged. None if the meter's total exceeds the limit.
 abbrev pub left_after : (most : ℕ) → (name : List ℕ) → FiledMeter → Option ℕ
 left_after most name meter =
     if is_meter name meter
     then (if nat_le meter.standing.total most then Some (most - meter.standing.total) else None)
     else Some most
 
--- Whether all meters of this name together have at most the energy `most`.
+-- Whether all meters with the name `name` together have at most the energy `most`, in mWh.
 abbrev pub stay_within : (most : ℕ) → (name : List ℕ) → List FiledMeter → Bool
 stay_within most name [] = true
 stay_within most name (meter ∷ meters) =
     option_map_or (λ left. stay_within left name meters) (left_after most name meter) false
 
--- Whether a meter of the next file, with its earlier files, has at most the energy of one meter.
+-- Whether a meter's total energy in the next file and all earlier files is within the limit of one
+-- meter.
 abbrev pub is_within : (known : List FiledMeter) → (new : FiledMeter) → Bool
 is_within known new = stay_within MAX_TOTAL (string_bytes new.meter) (new ∷ known)
 
--- Why a meter of the next file does not continue its latest earlier file, or None if it does. The
--- earlier meter must be open, at the same accounting register, with the same range and ceiling. The
--- new opening must equal the earlier last entry. The total energy of all files must be within the
--- limit of one meter. The first rule that fails is reported.
+-- The first rule that the continuation of a meter breaks, or None. The earlier meter must be open,
+-- with the register, range and ceiling of the new meter. Its last entry must equal the new opening,
+-- and the total energy must be within the limit.
 abbrev pub fault_between : (within : Bool) → (old new : FiledMeter) → Option JoinFault
 fault_between within old new =
     if old.standing.is_ended then Some Closed else
@@ -89,23 +90,24 @@ fault_between within old new =
     if not (is_same new.installed.opening old.standing.last) then Some Opening else
     if not within then Some Energy else None
 
--- Whether a new meter begins before the last entry of an earlier meter at its accounting register.
+-- Whether a new meter's opening is earlier than the last entry of an earlier meter at the same
+-- accounting register.
 abbrev pub is_beyond : (new old : FiledMeter) → Bool
 is_beyond new old =
     bytes_eq (string_bytes old.register) (string_bytes new.register)
     && nat_lt new.installed.opening.at old.standing.last.at
 
--- ---- the differences
+-- ---- the differences between consecutive files
 
--- A way in which a file does not continue the earlier files.
+-- A difference by which a file does not continue the earlier files.
 pub data Join : Type 0 where
   OtherZone : (old new : Known) → Join
   Differs : JoinFault → (old new : FiledMeter) → Join
   Overlaps : (old new : FiledMeter) → Join
   Missing : (old : FiledMeter) → (file : List ℕ) → Join
 
--- The difference of a meter of the next file, if there is one. It is compared with its latest
--- earlier file, or with the other meters if it is new.
+-- The differences of a meter in the next file. A meter that earlier files have is compared with the
+-- latest of them. A new meter is compared with all other meters.
 abbrev pub joins_by : (known : List FiledMeter) → (new : FiledMeter) → Option FiledMeter
     → List Join
 joins_by known new (Some old) =
@@ -114,42 +116,44 @@ joins_by known new (Some old) =
 joins_by known new None =
     option_to_list (option_map (λ old. Overlaps old new) (find (is_beyond new) known))
 
--- The difference of a meter of the next file from the earlier files, if there is one.
+-- The differences between a meter in the next file and the earlier files, or an empty list.
 abbrev pub joins_of : (known : List FiledMeter) → (new : FiledMeter) → List Join
 joins_of known new = joins_by known new (find (is_meter (string_bytes new.meter)) known)
 
--- Whether a meter is open in the earlier file, and not in the next file.
+-- Whether a meter is open in the earlier file, but missing in the next file.
 abbrev pub is_missing : (next : List FiledMeter) → (old : FiledMeter) → Bool
 is_missing next old =
     not old.standing.is_ended && not (has_meter (string_bytes old.meter) next)
 
--- The difference of a meter that is open in the earlier file and not in the next file.
+-- The difference that a meter is open in the earlier file, but missing in the next file. The list
+-- is empty for any other meter.
 abbrev pub missing_of : (next : Known) → (old : FiledMeter) → List Join
 missing_of next old = if is_missing next.meters old then Missing old next.file ∷ [] else []
 
--- The difference of two files' time zones, if they differ.
+-- The difference between the time zones of two files, or an empty list if the time zones are equal.
 abbrev pub zone_of : (known next : Known) → List Join
 zone_of known next =
     if bytes_eq next.zone known.zone then [] else OtherZone known next ∷ []
 
--- The differences of a file from the files before it. The file continues them if and only if there
--- are no differences.
+-- The differences between the next file and the earlier files. The next file continues the earlier
+-- files if and only if this list is empty.
 abbrev pub joins_between : (known next : Known) → List Join
 joins_between known next =
     zone_of known next ++ flat_map (joins_of known.meters) next.meters
     ++ flat_map (missing_of next) (take known.latest known.meters)
 
--- The differences of the next file from the earlier files. A first file has none.
+-- The differences between the next file and the earlier files. The list is empty if there is no
+-- earlier file.
 abbrev pub joins_after : Option Known → (next : Known) → List Join
 joins_after None next = []
 joins_after (Some known) next = joins_between known next
 
--- What is kept of all files after the next one.
+-- The data about all files, including the next file.
 abbrev pub after_next : Option Known → (next : Known) → Known
 after_next None next = next
 after_next (Some known) next = known_with known next
 
--- The differences of all later files, the oldest file first.
+-- The differences between each later file and the files before it, the oldest file first.
 abbrev pub joins_of_all : Known → (later : List Known) → List Join
 joins_of_all known [] = []
 joins_of_all known (next ∷ later) =

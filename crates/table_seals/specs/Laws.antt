@@ -1,4 +1,4 @@
--- Theorems that a seal depends on: later records don't change what was sealed.
+-- Theorems that a seal depends on: after later records are added, the sealed text is unchanged.
 use Rattle.std.specs.Prelude.{⊤, ◌≡◌, ◌⊎◌, [], ◌∷◌, Some, None, ℕ, ◌==◌, Bool, true, ◌&&◌, List, ◌++◌, take, length, reverse}
 use Rattle.std.specs.List.{list_any}
 use Rattle.meter_journal.specs.declared.lines.Installed.{Installed}
@@ -12,43 +12,44 @@ use Rattle.table_seals.specs.PollReading.{ReadPoll, polls_of}
 use Rattle.table_seals.specs.PollTexts.{polls_text, polls_text_then, pending_among}
 use Rattle.table_seals.specs.Texts.{entries_text}
 
--- The entries that the tables have for a meter with this journal, the opening first.
+-- The entries that the tables have for a meter with the journal `lines`, the opening first.
 abbrev pub entries_by : Installed → Journal → List TableRow
 entries_by meter lines = reverse (table_rows meter (rows_of meter.opening lines))
 
--- Whether the entry at an index is voided.
+-- Whether the entry at the index `place` is voided.
 abbrev pub is_voided_at : (place : ℕ) → List TableRow → Bool
 is_voided_at place entries = list_any (λ entry. (entry.place == place) && entry.is_voided) entries
 
--- Theorem: the entries of a lawful journal stay its first entries, with the same text, after any
--- later lines. Lines are entries, rejected readings and voids.
+-- Theorem: after lines are added to a lawful journal, its earlier entries are still the first
+-- entries, with the same sealed text.
 abbrev pub FirstEntriesStay : Type 0
 FirstEntriesStay = (meter : Installed) (more lines : Journal) → IsWellInstalled meter
     → AreFitting meter (more ++ lines)
     → entries_text (take (length (entries_by meter lines)) (entries_by meter (more ++ lines)))
     ≡ entries_text (entries_by meter lines)
 
--- Theorem: an entry that is voided stays voided, after any later lines of the journal.
+-- Theorem: after lines are added to a lawful journal, every voided entry is still voided.
 abbrev pub VoidsStay : Type 0
 VoidsStay = (meter : Installed) (more lines : Journal) → IsWellInstalled meter
     → AreFitting meter (more ++ lines) → (place : ℕ)
     → is_voided_at place (entries_by meter lines) ≡ true
     → is_voided_at place (entries_by meter (more ++ lines)) ≡ true
 
--- `later` is the same poll at a later time. Only a pending poll may have got an outcome.
+-- `later` is the poll `poll`, read at a later time. If the poll was pending, it may have received
+-- an outcome since. Otherwise its outcome is unchanged.
 pub record IsLater (poll later : ReadPoll) : Type 0 where
   pub numbers : later.numbers ≡ poll.numbers
   pub device : later.device ≡ poll.device
   pub ending : (poll.ending ≡ None) ⊎ (later.ending ≡ poll.ending)
 
--- `later` has the same polls at a later time, and possibly more.
+-- `later` begins with the polls in `polls`, read at a later time, and may have further polls.
 abbrev pub AreLater : (polls later : List ReadPoll) → Type 0
 AreLater [] more = ⊤
 AreLater (poll ∷ polls) [] = ⊥
 AreLater (poll ∷ polls) (other ∷ later) = IsLater poll other × AreLater polls later
 
--- Theorem: after later polls, and outcomes of pending polls, the text that the polls had can still
--- be computed.
+-- Theorem: after further polls and outcomes of pending polls are recorded, the sealed text of the
+-- polls can still be computed.
 abbrev pub PollsStay : Type 0
 PollsStay = (rows later_rows : List RunRows) (polls later : List ReadPoll)
     → polls_of rows ≡ Some polls → polls_of later_rows ≡ Some later → AreLater polls later

@@ -1,4 +1,5 @@
--- A text that begins with lines of a seal.
+-- Defines texts that begin with lines of a seal. The contracts of the seal's parser use these
+-- definitions.
 use Rattle.std.specs.Prelude.{◌≡◌, ◌<◌, ◌^◌, ℕ, true, List, ◌++◌, flat_map, codes}
 use Rattle.std.specs.List.{AllByRecursion}
 use Rattle.table_seals.specs.declared.parsing.MeterLine.{MeterLine}
@@ -8,7 +9,7 @@ use Rattle.table_seals.specs.Sealed.{Sealed, SealedPolls, SealedTables}
 use Rattle.table_seals.specs.Tables.{is_word}
 use Rattle.table_seals.specs.Texts.{meter_text, void_line, pending_line, polls_part}
 
--- The line has all values of a meter's seal except its voids.
+-- The parsed line has all values of a meter's seal except the voided entries.
 pub record IsLineOf (seal : Sealed) (line : MeterLine) : Type 0 where
   pub meter : line.meter.now ≡ seal.meter
   pub register : line.register.now ≡ seal.register
@@ -17,46 +18,47 @@ pub record IsLineOf (seal : Sealed) (line : MeterLine) : Type 0 where
   pub entries : line.entries ≡ seal.entries
   pub digest : line.digest ≡ seal.digest
 
--- The text begins with this word.
+-- The text `text` begins with `word`.
 abbrev pub Begins : (word text : List ℕ) → Type 0
 Begins word text = (rest : List ℕ) × (text ≡ word ++ rest)
 
--- `text` begins with the lines of these voids of a meter. Its `rest` does not begin with another
--- such line.
+-- `text` consists of a meter's `void` lines for the indices `places`, followed by the text `rest`.
+-- The text `rest` does not begin with a `void` line.
 pub record AreVoids (meter places rest text : List ℕ) : Type 0 where
   pub word : is_word meter ≡ true
   pub fit : AllByRecursion (λ place. place < 2 ^ 64) places
   pub ends : Begins (codes "void ") rest → ⊥
   pub is : text ≡ flat_map (void_line meter) places ++ rest
 
--- `text` begins with the seals of these meters. Its `rest` does not begin with a line of a meter or
--- a void.
+-- `text` consists of the lines of these meters' seals, followed by the text `rest`. The text `rest`
+-- does not begin with a `meter` or `void` line.
 pub record AreMeters (seals : List Sealed) (rest text : List ℕ) : Type 0 where
   pub fit : AreSealable seals
   pub no_meter : Begins (codes "meter ") rest → ⊥
   pub no_void : Begins (codes "void ") rest → ⊥
   pub is : text ≡ flat_map meter_text seals ++ rest
 
--- The line has all values of the polls' seal except the pending polls.
+-- The parsed line has all values of the polls' seal except the pending polls.
 pub record IsPollsLineOf (seal : SealedPolls) (line : PollsLine) : Type 0 where
   pub count : line.count ≡ seal.count
   pub digest : line.digest ≡ seal.digest
 
--- `text` begins with the lines of these pending polls. Its `rest` does not begin with another such
--- line.
+-- `text` consists of the `pending` lines of these polls, followed by the text `rest`. The text
+-- `rest` does not begin with a `pending` line.
 pub record ArePending (polls rest text : List ℕ) : Type 0 where
   pub fit : AllByRecursion (λ poll. poll < 2 ^ 64) polls
   pub ends : Begins (codes "pending ") rest → ⊥
   pub is : text ≡ flat_map pending_line polls ++ rest
 
--- `text` begins with the seal of polls. Its `rest` does not begin with the line of a pending poll.
+-- `text` consists of the lines of the polls' seal, followed by the text `rest`. The text `rest`
+-- does not begin with a `pending` line.
 pub record ArePolls (seal : SealedPolls) (rest text : List ℕ) : Type 0 where
   pub fit : ArePollsSealable seal
   pub ends : Begins (codes "pending ") rest → ⊥
   pub is : text ≡ polls_part seal ++ rest
 
--- `text` begins with the seals of meters and polls. Its `rest` does not begin with the line of a
--- pending poll.
+-- `text` consists of the seals of meters and polls, followed by the text `rest`. The text `rest`
+-- does not begin with a `pending` line.
 pub record AreTables (seal : SealedTables) (rest text : List ℕ) : Type 0 where
   pub fit : AreTablesSealable seal
   pub ends : Begins (codes "pending ") rest → ⊥

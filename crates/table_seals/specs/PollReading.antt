@@ -1,4 +1,4 @@
--- The polls that rows of the tables show, each with its outcome.
+-- Parses rows of polls and outcomes, and pairs each poll with its outcome.
 use Rattle.std.specs.Borrow.{Bor}
 use Rattle.std.specs.Prelude.{◌≡◌, ℕ, suc, ◌+◌, ◌==◌, List, [], ◌∷◌, ◌++◌, length, drop, Option, Some, None, Result, Ok, Err, if◌then◌else◌}
 use Rattle.std.specs.List.{fold}
@@ -13,9 +13,10 @@ use Rattle.table_seals.specs.declared.poll_values.Ending.{Ending}
 use Rattle.table_seals.specs.declared.poll_values.PollNumbers.{PollNumbers}
 use Rattle.table_seals.specs.Tables.{is_word}
 
--- ---- a row
+-- ---- parsing one row of polls or outcomes
 
--- The numbers of the poll that a row shows. A column out of its range is damage.
+-- Parses the numeric columns of a poll's row. If a column is out of its range, the result is the
+-- fault for damage.
 abbrev pub numbers_in : Row → Result PollNumbers RowFault
 numbers_in row =
     and_then (or_damaged (whole_in 1 greatest_place (column row 0))) (λ number.
@@ -35,7 +36,8 @@ numbers_in row =
       count = count;
     }))))))))
 
--- The text of a value, if it is a word: all bytes are greater than 32.
+-- The text of an SQL value if the text is a word, which means that all its bytes are greater than
+-- 32. Otherwise None.
 abbrev pub word_in : Value → Option (List ℕ)
 word_in (Text t) = if is_word t then Some t else None
 word_in Null = None
@@ -43,12 +45,13 @@ word_in (Int n) = None
 word_in (Real x) = None
 word_in (Blob b) = None
 
--- The word of a column was read, or the result is None because the column has no word.
+-- The result is the word in a column, or None because the column's value is not a word.
 abbrev pub IsWordIn : Value → Option (Bor (List ℕ)) → Type 0
 IsWordIn v None = word_in v ≡ None
 IsWordIn v (Some word) = word_in v ≡ Some word.now
 
--- The outcome that a row shows. A column out of its range is damage.
+-- Parses an outcome from a row. If a column is out of its range, the result is the fault for
+-- damage.
 abbrev pub ending_in : Row → Result Ending RowFault
 ending_in row =
     and_then (or_damaged (whole_in 1 greatest_place (column row 0))) (λ poll.
@@ -57,30 +60,31 @@ ending_in row =
     and_then (or_damaged (whole_in 0 greatest_place (column row 3))) (λ code.
     Ok (record { poll = poll; moment = moment; kind = kind; code = code })))))
 
--- ---- a poll with its outcome, if it has one
+-- ---- pairing a poll with its outcome
 
--- A poll with its device and its outcome. Without an outcome it is pending.
+-- A poll with its device's name and its outcome. A poll without an outcome is pending.
 pub record ReadPoll : Type 0 where
   pub numbers : PollNumbers
   pub device : List ℕ
   pub ending : Option Ending
 
--- The outcome that was read, if it is that of the poll with this number.
+-- The parsed outcome if it belongs to the poll with the number `number`, otherwise None.
 abbrev pub if_of : (number : ℕ) → Result Ending RowFault → Option Ending
 if_of number (Err e) = None
 if_of number (Ok ending) = if ending.poll == number then Some ending else None
 
--- The outcome in the first row, if it is that of the poll with this number.
+-- The outcome in the first row if it belongs to the poll with the number `number`, otherwise None.
 abbrev pub ending_at : (number : ℕ) → List Row → Option Ending
 ending_at number [] = None
 ending_at number (row ∷ rows) = if_of number (ending_in row)
 
--- The rows without the first, if that row was the outcome of a poll. Otherwise all rows.
+-- The outcome rows that remain after a poll was paired with `ending`. If `ending` is an outcome,
+-- these are the rows without the first row.
 abbrev pub rows_after : Option Ending → List Row → List Row
 rows_after None rows = rows
 rows_after (Some ending) rows = drop 1 rows
 
--- The poll that was read, if it has this number and the name of its device is a word.
+-- The parsed poll if it has the number `number` and its device's name is a word, otherwise None.
 abbrev pub if_numbered : (number : ℕ) → Result PollNumbers RowFault → Option (List ℕ)
     → Option Ending → Option ReadPoll
 if_numbered number (Err e) word ending = None
@@ -89,19 +93,19 @@ if_numbered number (Ok numbers) (Some device) ending =
     if numbers.number == number
     then Some (record { numbers = numbers; device = device; ending = ending }) else None
 
--- The poll of a row, if the row can be read and has this number.
+-- The poll in a row if the row is valid and has the poll number `number`, otherwise None.
 abbrev pub poll_at : (number : ℕ) → Row → Option Ending → Option ReadPoll
 poll_at number row ending = if_numbered number (numbers_in row) (word_in (column row 7)) ending
 
--- ---- one poll after another
+-- ---- the polls in a run of polls
 
 abbrev pub and_more : Option ReadPoll → Option (List ReadPoll) → Option (List ReadPoll)
 and_more None more = None
 and_more (Some poll) None = None
 and_more (Some poll) (Some polls) = Some (poll ∷ polls)
 
--- The polls of some rows with their outcomes. None if a row can't be read, if a number is missing,
--- or if an outcome is of none of these polls.
+-- The polls of the rows, each with its outcome. None if a row is invalid, a number is missing, or
+-- an outcome has no poll in these rows.
 abbrev pub polls_in : (next : ℕ) → (polls outcomes : List Row) → Option (List ReadPoll)
 polls_in next [] [] = Some []
 polls_in next [] (row ∷ rows) = None
@@ -109,18 +113,19 @@ polls_in next (row ∷ rows) outcomes =
     and_more (poll_at next row (ending_at next outcomes))
     (polls_in (suc next) rows (rows_after (ending_at next outcomes) outcomes))
 
--- ---- one run after another
+-- ---- the polls in consecutive runs of polls
 
 abbrev pub after : List ReadPoll → Option (List ReadPoll) → Option (List ReadPoll)
 after polls None = None
 after polls (Some more) = Some (polls ++ more)
 
--- The polls of earlier runs with those of one more run. None if one of them can't be read.
+-- Appends the polls of the next run to the polls of the earlier runs. The result is None if a row
+-- is invalid.
 abbrev pub with_run : Option (List ReadPoll) → RunRows → Option (List ReadPoll)
 with_run None rows = None
 with_run (Some polls) rows =
     after polls (polls_in (length polls + 1) rows.polls.items rows.outcomes.items)
 
--- The polls of all runs, with all numbers from 1. None if one of them can't be read.
+-- The polls of consecutive runs, with consecutive numbers from 1. None if a row is invalid.
 abbrev pub polls_of : List RunRows → Option (List ReadPoll)
 polls_of runs = fold with_run (Some []) runs

@@ -1,4 +1,4 @@
--- The seal of the polls in the tables. A run is `RUN` consecutive numbers of polls.
+-- Defines the seal of the polls in the tables. A run of polls has `RUN` consecutive poll numbers.
 use Rattle.std.specs.Prelude.{⊤, ◌≡◌, ◌≤◌, ◌↔◌, ◌+◌, ◌*◌, ◌++◌, ℕ, Bool, true, false, List, length, Option, Some, None, Ok, Err, Result, IfSome, unwrap_or}
 use Rattle.sha2.specs.declared.Sha256.{Sha256}
 use Rattle.sha2.specs.Hashers.{Holds256}
@@ -17,72 +17,74 @@ use Rattle.table_seals.specs.PollReading.{ReadPoll, polls_in, polls_of}
 use Rattle.table_seals.specs.PollTexts.{polls_text, polls_text_then, text_then, pending_of, pending_among}
 use Rattle.table_seals.specs.Sealed.{SealedPolls, sealed_polls_of}
 
--- ---- the polls that the tables have
+-- ---- the polls in the tables
 
--- `polls` are those of all runs up to that of the last poll. None means that a run can't be read.
+-- `polls` are the polls of all runs up to the run of the last poll. None means that a row is
+-- invalid.
 pub record ReadsRuns (last : ℕ) (content : Content) (polls : Option (List ReadPoll)) : Type 0 where
   pub runs : List RunRows
   pub theirs : AreRuns content 0 runs
   pub read : polls_of runs ≡ polls
   pub all : IfSome polls (λ _. last ≤ length runs * RUN)
 
--- `polls` are those up to the last number that a query found, or none without polls. A last number
--- out of its range can't be read.
+-- `polls` has the polls up to the greatest poll number that a query found; empty if the tables have
+-- no polls. If the greatest number is out of range, the polls can't be read.
 abbrev pub ReadsUpTo : Result (Option ℕ) RowFault → Content → Option (List ReadPoll) → Type 0
 ReadsUpTo (Ok last) content polls = ReadsRuns (unwrap_or last 0) content polls
 ReadsUpTo (Err e) content polls = polls ≡ None
 
--- `polls` are all polls of the tables. None means that a poll or an outcome can't be read, or is
+-- `polls` are all polls in the tables. None means that a row of a poll or an outcome is invalid or
 -- out of order.
 pub record ReadsPolls (content : Content) (polls : Option (List ReadPoll)) : Type 0 where
   pub rows : List Row
   pub shown : ShowsLast content rows
   pub reads : ReadsUpTo (first_in 1 greatest_place rows) content polls
 
--- ---- their seal
+-- ---- the seal of the polls in the tables
 
--- The seal has the number of these polls, the digest of their text, and the pending ones.
+-- The seal has the number of these polls, the SHA-256 digest of their text, and the numbers of the
+-- pending polls.
 pub record IsSealOfPolls (polls : List ReadPoll) (sealed : SealedPolls) : Type 0 where
   pub count : sealed.count ≡ length polls
   pub digest_is : sealed.digest ≡ sha256 (polls_text polls)
   pub pending_are : sealed.pending ≡ pending_among polls
 
--- The result is the seal of these polls. None means that they can't be read.
+-- The result is the seal of these polls. None means that the polls can't be read.
 abbrev pub ArePollsSealed : Option (List ReadPoll) → Option PollSeal → Type 0
 ArePollsSealed None None = ⊤
 ArePollsSealed (Some polls) (Some seal) = IsSealOfPolls polls (sealed_polls_of seal)
 ArePollsSealed None (Some seal) = ⊥
 ArePollsSealed (Some polls) None = ⊥
 
--- The result is the seal of the polls in the tables. None means that they can't be read.
+-- The result is the seal of all polls in the tables. None means that the polls can't be read.
 pub record SealsPolls (content : Content) (found : Option PollSeal) : Type 0 where
   pub polls : Option (List ReadPoll)
   pub reads : ReadsPolls content polls
   pub are_sealed : ArePollsSealed polls found
 
--- ---- the check of a seal
+-- ---- checking polls against their seal
 
--- There are at least as many polls as were sealed, and the text that the first of them had has the
--- sealed digest. Polls that were pending may have an outcome now.
+-- The tables have at least the sealed number of polls, and the text that these polls had at sealing
+-- time has the sealed digest. Polls that were pending may have an outcome by now.
 pub record HasSealedPolls (polls : List ReadPoll) (sealed : SealedPolls) : Type 0 where
   pub enough : sealed.count ≤ length polls
   pub same : sha256 (polls_text_then sealed.count sealed.pending polls) ≡ sealed.digest
 
--- The polls can be read, and they are those that were sealed.
+-- The polls can be read and match their seal.
 abbrev pub KeepsPolls : Option (List ReadPoll) → SealedPolls → Type 0
 KeepsPolls None sealed = ⊥
 KeepsPolls (Some polls) sealed = HasSealedPolls polls sealed
 
--- `differ` is false if and only if the polls of the tables are those that were sealed.
+-- `differ` is false if and only if the polls in the tables match their seal.
 pub record TellsPolls (sealed : SealedPolls) (content : Content) (differ : Bool) : Type 0 where
   pub polls : Option (List ReadPoll)
   pub reads : ReadsPolls content polls
   pub told : (differ ≡ false) ↔ KeepsPolls polls sealed
 
--- ---- intermediate results
+-- ---- intermediate results of digesting the polls in the tables
 
--- The text of a poll at the time of the seal was appended, and its number if it is pending now.
--- Nothing is known if the poll can't be read.
+-- The text that the poll had at sealing time was appended. If the poll is pending now, its number
+-- was appended too. False means that the poll can't be read.
 abbrev pub PutsPoll : (last : ℕ) → (hidden : List ℕ) → Option ReadPoll
     → (old new old_pending new_pending : List ℕ) → Bool → Type 0
 PutsPoll last hidden poll old new old_pending new_pending false = poll ≡ None
@@ -90,8 +92,8 @@ PutsPoll last hidden poll old new old_pending new_pending true =
     (read : ReadPoll) × (poll ≡ Some read) × (new ≡ old ++ text_then last hidden read)
     × (new_pending ≡ old_pending ++ pending_of read)
 
--- The texts of the polls in a run's rows were appended, and the numbers of those that are pending
--- now.
+-- The texts that the polls in a run's rows had at sealing time were appended. The numbers of the
+-- polls pending now were appended too.
 pub record PutsPolls (last : ℕ) (hidden : List ℕ) (first next : ℕ) (rows outcomes : List Row)
     (old new old_pending new_pending : List ℕ) : Type 0 where
   pub polls : List ReadPoll
@@ -100,7 +102,8 @@ pub record PutsPolls (last : ℕ) (hidden : List ℕ) (first next : ℕ) (rows o
   pub text : new ≡ old ++ polls_text_then last hidden polls
   pub pending : new_pending ≡ old_pending ++ pending_among polls
 
--- The polls in a run's rows were appended, or the result is None because the polls can't be read.
+-- After the texts of a run of polls are appended, the next poll number is returned. None means that
+-- a row is invalid.
 abbrev pub PutsRows : (last : ℕ) → (hidden : List ℕ) → (first : ℕ) → (rows outcomes : List Row)
     → (old new old_pending new_pending : List ℕ) → Option ℕ → Type 0
 PutsRows last hidden first rows outcomes old new old_pending new_pending None =
@@ -108,8 +111,8 @@ PutsRows last hidden first rows outcomes old new old_pending new_pending None =
 PutsRows last hidden first rows outcomes old new old_pending new_pending (Some next) =
     PutsPolls last hidden first next rows outcomes old new old_pending new_pending
 
--- The texts of the polls in a run's rows were added to a hasher, and the numbers of those that are
--- pending now were appended.
+-- The texts that a run's polls had at sealing time were added to a SHA-256 hasher. The numbers of
+-- the polls pending now were appended to a list.
 pub record AddsPolls (last : ℕ) (hidden : List ℕ) (first next : ℕ) (rows : RunRows)
     (old new : Sha256) (old_pending new_pending : List ℕ) : Type 0 where
   pub polls : List ReadPoll
@@ -118,8 +121,8 @@ pub record AddsPolls (last : ℕ) (hidden : List ℕ) (first next : ℕ) (rows :
   pub text : (m : List ℕ) → Holds256 old m → Holds256 new (m ++ polls_text_then last hidden polls)
   pub pending : new_pending ≡ old_pending ++ pending_among polls
 
--- The polls in a run's rows were added to a hasher, or the result is None because the polls can't
--- be read.
+-- After the text of a run of polls is added to a SHA-256 hasher, the next poll number is returned.
+-- None means that a row is invalid.
 abbrev pub AddsRun : (last : ℕ) → (hidden : List ℕ) → (first : ℕ) → RunRows → (old new : Sha256)
     → (old_pending new_pending : List ℕ) → Option ℕ → Type 0
 AddsRun last hidden first rows old new old_pending new_pending None =
@@ -127,22 +130,22 @@ AddsRun last hidden first rows old new old_pending new_pending None =
 AddsRun last hidden first rows old new old_pending new_pending (Some next) =
     AddsPolls last hidden first next rows old new old_pending new_pending
 
--- `AddsRun` for the rows that the tables have for a run.
+-- The contract `AddsRun`, for the rows that the tables have for a run of polls.
 pub record LooksAtRun (run last : ℕ) (hidden : List ℕ) (first : ℕ) (old new : Sha256)
     (old_pending new_pending : List ℕ) (content : Content) (found : Option ℕ) : Type 0 where
   pub rows : RunRows
   pub theirs : AreRowsOfRun run content rows
   pub adds : AddsRun last hidden first rows old new old_pending new_pending found
 
--- The result has the number of polls, the digest of the text that they had at the time of the seal,
--- and the polls that are pending now.
+-- The result has the number of polls, the SHA-256 digest of their text at sealing time, and the
+-- numbers of the polls pending now.
 abbrev pub IsDigested : (last : ℕ) → (hidden : List ℕ) → List ReadPoll → SealedPolls → Type 0
 IsDigested last hidden polls found =
     (found.count ≡ length polls)
     × (found.digest ≡ sha256 (polls_text_then last hidden polls))
     × (found.pending ≡ pending_among polls)
 
--- The polls were digested. None means that they can't be read.
+-- The result is the digest of these polls. None means that the polls can't be read.
 abbrev pub AreDigested : (last : ℕ) → (hidden : List ℕ) → Option (List ReadPoll) → Option PollSeal
     → Type 0
 AreDigested last hidden None None = ⊤
@@ -151,22 +154,22 @@ AreDigested last hidden (Some polls) (Some found) =
 AreDigested last hidden None (Some found) = ⊥
 AreDigested last hidden (Some polls) None = ⊥
 
--- The polls of all runs were digested.
+-- The result is the digest of the polls of all runs in the tables.
 pub record DigestsRuns (greatest last : ℕ) (hidden : List ℕ) (content : Content)
     (found : Option PollSeal) : Type 0 where
   pub polls : Option (List ReadPoll)
   pub reads : ReadsRuns greatest content polls
   pub digested : AreDigested last hidden polls found
 
--- All polls of the tables were digested.
+-- The result is the digest of all polls in the tables.
 pub record DigestsPolls (last : ℕ) (hidden : List ℕ) (content : Content) (found : Option PollSeal)
     : Type 0 where
   pub polls : Option (List ReadPoll)
   pub reads : ReadsPolls content polls
   pub digested : AreDigested last hidden polls found
 
--- There are at least as many polls as were sealed, and the digest of the text that they had is the
--- sealed digest.
+-- The tables have at least the sealed number of polls. The digest of the text that these polls had
+-- at sealing time equals the sealed digest.
 abbrev pub AreAsSealed : Option PollSeal → SealedPolls → Type 0
 AreAsSealed None sealed = ⊥
 AreAsSealed (Some found) sealed = (sealed.count ≤ found.count) × (found.digest ≡ sealed.digest)

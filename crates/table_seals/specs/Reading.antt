@@ -1,12 +1,12 @@
--- The seals whose text can be parsed back.
+-- Defines the seals that can be parsed from their text.
 use Rattle.std.specs.Prelude.{◌≡◌, ◌<◌, ◌^◌, true, List, length}
 use Rattle.std.specs.List.{AllByRecursion}
 use Rattle.hex.specs.Hex.{IsBytes}
 use Rattle.table_seals.specs.Sealed.{Sealed, SealedPolls, SealedTables}
 use Rattle.table_seals.specs.Tables.{is_word}
 
--- The seal of a meter can be parsed back: its names are words, its numbers have 64 bits, and its
--- digest has 32 bytes.
+-- A meter's seal can be parsed from its text. The names in the seal are words, its numbers fit in
+-- 64 bits, and its digest has 32 bytes.
 pub record IsSealable (seal : Sealed) : Type 0 where
   pub meter_word : is_word seal.meter ≡ true
   pub register_word : is_word seal.register ≡ true
@@ -20,14 +20,16 @@ pub record IsSealable (seal : Sealed) : Type 0 where
 abbrev pub AreSealable : List Sealed → Type 0
 AreSealable seals = AllByRecursion IsSealable seals
 
--- The seal of polls can be parsed back: its numbers have 64 bits, and its digest has 32 bytes.
+-- The seal of the polls can be parsed from its text. Its numbers fit in 64 bits, and its digest has
+-- 32 bytes.
 pub record ArePollsSealable (seal : SealedPolls) : Type 0 where
   pub count_fits : seal.count < 2 ^ 64
   pub digest_long : length seal.digest ≡ 32
   pub digest_bytes : IsBytes seal.digest
   pub pending_fit : AllByRecursion (λ poll. poll < 2 ^ 64) seal.pending
 
--- The seal of a file can be parsed back: the seals of all its meters, and that of its polls.
+-- A file's seal can be parsed from its text, because the seals of the meters and of the polls can
+-- be parsed.
 pub record AreTablesSealable (seal : SealedTables) : Type 0 where
   pub meters : AreSealable seal.meters
   pub polls : ArePollsSealable seal.polls

@@ -1,11 +1,11 @@
--- The values of a seal.
+-- Logical records of a seal's values, for contracts and proofs.
 use Rattle.std.specs.Prelude.{ℕ, List, map, string_bytes}
 use Rattle.table_seals.specs.declared.seals.MeterSeal.{MeterSeal}
 use Rattle.table_seals.specs.declared.seals.PollSeal.{PollSeal}
 use Rattle.table_seals.specs.declared.seals.Seal.{Seal}
 
--- The seal of a meter: its name, its accounting register and terms, the number and the digest of
--- its entries, and the indices of its voided entries.
+-- The seal of a meter: its name, accounting register, range and ceiling, its entries' number and
+-- digest, and the indices of its voided entries.
 pub record Sealed : Type 0 where
   pub meter : List ℕ
   pub register : List ℕ
@@ -15,7 +15,7 @@ pub record Sealed : Type 0 where
   pub digest : List ℕ
   pub voids : List ℕ
 
--- The values of a meter's seal, without its allocations.
+-- Converts an executable `MeterSeal` to the logical record `Sealed`.
 abbrev pub sealed_of : MeterSeal → Sealed
 sealed_of seal = record {
   meter = string_bytes seal.meter;
@@ -33,7 +33,7 @@ pub record SealedPolls : Type 0 where
   pub digest : List ℕ
   pub pending : List ℕ
 
--- The values of the polls' seal, without its allocations.
+-- Converts an executable `PollSeal` to the logical record `SealedPolls`.
 abbrev pub sealed_polls_of : PollSeal → SealedPolls
 sealed_polls_of seal = record {
   count = seal.count;
@@ -46,7 +46,7 @@ pub record SealedTables : Type 0 where
   pub meters : List Sealed
   pub polls : SealedPolls
 
--- The values of a file's seal, without its allocations.
+-- Converts an executable `Seal` to the logical record `SealedTables`.
 abbrev pub sealed_tables_of : Seal → SealedTables
 sealed_tables_of seal = record {
   meters = map sealed_of seal.meters.items;

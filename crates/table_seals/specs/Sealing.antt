@@ -1,4 +1,4 @@
--- Sealing the tables of a file: computing a digest of their past.
+-- Defines the seal of a file's tables, which is a digest of their past.
 use Rattle.std.specs.Prelude.{⊤, ◌≡◌, ◌⊎◌, ℕ, true, List, [], ◌∷◌, Option, Some, None, Vec, length}
 use Rattle.std.specs.List.{slice_get}
 use Rattle.sha2.specs.Sha256.{sha256}
@@ -15,8 +15,8 @@ use Rattle.table_seals.specs.Sealed.{Sealed, sealed_of}
 use Rattle.table_seals.specs.Tables.{HasTerms, HasRead, is_word}
 use Rattle.table_seals.specs.Texts.{entries_text}
 
--- `seal` is that of an installation and its meter's rows. Its names are words, so its text can be
--- parsed back.
+-- `seal` is the seal of the meter in an `installations` row. The names in the seal are words, so
+-- its text can be parsed.
 pub record IsSealOf (row : Row) (rows : MeterRows) (seal : Sealed) : Type 0 where
   pub terms : HasTerms row seal.meter seal.register seal.ceiling
   pub meter_word : is_word seal.meter ≡ true
@@ -26,24 +26,26 @@ pub record IsSealOf (row : Row) (rows : MeterRows) (seal : Sealed) : Type 0 wher
   pub count : seal.entries ≡ length all_entries
   pub digest_is : seal.digest ≡ sha256 (entries_text all_entries)
 
--- The result is the seal of the meter. None means that the meter can't be sealed.
+-- The result is the seal of the meter with these rows. None means that the meter can't be sealed.
 abbrev pub IsSealed : Row → MeterRows → Option MeterSeal → Type 0
 IsSealed row rows None = (seal : Sealed) → IsSealOf row rows seal → ⊥
 IsSealed row rows (Some seal) = IsSealOf row rows (sealed_of seal)
 
--- The result is the seal of the row's meter. A row that names no meter has none.
+-- The result is the seal of the meter in an `installations` row. If the row has no meter's name,
+-- the result is None.
 abbrev pub IsSealedAt : Row → Option MeterRows → Option MeterSeal → Type 0
 IsSealedAt row (Some rows) found = IsSealed row rows found
 IsSealedAt row None None = ⊤
 IsSealedAt row None (Some seal) = ⊥
 
--- The result is the seal of an installation, with the rows that the tables have for its meter.
+-- The result is the seal of the meter in an `installations` row, computed from the meter's rows in
+-- the tables.
 pub record SealsRow (content : Content) (row : Row) (found : Option MeterSeal) : Type 0 where
   pub rows : Option MeterRows
   pub theirs : AreTheirs content row rows
   pub is_sealed : IsSealedAt row rows found
 
--- The list has the seal of each row, in the order of the rows.
+-- The list has the seal of the meter in each row of `installations`, in the order of the rows.
 abbrev pub AreSealed : Content → List Row → List MeterSeal → Type 0
 AreSealed content [] [] = ⊤
 AreSealed content (row ∷ rows) (seal ∷ seals) =
@@ -51,36 +53,37 @@ AreSealed content (row ∷ rows) (seal ∷ seals) =
 AreSealed content [] (seal ∷ seals) = ⊥
 AreSealed content (row ∷ rows) [] = ⊥
 
--- The meter of one of these rows can't be sealed.
+-- One of these rows of `installations` has a meter that can't be sealed.
 abbrev pub HasUnsealed : List Row → Content → Type 0
 HasUnsealed rows content =
     (i : ℕ) × (row : Row) × (slice_get rows i ≡ Some row) × SealsRow content row None
 
--- The meters of all rows are sealed. None means that one of them can't be.
+-- The result has the seals of the meters in all rows of `installations`. None means that one of the
+-- meters can't be sealed.
 abbrev pub SealsRows : {Z : Type 0} → List Row → Content → Option (Vec MeterSeal Z) → Type 0
 SealsRows rows content None = HasUnsealed rows content
 SealsRows rows content (Some seals) = AreSealed content rows seals.items
 
--- The meters of all rows of `installations` in the tables are sealed. None means that one of them
--- can't be.
+-- The result has the seals of all meters in the tables. None means that one of the meters can't be
+-- sealed.
 pub record SealsMeters {Z : Type 0} (content : Content) (found : Option (Vec MeterSeal Z)) :
     Type 0 where
   pub rows : List Row
   pub shown : ShowsInstallations content rows
   pub sealed : SealsRows rows content found
 
--- The meter of a row of `installations` in the tables can't be sealed.
+-- The tables have a meter that can't be sealed.
 pub record HasUnsealedMeter (content : Content) : Type 0 where
   pub rows : List Row
   pub shown : ShowsInstallations content rows
   pub unsealed : HasUnsealed rows content
 
--- A meter of the tables, or their polls, can't be sealed.
+-- The tables can't be sealed: a meter can't be sealed, or the polls can't be read.
 abbrev pub CannotBeSealed : Content → Type 0
 CannotBeSealed content = HasUnsealedMeter content ⊎ SealsPolls content None
 
--- The result is the seal of the tables: of each meter, and of the polls. None means that one of
--- them can't be sealed.
+-- The result is the seal of a file's tables, with the seals of all meters and of the polls. None
+-- means that a meter or the polls can't be sealed.
 abbrev pub SealsTables : Content → Option Seal → Type 0
 SealsTables content None = CannotBeSealed content
 SealsTables content (Some seal) =

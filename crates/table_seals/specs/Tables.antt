@@ -1,4 +1,4 @@
--- The values of a meter's rows that a seal covers.
+-- Defines the values of a meter's rows that a seal covers.
 use Rattle.std.specs.Prelude.{◌≡◌, ℕ, nat_lt, Bool, List, [], ◌∷◌, Option, Some, None, Ok, string_bytes, IsUtf8}
 use Rattle.std.specs.List.{list_all}
 use Rattle.energy_core.specs.declared.limits.TheConstants.{MAX_CEILING}
@@ -11,7 +11,7 @@ use Rattle.table_audit.specs.Reading.{entry_in, place_in, range_in, all_in}
 use Rattle.table_seals.specs.declared.tables.ReadRows.{ReadRows}
 use Rattle.table_seals.specs.declared.tables.Terms.{Terms}
 
--- The row of `installations` has this meter, this accounting register and this ceiling.
+-- The row of `installations` has this meter's name, accounting register and ceiling.
 pub record HasTerms (row : Row) (meter register : List ℕ) (ceiling : ℕ) : Type 0 where
   pub meter_is : column row 1 ≡ Text meter
   pub register_is : column row 2 ≡ Text register
@@ -19,26 +19,28 @@ pub record HasTerms (row : Row) (meter register : List ℕ) (ceiling : ℕ) : Ty
   pub meter_text : IsUtf8 meter
   pub register_text : IsUtf8 register
 
--- The terms of the row were read. None means that the row has none.
+-- The result has the terms of an `installations` row. None means that one of its values is invalid.
 abbrev pub TermsAreRead : Row → Option Terms → Type 0
 TermsAreRead row None = (meter register : List ℕ) (ceiling : ℕ)
     → HasTerms row meter register ceiling → ⊥
 TermsAreRead row (Some terms) =
     HasTerms row (string_bytes terms.meter) (string_bytes terms.register) terms.ceiling
 
--- The rows of a meter show exactly one range of its counter, and these voids and entries.
+-- The rows of a meter are valid. They have exactly one counter range, `range`, and exactly these
+-- void records and entries.
 pub record HasRead (rows : MeterRows) (range : ℕ) (voids : List ℕ) (entries : List TableRow) :
     Type 0 where
   pub range_read : all_in range_in rows.ranges.items ≡ Ok (range ∷ [])
   pub voids_read : all_in place_in rows.voids.items ≡ Ok voids
   pub entries_read : all_in (entry_in voids) rows.entries.items ≡ Ok entries
 
--- The rows of a meter were read. None means that one of them can't be read.
+-- The result has the parsed rows of a meter. None means that one of the rows is invalid.
 abbrev pub RowsAreRead : MeterRows → Option ReadRows → Type 0
 RowsAreRead rows None = (range : ℕ) (voids : List ℕ) (entries : List TableRow)
     → HasRead rows range voids entries → ⊥
 RowsAreRead rows (Some read) = HasRead rows read.range read.voids.items read.entries.items
 
--- Whether a text is a word: all bytes are greater than 32, so none is a space or the end of a line.
+-- Whether a text is a word, which means that all bytes are greater than 32. A word has no space and
+-- no line end.
 abbrev pub is_word : List ℕ → Bool
 is_word text = list_all (λ byte. nat_lt 32 byte) text

@@ -1,4 +1,4 @@
-//! Checking whether the tables of a file still have what its seal covers.
+//! Checks whether a file's tables still match its seal, a signed-off digest of the file's past.
 ghost use Rattle.std.specs.Prelude.{◌≡◌, ◌↔◌, ◌++◌, false, map, IsTrue, IfOk, OnOk, string_bytes};
 ghost use Rattle.std.specs.List.{list_all};
 ghost use Rattle.table_audit.specs.Looking.{Finds};
@@ -20,21 +20,22 @@ use std::collections::BTreeSet;
 use store_tables::RowFault;
 use table_audit::{MeterRows, installations, meter_rows};
 
-/// Returns whether the entry at index `place` has one of these voids.
+/// Returns whether `voids`, the indices of voided entries, contains the index `place`.
 fn is_named(voids: &[u64], place: u64) -> bool
     ensures { result ≡ values.is_named voids.now place }
 {
     voids.iter().any(|v| *v == place)
 }
 
-/// Returns whether the entries at all these indices still have voids.
+/// Returns whether `voids`, the indices of voided entries, contains all indices in `places`.
 fn are_named(voids: &[u64], places: &[u64]) -> bool
     ensures { result ≡ list_all (λ place. values.is_named voids.now place) places.now }
 {
     places.iter().all(|place| is_named(voids, *place))
 }
 
-/// Returns whether the rows of a meter still have what its seal covers.
+/// Returns whether a meter's rows still match the counter range, entries and voids in the meter's
+/// seal.
 fn has_sealed(alloc: Global, rows: &MeterRows, seal: &MeterSeal) -> Result<bool, AllocError>
     ensures { IfOk result (λ has. IsTrue has ↔ HasSealed rows.now (sealed_of seal.now)) }
 {
@@ -57,8 +58,9 @@ fn has_sealed(alloc: Global, rows: &MeterRows, seal: &MeterSeal) -> Result<bool,
     Ok(digest.as_slice() == seal.digest.as_slice())
 }
 
-/// Returns whether a meter is installed on the terms of its seal, and its rows still have what the
-/// seal covers. `known` has the terms of all meters.
+/// Returns whether a meter matches its seal. The meter matches if `known` has its sealed terms, and
+/// its rows have the sealed range, entries and voids. `known` has the terms (name, register,
+/// ceiling) of each meter.
 fn keeps(
     alloc: Global,
     known: &BTreeSet<Terms>,
@@ -72,7 +74,8 @@ fn keeps(
     Ok(there && has)
 }
 
-/// Returns whether the tables keep a meter as it was sealed. `known` has the terms of all meters.
+/// Queries a meter's rows and returns whether the meter matches its seal. `known` has the terms
+/// (name, register, ceiling) of all meters.
 fn check_meter<S: Alter>(
     alloc: Global,
     conn: &mut Connection<S>,
@@ -90,7 +93,7 @@ fn check_meter<S: Alter>(
     }
 }
 
-/// Appends the name of a meter that differs from its seal.
+/// Appends the name of a meter to the list of differing meters, unless the meter matches its seal.
 fn tell(
     alloc: Global,
     kept: bool,
@@ -108,7 +111,7 @@ fn tell(
     Ok(())
 }
 
-/// Checks a meter, and appends its name if the tables don't keep it as it was sealed.
+/// Checks a meter, and appends its name if the meter does not match its seal.
 fn check_told<S: Alter>(
     alloc: Global,
     conn: &mut Connection<S>,
@@ -128,8 +131,8 @@ fn check_told<S: Alter>(
     }
 }
 
-/// Returns the names of the meters that the tables don't keep as they were sealed. `known` has the
-/// terms of all meters.
+/// Returns the names of the meters that don't match their seals. `known` has the terms (name,
+/// register, ceiling) of all meters.
 fn check_each<S: Alter>(
     alloc: Global,
     conn: &mut Connection<S>,
@@ -148,8 +151,7 @@ fn check_each<S: Alter>(
     Ok(differing)
 }
 
-/// Returns the names of the meters that the tables don't keep as they were sealed, with the terms
-/// that the tables have.
+/// Reads the terms of all meters, and returns the names of the meters that don't match their seals.
 fn check_meters<S: Alter>(
     alloc: Global,
     conn: &mut Connection<S>,
@@ -166,12 +168,12 @@ fn check_meters<S: Alter>(
     }
 }
 
-/// Checks a seal: returns the meters that the tables no longer have as they were sealed, and
-/// whether the polls differ. Further meters, entries, voids and polls are no difference. The same
-/// holds for outcomes of polls that were pending.
+/// Checks a file's tables against a seal. Returns the names of the meters that don't match the
+/// seal, and whether the polls differ from it. Later meters, entries, voids and polls are no
+/// differences. Later outcomes of pending polls are no differences either.
 ///
-/// Memory holds the rows of one meter or of one run of polls at a time, with their text. It also
-/// holds the rows of `installations`, with their terms.
+/// Memory holds all rows of `installations`, and the rows and the text of one meter or one run of
+/// polls at a time.
 pub fn check_seal<S: Alter>(
     alloc: Global,
     conn: &mut Connection<S>,

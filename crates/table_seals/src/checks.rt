@@ -1,4 +1,4 @@
-//! The result of checking a seal, and its printed lines.
+//! The result of checking a file's tables against a seal, and the printed lines of this result.
 ghost use Rattle.std.specs.Prelude.{◌≡◌, ◌++◌, ◌↔◌, OnOk, IsTrue, flat_map};
 ghost use Rattle.table_seals.specs.Checking.{IsAsSealed};
 ghost use Rattle.table_seals.specs.Texts as say;
@@ -6,8 +6,8 @@ ghost use Rattle.table_seals.specs.Texts as say;
 use crate::texts::{put, put_number, put_word};
 use std::alloc::AllocError;
 
-/// The result of checking a seal: the names of the meters that differ, how many meters the seal
-/// has, and whether the polls differ.
+/// The result of checking a seal. It has the names of the meters that don't match the seal, the
+/// number of sealed meters, and whether the polls differ from the seal.
 #[derive(Debug, Drop)]
 pub struct Checked {
     pub differing: Vec<String>,
@@ -16,7 +16,7 @@ pub struct Checked {
 }
 
 impl Checked {
-    /// Returns whether no meter differs from the seal, and the polls don't differ.
+    /// Returns whether all meters and the polls match the seal.
     pub fn is_fine(&self) -> bool
         ensures { IsTrue result ↔ IsAsSealed self.now }
     {
@@ -76,8 +76,8 @@ fn put_total(
     put(text, b" meters differ\n")
 }
 
-/// Appends the text of a check: a line for each meter that differs, a line if the polls differ, and
-/// a last line. Out of memory leaves a part of the text.
+/// Appends the printed text of a check. It has a line for each meter that differs from its seal, a
+/// line if the polls differ, and a last line. If memory runs out, the text is incomplete.
 pub fn put_checked(text: &mut Vec<u8>, checked: &Checked) -> Result<(), AllocError>
     ensures { OnOk result (text.new.items ≡ text.old.items ++ say.checked_text checked.now) }
 {

@@ -1,12 +1,11 @@
-//! What is kept of an office's file, to check whether the next file continues it.
+//! The data read from the file of an office, to check whether the next file continues this file.
 use meter_audit::Standing;
 use meter_journal::Installed;
 
-/// A meter as a file has it: its accounting register, its opening, and its state at the end of the
-/// file.
+/// A meter in a file: its accounting register, its opening, and its state at the end of the file.
 #[derive(Debug, Drop)]
 pub struct FiledMeter<'a> {
-    /// The name of the file in messages.
+    /// The name of the file, for messages.
     pub file: &'a str,
     pub meter: String,
     pub register: String,
@@ -14,9 +13,9 @@ pub struct FiledMeter<'a> {
     pub standing: Standing,
 }
 
-/// An office's file: its time zone, and its meters. For several files, the name and the zone are
-/// those of the latest file. The meters of the latest file are first, `latest` of them, and the
-/// meters of the earlier files follow.
+/// The time zone and the meters of one file or several files of an office. `file` and `zone` are
+/// the name and the time zone of the latest file. The first `latest` meters belong to the latest
+/// file, and the meters of earlier files follow.
 #[derive(Debug, Drop)]
 pub struct FiledOffice<'a> {
     pub file: &'a str,

@@ -1,4 +1,4 @@
-//! Reading the meters of a file's tables, to check whether the next file continues this one.
+//! Reads the meters in a file's tables, to check whether the next file continues this file.
 ghost use Rattle.std.specs.Prelude.{◌≡◌, ◌++◌, ◌∷◌, [], false, IfOk, IfErr, OnOk};
 ghost use Rattle.store_tables.specs.Failing.{want_of_memory};
 ghost use Rattle.table_audit.specs.Looking.{Finds};
@@ -16,7 +16,8 @@ use std::alloc::{AllocError, Global};
 use store_tables::{InstallationRow, RowFault};
 use table_audit::{MeterRows, installation, installations, meter_rows};
 
-/// Returns the state of the meter in an installation's row.
+/// Returns the state of a meter from its `installations` row: the last entry, the total energy and
+/// the closed flag.
 fn standing_of(row: &InstallationRow) -> Standing
     ensures { result ≡ standing_in row.now }
 {
@@ -31,7 +32,7 @@ fn standing_of(row: &InstallationRow) -> Standing
     }
 }
 
-/// Returns the state of the counter at an opening.
+/// Returns the timestamp, raw counter value and scale factor of an opening entry.
 fn shown_by(opening: &TableRow) -> Last
     ensures { result ≡ last_shown opening.now }
 {
@@ -42,8 +43,8 @@ fn shown_by(opening: &TableRow) -> Last
     }
 }
 
-/// Builds a meter from its row of `installations` and its other rows. None if a value can't be
-/// read.
+/// Builds a `FiledMeter` from a meter's `installations` row and its rows in other tables. Returns
+/// None if a value is invalid.
 fn filed_of<'a>(
     alloc: Global,
     file: &'a str,
@@ -82,8 +83,8 @@ fn filed_of<'a>(
     }))
 }
 
-/// Queries the rows of an installation's meter, and builds the meter. None if a value can't be
-/// read.
+/// Queries the rows of the meter in an `installations` row, and builds a `FiledMeter`. Returns None
+/// if a value is invalid.
 fn file_row<'a, S: Alter>(
     alloc: Global,
     conn: &mut Connection<S>,
@@ -106,7 +107,7 @@ fn file_row<'a, S: Alter>(
     }
 }
 
-/// Appends a meter.
+/// Appends a meter to a list of meters. If memory runs out, returns a `RowFault`.
 fn keep<'a>(meters: &mut Vec<FiledMeter<'a>>, filed: FiledMeter<'a>) -> Result<(), RowFault>
     ensures kept { OnOk result (meters.new.items ≡ meters.old.items ++ filed.entry ∷ []) }
     ensures fault { IfErr result (λ fault. fault ≡ RowFault.Sql want_of_memory) }
@@ -117,7 +118,8 @@ fn keep<'a>(meters: &mut Vec<FiledMeter<'a>>, filed: FiledMeter<'a>) -> Result<(
     }
 }
 
-/// Builds the meters of these rows of `installations`. None if a value can't be read.
+/// Builds a `FiledMeter` for each of these rows of `installations`. Returns None if a value is
+/// invalid.
 fn file_rows<'a, S: Alter>(
     alloc: Global,
     conn: &mut Connection<S>,
@@ -138,9 +140,9 @@ fn file_rows<'a, S: Alter>(
     Ok(Some(meters))
 }
 
-/// Returns the meters of a file's tables in order of index, under the name that the file has in
-/// messages. None if a value of a meter can't be read, which an audit reports, or if a name is not
-/// a text. Memory holds the rows of one meter at a time, and those of `installations`.
+/// Returns the meters in a file's tables, in order of their index. `file` is the name of the file
+/// in messages. Returns None if a name is no text, or if a value is invalid, which an audit
+/// reports. Memory holds all rows of `installations`, and the rows of one meter at a time.
 pub fn filed_meters<'a, S: Alter>(
     alloc: Global,
     conn: &mut Connection<S>,

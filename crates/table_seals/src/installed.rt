@@ -1,4 +1,5 @@
-//! The terms of all installed meters: name, accounting register and ceiling.
+//! The set of the terms of all installed meters. The terms are a meter's name, accounting register
+//! and ceiling.
 ghost use Rattle.std.specs.Prelude.{IfOk, OnOk};
 ghost use Rattle.table_seals.specs.Installed.{AddsTerms, AddsTermsOf, AreTermsOf, TellsInstalled};
 ghost use Rattle.table_seals.specs.Sealed.{sealed_of};
@@ -9,7 +10,7 @@ use sqlite::Row;
 use std::alloc::{AllocError, Global};
 use std::collections::BTreeSet;
 
-/// Adds terms to the set.
+/// Adds a meter's terms to the set `known`.
 fn add(known: &mut BTreeSet<Terms>, terms: Terms) -> Result<(), AllocError>
     ensures { OnOk result (AddsTerms terms known.old known.new) }
 {
@@ -17,7 +18,8 @@ fn add(known: &mut BTreeSet<Terms>, terms: Terms) -> Result<(), AllocError>
     Ok(())
 }
 
-/// Adds the terms of a row of `installations`, if it has terms.
+/// Adds the terms of an `installations` row to the set `known`. Adds nothing if the terms are
+/// invalid.
 fn add_row(known: &mut BTreeSet<Terms>, row: &Row) -> Result<(), AllocError>
     ensures { OnOk result (AddsTermsOf row.now known.old known.new) }
 {
@@ -30,7 +32,7 @@ fn add_row(known: &mut BTreeSet<Terms>, row: &Row) -> Result<(), AllocError>
     }
 }
 
-/// Collects the terms of the rows of `installations`.
+/// Collects the terms of all rows of `installations` in an ordered set.
 pub(crate) fn terms_in(alloc: Global, installed: &[Row]) -> Result<BTreeSet<Terms>, AllocError>
     ensures { IfOk result (AreTermsOf installed.now) }
 {
@@ -41,8 +43,8 @@ pub(crate) fn terms_in(alloc: Global, installed: &[Row]) -> Result<BTreeSet<Term
     Ok(known)
 }
 
-/// Returns whether the sealed meter is installed on the same terms. `known` has the terms of all
-/// meters.
+/// Returns whether the set `known` contains the terms in a meter's seal. `known` has the terms of
+/// all installed meters.
 pub(crate) fn is_installed(known: &BTreeSet<Terms>, seal: &MeterSeal) -> Result<bool, AllocError>
     ensures { IfOk result (TellsInstalled known.now (sealed_of seal.now)) }
 {

@@ -1,6 +1,6 @@
-//! Why a meter of one file does not continue in the next file.
+//! The reasons why a meter of an earlier file does not continue in the next file.
 
-/// Why a meter of a file does not continue the meter of the same name in the earlier file.
+/// A reason why a meter does not continue the meter of the same name in the earlier file.
 #[derive(Clone, Copy, Debug, PartialEq, Eq)]
 pub enum JoinFault {
     /// The meter was already closed in the earlier file.
@@ -13,6 +13,6 @@ pub enum JoinFault {
     Ceiling,
     /// The meter's opening differs from its last entry in the earlier file.
     Opening,
-    /// The meter's total energy in all files is more than one meter may have.
+    /// The meter's total energy in all files exceeds the limit of one meter.
     Energy,
 }

@@ -1,31 +1,32 @@
-//! Theorems about files that continue each other. Each function's contract is the theorem.
+//! Theorems about files of an office that continue each other. The contract of each function is a
+//! theorem.
 ghost use Rattle.table_seals.specs.JoinLaws.{JoinedFilesAreOne, JoinedMetersGoOn};
 ghost use Rattle.table_seals.specs.JoinLaws.{FiledMetersAreTold, JoinedFilesAreLawful};
 
 use meter_audit::files_are_one_history;
 
-/// Theorem: there is no line about a meter of an earlier file if and only if the meter continues
-/// from its last entry there.
+/// Theorem: no line reports a meter of an earlier file if and only if the meter continues from its
+/// last entry in the earlier file.
 pub fn joined_meters_go_on()
     ensures { JoinedMetersGoOn }
 {}
 
-/// Theorem: suppose that no two meters of a file have the same name, and each has at most the
-/// energy of one meter. If there are no lines about the files, the meters of each name continue
-/// through all files that have them. Their total energy is then within the limit of one meter.
+/// Theorem: if no line reports a difference, each meter continues from file to file, and its total
+/// energy is within the limit of one meter. Each file must have at most one meter of each name,
+/// with an energy within this limit.
 pub fn joined_files_are_one()
     ensures { JoinedFilesAreOne }
 {}
 
-/// Theorem: if an audit finds a file fine, each meter that is kept of it has the tables of a lawful
-/// journal.
+/// Theorem: if an audit finds a meter's rows fine, then the data read about the meter belong to a
+/// lawful journal.
 pub fn filed_meters_are_told()
     ensures { FiledMetersAreTold }
 {}
 
-/// Theorem: suppose that each meter continues the earlier one, the tables of each are fine, and
-/// their total energy is within the limit of one meter. Then all of them together have the numbers
-/// of one lawful journal.
+/// Theorem: if a meter's files continue each other, then these files together have the numbers of
+/// one lawful journal. The tables in each file must be fine, and the meter's total energy must be
+/// within the limit of one meter.
 pub fn joined_files_are_lawful()
     ensures { JoinedFilesAreLawful }
 {

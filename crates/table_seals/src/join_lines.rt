@@ -1,4 +1,4 @@
-//! The printed lines about files that should continue each other.
+//! Writes the printed lines of the check that the files of an office continue each other.
 ghost use Rattle.std.specs.Prelude.{◌≡◌, ◌++◌, OnOk, IfOk, flat_map, decimal};
 ghost use Rattle.table_seals.specs.Joins as joins;
 ghost use Rattle.table_seals.specs.JoinTexts as say;
@@ -10,7 +10,7 @@ use energy_core::Last;
 use std::alloc::{AllocError, Global};
 use table_audit::MOST;
 
-// ---- pieces; each leaves a part of its text if memory runs out
+// ---- parts of a printed line; if memory runs out, the text is incomplete
 
 fn put_stand(text: &mut Vec<u8>, last: &Last) -> Result<(), AllocError>
     ensures { OnOk result (text.new.items ≡ text.old.items ++ say.stand last.now) }
@@ -20,7 +20,7 @@ fn put_stand(text: &mut Vec<u8>, last: &Last) -> Result<(), AllocError>
     put_scale(text, b" ", last.sf)
 }
 
-/// Appends the text of a value that a meter has in a file, and of its value in the earlier file.
+/// Appends the text of a value that differs between a file and the earlier file.
 fn put_words(
     text: &mut Vec<u8>,
     what: &[u8],
@@ -150,9 +150,9 @@ fn put_meter(text: &mut Vec<u8>, meter: &FiledMeter<'_>) -> Result<(), AllocErro
     put(text, b" ")
 }
 
-// ---- lines
+// ---- complete printed lines about differences between files
 
-/// Returns the line that says why a meter of the next file does not continue.
+/// Returns the line that states why a meter does not continue in the next file.
 pub(crate) fn fault_line(
     alloc: Global,
     fault: JoinFault,
@@ -169,7 +169,7 @@ pub(crate) fn fault_line(
     Ok(line)
 }
 
-/// Returns the line about a meter that begins before the last entry of another meter at its
+/// Returns the line for a new meter that begins before the last entry of another meter at the same
 /// accounting register.
 pub(crate) fn overlap_line(
     alloc: Global,
@@ -195,7 +195,7 @@ pub(crate) fn overlap_line(
     Ok(line)
 }
 
-/// Returns the line about an open meter that is not in the next file.
+/// Returns the line for a meter that is open in the earlier file, but missing in the next file.
 pub(crate) fn missing_line(
     alloc: Global,
     old: &FiledMeter<'_>,
@@ -211,7 +211,7 @@ pub(crate) fn missing_line(
     Ok(line)
 }
 
-/// Returns the line about two files with different time zones.
+/// Returns the line for two files with different time zones.
 pub(crate) fn zone_line(
     alloc: Global,
     old: &FiledOffice<'_>,
@@ -229,7 +229,7 @@ pub(crate) fn zone_line(
     Ok(line)
 }
 
-// ---- all lines
+// ---- the complete printed text of a check of files
 
 fn put_lines(text: &mut Vec<u8>, lines: &[Vec<u8>]) -> Result<(), AllocError>
     ensures { OnOk result (text.new.items ≡ text.old.items
@@ -261,8 +261,8 @@ fn put_all(text: &mut Vec<u8>, all: u64) -> Result<(), AllocError>
     put(text, b" differences between files\n")
 }
 
-/// Appends the text about several files: the first of these lines, how many more there are, and
-/// their number. Out of memory leaves a part of the text.
+/// Appends the printed text of a check of files: the first lines, the number of omitted lines, and
+/// the total number of lines. If memory runs out, the text is incomplete.
 pub fn put_joins(text: &mut Vec<u8>, lines: &[Vec<u8>]) -> Result<(), AllocError>
     ensures { OnOk result (text.new.items ≡ text.old.items ++ say.joined_text lines.now) }
 {

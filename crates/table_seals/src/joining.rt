@@ -1,4 +1,4 @@
-//! The files of an office, which are added one after another.
+//! Adds the files of an office one by one, and checks that each file continues the earlier files.
 ghost use Rattle.std.specs.Prelude.{◌≡◌, ◌++◌, [], Some, None, IfOk, OnOk, option_map};
 ghost use Rattle.table_seals.specs.Joins.{known_of, known_with};
 
@@ -6,7 +6,8 @@ use crate::filed::FiledOffice;
 use crate::joins::tell_joins;
 use std::alloc::{AllocError, Global};
 
-/// Merges what is kept of earlier files with what is kept of the next file.
+/// Merges the data of the earlier files and of the next file. The meters of the next file come
+/// first.
 fn with_next<'a>(
     known: FiledOffice<'a>,
     next: FiledOffice<'a>,
@@ -26,8 +27,8 @@ fn with_next<'a>(
     })
 }
 
-/// Files of an office, the oldest first: what is kept of them, and a line for each way in which a
-/// file does not continue the earlier files.
+/// The result of adding files of an office, the oldest first. It has the meters of these files, and
+/// a line for each difference between a file and the earlier files.
 #[derive(Debug, Drop)]
 pub struct Joining<'a> {
     pub known: Option<FiledOffice<'a>>,
@@ -38,7 +39,8 @@ impl<'a> Joining<'a> {
     ghost use Rattle.table_seals.specs.Joins.{after_next, joins_after};
     ghost use Rattle.table_seals.specs.JoinTexts.{lines_of, texts_of};
 
-    /// Creates a value without files. Allocates no memory yet, and keeps the allocator.
+    /// Creates a check to which no file was added yet. The function stores the allocator, and
+    /// allocates no memory.
     pub fn new(alloc: Global) -> Joining<'a>
         ensures none { result.known ≡ None }
         ensures lines { result.lines.items ≡ [] }
@@ -49,7 +51,7 @@ impl<'a> Joining<'a> {
         }
     }
 
-    /// Adds the next file. The files continue each other if and only if there is no line. If memory
+    /// Adds the next file, and appends a line for each difference from the earlier files. If memory
     /// runs out, lines may be missing, and `known` is lost.
     pub fn join(&mut self, alloc: Global, next: FiledOffice<'a>) -> Result<(), AllocError>
         ensures lines { OnOk result (texts_of self.new.lines.items ≡ texts_of self.old.lines.items

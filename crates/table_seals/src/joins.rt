@@ -1,4 +1,4 @@
-//! Checking whether an office's files continue each other.
+//! Checks whether the files of an office continue each other.
 ghost use Rattle.std.specs.Prelude.{◌≡◌, ◌++◌, ◌∷◌, [], Some, None, OnOk, flat_map};
 ghost use Rattle.std.specs.List.{find};
 ghost use Rattle.std.specs.Option.{option_copied};
@@ -11,36 +11,36 @@ use crate::join_lines::{fault_line, missing_line, overlap_line, zone_line};
 use energy_core::{Last, MAX_TOTAL};
 use std::alloc::{AllocError, Global};
 
-/// Returns whether the meter has this name.
+/// Returns whether the meter has the name `name`.
 fn is_meter(name: &str, meter: &FiledMeter<'_>) -> bool
     ensures { result ≡ joins.is_meter name.now meter.now }
 {
     meter.meter.as_str() == name
 }
 
-/// Returns whether one of these meters has this name.
+/// Returns whether one of the meters has the name `name`.
 fn has_meter(name: &str, meters: &[FiledMeter<'_>]) -> bool
     ensures { result ≡ joins.has_meter name.now meters.now }
 {
     meters.iter().any(|meter| is_meter(name, meter))
 }
 
-/// Returns the first of these meters with this name, or None.
+/// Returns the first of the meters with the name `name`, or None.
 fn meter_in<'m, 'a>(name: &str, meters: &'m [FiledMeter<'a>]) -> Option<&'m FiledMeter<'a>>
     ensures { option_copied result ≡ find (joins.is_meter name.now) meters.now }
 {
     meters.iter().find(|meter| is_meter(name, *meter))
 }
 
-/// Returns whether both have the same counter value, timestamp and scale factor.
+/// Returns whether two counter states have the same raw value, timestamp and scale factor.
 fn is_same(last: &Last, other: &Last) -> bool
     ensures { result ≡ joins.is_same last.now other.now }
 {
     last.at == other.at && last.raw == other.raw && last.sf == other.sf
 }
 
-/// Returns how much of the energy limit is left after a meter. A meter of another name uses none.
-/// None if the meter exceeds the limit.
+/// Returns the energy left of the limit `most`, in mWh, after a meter's total. A meter of another
+/// name uses nothing. None if the meter exceeds the limit.
 fn left_after(most: u64, name: &str, meter: &FiledMeter<'_>) -> Option<u64>
     ensures { result ≡ joins.left_after most name.now meter.now }
 {
@@ -55,7 +55,7 @@ fn left_after(most: u64, name: &str, meter: &FiledMeter<'_>) -> Option<u64>
     }
 }
 
-/// Returns whether all meters of a name together have at most the energy `most`.
+/// Returns whether all meters of a name together have at most the energy `most`, in mWh.
 fn stay_within(most: u64, name: &str, meters: &[FiledMeter<'_>]) -> bool
     ensures { result ≡ joins.stay_within most name.now meters.now }
 {
@@ -69,8 +69,8 @@ fn stay_within(most: u64, name: &str, meters: &[FiledMeter<'_>]) -> bool
     true
 }
 
-/// Returns whether a meter of the next file, with its earlier files, has at most the energy of one
-/// meter.
+/// Returns whether a meter's total energy in the next file and all earlier files is within the
+/// limit of one meter.
 fn is_within(known: &[FiledMeter<'_>], new: &FiledMeter<'_>) -> bool
     ensures { result ≡ joins.is_within known.now new.now }
 {
@@ -80,7 +80,8 @@ fn is_within(known: &[FiledMeter<'_>], new: &FiledMeter<'_>) -> bool
     }
 }
 
-/// Returns why a meter does not continue the meter of the earlier file, or None if it does.
+/// Returns why the meter `new` does not continue the meter `old` of the earlier file. None if it
+/// does.
 fn fault_between(within: bool, old: &FiledMeter<'_>, new: &FiledMeter<'_>) -> Option<JoinFault>
     ensures { result ≡ joins.fault_between within old.now new.now }
 {
@@ -105,8 +106,8 @@ fn fault_between(within: bool, old: &FiledMeter<'_>, new: &FiledMeter<'_>) -> Op
     None
 }
 
-/// Returns whether a meter begins before the last entry of another meter at its accounting
-/// register.
+/// Returns whether a meter's opening is earlier than the last entry of another meter at the same
+/// accounting register.
 fn is_beyond(new: &FiledMeter<'_>, old: &FiledMeter<'_>) -> bool
     ensures { result ≡ joins.is_beyond new.now old.now }
 {
@@ -114,8 +115,8 @@ fn is_beyond(new: &FiledMeter<'_>, old: &FiledMeter<'_>) -> bool
         && new.installed.opening.at < old.standing.last.at
 }
 
-/// Returns the first of these meters that has a later last entry at the same accounting register
-/// than the meter's opening.
+/// Returns the first known meter at a new meter's accounting register whose last entry is later
+/// than the new meter's opening.
 fn overlapped<'m, 'a>(
     new: &FiledMeter<'_>,
     known: &'m [FiledMeter<'a>],
@@ -125,7 +126,7 @@ fn overlapped<'m, 'a>(
     known.iter().find(|old| is_beyond(new, *old))
 }
 
-/// Appends a line.
+/// Appends a printed line to the list.
 fn keep(lines: &mut Vec<Vec<u8>>, line: Vec<u8>) -> Result<(), AllocError>
     ensures { OnOk result (texts_of lines.new.items
         ≡ texts_of lines.old.items ++ line.items ∷ []) }
@@ -134,8 +135,7 @@ fn keep(lines: &mut Vec<Vec<u8>>, line: Vec<u8>) -> Result<(), AllocError>
     Ok(())
 }
 
-/// Reports why a meter of the next file does not continue the earlier meter of its name, if it does
-/// not.
+/// Reports a meter of the next file that does not continue the earlier meter of the same name.
 fn tell_fault(
     alloc: Global,
     lines: &mut Vec<Vec<u8>>,
@@ -155,7 +155,7 @@ fn tell_fault(
     }
 }
 
-/// Reports a new meter that begins before the last entry of another meter at its accounting
+/// Reports a new meter that begins before the last entry of another meter at the same accounting
 /// register.
 fn tell_overlap(
     alloc: Global,
@@ -175,7 +175,7 @@ fn tell_overlap(
     }
 }
 
-/// Reports how a meter of the next file differs from the earlier files, if it does.
+/// Reports a meter of the next file that does not fit the earlier files.
 fn tell_meter(
     alloc: Global,
     lines: &mut Vec<Vec<u8>>,
@@ -197,7 +197,7 @@ fn tell_meter(
     }
 }
 
-/// Reports how the meters of the next file differ from the earlier files.
+/// Reports each meter of the next file that does not fit the earlier files.
 fn tell_meters(
     alloc: Global,
     lines: &mut Vec<Vec<u8>>,
@@ -213,14 +213,14 @@ fn tell_meters(
     Ok(())
 }
 
-/// Returns whether a meter is open in the earlier file, and not in the next file.
+/// Returns whether a meter is open in the earlier file, but missing in the next file.
 fn is_missing(next: &[FiledMeter<'_>], old: &FiledMeter<'_>) -> bool
     ensures { result ≡ joins.is_missing next.now old.now }
 {
     !old.standing.is_ended && !has_meter(&old.meter, next)
 }
 
-/// Reports a meter that is open in the earlier file and not in the next file.
+/// Reports a meter that is open in the earlier file, but missing in the next file.
 fn tell_missing(
     alloc: Global,
     lines: &mut Vec<Vec<u8>>,
@@ -237,7 +237,7 @@ fn tell_missing(
     keep(lines, line)
 }
 
-/// Reports each meter that is open in the earlier file and not in the next file.
+/// Reports each meter that is open in the earlier file, but missing in the next file.
 fn tell_each_missing(
     alloc: Global,
     lines: &mut Vec<Vec<u8>>,
@@ -254,7 +254,7 @@ fn tell_each_missing(
     Ok(())
 }
 
-/// Reports that the next file has another time zone, if it has.
+/// Reports that the time zone of the next file differs from that of the earlier file.
 fn tell_zone(
     alloc: Global,
     lines: &mut Vec<Vec<u8>>,
@@ -271,8 +271,7 @@ fn tell_zone(
     keep(lines, line)
 }
 
-/// Reports how the next file does not continue the earlier files: appends a line for each
-/// difference.
+/// Appends a line for each way in which the next file does not continue the earlier files.
 pub(crate) fn tell_joins(
     alloc: Global,
     lines: &mut Vec<Vec<u8>>,

@@ -1,20 +1,20 @@
-//! Theorems that the keeper of a seal may rely on, over all lawful journals and all rows of polls.
-//! Each function's contract is the theorem.
+//! Theorems that justify comparing a seal with a later state of the file, for all lawful journals
+//! and all rows of polls. The contract of each function is a theorem.
 ghost use Rattle.table_seals.specs.Laws.{FirstEntriesStay, VoidsStay, PollsStay};
 
-/// Theorem: the entries of a journal stay its first entries, with the same text, after any later
-/// lines. So an office keeps the entries that were sealed.
+/// Theorem: after lines are added to a lawful journal, its earlier entries are still the first
+/// entries, with the same sealed text.
 pub fn first_entries_stay()
     ensures { FirstEntriesStay }
 {}
 
-/// Theorem: an entry that is voided stays voided, after any later lines of the journal.
+/// Theorem: after lines are added to a lawful journal, every voided entry is still voided.
 pub fn voids_stay()
     ensures { VoidsStay }
 {}
 
-/// Theorem: after later polls, and outcomes of pending polls, the text that the sealed polls had
-/// can still be computed.
+/// Theorem: after further polls and outcomes of pending polls are recorded, the sealed text of the
+/// polls can still be computed.
 pub fn polls_stay()
     ensures { PollsStay }
 {}

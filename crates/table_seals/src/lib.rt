@@ -1,6 +1,6 @@
-//! Seals of the tables of a file: signed-off digests. A check of a seal shows whether a file,
-//! possibly years later, still has what was sealed. The crate also checks whether the next file of
-//! an office continues an earlier one.
+//! Creates and checks seals, which are signed-off digests of a file's tables. A check shows whether
+//! a file, possibly years later, still has the sealed records. The crate also checks whether the
+//! next file of an office continues the earlier files.
 #![tactic(auto)]
 
 mod checking;

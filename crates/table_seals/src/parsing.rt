@@ -1,4 +1,4 @@
-//! Parsing a seal from its text.
+//! Parses the text of a seal.
 ghost use Rattle.std.specs.Prelude.{◌≡◌, ◌≤◌, ◌<◌, ◌^◌, ◌++◌, ◌∷◌, ℕ, List, true, map, codes};
 ghost use Rattle.std.specs.Prelude.{length, decimal, IfSome, IfOk, IsSomeAnd, IsUtf8, MatchResult};
 ghost use Rattle.hex.specs.Hex.{encode_lower, IsBytes};
@@ -14,15 +14,15 @@ use crate::seals::{MeterSeal, PollSeal, Seal};
 use crate::texts::put_seal;
 use std::alloc::{AllocError, Global};
 
-/// Why a text can't be parsed as a seal.
+/// A reason why a text can't be parsed as a seal.
 #[derive(Clone, Copy, Debug, PartialEq, Eq)]
 pub enum NoSeal {
-    /// The text is not the text of a seal.
+    /// The text does not have the format of a seal, or its digest is wrong.
     Other,
     Memory,
 }
 
-/// The values in the line of a sealed meter.
+/// The values in the line `meter` of a seal.
 #[derive(Clone, Copy)]
 struct MeterLine<'a> {
     meter: &'a str,
@@ -33,15 +33,15 @@ struct MeterLine<'a> {
     digest: [u8; 32],
 }
 
-/// The values in the line of the sealed polls.
+/// The values in the line `polls` of a seal.
 #[derive(Clone, Copy)]
 struct PollsLine {
     count: u64,
     digest: [u8; 32],
 }
 
-/// Parses a word after the prefix `before`. Returns the word, and the text after the next character
-/// `end`.
+/// Parses a word between the prefix `before` and the character `end`. Returns the word, and the
+/// text after `end`.
 fn field<'a>(text: &'a str, before: &str, end: char) -> Option<(&'a str, &'a str)>
     requires { end ≤ 32 }
     ensures reads { (word rest : List ℕ) → values.is_word word ≡ true
@@ -59,8 +59,8 @@ fn field<'a>(text: &'a str, before: &str, end: char) -> Option<(&'a str, &'a str
     rest.split_once(end)
 }
 
-/// Parses a number after the prefix `before`. Returns the number, and the text after the character
-/// `end`.
+/// Parses a number between the prefix `before` and the character `end`. Returns the number, and the
+/// text after `end`.
 fn number<'a>(text: &'a str, before: &str, end: char) -> Option<(u64, &'a str)>
     requires { end ≤ 32 }
     ensures reads { (n : ℕ) (rest : List ℕ) → n < 2 ^ 64
@@ -79,8 +79,8 @@ fn number<'a>(text: &'a str, before: &str, end: char) -> Option<(u64, &'a str)>
     }
 }
 
-/// Parses a digest after the prefix `before` into `bytes`. Returns the text after the character
-/// `end`.
+/// Parses a hexadecimal digest between the prefix `before` and the character `end` into `bytes`.
+/// Returns the text after `end`.
 fn digest<'a>(text: &'a str, before: &str, end: char, bytes: &mut [u8]) -> Option<&'a str>
     requires ends { end ≤ 32 }
     requires long { length bytes.old ≡ 32 }
@@ -99,7 +99,7 @@ fn digest<'a>(text: &'a str, before: &str, end: char, bytes: &mut [u8]) -> Optio
     }
 }
 
-/// Parses the line of a sealed meter. Returns its values, and the text after the line.
+/// Parses the line `meter` of a seal. Returns its values, and the text after the line.
 fn meter_line<'a>(text: &'a str) -> Option<(MeterLine<'a>, &'a str)>
     ensures reads { (seal : Sealed) (rest : List ℕ) → IsSealable seal
         → text.now ≡ say.meter_line seal ++ rest
@@ -144,7 +144,8 @@ fn meter_line<'a>(text: &'a str) -> Option<(MeterLine<'a>, &'a str)>
     Some((line, rest))
 }
 
-/// Parses lines of voids. Returns the indices of the voided entries, and the text after the lines.
+/// Parses the `void` lines of a meter's seal. Returns the indices of the voided entries, and the
+/// text after the lines.
 fn voids<'a>(alloc: Global, text: &'a str) -> Result<Option<(Vec<u64>, &'a str)>, AllocError>
     ensures reads { (meter places rest : List ℕ) → AreVoids meter places rest text.now
         → IfOk result (λ found.
@@ -166,7 +167,7 @@ fn voids<'a>(alloc: Global, text: &'a str) -> Result<Option<(Vec<u64>, &'a str)>
     Ok(Some((places, rest)))
 }
 
-/// Builds the seal of a meter from its line and its voids.
+/// Builds the seal of a meter from its parsed line and the indices of its voided entries.
 fn seal_in(alloc: Global, line: &MeterLine<'_>, voids: Vec<u64>) -> Result<MeterSeal, AllocError>
     ensures { (seal : Sealed) → IsLineOf seal line.now → voids.items ≡ seal.voids
         → IfOk result (λ found. sealed_of found ≡ seal) }
@@ -185,7 +186,8 @@ fn seal_in(alloc: Global, line: &MeterLine<'_>, voids: Vec<u64>) -> Result<Meter
     })
 }
 
-/// Parses the seals of meters. Returns them, and the text after the last of them.
+/// Parses the seals of all meters in a seal's text. Returns the seals, and the text after the last
+/// of these seals.
 fn meters<'a>(alloc: Global, text: &'a str) -> Result<Option<(Vec<MeterSeal>, &'a str)>, AllocError>
     ensures reads { (seals : List Sealed) (rest : List ℕ) → AreMeters seals rest text.now
         → IfOk result (λ found. IsSomeAnd found (λ read.
@@ -206,7 +208,7 @@ fn meters<'a>(alloc: Global, text: &'a str) -> Result<Option<(Vec<MeterSeal>, &'
     Ok(Some((seals, rest)))
 }
 
-/// Parses the line of the sealed polls. Returns its values, and the text after the line.
+/// Parses the line `polls` of a seal. Returns its values, and the text after the line.
 fn polls_line<'a>(text: &'a str) -> Option<(PollsLine, &'a str)>
     ensures reads { (seal : SealedPolls) (rest : List ℕ) → ArePollsSealable seal
         → text.now ≡ say.polls_line seal ++ rest
@@ -229,7 +231,7 @@ fn polls_line<'a>(text: &'a str) -> Option<(PollsLine, &'a str)>
     Some((line, rest))
 }
 
-/// Parses lines of pending polls. Returns the numbers of the polls.
+/// Parses the `pending` lines of a seal. Returns the numbers of the pending polls.
 fn pending(alloc: Global, text: &str) -> Result<Vec<u64>, AllocError>
     ensures { (polls rest : List ℕ) → ArePending polls rest text.now
         → IfOk result (λ read. read.items ≡ polls) }
@@ -243,7 +245,7 @@ fn pending(alloc: Global, text: &str) -> Result<Vec<u64>, AllocError>
     Ok(polls)
 }
 
-/// Parses the seal of polls.
+/// Parses the seal of the polls in a seal's text: the line `polls`, and the `pending` lines.
 fn polls(alloc: Global, text: &str) -> Result<Option<PollSeal>, AllocError>
     ensures { (seal : SealedPolls) (rest : List ℕ) → ArePolls seal rest text.now
         → IfOk result (λ found. IsSomeAnd found (λ read. sealed_polls_of read ≡ seal)) }
@@ -261,7 +263,7 @@ fn polls(alloc: Global, text: &str) -> Result<Option<PollSeal>, AllocError>
     }))
 }
 
-/// Parses the seals of meters, and then the seal of polls.
+/// Parses the seals of all meters, and then the seal of the polls.
 fn tables(alloc: Global, text: &str) -> Result<Option<Seal>, AllocError>
     ensures { (seal : SealedTables) (rest : List ℕ) → AreTables seal rest text.now
         → IfOk result (λ found. IsSomeAnd found (λ read. sealed_tables_of read ≡ seal)) }

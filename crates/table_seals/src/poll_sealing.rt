@@ -1,4 +1,4 @@
-//! Sealing the polls of the tables, and checking the polls against a seal.
+//! Seals the polls in a file's tables, and checks them against a seal.
 ghost use Rattle.std.specs.Prelude.{◌≡◌, ◌↔◌, ◌<◌, ◌≤◌, ◌+◌, ◌^◌, false, IfOk, IfErr, IfSome};
 ghost use Rattle.sha2.specs.Hashers.{Holds256};
 ghost use Rattle.store_tables.specs.Failing.{want_of_memory};
@@ -16,9 +16,8 @@ use std::alloc::{AllocError, Global};
 use store_tables::{GREATEST_PLACE, RowFault, first_whole};
 use table_audit::{RUN, RunRows, last_poll, run_rows};
 
-/// Adds to the digest the text that the polls of a run had at the time of the seal. Collects the
-/// numbers of the polls that are pending now. Returns the number after the last, or None if the
-/// rows can't be read.
+/// Adds the text that a run's polls had at sealing time to a SHA-256 hasher. Collects the numbers
+/// of the polls that are pending now. Returns the next poll number, or None if a row is invalid.
 fn add_run(
     alloc: Global,
     hasher: &mut Sha256,
@@ -48,7 +47,7 @@ fn add_run(
     Ok(found)
 }
 
-/// Queries the rows of a run, and adds the text of its polls as `add_run` does.
+/// Queries the rows of a run of polls, and adds the polls' text to a SHA-256 hasher with `add_run`.
 fn look_run<S: Alter>(
     alloc: Global,
     conn: &mut Connection<S>,
@@ -74,8 +73,9 @@ fn look_run<S: Alter>(
     }
 }
 
-/// Digests the runs up to that of the last poll. Returns the number of polls, the digest of the
-/// text that they had when they were sealed, and the pending polls. None if a row can't be read.
+/// Digests all runs of polls up to the run of the last poll. Returns the number of polls, the
+/// SHA-256 digest of their text at sealing time, and the numbers of the polls pending now. Returns
+/// None if a row is invalid.
 fn digest_runs<S: Alter>(
     alloc: Global,
     conn: &mut Connection<S>,
@@ -116,7 +116,7 @@ fn digest_runs<S: Alter>(
     }))
 }
 
-/// Digests all polls of the tables as `digest_runs` does.
+/// Queries the greatest poll number, and digests all polls in the tables with `digest_runs`.
 fn digest_polls<S: Alter>(
     alloc: Global,
     conn: &mut Connection<S>,
@@ -134,7 +134,7 @@ fn digest_polls<S: Alter>(
     }
 }
 
-/// Seals the polls of the tables. None if a row can't be read.
+/// Seals all polls in the tables. Returns None if a row is invalid.
 pub(crate) fn seal_polls<S: Alter>(
     alloc: Global,
     conn: &mut Connection<S>,
@@ -145,7 +145,8 @@ pub(crate) fn seal_polls<S: Alter>(
     digest_polls(alloc, conn, GREATEST_PLACE, &[])
 }
 
-/// Returns whether the polls that were read differ from a seal. None means that they can't be read.
+/// Returns whether the digested polls `found` differ from a seal. If the polls can't be read,
+/// `found` is None, which counts as a difference.
 fn differ(found: &Option<PollSeal>, seal: &PollSeal) -> bool
     ensures { (result ≡ false) ↔ said.AreAsSealed found.now (sealed_polls_of seal.now) }
 {
@@ -157,9 +158,9 @@ fn differ(found: &Option<PollSeal>, seal: &PollSeal) -> bool
     }
 }
 
-/// Returns whether the polls of the tables differ from a seal. Further polls, and outcomes of polls
-/// that were pending, are no difference. Memory holds the rows of one run of polls at a time, with
-/// their text.
+/// Returns whether the polls in the tables differ from a seal. Further polls, and outcomes of polls
+/// that were pending, are no differences. Memory holds the rows and the text of one run of polls at
+/// a time.
 pub(crate) fn check_polls<S: Alter>(
     alloc: Global,
     conn: &mut Connection<S>,

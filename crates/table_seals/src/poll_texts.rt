@@ -1,4 +1,4 @@
-//! The text of polls whose digest is in a seal.
+//! Writes the text of polls and outcomes that a seal digests.
 ghost use Rattle.std.specs.Prelude.{◌≡◌, ◌≤◌, ◌++◌, ◌+◌, true, OnOk, IfOk, IfSome};
 ghost use Rattle.store_tables.specs.Limits.{greatest_place};
 ghost use Rattle.table_audit.specs.Reading as values;
@@ -52,15 +52,15 @@ fn put_ending(
     }
 }
 
-/// Returns whether one of these numbers is that of a poll.
+/// Returns whether the list `polls` contains the poll number `poll`.
 fn is_named(polls: &[u64], poll: u64) -> bool
     ensures { result ≡ values.is_named polls.now poll }
 {
     polls.iter().any(|number| *number == poll)
 }
 
-/// Appends the text of a poll that was sealed, with its outcome unless it was pending. Appends
-/// nothing for a later poll.
+/// Appends the text that a poll had at sealing time. The text includes the poll's outcome unless
+/// the poll was pending then. Appends nothing for a poll after `last`.
 fn put_then(
     text: &mut Vec<u8>,
     last: u64,
@@ -79,7 +79,7 @@ fn put_then(
     put_ending(text, is_named(hidden, poll.number), ending)
 }
 
-/// Appends the number of a poll, if the poll has no outcome.
+/// Appends the number of a poll to `pending`, if the poll has no outcome.
 fn keep_pending(
     pending: &mut Vec<u64>,
     number: u64,
@@ -94,8 +94,9 @@ fn keep_pending(
     Ok(())
 }
 
-/// Appends the text of a row's poll, if the poll has this number. Also collects its number if the
-/// poll is pending now. Returns whether the row was read.
+/// Appends the text that a row's poll had at sealing time. The poll must have the expected number.
+/// If the poll has no outcome now, appends its number to `pending`. Returns whether the row is
+/// valid.
 fn put_poll(
     text: &mut Vec<u8>,
     pending: &mut Vec<u64>,
@@ -123,8 +124,8 @@ fn put_poll(
     Ok(true)
 }
 
-/// Returns the rows without the first, if that row was the outcome of a poll. Otherwise returns all
-/// rows.
+/// Returns the outcome rows that remain after a poll was paired with `ending`. If `ending` is an
+/// outcome, these are the rows without the first row.
 fn rows_after<'a>(ending: Option<Ending>, rows: &'a [Row]) -> &'a [Row]
     ensures { result.now ≡ reading.rows_after ending rows.now }
 {
@@ -137,9 +138,9 @@ fn rows_after<'a>(ending: Option<Ending>, rows: &'a [Row]) -> &'a [Row]
     }
 }
 
-/// Appends the text that the polls of a run had at the time of the seal. Collects the numbers of
-/// the polls that are pending now. Returns the number after the last. None if a row can't be read,
-/// or if a poll does not have the next number. Also None if an outcome is of none of these polls.
+/// Appends the text that a run's polls had at sealing time. Collects the numbers of the polls
+/// pending now. Returns the next poll number. Returns None if a row is invalid, a poll number is
+/// missing, or an outcome has no poll in the run.
 pub(crate) fn put_rows(
     text: &mut Vec<u8>,
     pending: &mut Vec<u64>,

@@ -1,4 +1,4 @@
-//! Readers of the values of polls and outcomes that a seal covers.
+//! Parses the values of polls and outcomes that a seal covers.
 ghost use Rattle.std.specs.Prelude.{◌≡◌, ◌≤◌, IfOk, IfSome};
 ghost use Rattle.sqlite.specs.Order.{column};
 ghost use Rattle.store_tables.specs.Limits.{greatest_place};
@@ -9,7 +9,7 @@ use sqlite::Row;
 use sqlite::types::ValueRef;
 use store_tables::{GREATEST_PLACE, RowFault, whole};
 
-/// The numbers of a poll.
+/// The numeric columns in a poll's row of the table `polls`.
 #[derive(Clone, Copy)]
 pub(crate) struct PollNumbers {
     pub(crate) number: u64,
@@ -21,17 +21,17 @@ pub(crate) struct PollNumbers {
     pub(crate) count: u64,
 }
 
-/// The outcome of a poll.
+/// The columns in an outcome's row of the table `outcomes`. An outcome is the end of a poll.
 #[derive(Clone, Copy)]
 pub(crate) struct Ending {
-    /// The number of the poll.
+    /// The number of the poll that ended with this outcome.
     pub(crate) poll: u64,
     pub(crate) moment: u64,
     pub(crate) kind: u64,
     pub(crate) code: u64,
 }
 
-/// Reads the numbers of a poll.
+/// Parses the numeric columns of a poll's row.
 pub(crate) fn numbers(row: &Row) -> Result<PollNumbers, RowFault>
     ensures read { result ≡ reading.numbers_in row.now }
     ensures bound { IfOk result (λ numbers. numbers.number ≤ greatest_place) }
@@ -54,7 +54,7 @@ pub(crate) fn numbers(row: &Row) -> Result<PollNumbers, RowFault>
     })
 }
 
-/// Reads the values of an outcome.
+/// Parses the columns of an outcome's row.
 pub(crate) fn outcome(row: &Row) -> Result<Ending, RowFault>
     ensures { result ≡ reading.ending_in row.now }
 {
@@ -70,15 +70,16 @@ pub(crate) fn outcome(row: &Row) -> Result<Ending, RowFault>
     })
 }
 
-/// Returns whether the bytes are a word: each is greater than 32, so none is a space or the end of
-/// a line.
+/// Returns whether the bytes are a word, which means that all are greater than 32. A word has no
+/// space and no line end.
 fn are_word(bytes: &[u8]) -> bool
     ensures { result ≡ tables.is_word bytes.now }
 {
     bytes.iter().all(|&byte| byte > 32)
 }
 
-/// Reads the column at index `at` as a word. Returns None if it is not a word.
+/// Reads the column at index `at` as a word, which is a text without spaces and control bytes.
+/// Returns None if the column is not a word.
 pub(crate) fn word<'a>(row: &'a Row, at: usize) -> Option<&'a [u8]>
     ensures { reading.IsWordIn (column row.now at) result }
 {
@@ -88,7 +89,8 @@ pub(crate) fn word<'a>(row: &'a Row, at: usize) -> Option<&'a [u8]>
     }
 }
 
-/// Reads the outcome in the first row. Returns None if it is not that of the poll with this number.
+/// Parses the outcome in the first of `rows`. Returns None unless the outcome belongs to the poll
+/// with the number `number`.
 pub(crate) fn ending_at(number: u64, rows: &[Row]) -> Option<Ending>
     ensures { result ≡ reading.ending_at number rows.now }
 {

@@ -1,4 +1,4 @@
-//! Sealing the tables of a file.
+//! Seals a file's tables by computing a digest of the file's past.
 ghost use Rattle.std.specs.Prelude.{◌≡◌, ◌++◌, ◌∷◌, [], false, IfOk, IfErr, OnOk};
 ghost use Rattle.store_tables.specs.Failing.{want_of_memory};
 ghost use Rattle.table_audit.specs.Looking.{Finds};
@@ -20,7 +20,8 @@ pub(crate) fn memory() -> RowFault
     RowFault::Sql(Error::SqliteFailure(ErrorCode::OutOfMemory))
 }
 
-/// Seals a meter from its row of `installations` and its other rows. None if it can't be sealed.
+/// Seals a meter from its `installations` row and its rows in other tables. Returns None if the
+/// meter can't be sealed.
 fn seal_of(alloc: Global, row: &Row, rows: &MeterRows) -> Result<Option<MeterSeal>, AllocError>
     ensures { IfOk result (IsSealed row.now rows.now) }
 {
@@ -51,7 +52,8 @@ fn seal_of(alloc: Global, row: &Row, rows: &MeterRows) -> Result<Option<MeterSea
     }))
 }
 
-/// Queries the rows of an installation's meter, and seals the meter. None if it can't be sealed.
+/// Queries the rows of the meter in an `installations` row, and seals the meter. Returns None if
+/// the meter can't be sealed.
 fn seal_row<S: Alter>(
     alloc: Global,
     conn: &mut Connection<S>,
@@ -73,7 +75,7 @@ fn seal_row<S: Alter>(
     }
 }
 
-/// Appends a seal.
+/// Appends the seal of a meter to a list of seals. If memory runs out, returns a `RowFault`.
 fn keep(seals: &mut Vec<MeterSeal>, seal: MeterSeal) -> Result<(), RowFault>
     ensures kept { OnOk result (seals.new.items ≡ seals.old.items ++ seal ∷ []) }
     ensures fault { IfErr result (λ fault. fault ≡ RowFault.Sql want_of_memory) }
@@ -84,7 +86,8 @@ fn keep(seals: &mut Vec<MeterSeal>, seal: MeterSeal) -> Result<(), RowFault>
     }
 }
 
-/// Seals the meters of these rows of `installations`. None if one of them can't be sealed.
+/// Seals the meter in each of these rows of `installations`. Returns None if one of the meters
+/// can't be sealed.
 fn seal_rows<S: Alter>(
     alloc: Global,
     conn: &mut Connection<S>,
@@ -104,7 +107,7 @@ fn seal_rows<S: Alter>(
     Ok(Some(seals))
 }
 
-/// Seals the meters of the tables. None if one of them can't be sealed.
+/// Seals all meters in the tables. Returns None if one of the meters can't be sealed.
 fn seal_meters<S: Alter>(
     alloc: Global,
     conn: &mut Connection<S>,
@@ -116,9 +119,9 @@ fn seal_meters<S: Alter>(
     seal_rows(alloc, conn, &rows)
 }
 
-/// Seals the tables: each meter in order of index, and the polls. None if a name is not a word, or
-/// if a value can't be read, which an audit reports. Memory holds the rows of one meter or of one
-/// run of polls at a time, with their text, and those of `installations`.
+/// Seals a file's tables: each meter in order of its index, and the polls. Returns None if a name
+/// is not a word, or if a value is invalid, which an audit reports. Memory holds all rows of
+/// `installations`, and the rows and the text of one meter or one run of polls at a time.
 pub fn seal_tables<S: Alter>(
     alloc: Global,
     conn: &mut Connection<S>,

@@ -1,7 +1,7 @@
-//! The seals of meters, of polls, and of a file.
+//! The seals of a meter, of polls, and of a complete file: signed-off digests of their past.
 
-/// The seal of a meter: its name, its accounting register and its terms, the number and the digest
-/// of its entries, and the indices of its voided entries.
+/// The seal of a meter: its name, accounting register, range and ceiling, its entries' number and
+/// digest, and the indices of its voided entries.
 #[derive(Debug, Drop)]
 pub struct MeterSeal {
     pub meter: String,
@@ -13,8 +13,8 @@ pub struct MeterSeal {
     pub voids: Vec<u64>,
 }
 
-/// The seal of polls: their number, the digest of the polls and their outcomes, and the numbers of
-/// the pending polls.
+/// The seal of the polls in a file. It has the number of polls, the digest of the polls and their
+/// outcomes, and the numbers of the pending polls.
 #[derive(Debug, Drop)]
 pub struct PollSeal {
     pub count: u64,

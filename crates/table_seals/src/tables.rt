@@ -1,4 +1,4 @@
-//! Readers of the values that the seal of a meter covers.
+//! Parses the values in a meter's rows that a seal covers.
 ghost use Rattle.std.specs.Prelude.{◌≡◌, IfOk};
 ghost use Rattle.sqlite.specs.Order.{column};
 ghost use Rattle.table_audit.specs.Reading.{IsTextIn};
@@ -20,7 +20,7 @@ pub(crate) struct Terms {
     pub(crate) ceiling: u64,
 }
 
-/// The values of a meter's other rows: range, voids and entries.
+/// The parsed rows of a meter outside `installations`: counter range, void records and entries.
 #[derive(Drop)]
 pub(crate) struct ReadRows {
     pub(crate) range: u64,
@@ -28,7 +28,7 @@ pub(crate) struct ReadRows {
     pub(crate) entries: Vec<TableRow>,
 }
 
-/// Reads the column at index `at` as a text. Returns None if it is not a text.
+/// Reads the column at index `at` as a UTF-8 text. Returns None if the column has no UTF-8 text.
 pub(crate) fn text(row: &Row, at: usize) -> Result<Option<String>, AllocError>
     ensures { IfOk result (IsTextIn (column row.now at)) }
 {
@@ -39,8 +39,8 @@ pub(crate) fn text(row: &Row, at: usize) -> Result<Option<String>, AllocError>
     }
 }
 
-/// Reads the name, the accounting register and the ceiling of an installed meter. None if one of
-/// them can't be read.
+/// Parses the terms of an `installations` row: the meter's name, accounting register and ceiling.
+/// Returns None if a value is invalid.
 pub(crate) fn terms_of(row: &Row) -> Result<Option<Terms>, AllocError>
     ensures { IfOk result (TermsAreRead row.now) }
 {
@@ -60,7 +60,8 @@ pub(crate) fn terms_of(row: &Row) -> Result<Option<Terms>, AllocError>
     }))
 }
 
-/// Reads the range, the voids and the entries of a meter. None if one of them can't be read.
+/// Parses the counter range, the void records and the entries of a meter. Returns None if a row is
+/// invalid.
 pub(crate) fn read_rows(alloc: Global, rows: &MeterRows) -> Result<Option<ReadRows>, AllocError>
     ensures { IfOk result (RowsAreRead rows.now) }
 {
@@ -83,8 +84,8 @@ pub(crate) fn read_rows(alloc: Global, rows: &MeterRows) -> Result<Option<ReadRo
     }))
 }
 
-/// Returns whether a text is a word: all bytes are greater than 32, so none is a space or the end
-/// of a line.
+/// Returns whether a text is a word, which means that all bytes are greater than 32. A word has no
+/// space and no line end.
 pub(crate) fn is_word(text: &str) -> bool
     ensures { result ≡ tables.is_word text.now }
 {

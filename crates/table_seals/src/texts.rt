@@ -1,4 +1,4 @@
-//! The text of entries whose digest is in a seal, and the text of a seal.
+//! Writes the text of a meter's entries that a seal digests, and the text of a seal.
 ghost use Rattle.std.specs.Prelude.{◌≡◌, ◌++◌, OnOk, IfOk, flat_map, decimal};
 ghost use Rattle.std.specs.Fmt.{signed_decimal};
 ghost use Rattle.hex.specs.Hex.{encode_lower};
@@ -12,7 +12,7 @@ use meter_audit::{RowKind, TableRow};
 use sha2::{Digest, Sha256};
 use std::alloc::{AllocError, Global};
 
-// ---- pieces; each leaves a part of its text if memory runs out
+// ---- parts of a seal's text; if memory runs out, the text is incomplete
 
 pub(crate) fn put(text: &mut Vec<u8>, bytes: &[u8]) -> Result<(), AllocError>
     ensures { OnOk result (text.new.items ≡ text.old.items ++ bytes.now) }
@@ -49,7 +49,7 @@ fn put_digest(alloc: Global, text: &mut Vec<u8>, digest: &[u8]) -> Result<(), Al
     put(text, hex.as_bytes())
 }
 
-// ---- entries
+// ---- the digested text of a meter's entries
 
 fn kind_word(kind: RowKind) -> &'static [u8]
     ensures { result.now ≡ say.kind_word kind }
@@ -95,7 +95,7 @@ fn put_entries(text: &mut Vec<u8>, entries: &[TableRow]) -> Result<(), AllocErro
     Ok(())
 }
 
-/// Returns the SHA-256 digest of the text of these entries.
+/// Returns the SHA-256 digest of the text of a meter's entries.
 pub(crate) fn digest_of(alloc: Global, entries: &[TableRow]) -> Result<[u8; 32], AllocError>
     ensures { IfOk result (λ digest. digest ≡ sha256 (say.entries_text entries.now)) }
 {
@@ -104,7 +104,7 @@ pub(crate) fn digest_of(alloc: Global, entries: &[TableRow]) -> Result<[u8; 32],
     Ok(Sha256::digest(text.as_slice()))
 }
 
-// ---- a seal
+// ---- the text of a seal
 
 fn put_meter_line(alloc: Global, text: &mut Vec<u8>, seal: &MeterSeal) -> Result<(), AllocError>
     ensures { OnOk result (text.new.items ≡ text.old.items ++ say.meter_line (sealed_of seal.now)) }
@@ -189,7 +189,7 @@ fn put_polls_part(alloc: Global, text: &mut Vec<u8>, seal: &PollSeal) -> Result<
     put_pending(text, seal.pending.as_slice())
 }
 
-/// Returns the text of a seal without its last line.
+/// Returns the text of a seal without its last line. The last line has the digest of this text.
 fn body(alloc: Global, seal: &Seal) -> Result<Vec<u8>, AllocError>
     ensures { IfOk result (λ text. text.items ≡ say.body_text (sealed_tables_of seal.now)) }
 {
@@ -200,7 +200,8 @@ fn body(alloc: Global, seal: &Seal) -> Result<Vec<u8>, AllocError>
     Ok(text)
 }
 
-/// Returns the text of a seal.
+/// Returns the complete text of a seal. It has the lines of the meters, the lines of the polls, and
+/// a last line with the digest of all these lines.
 pub fn put_seal(alloc: Global, seal: &Seal) -> Result<Vec<u8>, AllocError>
     ensures { IfOk result (λ text. text.items ≡ say.seal_text (sealed_tables_of seal.now)) }
 {

@@ -1,4 +1,5 @@
--- Worked examples, computed from the definitions: targets of parts, and others.
+-- Worked examples, computed from the definitions: request targets with and without a part of the
+-- web page.
 use Rattle.std.proofs.Common.{◌≡◌, Some, None, refl, codes}
 use Rattle.web_page.specs.Parts.{part_of}
 use Rattle.web_page.specs.declared.parts.PagePart.TheVariants.{Page, Style, Script, Icon}

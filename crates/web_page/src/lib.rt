@@ -1,4 +1,4 @@
-//! The web page of a running office: its files, their targets and their types.
+//! The web page of `sunreg run`: its files, their request targets and their content types.
 #![tactic(auto)]
 
 mod files;

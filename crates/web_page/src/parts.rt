@@ -1,23 +1,23 @@
-//! The parts of the page.
+//! The parts of the web page.
 ghost use Rattle.std.specs.Prelude.{◌≡◌};
 ghost use Rattle.web_page.specs.Parts.{body_of, content_type_of, part_of};
 
 use crate::files::{ICON, PAGE, SCRIPT, STYLE};
 
-/// A part of the page. The bytes of each part are those of a file in `web/`.
+/// A part of the web page. The bytes of each part are those of a file in `web/`.
 #[derive(Clone, Copy, Debug, PartialEq, Eq)]
 pub enum PagePart {
-    /// The page itself, in HTML.
+    /// The web page itself, in HTML.
     Page,
-    /// The style sheet.
+    /// The style sheet of the web page.
     Style,
-    /// The script, which queries the office and fills the page.
+    /// The script of the web page, which queries the server and fills the page.
     Script,
     Icon,
 }
 
-/// Returns the part of the page with this request target, such as `/page.css`. Targets are compared
-/// byte by byte.
+/// Returns the part of the web page with this request target, such as `/page.css`. Targets are
+/// compared byte by byte.
 pub fn part_of(target: &[u8]) -> Option<PagePart>
     ensures { result ≡ part_of target.now }
 {
@@ -35,7 +35,7 @@ pub fn part_of(target: &[u8]) -> Option<PagePart>
 }
 
 impl PagePart {
-    /// Returns the value of the `Content-Type` header for this part.
+    /// Returns the value of the `Content-Type` header for this part of the web page.
     pub fn content_type(self) -> &'static [u8]
         ensures { result.now ≡ content_type_of self }
     {
@@ -47,7 +47,7 @@ impl PagePart {
         }
     }
 
-    /// Returns the bytes of the part: those of its file in `web/`.
+    /// Returns the bytes of this part of the web page, which are those of its file in `web/`.
     pub fn body(self) -> &'static [u8]
         ensures { result.now ≡ body_of self }
     {

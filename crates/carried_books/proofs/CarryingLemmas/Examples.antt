@@ -1,5 +1,5 @@
--- Worked examples, computed from the definitions: an office with one device, at whose register a
--- second meter followed a first.
+-- A worked example of a file rollover: an office with one device, at whose register a second meter
+-- followed a first.
 use Rattle.std.proofs.Common.{◌≡◌, ℕ, pos, List, [], ◌∷◌, map, Option, Some, None, refl}
 use Rattle.std.specs.Prelude.{codes}
 use Rattle.energy_core.specs.declared.entries.Entry.TheVariants as entry
@@ -41,7 +41,7 @@ first = record { meter = m1; register = main; ceiling = 100000; range = 42949672
 abbrev second : Opening
 second = record { meter = m2; register = main; ceiling = 50000; range = 65536; at = 2000; raw = 7; sf = pos 1 }
 
--- The second meter was read at 2900 and at 3000.
+-- The records of an office whose second meter was read at timestamps 2900 and 3000.
 abbrev facts : List Fact
 facts =
     fact.Entry (record { meter = m2; kind = kind.Reading; entry = entry.Step 3000 60 0 })
@@ -53,7 +53,7 @@ facts =
     ∷ fact.Device device
     ∷ []
 
--- The last reading was voided.
+-- The records of the office after the reading at 3000 was voided.
 abbrev voided : List Fact
 voided = fact.Void (record { meter = m2; place = 3; at = 3100 }) ∷ facts
 
@@ -63,11 +63,13 @@ carried at raw = record { meter = m2; register = main; ceiling = 50000; range = 
 abbrev openings : List Fact → (until : Option ℕ) → List (Option Opening)
 openings known until = map (opening_until known until) (open_meters known)
 
--- The first meter is closed and not rolled over; the second is opened at its last reading.
+-- The file rollover opens the second meter at its last reading. The first meter is closed, so
+-- it does not continue.
 at_the_last : openings facts None ≡ Some (carried 3000 60) ∷ []
 at_the_last = refl
 
--- The timestamp of a reading counts the reading; the second before it counts the one before.
+-- The file rollover up to the timestamp of a reading uses this reading. Up to a second earlier it
+-- uses the previous one.
 up_to_a_reading : openings facts (Some 3000) ≡ Some (carried 3000 60) ∷ []
 up_to_a_reading = refl
 
@@ -77,15 +79,16 @@ before_a_reading = refl
 at_the_opening : openings facts (Some 2899) ≡ Some (carried 2000 7) ∷ []
 at_the_opening = refl
 
--- Before its opening a meter can't be rolled over.
+-- The file rollover up to a timestamp before a meter's opening can't open the meter.
 not_yet : openings facts (Some 1999) ≡ None ∷ []
 not_yet = refl
 
--- A voided reading does not count.
+-- The file rollover does not use a voided reading.
 past_a_void : openings voided None ≡ Some (carried 2900 50) ∷ []
 past_a_void = refl
 
--- The device and its register come at the timestamp of the first opening, followed by the meter.
+-- The commands of the file rollover add the device and its register at the timestamp of the first
+-- opening, and then install the meter.
 all_commands : commands_for facts (devices_of facts) (carried 3000 60 ∷ [])
     ≡ timed 3000 (command.AddDevice (record { name = Some roof; unit = 17; timeout = 5; window = 2 }))
     ∷ timed 3000

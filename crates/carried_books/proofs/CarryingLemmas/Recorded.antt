@@ -1,4 +1,4 @@
--- What the commands of a rollover record.
+-- Lemmas on the records that the commands of a file rollover add to the new store.
 use Rattle.std.proofs.Common.{◌≡◌, ℕ, List, [], ◌∷◌, ◌++◌, map, reverse, Option, Some, None, refl, sym, ap, ◌∙◌, append_assoc}
 use Rattle.std.specs.List.{flat_map}
 use Rattle.std.specs.Option.{option_map, option_to_list}
@@ -21,7 +21,7 @@ use Rattle.carried_books.specs.Carrying.Feeding.{accepted, history_with}
 use Rattle.carried_books.specs.Carrying.Recorded.{CommandsRecordTheSame, carried_facts, device_facts, list_fact}
 use Rattle.carried_books.specs.declared.carrying.commands.TimedCommand.{TimedCommand}
 
--- A command records only this fact.
+-- The command adds the record `f` to the store, and no other record.
 abbrev Records : TimedCommand → Fact → Type 0
 Records timed f = (past : History) → facts_of (accepted timed ∷ past) ≡ f ∷ facts_of past
 
@@ -49,7 +49,7 @@ both_record [] later (f ∷ facts) more each rest = absurd each
 both_record (timed ∷ commands) later [] more each rest = absurd each
 both_record (timed ∷ commands) later (f ∷ facts) more each rest = (each.0, both_record commands later facts more each.1 rest)
 
--- ---- each command
+-- ---- The record that each command of a file rollover adds
 
 function_again : (function : ReadFunction) → function_by (code_of function) ≡ function
 function_again HoldingRegisters = refl
@@ -74,7 +74,7 @@ register_recorded at register = λ past.
 install_recorded : (opening : Opening) → Records (install opening) (fact.Opening opening)
 install_recorded opening = λ past. refl
 
--- ---- all commands
+-- ---- The records that all commands of a file rollover add
 
 lists_recorded : (at : ℕ) (device : List ℕ) (list : Option Planned)
     → AllRecord (option_to_list (option_map (put_list at device) list)) (option_to_list (option_map (list_fact device) list))

@@ -1,4 +1,4 @@
--- Openings in the order of their timestamps.
+-- The lemma that openings are in the order of their timestamps after they were sorted by timestamp.
 use Rattle.std.proofs.Common.{◌≡◌, ℕ, ◌<◌, ◌≤◌, false, List, length, get_or, sym, ap, ◌∙◌, arith, Bor}
 use Rattle.std.specs.Cmp.{nat_cmp_is}
 use Rattle.std.specs.Fn.{Called, ComputesKey}

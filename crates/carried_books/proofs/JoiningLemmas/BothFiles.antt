@@ -1,4 +1,5 @@
--- Two files state a meter that is rolled over as one file with both journals does.
+-- The theorem that the statement over two files of a meter that is rolled over equals the statement
+-- over one file with both journals.
 use Rattle.std.proofs.Common.{◌≡◌, ℕ, zero, suc, ◌+◌, ◌-◌, ◌^◌, ◌<◌, ◌≤◌, ◌==◌, Bool, true, false, cond, List, [], ◌∷◌, ◌++◌, map, reverse, Option, Some, None, inl, inr, refl, sym, ap, subst, ◌∙◌, arith}
 use Rattle.std.specs.Prelude.{◌≢◌, filter, find, min}
 use Rattle.std.specs.List.{count_by}
@@ -26,7 +27,7 @@ use Rattle.office_rules.proofs.Lists.{map_reverse}
 use Rattle.carried_books.specs.Joining.Statements.{BothFilesStateTheJoinedMeter, moved_entry, own_entries}
 use Rattle.carried_books.proofs.JoiningLemmas.KeptMeters.{told_alike}
 
--- ---- energy, quarter hour by quarter hour
+-- ---- The energy of a meter is the sum of the energies of its quarter hours
 
 -- The sum of a function over the numbers below a bound.
 abbrev up_to : ℕ → (ℕ → ℕ) → ℕ
@@ -49,7 +50,7 @@ up_to_none (suc n) f none =
     let both : up_to n f + f n ≡ 0 = omega (arith, below, here) in
     both
 
--- More at one number.
+-- Adding `m` to a function at one number adds `m` to its sum.
 up_to_more : (n : ℕ) (f g : ℕ → ℕ) (k m : ℕ) → k < n → g k ≡ f k + m → ((s : ℕ) → s ≢ k → g s ≡ f s) → up_to n g ≡ up_to n f + m
 up_to_more zero f g k m less here rest = absurd (omega (arith, less))
 up_to_more (suc n) f g k m less here rest = elim (cases_Bool (n == k)) [
@@ -92,14 +93,15 @@ elsewhere : (row : Share) (rows : List Share) (s : ℕ) → row.start ≢ s → 
 elsewhere row rows s other = ap energy_of (cond-false _ _ _ (ne_eqb row.start s other))
 
 module _ (asked : ℕ → Bool) where
-  -- The energy of the quarter hour from a timestamp, if it is requested.
+  -- The energy in mWh of the quarter hour that starts at `s`, if it is in the requested range,
+  -- otherwise 0.
   abbrev of_quarter : List Share → ℕ → ℕ
   of_quarter rows s = cond (asked s) (energy_from s rows) 0
 
   abbrev those_asked : List Share → List Share
   those_asked rows = filter (λ row. asked row.start) rows
 
-  -- No row starts there or later.
+  -- A number above the start of each interval in a list.
   abbrev bound : List Share → ℕ
   bound [] = 0
   bound (row ∷ rows) = row.start + 1 + bound rows
@@ -135,7 +137,7 @@ same_energy zone range old new both once =
     ap (λ n. min n (2 ^ 128 - 1))
     (same_by_quarters (λ s. has_moment zone range s) (old ++ new) both (λ s. of_both old new s ∙ sym (once.quarters s)))
 
--- ---- entries, with any indexes
+-- ---- The statement of a meter does not depend on the indexes of its entries
 
 same_stand : (count : ℕ) (e : MeterEntry) → stand_of (moved_entry count e) ≡ stand_of e
 same_stand count (entry.Opening last) = refl

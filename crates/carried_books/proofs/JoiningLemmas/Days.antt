@@ -1,4 +1,4 @@
--- A sink adds up rows by day, one by one.
+-- Lemmas on adding up energy intervals by civil day, one interval after another.
 use Rattle.std.proofs.Common.{◌≡◌, ℕ, ◌+◌, ◌<◌, ◌^◌, List, [], ◌∷◌, ◌++◌, Option, Some, None, refl, sym, ap, subst, ◌∙◌, arith, append_assoc}
 use Rattle.std.specs.Prelude.{Contains, MatchOption, unwrap_or}
 use Rattle.std.proofs.lemmas.List.{append-nil}
@@ -13,7 +13,7 @@ use Rattle.office_books.specs.Rows.{TakesAll}
 use Rattle.carried_books.specs.declared.joining.days.JoinedDays.{JoinedDays}
 use Rattle.carried_books.specs.Joining.Days.{AddsRow, AddsUp, AddUp, AreOutOfTurn, HasNumber, TakesShare}
 
--- ---- a row before the latest is out of order
+-- ---- An energy interval that starts before the latest one is out of order
 
 behind_latest : (rows : List Share) (latest : Option ℕ) (row : Share) → IsLatest rows latest → row.start < unwrap_or latest 0
     → (earlier : ℕ) × Contains (starts_of rows) earlier × (row.start < earlier)
@@ -26,9 +26,9 @@ pub behind : (zone : Zone) (rows : List Share) (fold : FoldState) (latest : Opti
 behind zone rows fold latest row same taken bound is less =
     behind_latest rows latest row (subst (IsLatest rows) same taken.latest) (subst (λ n. row.start < n) is less)
 
--- ---- rows one after another
+-- ---- Adding energy intervals one after another
 
--- If the total energy of rows fits, that of the first ones fits.
+-- If the energy of all intervals fits in 128 bits, then the energy of the first ones fits too.
 pub first_has : (done rest : List Share) → HasNumber (done ++ rest) → HasNumber done
 first_has done rest fits =
     let both : energy_of (done ++ rest) ≡ energy_of done + energy_of rest = sum_by-append (λ (r : Share). r.mwh) done rest in
@@ -40,7 +40,7 @@ with_row done row fits =
     let one : energy_of (row ∷ []) ≡ row.mwh + energy_of [] = sum_by-cons (λ (r : Share). r.mwh) row [] in
     omega (arith, fits, both, one)
 
--- The sum with one more row.
+-- After one energy interval is added to a sum by civil day, the result is the sum of all intervals.
 adds_up : (failed : Option DayFault) (zone : Zone) (done : List Share) (row : Share) (fold : FoldState) → AddsUp failed zone done row fold
     → AddUp failed zone (done ++ row ∷ []) fold
 adds_up None zone done row fold adds = adds
@@ -56,7 +56,8 @@ still_out done row out = record {
   is = out.is;
 }
 
--- The sink has added one more row after the rows `done`, or it has failed.
+-- After one more interval is added, the sum has the intervals `done` and the new one, or it has
+-- failed.
 add_one : (failed : Option DayFault) (done : List Share) (row : Share) (s next : JoinedDays) → s.fault ≡ failed → HasNumber (done ++ row ∷ [])
     → AddUp failed s.zone done s.fold → MatchOption failed (AddsRow s row next) (λ fault. next ≡ s)
     → (next.zone ≡ s.zone) × AddUp next.fault s.zone (done ++ row ∷ []) next.fold
@@ -71,7 +72,8 @@ add_one (Some fault.Memory) done row s next is fits added step =
     let P : Option DayFault → Type 0 = λ f. AddUp f s.zone (done ++ row ∷ []) s.fold in
     subst Q (sym step) (refl, subst P (sym is) tt)
 
--- The sink has added all further rows after the rows `done`, or it has failed.
+-- After the intervals `rest` are added, the sum has the intervals `done` and `rest`, or it has
+-- failed.
 pub add_all : (zone : Zone) (done rest : List Share) (s after : JoinedDays) → s.zone ≡ zone → HasNumber (done ++ rest) → AddUp s.fault zone done s.fold
     → TakesAll TakesShare s rest after → (after.zone ≡ zone) × AddUp after.fault zone (done ++ rest) after.fold
 add_all zone done [] s after is fits added took =
@@ -87,7 +89,7 @@ add_all zone done (row ∷ rest) s after is fits added took =
     let all = add_all zone (done ++ row ∷ []) rest took.0 after (one.0 ∙ is) fit next took.2 in
     (all.0, subst (λ (rows : List Share). AddUp after.fault zone rows after.fold) same all.1)
 
--- ---- the zone stays for any added rows
+-- ---- After energy intervals are added to a sum, the time zone of the sum is unchanged
 
 one_zone : (failed : Option DayFault) (row : Share) (s next : JoinedDays) → MatchOption failed (AddsRow s row next) (λ fault. next ≡ s) → next.zone ≡ s.zone
 one_zone None row s next step = step.zone

@@ -1,4 +1,4 @@
--- The results for stored values.
+-- Lemmas on the results of collecting the data of earlier files.
 use Rattle.std.proofs.Common.{◌≡◌, List, Option, Some, None, Result, Ok, Err, ◌∙◌}
 use Rattle.std.specs.Prelude.{IfOk}
 use Rattle.interval_core.specs.declared.zone.Zone.{Zone}

@@ -1,5 +1,5 @@
--- A worked example, computed from the definitions: a meter was read in an old file, rolled over
--- into a new one, and read there by hand.
+-- A worked example of a meter in two files. The meter was read in an old file, rolled over into a
+-- new file, and read there by hand.
 use Rattle.std.proofs.Common.{◌≡◌, ℕ, pos, List, [], ◌∷◌, Some, inl, inr, refl, arith}
 use Rattle.std.specs.Prelude.{codes}
 use Rattle.energy_core.specs.Value.{unit_of}
@@ -30,7 +30,7 @@ register = record { name = main; device = codes "roof"; function = InputRegister
 abbrev opening : (at raw : ℕ) → Opening
 opening at raw = record { meter = codes "m1"; register = main; ceiling = 100000; range = 65536; at = at; raw = raw; sf = pos 0 }
 
--- The meter was opened at 1000, and read at 1900, where it showed 10 Wh.
+-- The records of the old file: the meter was opened at timestamp 1000, and showed 10 Wh at 1900.
 abbrev old : List Fact
 old =
     fact.Entry (record { meter = codes "m1"; kind = kind.Reading; entry = entry.Step 1900 10 0 })
@@ -39,7 +39,8 @@ old =
     ∷ fact.Device device
     ∷ []
 
--- The meter was opened in this state, and read by hand at 2800, where it showed 25 Wh.
+-- The records of the new file: the meter was opened at timestamp 1900 with 10 Wh, and showed 25 Wh
+-- at 2800, read by hand.
 abbrev new : List Fact
 new =
     fact.Entry (record { meter = codes "m1"; kind = kind.Manual; entry = entry.Step 2800 25 0 })
@@ -54,7 +55,7 @@ in_old = meter_in old (installation_of old (opening 1000 0))
 abbrev in_new : MeterOver
 in_new = meter_in new (installation_of new (opening 1900 10))
 
--- The meter is one meter of both files.
+-- The old and the new file join: they have one meter.
 one_meter : AreMetersOver main (new ∷ old ∷ []) (both_of in_old in_new ∷ [])
 unfolding unit_of
 one_meter = record {
@@ -76,7 +77,8 @@ one_meter = record {
   );
 }
 
--- The statement goes from the opening to the reading by hand.
+-- The statement of the meter goes from its opening in the old file to the reading by hand in the
+-- new file.
 stated : (zone : Zone) → statement_over zone all_days (both_of in_old in_new) ≡ record {
   meter = codes "m1";
   entries = record {

@@ -1,4 +1,4 @@
--- Files that join, with one more file.
+-- Lemmas on joining one more file to the joined files of an office.
 use Rattle.std.proofs.Common.{◌≡◌, ℕ, Bool, true, false, not, ◌&&◌, ◌||◌, Option, List, [], ◌∷◌, ◌++◌, Some, None, refl, sym, subst, ◌∙◌}
 use Rattle.interval_core.specs.Fold.{HasTaken}
 use Rattle.interval_core.specs.declared.shares.Share.{Share}
@@ -19,7 +19,7 @@ use Rattle.carried_books.specs.declared.joining.files.Unjoined.TheVariants as un
 use Rattle.carried_books.specs.declared.joining.days.JoinedDays.{JoinedDays}
 use Rattle.carried_books.proofs.JoiningLemmas.Days.{add_all, first_has, same_zone}
 
--- ---- a register of a file is in each later one
+-- ---- If a file records a register, then each later file records it
 
 pub is_in_both : (here before : Bool) → (before ≡ true → here ≡ true) → here ≡ (here || before)
 is_in_both true before stays = refl
@@ -62,7 +62,7 @@ adds_rows span register facts old new (Some unjoined.NotRecorded) same meters da
 adds_rows span register facts old new (Some (unjoined.Apart apart)) same meters days = absurd days
 adds_rows span register facts old new (Some unjoined.OutOfTurn) same meters days = record { days = new.days; added = days }
 
--- ---- one more file
+-- ---- Joining one more file of an office
 
 module _ (zone : Zone) (span : Span) (register : List ℕ) (facts : List Fact) (files : List (List Fact)) (old new : JoinedFiles) where
   abbrev before : List Share

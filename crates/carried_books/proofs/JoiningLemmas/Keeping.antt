@@ -1,4 +1,4 @@
--- What is stored of files, in terms of the meters and the days.
+-- The lemma that the data in `JoinedFiles` are the meters and days of the joined files.
 use Rattle.std.proofs.Common.{ℕ, List, Option, Some, None}
 use Rattle.interval_core.specs.declared.zone.Zone.{Zone}
 use Rattle.office_events.specs.declared.facts.Fact.{Fact}

@@ -1,5 +1,5 @@
--- What is stored of one meter over several files, for its statement: its entries, its quarter hours
--- and its rejected readings.
+-- Lemmas on the collected data of one meter over several files, for its statement: its entries, its
+-- quarter hours and its rejected readings.
 use Rattle.std.proofs.Common.{◌≡◌, ℕ, ◌+◌, ◌-◌, ◌^◌, ◌<◌, ◌&&◌, nat_le, Bool, true, false, cond, List, [], ◌∷◌, ◌++◌, take, drop, length, None, inl, inr, refl, sym, ap, subst, ◌∙◌, append-nil, append_assoc, arith}
 use Rattle.std.specs.Prelude.{filter, min}
 use Rattle.std.specs.List.{count_by, sum_by}
@@ -45,7 +45,7 @@ use Rattle.carried_books.specs.Joining.Statements.{MeterOver, TalliesOn, TellsPa
 use Rattle.carried_books.specs.declared.joining.kept_meters.KeptMeter.{KeptMeter}
 use Rattle.carried_books.proofs.CarryingLemmas.Lasts.{piece_of}
 
--- ---- entries that are queried in chunks
+-- ---- The tally of a meter's entries that are queried in chunks
 
 abbrev skipped : Bool → ℕ
 skipped goes_on = cond goes_on 1 0
@@ -71,7 +71,7 @@ module _ (zone : Zone) (range : DayRange) (facts : List Fact) (meter : List ℕ)
       ∙ ap (take 65536) (ap (λ c. drop c (all_entries facts meter)) (sym both) ∙ sym (drop-drop n k (all_entries facts meter))
       ∙ ap (drop n) (sym (own_of goes_on (all_entries facts meter))))
 
-  -- The first `n` entries were tallied.
+  -- After the tally, `now` has the first `n` entries of the meter that no earlier file has.
   abbrev pub HasTallied : (n : ℕ) → (old now : EntryTally) → Type 0
   HasTallied n old now = TalliesOn zone range (take n its_own) old now
 
@@ -101,7 +101,8 @@ all_held : (holds : List HeldReading) → holds_within Whole holds ≡ holds
 all_held [] = refl
 all_held (held ∷ holds) = ap (λ (those : List HeldReading). held ∷ those) (all_held holds)
 
--- The results of sinks that took the rows of a file.
+-- The statement of a meter in one file has the counts of its rejected readings and its energy in
+-- this file.
 pub held_told : (zone : Zone) (range : DayRange) (holds : List HeldReading) (from to : HeldWithin) → HasCountedNone zone range from
     → TakesAll CountsReading from (holds_within Whole holds) to → to.counts ≡ held_within zone range holds
 held_told zone range holds from to fresh took =
@@ -141,9 +142,10 @@ energy_told zone range rows from to fresh took =
     ∙ filter_among (λ (row : Share). has_moment zone range row.start) (λ row. is_within (span_of range) row.start)
     (λ row has. has_each range.from range.till zone row.start (and_second (nat_le row.start LAST_MOMENT) (has_day range (day_at zone row.start)) has)) rows)
 
--- ---- what is stored of a meter, and more of it
+-- ---- The collected data of a meter, with one more file
 
--- A sum of numbers that stay at the largest.
+-- If two numbers are capped at `most` before they are added, then their sum capped at `most` is
+-- unchanged.
 capped_both : (most a b : ℕ) → min (min a most + min b most) most ≡ min (a + b) most
 capped_both most a b = omega arith
 
@@ -174,7 +176,7 @@ held_both zone range holds more = λ i. record {
   not_below_range = held_for_both zone range holds more cause.NotBelowRange i;
 }
 
--- Two statements with equal parts are equal.
+-- If two statements have equal fields, then the statements are equal.
 pub told_alike : {a b : MeterStatement} → a.meter ≡ b.meter → a.entries ≡ b.entries → a.mwh ≡ b.mwh → a.held ≡ b.held → a ≡ b
 told_alike meter entries mwh held = λ i. record { meter = meter i; entries = entries i; mwh = mwh i; held = held i }
 
@@ -182,7 +184,7 @@ kept_alike : {a b : KeptMeter} → a.stands ≡ b.stands → a.told ≡ b.told �
 kept_alike stands told = λ i. record { stands = stands i; told = told i }
 
 module _ (zone : Zone) (range : DayRange) (facts : List Fact) (row : Installation) where
-  -- The meter continues.
+  -- If a meter continues in the next file, then the collected data are those over all files.
   pub tells_both : (old new : KeptMeter) (part : MeterStatement) (m : MeterOver) → old ≡ kept_of zone range m → new ≡ with_part old row part
       → TellsPart zone range row.opening.meter true facts old.told.entries part → new ≡ kept_of zone range (both_of m (meter_in facts row))
   tells_both old new part m told is more =
@@ -192,7 +194,7 @@ module _ (zone : Zone) (range : DayRange) (facts : List Fact) (row : Installatio
       let held = ap (both_held (held_within zone range m.holds)) more.held ∙ sym (held_both zone range m.holds (holds_of facts row.opening.meter)) in
       is ∙ ap (λ (k : KeptMeter). with_part k row part) told ∙ kept_alike refl (told_alike refl entries mwh held)
 
-  -- The meter begins.
+  -- If a meter begins in the next file, then the collected data are those in this file.
   pub tells_first : (new : KeptMeter) (none : EntryTally) → none ≡ tally_of zone range [] → new.stands ≡ row
       → TellsPart zone range row.opening.meter false facts none new.told → new ≡ kept_of zone range (meter_in facts row)
   tells_first new none is stands more = kept_alike stands (told_alike more.meter_is (more.entries [] is) more.energy more.held)

@@ -1,4 +1,4 @@
--- Meters that join one after another.
+-- Lemmas on joining the meters of a register one after another.
 use Rattle.std.proofs.Common.{◌≡◌, ◌↔◌, ◌&&◌, ℕ, ◌<◌, Bool, true, false, not, List, [], ◌∷◌, length, take, Option, Some, None, inl, inr, refl, sym, subst, ◌∙◌, arith}
 use Rattle.std.specs.Prelude.{All, Contains, IsTrue, is_some}
 use Rattle.std.specs.List.{find}
@@ -12,7 +12,7 @@ use Rattle.carried_books.specs.declared.joining.meters.Apart.{Apart}
 use Rattle.office_rules.specs.Meters.{installed}
 use Rattle.carried_books.specs.Joining.Meters.{AddMeters, AddOrAreApart, AddsMeter, AddsNext, AddsOrIsApart, GoesOn, NoneGoesOn, is_before}
 
--- ---- the first meter that passes a test
+-- ---- The first meter that was not closed before another meter began
 
 pub find_none : {X : Type 0} (p : X → Bool) (xs : List X) → find p xs ≡ None → All (λ x. p x ≡ false) xs
 find_none p [] is = λ k d less. absurd (omega (arith, less))
@@ -34,7 +34,7 @@ find_some p (y ∷ ys) x is = elim (cases_Bool (p y)) [
       (Contains-append_right (y ∷ []) ys x rest.0, rest.1)
 ]
 
--- ---- a meter that continues
+-- ---- A meter that continues as a meter of a later file
 
 both_true : (a b : Bool) → (a && b) ≡ true → (a ≡ true) × (b ≡ true)
 both_true true b h = (refl, h)
@@ -54,7 +54,7 @@ goes_on_by stands row one goes both are is asks =
       λ h. are ∙ of_both one goes (is ∙ names.1 h.name) (asks.1 h.goes),
     )
 
--- ---- one more meter
+-- ---- Adding one more meter of a register
 
 not_true : (b : Bool) → not b ≡ true → b ≡ false
 not_true true is = absurd (cc is)
@@ -74,13 +74,14 @@ one_apart known row stands is =
     let found = find_some (λ stands. not (is_before stands row)) known stands is in
     (found.0, not_true _ found.1)
 
--- A meter follows these, as none of them continues as it.
+-- If a meter continues none of the earlier meters, then it follows all of them, or does not join.
 pub next_or_apart : (known : List Installation) (row : Installation) (after : List Installation) (apart : Option Apart) → NoneGoesOn known row
     → AddsNext known row after apart → AddsOrIsApart known row after apart
 next_or_apart known row after None other adds = inr adds
 next_or_apart known row after (Some apart) other adds = record { begins = adds.0; among = adds.1; not_before = adds.2; other = other }
 
--- A meter of a list does not join, after those before it.
+-- If a meter does not join after earlier meters in the list have joined, then the list does not
+-- join.
 pub apart_among : (known listed mid now after : List Installation) (row : Installation) (begun : List Installation) (apart : Option Apart)
     → is_some apart ≡ true → (n : ℕ) → take n listed ≡ begun → AddMeters known begun mid → Contains listed row → AddsOrIsApart mid row now apart
     → AddOrAreApart known listed after apart
@@ -93,7 +94,7 @@ apart_among known listed mid now after row begun (Some apart) is n same took amo
   is = adds;
 }
 
--- A meter of a list joins.
+-- If no two meters are returned that don't join, then the meter joins the earlier meters.
 pub joined_one : (mid : List Installation) (row : Installation) (now : List Installation) (apart : Option Apart) → is_some apart ≡ false
     → AddsOrIsApart mid row now apart → AddsMeter mid row now
 joined_one mid row now None isnt adds = adds

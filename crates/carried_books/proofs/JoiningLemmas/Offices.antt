@@ -1,4 +1,4 @@
--- The days of the rows of earlier files and of an office.
+-- Lemmas on the days of a register over earlier files and a running office.
 use Rattle.std.proofs.Common.{◌≡◌, ℕ, ◌+◌, ◌<◌, ◌≤◌, true, Bool, inl, inr, List, [], ◌∷◌, ◌++◌, take, get_or, length, map, Option, Some, None, Result, Ok, Err, refl, sym, ap, subst, ◌∙◌, arith, append-nil, reverse}
 use Rattle.std.specs.Prelude.{All, filter}
 use Rattle.std.specs.List.{flat_map}
@@ -55,7 +55,7 @@ use Rattle.carried_books.specs.declared.joining.days.JoinedDays.{JoinedDays}
 use Rattle.carried_books.proofs.JoiningLemmas.Days.{add_all, first_has}
 use Rattle.carried_books.proofs.JoiningLemmas.Reports.{both_within, none_within}
 
--- ---- the meters at a register
+-- ---- The meters at a register of a running office
 
 pub all_installed : (facts : List Fact) (register : List ℕ) → AreLawful facts → All (IsInstalled facts) (installations_at facts register)
 all_installed facts register lawful =
@@ -73,7 +73,8 @@ next_rows asked rows_of openings i d less =
     ∙ ap (rows_within asked) (flat_map-append rows_of (take i openings) (o ∷ []) ∙ ap (λ (rows : List Share). flat_map rows_of (take i openings) ++ rows) (append-nil (rows_of o)))
     ∙ both_within asked (flat_map rows_of (take i openings)) (rows_of o)
 
--- What is known of a listed meter.
+-- The meter at index `i` of the list has the opening at index `i` in `openings`, and the records
+-- have this opening.
 record IsListedAs (facts : List Fact) (openings : List Opening) (i : ℕ) (row : Installation) : Type 0 where
   less : i < length openings
   found : opening_of facts row.opening.meter ≡ Some (get_or openings i row.opening)
@@ -97,7 +98,7 @@ rows_told : (facts : List Fact) (asked : Span) (meter : List ℕ) (o : Opening) 
 rows_told facts asked meter o there =
     ap (λ (found : Option Opening). option_map (rows_within asked) (option_map (rows_of_opening facts) found)) there
 
--- A query for an existing meter fails only if the store failed.
+-- If a meter exists, then a query for the meter fails only if the store failed.
 there_fails : (m : Type 0) (before after : Failures) (why : Refusal) → IsFound {T = Unit {0}} m (Some tt) before after (Err why) → IsOutside m before after why
 there_fails m before after why (inl is) = absurd (cc is.0)
 there_fails m before after why (inr fails) = fails
@@ -112,9 +113,10 @@ not_listed f None before after why (inl is) = inl (ap Err is.0, is.1)
 not_listed f None before after why (inr fails) = inr fails
 not_listed f (Some x) before after why fails = inr fails
 
--- ---- the final result
+-- ---- The days over earlier files and a running office
 
--- Rows after those whose days are copied.
+-- After further intervals are added to a copy of the earlier sum, the result is the sum of all
+-- intervals.
 days_on : (zone : Zone) (rows more : List Share) (earlier : EarlierDays) (copy after : JoinedDays) → GoesOnFrom zone earlier copy → AreSumOf zone rows earlier
     → HasNumber (rows ++ more) → TakesAll TakesShare copy more after → AddUp after.fault zone (rows ++ more) after.fold
 days_on zone rows more earlier copy after is added fits took =
@@ -133,9 +135,9 @@ lists (Some fault.Memory) zone rows fold there before after (Err why) is same ad
     inl (inr (subst (IsOutside (there ≡ Some tt) before after) (sym ends) (inr (is, same))))
 
 module _ {B : Type 0} (ledger : B → Ledger) where
-  -- ---- one meter after another
+  -- ---- Adding up the energy intervals of one meter after another
 
-  -- The quarter hours of the first `n` meters were taken.
+  -- The quarter hours of the first `n` meters were added up.
   abbrev pub HaveFirst : (a b : Office B) → (listed : List Installation) → (n : ℕ) → Span → (from to : JoinedDays) → Type 0
   HaveFirst a b listed n asked from to = After ledger a b (λ past. (openings : List Opening)
       → listed ≡ map (installation_of (facts_of past)) openings → All (IsInstalled (facts_of past)) openings
@@ -198,7 +200,7 @@ module _ {B : Type 0} (ledger : B → Ledger) where
         subst P keeps.failures fails;
   }
 
-  -- ---- a register
+  -- ---- Adding up the energy intervals of a register
 
   pub asks_both : {T : Type 0} (a b d : Office B) (x : T) (result : Result (Unit {0}) Refusal) → OnlyAsks ledger a b (Ok x) → KeepsUnlessRefused ledger b d result
       → OnlyAsks ledger a d result
@@ -246,9 +248,9 @@ module _ {B : Type 0} (ledger : B → Ledger) where
         whole = tt;
       }
 
-  -- ---- the days
+  -- ---- The days of a register over earlier files and a running office
 
-  -- A row was out of order after the office answered.
+  -- If an interval is out of order after the office answered, then the query is refused.
   out_of_turn : {T : Type 0} (a b : Office B) → (is_stopped a ≡ true → ⊥) → Keeps ledger a b → OnlyAsks {T = T} ledger a b (Err (refusal.Store store.NoDay))
   out_of_turn a b goes kept = record {
     stands = kept.stands;
@@ -285,7 +287,8 @@ module _ {B : Type 0} (ledger : B → Ledger) where
       (failures_of ledger b) result found.0 found.1
       (days_on zone rows (rows_within asked (rows_of_register facts register)) earlier copy after is added fits it.whole) ends
 
-  -- A refusal that does not depend on memory.
+  -- If the lookup of a register fails, then the query for its days is refused for the reason of the
+  -- lookup.
   refused_so : (a b : Office B) (facts : List Fact) (register : List ℕ) (why : Refusal)
       → IsRowFound {T = Unit {0}} (is_there (register_of facts register)) (failures_of ledger a) (failures_of ledger b) (Err why)
       → IsFound {T = Unit {0}} (is_there (register_of facts register) ≡ Some tt) (is_there (register_of facts register)) (failures_of ledger a)
@@ -300,7 +303,7 @@ module _ {B : Type 0} (ledger : B → Ledger) where
   days_missing a b zone earlier copy after register asked why asks = λ past stands clean rows added fits.
       inl (refused_so a b (facts_of past) register why (asks past stands clean).answer)
 
-  -- ---- without memory for the days
+  -- ---- The refusal if memory for the days ran out
 
   pub lacks_register : (a b : Office B) (register : List ℕ) (why : Refusal)
       → ListsAccepted {T = Installation} ledger a b (Err why) (λ facts. meters_named facts (Some register)) → LacksMemory ledger a b register why

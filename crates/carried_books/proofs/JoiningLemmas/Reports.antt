@@ -1,4 +1,4 @@
--- The reported days of files that join.
+-- Lemmas on the reported days of files that join.
 use Rattle.std.proofs.Common.{◌≡◌, ℕ, ◌+◌, ◌<◌, ◌^◌, ◌==◌, Bool, true, false, cond, not, List, [], ◌∷◌, ◌++◌, length, Option, inl, inr, refl, sym, ap, subst, ◌∙◌, arith}
 use Rattle.std.specs.Prelude.{filter, map, if◌then◌else◌}
 use Rattle.std.specs.List.{list_any}
@@ -40,7 +40,7 @@ use Rattle.carried_books.specs.Joining.Files.{HasJoined, rows_over, rows_over_wi
 use Rattle.carried_books.specs.Joining.Reports.{IsReportOver}
 use Rattle.carried_books.specs.declared.joining.files.JoinedFiles.{JoinedFiles}
 
--- ---- the requested rows
+-- ---- The energy intervals around the requested days
 
 pub both_within : (span : Span) (rows more : List Share) → rows_within span (rows ++ more) ≡ rows_within span rows ++ rows_within span more
 both_within All rows more = refl
@@ -72,7 +72,7 @@ with_number (Between from till) rows more fits =
     let part : energy_of (rows ++ filter asked more) ≡ energy_of rows + energy_of (filter asked more) = sum_by-append (λ (row : Share). row.mwh) rows (filter asked more) in
     omega (arith, fits, both, whole, part)
 
--- ---- days out of the range are not shown
+-- ---- Civil days outside the range of a report are not reported
 
 twice : {X : Type 0} (p : X → Bool) (xs : List X) → filter p (filter p xs) ≡ filter p xs
 twice p [] = refl
@@ -85,9 +85,9 @@ same_text : (form : ReportForm) (days : List DayTotal) → report_text form (day
 same_text form days =
     ap (λ (those : List DayTotal). rows_text form (map shown (rows_by form.period those))) (twice (λ total. is_in form.range total.day) days)
 
--- ---- the report
+-- ---- The report of a register over all files
 
--- The days of the requested rows are shown as those of all rows in the range.
+-- The days in the range have equal energy for the intervals around the range and for all intervals.
 pub report_over : (zone : Zone) (register : List ℕ) (files : List (List Fact)) (form : ReportForm) (days : List DayTotal) → AccountsAreOne
     → AreAccounts zone (rows_within (span_of form.range) (rows_over register files)) (map account_of days)
     → IsReportOver zone register files form (report_text form days)
@@ -99,7 +99,7 @@ report_over zone register files form days one totals =
       sym (same_text form days),
     )
 
--- ---- days of all rows of earlier files, and of the requested rows of the latest
+-- ---- The days of earlier files' intervals and of the requested intervals of the latest file
 
 days_with : (zone : Zone) (range : DayRange) (asked : Span) → ((start : ℕ) → has_day range (day_at zone start) ≡ true → is_within asked start ≡ true)
     → AccountsAreOne → (rows more : List Share) (days : List DayTotal) → AreAccounts zone (rows ++ rows_within asked more) (map account_of days)
@@ -141,7 +141,7 @@ is_over zone register files form joined days one has fits are =
     let totals = subst (λ (accounts : List DayAccount). AreAccounts zone (rows_over_within span register files) accounts) (sym are) taken.accounts in
     report_over zone register files form days one (subst (λ (those : List Share). AreAccounts zone those (map account_of days)) same totals)
 
--- The writer stays the same.
+-- After the days of a report are written, the report still has the writer that it had before.
 pub taken_by : {W : Type 0} (contents : W → Option (List ℕ)) (days : List DayTotal) (from to : ReportRows W) → TakesAll (TakesDay contents) from days to
     → to.output.ghost_name ≡ from.output.ghost_name
 taken_by {W} contents [] from to took = ap (λ (rows : ReportRows W). rows.output.ghost_name) took
@@ -161,9 +161,9 @@ told_over contents form days from to left output status fresh took few last =
     let told = told_by left.failed status (report_text from.form days) (contents from.output.now) (contents left.output.now) last.means got in
     rw (sym fresh.form, sym fresh.output) told
 
--- ---- a meter that is rolled over
+-- ---- The report of a meter that is rolled over
 
--- The number of different numbers is 0 exactly if there is no number.
+-- If a list of numbers is not empty, then it has at least one distinct number.
 positive : (ns : List ℕ) → 0 < length ns → 0 < distinct_count ns
 positive [] less = absurd (omega (arith, less))
 positive (n ∷ []) less = omega arith
@@ -178,7 +178,7 @@ some_there : (ns : List ℕ) → 0 < distinct_count ns → 0 < length ns
 some_there [] less = absurd (omega (arith, less))
 some_there (n ∷ ns) less = omega arith
 
--- Rows with as many quarter hours as others exist if the others do.
+-- If a list has as many distinct quarter hours as a list that is not empty, then it is not empty.
 there_too : (rows others : List Share) → distinct_count (starts_of rows) ≡ distinct_count (starts_of others) → 0 < length rows → 0 < length others
 there_too rows others same less =
     let counted = positive (starts_of rows) (subst (λ n. 0 < n) (sym (length-map rows (λ (row : Share). row.start))) less) in

@@ -1,4 +1,4 @@
--- The reported meter of a register is the last meter of all files.
+-- The theorem that the latest meter reported for a register is its last meter in all files.
 use Rattle.std.proofs.Common.{◌≡◌, ℕ, ◌-◌, Bool, true, false, suc, List, [], ◌∷◌, ◌++◌, map, reverse, length, Option, Some, None, inl, inr, refl, sym, ap, subst, ◌∙◌, arith}
 use Rattle.std.specs.Prelude.{◌⊎◌, ◌≢◌, ◌&&◌, not, All, filter}
 use Rattle.std.specs.List.{AllPairs, find, slice_get}
@@ -21,7 +21,7 @@ use Rattle.carried_books.specs.Joining.Sites.{LatestIsOfAllFiles, is_left, last_
 use Rattle.carried_books.specs.declared.joining.sites.LatestMeter.{LatestMeter}
 use Rattle.carried_books.proofs.JoiningLemmas.OneFile.{all_turned, takes_last}
 
--- ---- the last of a list
+-- ---- The last meter of a list
 
 get_last : {X : Type 0} (xs : List X) (x : X) → slice_get (xs ++ x ∷ []) (length xs) ≡ Some x
 get_last [] x = refl
@@ -49,7 +49,7 @@ split_last (x ∷ xs) = elim (split_last xs) [
   | inr at ↦ inr (record { front = x ∷ at.front; last = at.last; is = ap (λ l. x ∷ l) at.is })
 ]
 
--- The first item that passes a test is the first of those that pass.
+-- If an item is the first that passes a test, then it is the first of all items that pass the test.
 found_first : {X : Type 0} (p : X → Bool) (xs : List X) → find p xs ≡ slice_get (filter p xs) 0
 found_first p [] = refl
 found_first p (x ∷ xs) = elim (cases_Bool (p x)) [
@@ -57,7 +57,7 @@ found_first p (x ∷ xs) = elim (cases_Bool (p x)) [
   | inr fails ↦ cond-false _ _ _ fails ∙ found_first p xs ∙ sym (ap (λ l. slice_get l 0) (cond-false _ _ _ fails))
 ]
 
--- ---- a meter that was left open
+-- ---- A meter that the earlier files left open
 
 both_hold : (a b : Bool) → a ≡ true → b ≡ true → (a && b) ≡ true
 both_hold true b is holds = holds
@@ -71,7 +71,8 @@ not_left : (ended a b : Bool) → (ended && a) ≡ true → (not ended && b) ≡
 not_left true a b is = refl
 not_left false a b is = absurd (cc is)
 
--- None of these meters is the meter that was left open, if the last is not.
+-- If the office's meter is not the meter that the earlier files left open, then it is the latest
+-- meter.
 told_as_new : (known : List Installation) (row : Installation)
     → ((front : List Installation) (stands : Installation) → known ≡ front ++ stands ∷ [] → is_left stands row ≡ false)
     → option_map meter_of (latest_meter known (Some row)) ≡ Some row
@@ -84,7 +85,7 @@ told_as_new known row other = elim (split_last known) [
       ∙ ap (λ (it : LatestMeter). Some (meter_of it)) told
 ]
 
--- ---- one meter of the office
+-- ---- The latest meter of a register if the office has one meter
 
 told_of_one : (known : List Installation) (row : Installation) (all : List Installation) → AddsMeter known row all
     → option_map meter_of (latest_meter known (Some row)) ≡ last_of all
@@ -101,9 +102,9 @@ told_of_one known row all (inr is) =
     told_as_new known row (λ front stands at. not_left stands.ended _ _ (last_holds P front stands (subst (All P) at is.earlier)))
     ∙ sym (ap last_of is.after_is ∙ last_pushed known row)
 
--- ---- several
+-- ---- The latest meter of a register if the office has several meters
 
--- After one more meter, the last of the meters has its name.
+-- The list `rows` ends with a meter whose name has the property `P`.
 record EndsAs (rows : List Installation) (P : List ℕ → Type 0) : Type 0 where
   last : Installation
   is : last_of rows ≡ Some last
@@ -134,7 +135,7 @@ comes_last mid row all ends (inl is) =
     absurd (ends.named (is.goes.name ∙ ap (λ (meter : Installation). meter.opening.meter) one))
 comes_last mid row all ends (inr is) = ap last_of is.after_is ∙ last_pushed mid row
 
--- The first meter of the office is between the last of the earlier files and a later one.
+-- The first meter of the office is between the last meter of the earlier files and a later meter.
 first_between : (known : List Installation) (first row : Installation) (next : List Installation) → row.opening.meter ≢ first.opening.meter
     → AddsMeter known first next → (front : List Installation) (stands : Installation) → known ≡ front ++ stands ∷ [] → is_left stands row ≡ false
 first_between known first row next other (inl is) front stands at =
@@ -159,7 +160,7 @@ told_of_several known (first ∷ rest) row mid all others took step =
     told_as_new known row (first_between known first row took.0 (All-head P first rest others) took.1)
     ∙ sym (comes_last mid row all (after_several (λ name. row.opening.meter ≢ name) known first rest mid others took) step)
 
--- ---- all meters of the office
+-- ---- The latest meter of a register for any number of meters of the office
 
 none_told : (stands : Option Installation) → option_map meter_of (latest stands None) ≡ stands
 none_told None = refl

@@ -1,4 +1,4 @@
--- What is stored of meters over several files, for their statement.
+-- Lemmas on the collected data of meters over several files, for their statements.
 use Rattle.std.proofs.Common.{◌≡◌, ℕ, ◌&&◌, Bool, true, false, not, List, [], ◌∷◌, ◌++◌, map, Option, Some, None, Result, Ok, Err, IfOk, inl, inr, refl, sym, ap, subst, ◌∙◌, append-nil, arith}
 use Rattle.std.specs.Prelude.{All, Contains, filter, find, is_some}
 use Rattle.std.specs.Option.{option_map}
@@ -26,7 +26,7 @@ use Rattle.carried_books.specs.declared.joining.statements.JoinedStatement.{Join
 use Rattle.carried_books.proofs.JoiningLemmas.Files.{is_in_both, is_kept}
 use Rattle.carried_books.proofs.JoiningLemmas.Meters.{all_before, next_or_apart, one_apart}
 
--- ---- lists of them
+-- ---- Lists of collected meter data
 
 all_stand : (zone : Zone) (range : DayRange) (meters : List MeterOver) → map stands_of (map (kept_of zone range) meters) ≡ map (λ m. m.stands) meters
 all_stand zone range [] = refl
@@ -52,7 +52,7 @@ module _ (zone : Zone) (range : DayRange) where
         | inr isnt ↦ ap (map told_of) (cond-false _ _ _ isnt) ∙ rest ∙ sym (ap (map (statement_over zone range)) (cond-false _ _ _ isnt))
       ]
 
-  -- The last of the stored meters.
+  -- The last of the meters whose data were collected.
   pub told_last : (kept : List KeptMeter) (one : KeptMeter) (meters : List MeterOver) → AreTold zone range (kept ++ one ∷ []) meters
       → (before : List MeterOver) × (m : MeterOver) × (meters ≡ before ++ m ∷ []) × AreTold zone range kept before × (one ≡ kept_of zone range m)
   told_last [] one [] told = absurd (cc told)
@@ -82,7 +82,7 @@ module _ (zone : Zone) (range : DayRange) where
       let same : map stands_of kept ≡ map (λ m. m.stands) meters = ap (map stands_of) told ∙ all_stand zone range meters in
       stand_before row meters (subst (All (λ stands. is_before stands row ≡ true)) same all)
 
-  -- ---- one more row
+  -- ---- Adding one more meter of a file to the collected data
 
   pub goes_on_told : (facts : List Fact) (row : Installation) (kept : List KeptMeter) (last new : KeptMeter) (old after : List KeptMeter)
       → old ≡ kept ++ last ∷ [] → GoesOn last.stands row
@@ -118,7 +118,7 @@ module _ (zone : Zone) (range : DayRange) where
         after_is ∙ told_more old new meters m told tells,
       )
 
-  -- ---- all rows of a file
+  -- ---- Adding all meters of a file to the collected data
 
   pub told_none : (facts : List Fact) (old : List KeptMeter) → TellsAll zone range facts [] old old None
   told_none facts old = λ meters told. (meters, refl, told)
@@ -136,13 +136,14 @@ module _ (zone : Zone) (range : DayRange) where
         next.2,
       )
 
-  -- ---- the rows of a statement
+  -- ---- The statements of the meters whose data were collected
 
   pub rows_told : (kept : List KeptMeter) (meters : List MeterOver) → AreTold zone range kept meters
       → rows_of_those zone range kept ≡ statements_over zone range meters
   rows_told kept meters told = ap (rows_of_those zone range) told ∙ rows_of_meters meters
 
-  -- One more meter.
+  -- The statements of two appended lists of meters are the statements of the first list, then of
+  -- the second.
   pub rows_both : (kept more : List KeptMeter) → rows_of_those zone range (kept ++ more) ≡ rows_of_those zone range kept ++ rows_of_those zone range more
   rows_both kept more =
       let there : KeptMeter → Bool = λ one. was_there zone range one.stands in
@@ -156,7 +157,7 @@ module _ (zone : Zone) (range : DayRange) where
       → before ≡ before ++ rows_of_those zone range (one ∷ [])
   row_absent one before isnt = sym (ap (λ (rows : List MeterStatement). before ++ rows) (ap (map told_of) (cond-false _ _ _ isnt)) ∙ append-nil before)
 
--- ---- the states of the meters
+-- ---- The states of the meters whose data were collected
 
 find_stands : (row : Installation) (kept : List KeptMeter) → option_map stands_of (find (λ one. not (is_before one.stands row)) kept)
     ≡ find (λ stands. not (is_before stands row)) (map stands_of kept)
@@ -166,12 +167,13 @@ find_stands row (one ∷ kept) = elim (cases_Bool (not (is_before one.stands row
   | inr isnt ↦ ap (option_map stands_of) (cond-false _ _ _ isnt) ∙ find_stands row kept ∙ sym (cond-false _ _ _ isnt)
 ]
 
--- A meter was not before the next one.
+-- If a search finds a meter that does not precede `row`, then the found meter does not precede
+-- `row`.
 pub stands_apart : (row stands : Installation) (kept : List KeptMeter) → option_map stands_of (find (λ one. not (is_before one.stands row)) kept) ≡ Some stands
     → Contains (map stands_of kept) stands × (is_before stands row ≡ false)
 stands_apart row stands kept is = one_apart (map stands_of kept) row stands (sym (find_stands row kept) ∙ is)
 
--- All meters were before the next one.
+-- If a search finds no meter that does not precede `row`, then all meters precede `row`.
 pub stand_earlier : (row : Installation) (kept : List KeptMeter) → option_map stands_of (find (λ one. not (is_before one.stands row)) kept) ≡ None
     → All (λ stands. is_before stands row ≡ true) (map stands_of kept)
 stand_earlier row kept is = all_before (map stands_of kept) row (sym (find_stands row kept) ∙ is)
@@ -181,12 +183,12 @@ stand_more : (kept : List KeptMeter) (one : KeptMeter) (all : List KeptMeter) (s
 stand_more kept one all stands are is =
     ap (map stands_of) are ∙ map-append stands_of kept (one ∷ []) ∙ ap (λ (those : Installation). map stands_of kept ++ those ∷ []) is
 
--- The next meter follows them.
+-- If all collected meters precede the meter `row`, then `row` is appended to them.
 pub stands_next : (row : Installation) (new : KeptMeter) (old after : List KeptMeter) → All (λ stands. is_before stands row ≡ true) (map stands_of old)
     → after ≡ old ++ new ∷ [] → new.stands ≡ row → IsNext (map stands_of old) row (map stands_of after)
 stands_next row new old after earlier are is = record { earlier = earlier; after_is = stand_more old new after row are is }
 
--- The last meter continues as the next one.
+-- If the meter `row` continues the last collected meter, then `row` joins the collected meters.
 pub stands_on : (row : Installation) (last new : KeptMeter) (kept old after : List KeptMeter) → old ≡ kept ++ last ∷ [] → GoesOn last.stands row
     → after ≡ kept ++ new ∷ [] → new.stands ≡ as_one last.stands row → AddsMeter (map stands_of old) row (map stands_of after)
 stands_on row last new kept old after old_is goes after_is is = inl (record {
@@ -197,7 +199,7 @@ stands_on row last new kept old after old_is goes after_is is = inl (record {
   after_is = stand_more kept new after (as_one last.stands row) after_is is;
 })
 
--- The last meter does not continue, and the next one follows all of them or is apart.
+-- If the meter `row` does not continue the last meter, then it follows all meters or does not join.
 pub stands_otherwise : (row : Installation) (last : KeptMeter) (kept old mid after : List KeptMeter) (apart : Option Apart) → old ≡ kept ++ last ∷ []
     → (GoesOn last.stands row → ⊥) → mid ≡ kept ++ last ∷ [] → AddsNext (map stands_of mid) row (map stands_of after) apart
     → AddsOrIsApart (map stands_of old) row (map stands_of after) apart
@@ -206,7 +208,7 @@ stands_otherwise row last kept old mid after apart old_is other mid_is adds =
     (inr (record { before = map stands_of kept; stands = last.stands; known_is = stand_more kept last old last.stands old_is refl; other = other }))
     (subst (λ (those : List KeptMeter). AddsNext (map stands_of those) row (map stands_of after) apart) (mid_is ∙ sym old_is) adds)
 
--- No meter was before.
+-- If no meter was collected before, then the list of collected data is empty.
 nothing_before : (old mid : List KeptMeter) → old ≡ mid ++ [] → mid ≡ [] → old ≡ []
 nothing_before old mid old_is mid_is = old_is ∙ append-nil mid ∙ mid_is
 
@@ -216,13 +218,13 @@ stands_first row old mid after apart old_is mid_is adds =
     next_or_apart (map stands_of old) row (map stands_of after) apart (inl (ap (map stands_of) (nothing_before old mid old_is mid_is)))
     (subst (λ (those : List KeptMeter). AddsNext (map stands_of those) row (map stands_of after) apart) (sym (old_is ∙ append-nil mid)) adds)
 
--- The same for equal meters.
+-- If two lists of collected data are equal, then `TellsAll` holds for both of them.
 pub told_from : (zone : Zone) (range : DayRange) (facts : List Fact) (listed : List Installation) (old mid new : List KeptMeter) (apart : Option Apart)
     → old ≡ mid → TellsAll zone range facts listed mid new apart → TellsAll zone range facts listed old new apart
 told_from zone range facts listed old mid new apart same tells =
     subst (λ (those : List KeptMeter). TellsAll zone range facts listed those new apart) (sym same) tells
 
--- The listed meters of the store.
+-- After the meters that the store lists are added, the collected data have these meters.
 pub added_listed : (zone : Zone) (range : DayRange) (facts : List Fact) (listed shown : List Installation) (old new : List KeptMeter)
     (result : Result (Option Apart) BooksFault) → shown ≡ listed → IfOk result (AddOrAreApart (map stands_of old) shown (map stands_of new))
     → IfOk result (TellsAll zone range facts shown old new) → IfOk result (AddsListed zone range facts listed old new)
@@ -232,13 +234,13 @@ added_listed zone range facts listed shown old new (Ok apart) same joins tells =
 )
 added_listed zone range facts listed shown old new (Err why) same joins tells = tt
 
--- If two meters are apart, nothing is reported.
+-- If two meters don't join, then `TellsAll` is trivially true.
 pub told_apart : (zone : Zone) (range : DayRange) (facts : List Fact) (listed : List Installation) (old new : List KeptMeter) (apart : Option Apart)
     → is_some apart ≡ true → TellsAll zone range facts listed old new apart
 told_apart zone range facts listed old new None is = absurd (cc is)
 told_apart zone range facts listed old new (Some apart) is = tt
 
--- ---- one more file
+-- ---- Joining one more file for a statement
 
 pub parts_so : (register : List ℕ) (facts : List Fact) (old : JoinedStatement) (new : List KeptMeter) (zone : Zone) (range : DayRange) (apart : Apart)
     → AddsListed zone range facts (installations_of facts register) old.meters.items new (Some apart)

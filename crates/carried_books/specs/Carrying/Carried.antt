@@ -1,4 +1,4 @@
--- What a file rollover leaves of the old store and of the new office.
+-- The state of the old store and of the new office after a file rollover.
 use Rattle.std.specs.Prelude.{◌≡◌, ℕ, List, Option, Result, Ok, Err}
 use Rattle.office_events.specs.declared.facts.Fact.{Fact}
 use Rattle.office_events.specs.declared.refusals.Refusal.{Refusal}
@@ -18,20 +18,20 @@ use Rattle.carried_books.specs.declared.carrying.plans.Plan.{Plan}
 use Rattle.carried_books.specs.declared.carrying.plans.Plan.TheVariants as plan
 use Rattle.carried_books.specs.declared.carrying.plans.Plan.TheVariants.{Ready}
 
--- `says` is true of the old store's records. No wrong result of the old store was taken as true.
+-- True if `says` holds for the old store's records. No wrong result of the old store was used.
 abbrev pub OfOld : (old new : Ledger) → (List Fact → Type 0) → Type 0
 OfOld old new says = (known : List Fact) → old.holds known → new.is_clean → says known
 
--- The new office executed all commands of the rollover, which follow from the old store's records
--- and install `meters` meters.
+-- The new office executed all commands of the file rollover, which follow from the old store's
+-- records and install `meters` meters.
 pub record IsCarried {N : Type 0} (old new : Ledger) (until : Option ℕ) (ledger : N → Ledger)
     (before after : Office N) (meters : ℕ) : Type 0 where
   pub commands : List TimedCommand
   pub are : OfOld old new (λ known. AreCarried known until commands meters)
   pub fed : After ledger before after (λ past. AreFed ledger past commands before after)
 
--- The new office refused one of the rollover's commands, and is in the state after the commands
--- before it.
+-- The new office refused one of the file rollover's commands, and is in the state after the earlier
+-- commands.
 pub record IsBrokenOff {N : Type 0} (old new : Ledger) (until : Option ℕ) (ledger : N → Ledger)
     (before after : Office N) (why : Refusal) : Type 0 where
   pub commands : List TimedCommand
@@ -39,16 +39,18 @@ pub record IsBrokenOff {N : Type 0} (old new : Ledger) (until : Option ℕ) (led
   pub are : OfOld old new (λ known. AreCarried known until commands meters)
   pub fed : After ledger before after (λ past. AreFedUpTo ledger past commands before after why)
 
--- An open meter of the old store has no valid entry up to `until`, and the new office was given no
--- command.
+-- True if an open meter of the old store has no valid entry up to `until`. In this case the new
+-- office was given no command.
 pub record WaitsFor {N : Type 0} (old new : Ledger) (until : Option ℕ) (before after : Office N)
     (meter : List ℕ) : Type 0 where
   pub none : after ≡ before
   pub are : OfOld old new (λ known. IsNotYet known until (open_meters known) meter)
 
--- The result of a rollover. A success has the number of installed meters. A fault is a command that
--- the new office refused, or an open meter without an entry. It may also be a failure of the old
--- store or memory; then the new office got no command.
+-- The result of a file rollover.
+--
+-- A success has the number of installed meters. A fault is a command that the new office refused,
+-- or an open meter without an entry. It may also be a failure of the old store or memory; then the
+-- new office got no command.
 abbrev pub Carries : {N : Type 0} → (old new : Ledger) → (until : Option ℕ) → (N → Ledger)
     → (before after : Office N) → Result ℕ CarryFault → Type 0
 Carries old new until ledger before after (Ok meters) =
@@ -59,8 +61,10 @@ Carries old new until ledger before after (Err (NotYet meter)) =
     WaitsFor old new until before after meter
 Carries old new until ledger before after (Err (Old why)) = after ≡ before
 
--- The new office followed a plan: it executed all commands, or refused one. If the plan names a
--- meter that can't be rolled over yet, no command was given.
+-- The new office followed a file rollover plan: it executed all commands of the plan, or refused a
+-- command.
+--
+-- If the plan names a meter that can't be rolled over yet, the office was given no command.
 abbrev pub Follows : {N : Type 0} → (N → Ledger) → Plan → (before after : Office N)
     → Result ℕ CarryFault → Type 0
 Follows ledger (Ready commands meters) before after (Ok n) =
@@ -72,20 +76,21 @@ Follows ledger (plan.NotYet meter) before after (Err (NotYet name)) =
     (name ≡ meter) × (after ≡ before)
 Follows ledger _ before after _ = ⊥
 
--- The old store or memory failed, and `why` reports that failure.
+-- The old store failed or memory ran out, and `why` reports that failure.
 pub record FailedBy (before after : Failures) (why : Refusal) : Type 0 where
   pub fault : BooksFault
   pub is : why ≡ as_refusal fault
   pub failures : FailuresAfterCalls {T = Unit {0}} (Err fault) before after
 
--- The failure counts of the old store change exactly if the result reports a failure of it.
+-- The failure counts of the old store change exactly if the result reports a failure of that store.
 abbrev pub TellsFailures : (before after : Failures) → Result ℕ CarryFault → Type 0
 TellsFailures before after (Ok meters) = after ≡ before
 TellsFailures before after (Err (New why)) = after ≡ before
 TellsFailures before after (Err (NotYet meter)) = after ≡ before
 TellsFailures before after (Err (Old why)) = FailedBy before after why
 
--- The old store was only queried: its records, its zone and what a crash may leave are unchanged.
+-- The old store was only queried: its records, its time zone and its state after a crash are
+-- unchanged.
 pub record OnlyAsked (old new : Ledger) (result : Result ℕ CarryFault) : Type 0 where
   pub keeps : KeepsFacts old new
   pub failures : TellsFailures old.failures new.failures result

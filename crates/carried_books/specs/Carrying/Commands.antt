@@ -1,5 +1,5 @@
--- The commands that set up a new office with the devices, point lists, registers and meters of an
--- old one.
+-- The commands that set up a new office with the devices, point lists, accounting registers and
+-- meters of an old one.
 use Rattle.std.specs.Prelude.{ℕ, List, [], ◌∷◌, ◌++◌, map, Some}
 use Rattle.std.specs.Option.{option_map, option_to_list}
 use Rattle.std.specs.List.{flat_map}
@@ -22,9 +22,9 @@ use Rattle.carried_books.specs.declared.carrying.commands.TimedCommand.{TimedCom
 abbrev pub timed : (at : ℕ) → Command → TimedCommand
 timed at c = record { at = at; command = c }
 
--- ---- the command of each row
+-- ---- Commands that set up a device, a point list, an accounting register or a meter
 
--- The command that adds a device.
+-- The command that adds a device to the new office.
 abbrev pub device_command : Device → Command
 device_command device = command.AddDevice (record {
   name = Some device.name;
@@ -33,16 +33,16 @@ device_command device = command.AddDevice (record {
   window = device.window;
 })
 
--- The command that stores a device's point list.
+-- The command that stores the point list of a device.
 abbrev pub list_command : (device : List ℕ) → Planned → Command
 list_command device list = command.PutList (record { device = Some device; list = list })
 
--- Where an accounting register's scale is, as a command gives it.
+-- The source of an accounting register's scale, as an argument of a command.
 abbrev pub scale_given : ScaleSource → GivenScale
 scale_given (source.Fixed sf) = given.Fixed sf
 scale_given (source.Register address) = given.Register address
 
--- The command that adds an accounting register.
+-- The command that adds an accounting register to the new office.
 abbrev pub register_command : Register → Command
 register_command register = command.AddRegister (record {
   name = Some register.name;
@@ -52,7 +52,7 @@ register_command register = command.AddRegister (record {
   scale = scale_given register.scale;
 })
 
--- The command that installs a meter.
+-- The command that installs a meter in the new office, with a given opening.
 abbrev pub install_command : Opening → Command
 install_command opening = command.Install (record {
   register = Some opening.register;
@@ -63,22 +63,22 @@ install_command opening = command.Install (record {
   range = opening.range;
 })
 
--- ---- a device, its list if it has one, and its registers, all at one timestamp
+-- ---- Commands for a device, its point list and its accounting registers, all with one timestamp
 
--- The command for a device, with its timestamp.
+-- The command that adds a device, with the command's timestamp.
 abbrev pub add_device : (at : ℕ) → Device → TimedCommand
 add_device at device = timed at (device_command device)
 
--- The command for a point list, with its timestamp.
+-- The command that stores a device's point list, with the command's timestamp.
 abbrev pub put_list : (at : ℕ) → (device : List ℕ) → Planned → TimedCommand
 put_list at device list = timed at (list_command device list)
 
--- The command for a device's point list, with its timestamp; empty if the device has none.
+-- The command for a device's point list, with its timestamp; empty if the device has no point list.
 abbrev pub put_lists : (at : ℕ) → List Fact → Device → List TimedCommand
 put_lists at facts device =
     option_to_list (option_map (put_list at device.name) (list_of facts device.name))
 
--- The command for an accounting register, with its timestamp.
+-- The command that adds an accounting register, with the command's timestamp.
 abbrev pub add_register : (at : ℕ) → Register → TimedCommand
 add_register at register = timed at (register_command register)
 
@@ -96,19 +96,20 @@ set_up_device at facts device =
 abbrev pub set_up_devices : (at : ℕ) → List Fact → List Device → List TimedCommand
 set_up_devices at facts devices = flat_map (set_up_device at facts) devices
 
--- ---- a meter, at the timestamp of its opening
+-- ---- The command that installs a meter, at the timestamp of its opening
 
 -- The command that installs a meter, with the timestamp of its opening.
 abbrev pub install : Opening → TimedCommand
 install opening = timed opening.at (install_command opening)
 
--- The timestamp at which devices are set up: that of the first opening, or the latest recorded one
--- if there is no opening.
+-- The timestamp at which devices are set up: the timestamp of the first opening, or the latest
+-- recorded timestamp if there are no openings.
 abbrev pub first_moment : List Fact → List Opening → ℕ
 first_moment facts [] = latest_in facts
 first_moment facts (opening ∷ openings) = opening.at
 
--- The commands that set up these devices, followed by those that install these meters.
+-- The commands that set up the devices in `devices`, followed by the commands that install a meter
+-- for each opening in `openings`.
 abbrev pub commands_for : List Fact → List Device → List Opening → List TimedCommand
 commands_for facts devices openings =
     set_up_devices (first_moment facts openings) facts devices ++ map install openings

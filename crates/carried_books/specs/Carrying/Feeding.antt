@@ -1,4 +1,4 @@
--- Commands that are fed to an office in order.
+-- The definition of feeding commands to an office in order.
 use Rattle.std.specs.Prelude.{◌≡◌, List, [], ◌∷◌, ◌++◌, Result, Ok, Err}
 use Rattle.office_events.specs.declared.events.Event.{Event}
 use Rattle.office_events.specs.declared.events.Event.TheVariants as event
@@ -10,7 +10,7 @@ use Rattle.office_core.specs.Standing.{After, Stands, books_in}
 use Rattle.office_core.specs.Taking.{IsAnswer, failures_of}
 use Rattle.carried_books.specs.declared.carrying.commands.TimedCommand.{TimedCommand}
 
--- The event that requests the command.
+-- The event that carries a command to an office.
 abbrev pub event_of : TimedCommand → Event
 event_of timed = event.Command timed.command
 
@@ -18,26 +18,26 @@ event_of timed = event.Command timed.command
 abbrev pub accepted : TimedCommand → Accepted
 accepted timed = Fed timed.at (event_of timed)
 
--- What an office has accepted after it executed these commands.
+-- The history of an office after it executed a list of commands in order.
 abbrev pub history_with : History → List TimedCommand → History
 history_with past [] = past
 history_with past (timed ∷ later) = history_with (accepted timed ∷ past) later
 
--- The office executed all of these commands, and its store did not fail.
+-- The office executed all commands in `commands`, and its store did not fail.
 pub record AreFed {B : Type 0} (ledger : B → Ledger) (past : History)
     (commands : List TimedCommand) (old new : Office B) : Type 0 where
   pub stands : Stands ledger (history_with past commands) new
   pub failures : failures_of ledger new ≡ failures_of ledger old
 
--- The office refused the command with this reason, and is in its earlier state.
+-- The office refused the command for the reason `why`, and its state is unchanged.
 pub record IsRefused {B : Type 0} (ledger : B → Ledger) (past : History) (timed : TimedCommand)
     (old new : Office B) (why : Refusal) : Type 0 where
   pub stands : Stands ledger past new
   pub answer : IsAnswer past timed.at (event_of timed)
       (failures_of ledger old) (failures_of ledger new) (Err why)
 
--- The office executed the first of these commands, and refused the next one; the commands after it
--- were not fed.
+-- The office executed the first commands in `commands`, and refused the next one. The later
+-- commands were not fed.
 pub record AreFedUpTo {B : Type 0} (ledger : B → Ledger) (past : History)
     (commands : List TimedCommand) (old new : Office B) (why : Refusal) : Type 0 where
   pub given : List TimedCommand
@@ -46,32 +46,32 @@ pub record AreFedUpTo {B : Type 0} (ledger : B → Ledger) (past : History)
   pub are : commands ≡ given ++ next ∷ later
   pub refused : IsRefused ledger (history_with past given) next old new why
 
--- The office executed the command on `Ok`, and refused it on an error.
+-- On `Ok` the office executed the command, and on an error the office refused the command.
 abbrev pub IsFedOr : {B : Type 0} → (B → Ledger) → History → TimedCommand
     → (old new : Office B) → Result (Unit {0}) Refusal → Type 0
 IsFedOr ledger past timed old new (Ok done) = AreFed ledger past (timed ∷ []) old new
 IsFedOr ledger past timed old new (Err why) = IsRefused ledger past timed old new why
 
--- The office executed all commands on `Ok`, and refused one of them on an error.
+-- On `Ok` the office executed all commands, and on an error the office refused a command.
 abbrev pub AreFedOr : {B : Type 0} → (B → Ledger) → History → List TimedCommand
     → (old new : Office B) → Result (Unit {0}) Refusal → Type 0
 AreFedOr ledger past commands old new (Ok done) = AreFed ledger past commands old new
 AreFedOr ledger past commands old new (Err why) = AreFedUpTo ledger past commands old new why
 
--- `IsFedOr` holds for every past in whose state the office was.
+-- `IsFedOr` holds for every history of the office before the command.
 abbrev pub FeedsOne : {B : Type 0} → (B → Ledger) → TimedCommand → (old new : Office B)
     → Result (Unit {0}) Refusal → Type 0
 FeedsOne ledger timed old new result =
     After ledger old new (λ past. IsFedOr ledger past timed old new result)
 
--- `AreFedOr` holds for every past in whose state the office was.
+-- `AreFedOr` holds for every history of the office before the commands.
 abbrev pub Feeds : {B : Type 0} → (B → Ledger) → List TimedCommand → (old new : Office B)
     → Result (Unit {0}) Refusal → Type 0
 Feeds ledger commands old new result =
     After ledger old new (λ past. AreFedOr ledger past commands old new result)
 
--- A store that is clean after the call was clean before it, and its zone stays, whatever the store
--- returned.
+-- If a store is clean after the call (no wrong result of it was used), then the store was clean
+-- before the call. The store's time zone is unchanged in any case.
 pub record Passes {B : Type 0} (ledger : B → Ledger) (old new : Office B) : Type 0 where
   pub clean : (ledger (books_in new)).is_clean → (ledger (books_in old)).is_clean
   pub zone : (ledger (books_in new)).zone ≡ (ledger (books_in old)).zone

@@ -1,4 +1,5 @@
--- The open meters of an office, and with which opening each continues in a new office.
+-- The definition of the open meters of an office, and of the opening with which each meter
+-- continues in a new office.
 use Rattle.std.specs.Prelude.{◌≡◌, ℕ, List, map, Contains, Option, Some, None}
 use Rattle.std.specs.Option.{option_map, option_to_list}
 use Rattle.std.specs.List.{flat_map}
@@ -14,10 +15,10 @@ use Rattle.carried_books.specs.Carrying.Standings.{last_until}
 use Rattle.carried_books.specs.declared.carrying.openings.Openings.{Openings}
 use Rattle.carried_books.specs.declared.carrying.openings.Openings.TheVariants.{All, NotYet}
 
--- ---- the open meters: the devices, and the registers of each, in the order in which they were
--- added
+-- ---- Open meters at the accounting registers of devices, in the order in which devices and
+-- registers were added
 
--- The open meter at an accounting register; empty if there is none.
+-- The open meter at an accounting register; empty if the register has no open meter.
 abbrev pub open_at_register : List Fact → Register → List Installation
 open_at_register facts register = option_to_list (open_at facts register.name)
 
@@ -33,19 +34,21 @@ open_at_device facts device = open_at_registers facts (registers_of facts device
 abbrev pub open_at_devices : List Fact → List Device → List Installation
 open_at_devices facts devices = flat_map (open_at_device facts) devices
 
--- ---- their openings
+-- ---- Openings of meters in a new office
 
--- The opening of the same meter in the new file: with its register, range and ceiling, and the
--- counter's state `last`.
+-- The opening of a meter in the new file. It has the old opening's register, range and ceiling, and
+-- the counter's state `last`.
 abbrev pub opened_at : Opening → Last → Opening
 opened_at opening last = record opening { at = last.at; raw = last.raw; sf = last.sf }
 
--- The opening of a meter at its last valid entry up to `until`; `None` if it has no such entry.
+-- The opening of a meter at its last valid entry up to `until`; `None` if the meter has no such
+-- entry.
 abbrev pub opening_until : List Fact → (until : Option ℕ) → Installation → Option Opening
 opening_until facts until row =
     option_map (opened_at row.opening) (last_until facts until row.opening.meter)
 
--- `openings` has one opening for each of these meters, at its last valid entry up to `until`.
+-- `openings` has one opening for each meter in `rows`, at the meter's last valid entry up to
+-- `until`.
 abbrev pub AreOpeningsOf : List Fact → (until : Option ℕ) → List Installation → List Opening
     → Type 0
 AreOpeningsOf facts until rows openings = map (opening_until facts until) rows ≡ map Some openings
@@ -58,8 +61,8 @@ pub record IsNotYet (facts : List Fact) (until : Option ℕ) (rows : List Instal
   pub name : row.opening.meter ≡ meter
   pub none : opening_until facts until row ≡ None
 
--- The result has the openings of all these meters, or the name of a meter without a valid entry up
--- to `until`.
+-- The result has the openings of all meters in `rows`, or the name of a meter that has no valid
+-- entry up to `until`.
 abbrev pub AreOpened : List Fact → (until : Option ℕ) → List Installation → Openings → Type 0
 AreOpened facts until rows (All openings) = AreOpeningsOf facts until rows openings.items
 AreOpened facts until rows (NotYet meter) = IsNotYet facts until rows meter

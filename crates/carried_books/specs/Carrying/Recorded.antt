@@ -1,4 +1,4 @@
--- The records in the store of a new office after a rollover.
+-- The records in the store of a new office after a file rollover.
 use Rattle.std.specs.Prelude.{◌≡◌, ℕ, List, ◌∷◌, ◌++◌, map, reverse, Some, None}
 use Rattle.std.specs.List.{flat_map}
 use Rattle.std.specs.Option.{option_map, option_to_list}
@@ -27,21 +27,22 @@ device_facts facts device =
     ∷ (option_to_list (option_map (list_fact device.name) (list_of facts device.name))
     ++ map fact.Register (registers_of facts device.name))
 
--- The records after a rollover: the devices with their point lists and registers, followed by the
--- openings of the meters.
+-- The records after a file rollover: the devices with their point lists and registers, followed by
+-- the openings of the meters.
 abbrev pub carried_facts : List Fact → List Device → List Opening → List Fact
 carried_facts facts devices openings =
     flat_map (device_facts facts) devices ++ map fact.Opening openings
 
--- The commands of a rollover record exactly the devices, point lists and accounting registers of
--- the old office, and these openings.
+-- The theorem that the commands of a file rollover record exactly the old office's devices, point
+-- lists and accounting registers, and the openings of its meters.
 abbrev pub CommandsRecordTheSame : Type 0
 CommandsRecordTheSame =
     (past : History) (facts : List Fact) (devices : List Device) (openings : List Opening)
     → facts_of (history_with past (commands_for facts devices openings))
     ≡ reverse (carried_facts facts devices openings) ++ facts_of past
 
--- Without a given timestamp, a meter continues in its present state.
+-- The theorem that each meter continues in its present state if a file rollover has no timestamp
+-- limit.
 abbrev pub MetersGoOnWhereTheyStand : Type 0
 MetersGoOnWhereTheyStand =
     (facts : List Fact) (meter : List ℕ) (row : Installation)

@@ -1,4 +1,5 @@
--- The state of a meter's counter at its last valid entry, up to a timestamp if one is given.
+-- The definition of the state of a meter's counter at its last valid entry, up to a timestamp if
+-- one is given.
 use Rattle.std.specs.Prelude.{ℕ, ℤ, nat_le, Bool, true, ◌&&◌, List, reverse, Option, Some, None}
 use Rattle.std.specs.Option.{option_map}
 use Rattle.std.specs.List.{find}
@@ -10,32 +11,33 @@ use Rattle.office_books.specs.declared.entries.MeterEntry.{MeterEntry}
 use Rattle.office_books.specs.declared.entries.MeterEntry.TheVariants as listed
 use Rattle.office_books.specs.Entries.{all_entries}
 
--- Whether `at` is not later than `until`; true for each timestamp if `until` is `None`.
+-- Whether the timestamp `at` is not later than `until`; true for each timestamp if `until` is
+-- `None`.
 abbrev pub is_until : (until : Option ℕ) → (at : ℕ) → Bool
 is_until (Some until) at = nat_le at until
 is_until None at = true
 
--- The state of the counter after an entry, with the scale `sf`.
+-- The state of a meter's counter after an entry that was recorded with the scale `sf`.
 abbrev pub set_by : Entry → (sf : ℤ) → Last
 set_by (entry.Step at raw rolls) sf = record { at = at; raw = raw; sf = sf }
 set_by (entry.Change at before after scale) sf = record { at = at; raw = after; sf = sf }
 
--- The state of the counter after an entry of a meter; after its opening the opening's state.
+-- The state of a meter's counter after an entry of the meter, or after its opening.
 abbrev pub shown_by : MeterEntry → Last
 shown_by (listed.Opening last) = last
 shown_by (listed.Later row sf) = set_by row.entry sf
 
--- Whether the entry is valid: no void names it, or it is the opening.
+-- Whether a meter entry is valid: it is the meter's opening, or no void names it.
 abbrev pub stands : MeterEntry → Bool
 stands (listed.Opening last) = true
 stands (listed.Later row sf) = row.stands
 
--- Whether the entry is valid and not later than `until`.
+-- Whether a meter entry is valid and not later than `until`.
 abbrev pub counts : (until : Option ℕ) → MeterEntry → Bool
 counts until e = stands e && is_until until (shown_by e).at
 
--- The state of the counter at the last of these entries, given in order, that is valid and not
--- later than `until`; `None` if there is none.
+-- The state of the counter at the last entry in a list that is valid and not later than `until`.
+-- `None` if the list has no such entry. The entries are in order.
 abbrev pub last_among : (until : Option ℕ) → List MeterEntry → Option Last
 last_among until entries = option_map shown_by (find (counts until) (reverse entries))
 

@@ -1,4 +1,4 @@
--- A sink that adds up the interval rows of several files by civil day.
+-- The definition of adding up the energy intervals of several files by civil day.
 use Rattle.std.specs.Prelude.{◌≡◌, ◌⊎◌, ℕ, ◌+◌, ◌<◌, ◌^◌, List, [], ◌∷◌, ◌++◌, Contains, Option, Some, None, MatchOption}
 use Rattle.interval_core.specs.Account.{energy_of, starts_of}
 use Rattle.interval_core.specs.Fold.{FoldState, HasTaken}
@@ -10,15 +10,15 @@ use Rattle.interval_core.specs.declared.zone.Zone.{Zone}
 use Rattle.carried_books.specs.declared.joining.days.EarlierDays.{EarlierDays}
 use Rattle.carried_books.specs.declared.joining.days.JoinedDays.{JoinedDays}
 
--- ---- rows out of order
+-- ---- Energy intervals that are out of order
 
--- The row starts before one of these rows, or after the last timestamp.
+-- The interval `row` starts before one of the intervals in `rows`, or after the last timestamp.
 abbrev pub IsOutOfTurn : List Share → Share → Type 0
 IsOutOfTurn rows row =
     ((earlier : ℕ) × Contains (starts_of rows) earlier × (row.start < earlier))
     ⊎ (LAST_MOMENT < row.start)
 
--- One of these rows is out of order after the rows before it.
+-- One of the intervals in `rows` is out of order after the earlier ones.
 pub record AreOutOfTurn (rows : List Share) : Type 0 where
   pub before : List Share
   pub row : Share
@@ -26,50 +26,53 @@ pub record AreOutOfTurn (rows : List Share) : Type 0 where
   pub are : rows ≡ before ++ row ∷ after
   pub is : IsOutOfTurn before row
 
--- ---- rows that were added up
+-- ---- Energy intervals that were added up by day
 
--- The energy of these rows together fits in 128 bits.
+-- The total energy of the intervals in `rows`, in mWh, fits in 128 bits.
 abbrev pub HasNumber : List Share → Type 0
 HasNumber rows = energy_of rows < 2 ^ 128
 
--- The rows are added up, unless the sink has failed: a row was out of order, or memory ran out.
+-- The intervals are added up by civil day, or the sum has failed: an interval was out of order, or
+-- memory ran out.
 abbrev pub AddUp : Option DayFault → Zone → List Share → FoldState → Type 0
 AddUp None zone rows fold = HasTaken zone rows fold
 AddUp (Some fault.Zone) zone rows fold = AreOutOfTurn rows
 AddUp (Some fault.Memory) zone rows fold = Unit {0}
 
--- If their energy fits in 128 bits, the sink has added up these rows, or has failed.
+-- If the energy of the intervals in `rows` fits in 128 bits, these intervals were added up, or the
+-- sum has failed.
 abbrev pub HasAdded : JoinedDays → List Share → Type 0
 HasAdded sink rows = HasNumber rows → AddUp sink.fault sink.zone rows sink.fold
 
--- ---- one more row
+-- ---- Adding one more energy interval
 
--- The rows and one more row are added up, unless the sink has failed: the new row was out of order,
--- or memory ran out.
+-- The earlier intervals and a new interval are added up by civil day, or the sum has failed. It
+-- fails if the new interval is out of order, or memory runs out.
 abbrev pub AddsUp : Option DayFault → Zone → List Share → Share → FoldState → Type 0
 AddsUp None zone rows row fold = HasTaken zone (rows ++ row ∷ []) fold
 AddsUp (Some fault.Zone) zone rows row fold = IsOutOfTurn rows row
 AddsUp (Some fault.Memory) zone rows row fold = Unit {0}
 
--- The sink adds one more row after those that it has added, if the energy fits; or it fails. Its
--- zone stays.
+-- If the total energy fits in 128 bits, then the interval is added to the sum, or the sum fails.
+-- The sum's time zone is unchanged.
 pub record AddsRow (old : JoinedDays) (row : Share) (new : JoinedDays) : Type 0 where
   pub zone : new.zone ≡ old.zone
   pub added : (rows : List Share) → HasTaken old.zone rows old.fold
       → energy_of rows + row.mwh < 2 ^ 128
       → AddsUp new.fault old.zone rows row new.fold
 
--- A sink takes a row: it adds the row, or drops it after an earlier failure.
+-- The sum receives an interval. It adds this interval, or drops it if the sum has failed before.
 abbrev pub TakesShare : JoinedDays → Share → JoinedDays → Type 0
 TakesShare old row new = MatchOption old.fault (AddsRow old row new) (λ fault. new ≡ old)
 
--- ---- the sum of earlier rows
+-- ---- The sum of the energy intervals of earlier files
 
--- `days` are the sum of these rows by civil day, if their energy fits in 128 bits.
+-- If the energy of the intervals in `rows` fits in 128 bits, then `days` is their sum by civil day.
 abbrev pub AreSumOf : Zone → List Share → EarlierDays → Type 0
 AreSumOf zone rows days = HasNumber rows → HasTaken zone rows days.fold
 
--- The sink continues from these days: it has their sum, this zone, and no failure.
+-- The value `sink` continues from the sum `days`: it has this sum, the time zone `zone`, and no
+-- failure.
 pub record GoesOnFrom (zone : Zone) (days : EarlierDays) (sink : JoinedDays) : Type 0 where
   pub zone_is : sink.zone ≡ zone
   pub fold : sink.fold ≡ days.fold

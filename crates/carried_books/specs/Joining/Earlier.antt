@@ -1,5 +1,5 @@
--- An accounting register in earlier files, and whether the file of a running office joins those
--- files.
+-- The definition of an accounting register in earlier files, and of a running office's file that
+-- joins those files.
 use Rattle.std.specs.Prelude.{◌≡◌, ℕ, true, false, List, Option, Some, None}
 use Rattle.interval_core.specs.Fold.{FoldState}
 use Rattle.office_events.specs.declared.facts.Fact.{Fact}
@@ -12,17 +12,17 @@ use Rattle.carried_books.specs.declared.joining.earlier.KeptRegister.{KeptRegist
 use Rattle.carried_books.specs.declared.joining.files.Unjoined.{Unjoined}
 use Rattle.carried_books.specs.declared.joining.files.Unjoined.TheVariants as unjoined
 
--- What is reported of an accounting register: its name, its meters, and its days.
+-- The reported data of an accounting register: its name, its meters, and its energy by day.
 pub record Told : Type 0 where
   pub name : List ℕ
   pub meters : List Installation
   pub days : FoldState
 
--- What is reported of an accounting register in earlier files.
+-- The reported data of an accounting register in earlier files.
 abbrev pub told : EarlierRegister → Told
 told it = record { name = it.name; meters = it.meters.items; days = it.days.fold }
 
--- What is reported of an accounting register whose data from several files are kept.
+-- The reported data of an accounting register that was collected from several files.
 abbrev pub kept_as : KeptRegister → Told
 kept_as kept = record {
   name = kept.name;
@@ -30,8 +30,8 @@ kept_as kept = record {
   days = kept.files.days.fold;
 }
 
--- The file's meters at the register join those of the earlier files; or two meters are returned
--- that don't join.
+-- The file's meters at the register join those of the earlier files. Otherwise two meters are
+-- returned that don't join.
 abbrev pub HoldMeters : KeptRegister → List Fact → Option Unjoined → Type 0
 HoldMeters kept facts None = (all : List Installation)
     × AddMeters kept.files.meters.items (installations_of facts kept.name) all
@@ -40,8 +40,8 @@ HoldMeters kept facts (Some (unjoined.Apart apart)) =
     AreApart kept.files.meters.items (installations_of facts kept.name) apart
 HoldMeters kept facts (Some unjoined.OutOfTurn) = ⊥
 
--- The file records the register if an earlier file does, and its meters join; otherwise the reason
--- why not.
+-- If an earlier file records the register, then the new file records it too, and its meters join
+-- the earlier meters. Otherwise the reason is returned.
 abbrev pub HoldsFile : KeptRegister → List Fact → Option Unjoined → Type 0
 HoldsFile kept facts None =
     (kept.files.is_recorded ≡ true → is_recorded kept.name facts ≡ true)

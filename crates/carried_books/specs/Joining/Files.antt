@@ -1,5 +1,6 @@
--- An accounting register over the files of one office, in order. A file is given by its records,
--- and lists of files have the latest file first.
+-- The definition of an accounting register over the files of one office.
+--
+-- A file is given by its records, and lists of files have the latest file first.
 use Rattle.std.specs.Prelude.{◌≡◌, ℕ, Bool, true, false, List, [], ◌∷◌, ◌++◌, Option, Some, None, is_some}
 use Rattle.std.specs.List.{list_any}
 use Rattle.interval_core.specs.Fold.{HasTaken}
@@ -21,53 +22,56 @@ use Rattle.carried_books.specs.declared.joining.files.JoinedFiles.{JoinedFiles}
 use Rattle.carried_books.specs.declared.joining.files.Unjoined.{Unjoined}
 use Rattle.carried_books.specs.declared.joining.files.Unjoined.TheVariants as unjoined
 
--- ---- the contents of files
+-- ---- The meters and energy intervals at a register in several files
 
 -- Whether the file records an accounting register with this name.
 abbrev pub is_recorded : (register : List ℕ) → List Fact → Bool
 is_recorded register facts = is_some (register_of facts register)
 
--- Whether one of these files records an accounting register with this name.
+-- Whether one of the files in `files` records an accounting register with this name.
 abbrev pub is_recorded_in : (register : List ℕ) → (files : List (List Fact)) → Bool
 is_recorded_in register files = list_any (is_recorded register) files
 
--- The interval rows of an accounting register in all files: those of the first file, then those of
--- the next, and so on.
+-- The energy intervals of an accounting register in all files, in the order of the files.
 abbrev pub rows_over : (register : List ℕ) → (files : List (List Fact)) → List Share
 rows_over register [] = []
 rows_over register (facts ∷ files) = rows_over register files ++ rows_of_register facts register
 
--- The interval rows of an accounting register in all files that lie in the span.
+-- The energy intervals of an accounting register in all files that are in the span of time.
 abbrev pub rows_over_within : Span → (register : List ℕ) → (files : List (List Fact)) → List Share
 rows_over_within span register [] = []
 rows_over_within span register (facts ∷ files) =
     rows_over_within span register files ++ rows_within span (rows_of_register facts register)
 
--- The meters at an accounting register as each file has them: those of the first file in the order
--- of installation, then those of the next, and so on.
+-- The meters at an accounting register in all files, file by file. The meters of each file are in
+-- the order of installation.
 abbrev pub meters_over : (register : List ℕ) → (files : List (List Fact)) → List Installation
 meters_over register [] = []
 meters_over register (facts ∷ files) =
     meters_over register files ++ installations_of facts register
 
--- ---- files that join
+-- ---- Files of one office that join at a register
 
--- If a file records the accounting register, each later file does too.
+-- If a file records the accounting register, each later file records it too.
 abbrev pub StaysRecorded : (register : List ℕ) → (files : List (List Fact)) → Type 0
 StaysRecorded register [] = Unit {0}
 StaysRecorded register (facts ∷ files) =
     (is_recorded_in register files ≡ true → is_recorded register facts ≡ true)
     × StaysRecorded register files
 
--- The files join at an accounting register, whose meters over all files are `meters`. The register
--- stays recorded, and each meter continues from the file before or follows the meters there.
+-- The files join at an accounting register, whose meters over all files are `meters`.
+--
+-- If one file records the accounting register, then all later files do. Each meter of a file
+-- continues a meter of the previous files, or begins after their meters were closed.
 pub record AreJoined (register : List ℕ) (files : List (List Fact)) (meters : List Installation) :
     Type 0 where
   pub recorded : StaysRecorded register files
   pub joined : AddMeters [] (meters_over register files) meters
 
--- `kept` has what joined files contain of an accounting register: its meters, and the sum of its
--- interval rows in a span by civil day. The days are right if the rows' energy fits in 128 bits.
+-- True if `kept` has the data of joined files at an accounting register. These are the register's
+-- meters, and the sum of its intervals in a span by civil day.
+--
+-- The sum is right if the energy of the intervals fits in 128 bits.
 pub record HasJoined (zone : Zone) (span : Span) (register : List ℕ) (files : List (List Fact))
     (kept : JoinedFiles) : Type 0 where
   pub recorded : kept.is_recorded ≡ is_recorded_in register files
@@ -77,17 +81,17 @@ pub record HasJoined (zone : Zone) (span : Span) (register : List ℕ) (files : 
   pub days : HasNumber (rows_over_within span register files)
       → HasTaken zone (rows_over_within span register files) kept.days.fold
 
--- ---- one more file
+-- ---- Joining one more file to the earlier files of an office
 
--- The file's rows were added to the days in order; or one was out of order.
+-- The file's energy intervals were added to the days in order, or an interval was out of order.
 abbrev pub AddDays : (rows : List Share) → (old new : JoinedDays) → Option Unjoined → Type 0
 AddDays rows old new None = TakesAll TakesShare old rows new × (new.fault ≡ None)
 AddDays rows old new (Some unjoined.OutOfTurn) =
     TakesAll TakesShare old rows new × (new.fault ≡ Some OutOfTurn)
 AddDays rows old new (Some why) = ⊥
 
--- The file joins those before it: it records the register if an earlier file does, its meters join
--- theirs, and its rows were added.
+-- The file joins the earlier files. It records the register if an earlier file does, its meters
+-- join the earlier meters, and its energy intervals were added.
 pub record JoinsFile (span : Span) (register : List ℕ) (facts : List Fact)
     (old new : JoinedFiles) : Type 0 where
   pub recorded : new.is_recorded ≡ is_recorded register facts
@@ -95,23 +99,23 @@ pub record JoinsFile (span : Span) (register : List ℕ) (facts : List Fact)
   pub meters : AddMeters old.meters.items (installations_of facts register) new.meters.items
   pub days : AddDays (rows_within span (rows_of_register facts register)) old.days new.days None
 
--- One of the file's rows is out of order after the rows of the earlier files and of this file
--- before it.
+-- One of the file's energy intervals starts before an earlier interval of the earlier files or of
+-- this file.
 pub record IsOutOfTurn (span : Span) (register : List ℕ) (facts : List Fact)
     (old : JoinedFiles) : Type 0 where
   pub days : JoinedDays
   pub added : AddDays (rows_within span (rows_of_register facts register)) old.days days
       (Some unjoined.OutOfTurn)
 
--- The meters and the interval rows of a file were added to those of the earlier files.
+-- The meters and the energy intervals of a file were added to those of the earlier files.
 pub record AddsBoth (span : Span) (register : List ℕ) (facts : List Fact)
     (old new : JoinedFiles) : Type 0 where
   pub recorded : new.is_recorded ≡ old.is_recorded
   pub meters : AddMeters old.meters.items (installations_of facts register) new.meters.items
   pub days : AddDays (rows_within span (rows_of_register facts register)) old.days new.days None
 
--- The meters and the interval rows of a file were added, or the reason is returned why they don't
--- join.
+-- The meters and the energy intervals of a file were added, or the reason is returned why the file
+-- does not join the earlier files.
 abbrev pub AddsRows : Span → (register : List ℕ) → (facts : List Fact) → (old new : JoinedFiles)
     → Option Unjoined → Type 0
 AddsRows span register facts old new None = AddsBoth span register facts old new
@@ -121,7 +125,7 @@ AddsRows span register facts old new (Some (unjoined.Apart apart)) =
 AddsRows span register facts old new (Some unjoined.OutOfTurn) =
     IsOutOfTurn span register facts old
 
--- The file joins the earlier files, or the reason is returned why it does not.
+-- The file joins the earlier files, or the reason is returned why the file does not join them.
 abbrev pub Joins : Span → (register : List ℕ) → (facts : List Fact) → (old new : JoinedFiles)
     → Option Unjoined → Type 0
 Joins span register facts old new None = JoinsFile span register facts old new
@@ -138,7 +142,8 @@ abbrev pub DoesNotJoin : Span → (register : List ℕ) → (facts : List Fact) 
 DoesNotJoin span register facts old why =
     (new : JoinedFiles) × Joins span register facts old new (Some why)
 
--- If the earlier files join, they also join with this file, or the reason is returned why not.
+-- If the earlier files join, then the new file joins them too, or the reason is returned why it
+-- does not.
 abbrev pub AllJoin : Span → (register : List ℕ) → (facts : List Fact) → (old new : JoinedFiles)
     → Option Unjoined → Type 0
 AllJoin span register facts old new None = (zone : Zone) (files : List (List Fact))

@@ -1,5 +1,8 @@
--- The meters at a register over the files of one office, in order: which meter continues in the
--- next file, and which follows there. In lists the first installed meter comes first.
+-- The definition of joining the meters at a register over the files of one office. It says whether
+-- a meter of the next file continues an earlier meter, or begins after the earlier meters were
+-- closed.
+--
+-- Lists have the first installed meter first.
 use Rattle.std.specs.Prelude.{◌≡◌, ◌⊎◌, ◌+◌, ◌-◌, ◌^◌, nat_le, min, Bool, true, false, not, ◌&&◌, List, [], ◌∷◌, ◌++◌, All, Contains, Option, Some, None}
 use Rattle.meter_audit.specs.CarriedFiles.{GoesOnAs}
 use Rattle.office_events.specs.declared.questions.Installation.{Installation}
@@ -8,17 +11,18 @@ use Rattle.office_rules.specs.Meters.{installed}
 use Rattle.office_books.specs.Rows.{TakesAll, TakesFirst}
 use Rattle.carried_books.specs.declared.joining.meters.Apart.{Apart}
 
--- ---- two meters
+-- ---- A meter that continues or precedes another meter
 
--- The meter `stands` of an earlier file continues as `row` in a later file. Both have the same
--- name, and the state of `stands` is the opening of `row`. The audit of several files requires the
--- same.
+-- The meter `stands` of an earlier file continues as the meter `row` of a later file.
+--
+-- The two meters have the same name, and the state of `stands` equals the opening of `row`. The
+-- audit of several files has the same requirement.
 pub record GoesOn (stands row : Installation) : Type 0 where
   pub name : row.opening.meter ≡ stands.opening.meter
   pub goes : GoesOnAs (installed stands.opening) stands.last stands.ended (installed row.opening)
 
--- The meter over both files: it has the first opening and the later state. Its energy is that of
--- both files, at most 2^64 - 1.
+-- The meter over both files. It has the first opening, the later state, and the energy of both
+-- files in mWh, at most 2^64 - 1.
 abbrev pub as_one : (stands row : Installation) → Installation
 as_one stands row = record {
   opening = stands.opening;
@@ -27,16 +31,17 @@ as_one stands row = record {
   ended = row.ended;
 }
 
--- Whether the meter `stands` precedes the meter `row`: it has another name, and was closed by the
--- time when `row` was opened.
+-- Whether the meter `stands` precedes the meter `row`: the meters have different names, and
+-- `stands` was closed by the time when `row` was opened.
 abbrev pub is_before : (stands row : Installation) → Bool
 is_before stands row =
     stands.ended
     && (nat_le stands.last.at row.opening.at && not (same row.opening.meter stands.opening.meter))
 
--- ---- one more meter
+-- ---- Adding one more meter of a register
 
--- `row` continues the last of these meters. `after` has the meter over all files in its place.
+-- The meter `row` continues the last meter in `known`. In `after`, the meter at this index is the
+-- meter over all files.
 pub record IsOne (known : List Installation) (row : Installation) (after : List Installation) :
     Type 0 where
   pub before : List Installation
@@ -45,58 +50,62 @@ pub record IsOne (known : List Installation) (row : Installation) (after : List 
   pub goes : GoesOn stands row
   pub after_is : after ≡ before ++ as_one stands row ∷ []
 
--- All of these meters precede `row`, which is appended to them.
+-- All meters in the list `known` precede the meter `row`, and `row` is appended to this list.
 pub record IsNext (known : List Installation) (row : Installation) (after : List Installation) :
     Type 0 where
   pub earlier : All (λ stands. is_before stands row ≡ true) known
   pub after_is : after ≡ known ++ row ∷ []
 
--- `row` continues the last of these meters, or is appended because all of them precede it.
+-- The meter `row` continues the last meter in `known`. Or all meters in `known` precede `row`, and
+-- `row` is appended to this list.
 abbrev pub AddsMeter : (known : List Installation) → Installation → (after : List Installation)
     → Type 0
 AddsMeter known row after = IsOne known row after ⊎ IsNext known row after
 
--- ---- a meter that does not join
+-- ---- A meter that does not join the earlier meters of a register
 
--- The last of these meters exists, and `row` does not continue it.
+-- The list `known` is not empty, and the meter `row` does not continue its last meter.
 pub record EndsOtherwise (known : List Installation) (row : Installation) : Type 0 where
   pub before : List Installation
   pub stands : Installation
   pub known_is : known ≡ before ++ stands ∷ []
   pub other : GoesOn stands row → ⊥
 
--- No meter exists yet, or `row` does not continue the last one.
+-- The list `known` is empty, or the meter `row` does not continue its last meter.
 abbrev pub NoneGoesOn : (known : List Installation) → Installation → Type 0
 NoneGoesOn known row = (known ≡ []) ⊎ EndsOtherwise known row
 
--- `row` does not continue the last of these meters, and the meter in `apart` does not precede it.
+-- The meter `row` does not continue the last meter in `known`, and the meter in `apart` does not
+-- precede `row`.
 pub record IsApart (known : List Installation) (row : Installation) (apart : Apart) : Type 0 where
   pub begins : apart.begins ≡ row
   pub among : Contains known apart.stands
   pub not_before : is_before apart.stands row ≡ false
   pub other : NoneGoesOn known row
 
--- `row` is appended because all of these meters precede it; or a meter is returned that does not.
+-- The meter `row` is appended to the list `known`, because all meters in the list precede it.
+-- Otherwise a meter is returned that does not precede `row`.
 abbrev pub AddsNext : (known : List Installation) → Installation → (after : List Installation)
     → Option Apart → Type 0
 AddsNext known row after None = IsNext known row after
 AddsNext known row after (Some apart) =
     (apart.begins ≡ row) × Contains known apart.stands × (is_before apart.stands row ≡ false)
 
--- `row` joins these meters, by continuing the last or following all of them; or a meter is returned
--- with which it does not join.
+-- The meter `row` continues the last meter in `known`, or follows all meters in `known`. Otherwise
+-- a meter is returned that `row` does not join.
 abbrev pub AddsOrIsApart : (known : List Installation) → Installation
     → (after : List Installation) → Option Apart → Type 0
 AddsOrIsApart known row after None = AddsMeter known row after
 AddsOrIsApart known row after (Some apart) = IsApart known row apart
 
--- ---- the meters of a file
+-- ---- Adding the meters of a file to the earlier meters of a register
 
 -- The meters in `listed` join those in `known`, one after another.
 abbrev pub AddMeters : (known listed after : List Installation) → Type 0
 AddMeters known listed after = TakesAll AddsMeter known listed after
 
--- One of the meters in `listed` does not join, after others that do.
+-- After earlier meters in `listed` have joined those in `known`, one of the meters in `listed` does
+-- not join.
 pub record AreApart (known listed : List Installation) (apart : Apart) : Type 0 where
   pub mid : List Installation
   pub begun : TakesFirst AddsMeter known listed mid

@@ -1,5 +1,6 @@
--- The days of a register over earlier files and a running office. The rows of the earlier files
--- were added up in order.
+-- The definition of a register's days over earlier files and a running office.
+--
+-- The energy intervals of the earlier files were added up in order.
 use Rattle.std.specs.Prelude.{◌≡◌, ◌⊎◌, ℕ, List, ◌++◌, map, All, Option, Some, Result, Ok, Err, MatchResult, OnOk}
 use Rattle.std.specs.List.{flat_map}
 use Rattle.std.specs.declared.alloc.Global.{Global}
@@ -33,14 +34,14 @@ use Rattle.carried_books.specs.Joining.Days.{AreOutOfTurn, AreSumOf, HasNumber, 
 use Rattle.carried_books.specs.declared.joining.days.EarlierDays.{EarlierDays}
 use Rattle.carried_books.specs.declared.joining.days.JoinedDays.{JoinedDays}
 
--- ---- the quarter hours of an office
+-- ---- The energy intervals of a running office
 
--- The records have this opening, and a lookup by its meter's name finds it.
+-- The records have this opening, and a lookup of the meter's name finds it.
 abbrev pub IsInstalled : List Fact → Opening → Type 0
 IsInstalled facts opening = opening_of facts opening.meter ≡ Some opening
 
--- The sink took the interval rows of these meters in a span, one meter after another; or the store
--- failed.
+-- The energy intervals of the meters with the openings in `openings` were added up over a span, one
+-- meter after another; or the store failed.
 abbrev pub TakesMeters : List Fact → List Opening → Span → (before after : Failures)
     → (from to : JoinedDays) → Result (Unit {0}) Refusal → Type 0
 TakesMeters facts openings span before after from to result =
@@ -49,8 +50,8 @@ TakesMeters facts openings span before after from to result =
     (rows_within span (flat_map (rows_of_opening facts) openings)) to)
     (IsOutside ⊥ before after)
 
--- The sink took the interval rows of these meters from the office, if the meters are in the
--- office's records. The office was only queried.
+-- If the meters in `listed` are in the office's records, then their energy intervals were added up
+-- from these records. The office was only queried.
 pub record AsksMeters {B : Type 0} (ledger : B → Ledger) (old new : Office B)
     (listed : List Installation) (span : Span) (from to : JoinedDays)
     (result : Result (Unit {0}) Refusal) : Type 0 where
@@ -61,8 +62,8 @@ pub record AsksMeters {B : Type 0} (ledger : B → Ledger) (old new : Office B)
       → TakesMeters (facts_of past) openings span
       (failures_of ledger old) (failures_of ledger new) from to result)
 
--- The sink took the interval rows of the accounting register in a span; or no register has the
--- name, or the store failed.
+-- The energy intervals of the accounting register in a span were added up. Otherwise no register
+-- has the name, or the store failed.
 pub record TakesRegister (facts : List Fact) (register : List ℕ) (span : Span)
     (before after : Failures) (from to : JoinedDays) (result : Result (Unit {0}) Refusal) :
     Type 0 where
@@ -70,18 +71,20 @@ pub record TakesRegister (facts : List Fact) (register : List ℕ) (span : Span)
   pub whole : OnOk result (TakesAll TakesShare from
       (rows_within span (rows_of_register facts register)) to)
 
--- The sink took the rows of the accounting register from the office, by the records of all accepted
--- events. The office was only queried.
+-- The energy intervals of the accounting register were added up from the records of all events that
+-- the office accepted. The office was only queried.
 abbrev pub AsksRegister : {B : Type 0} → (B → Ledger) → (old new : Office B)
     → (register : List ℕ) → Span → (from to : JoinedDays) → Result (Unit {0}) Refusal → Type 0
 AsksRegister ledger old new register span from to result = After ledger old new (λ past.
     TakesRegister (facts_of past) register span (failures_of ledger old) (failures_of ledger new)
     from to result)
 
--- ---- the days of both
+-- ---- The days of a register over earlier files and a running office
 
--- The result is the list of days of these rows. Otherwise it says why not: no register has the
--- name, the store or memory failed, the office had stopped, or a row is out of order.
+-- The result is the list of days of the energy intervals in `rows`, or the reason for a refusal.
+--
+-- The reasons are: no register has the name, the store or memory failed, the office had stopped, or
+-- an interval is out of order.
 abbrev pub ListsOver : Zone → (rows : List Share) → (there : Option (Unit {0}))
     → (before after : Failures) → Result (Vec DayTotal Global) Refusal → Type 0
 ListsOver zone rows there before after (Ok days) =
@@ -90,7 +93,7 @@ ListsOver zone rows there before after (Err why) =
     IsFound {T = Unit {0}} (there ≡ Some tt) there before after (Err why)
     ⊎ ((why ≡ refusal.Store store.NoDay) × (after ≡ before) × AreOutOfTurn rows)
 
--- The interval rows of earlier files, followed by those of the office in a span.
+-- The energy intervals of earlier files, followed by those of the office in a span.
 abbrev pub rows_of_both : Span → (earlier : List Share) → List Fact → (register : List ℕ)
     → List Share
 rows_of_both span earlier facts register =
@@ -108,8 +111,8 @@ TellsDaysOver ledger old new zone earlier register span result = After ledger ol
     (is_there (register_of (facts_of past) register))
     (failures_of ledger old) (failures_of ledger new) result)
 
--- The refusal if memory ran out: no register has the name, the store failed, or the office had
--- stopped; otherwise `Memory`.
+-- The refusal if memory ran out. It says that no register has the name, the store failed, or the
+-- office had stopped; otherwise it is `Memory`.
 abbrev pub LacksMemory : {B : Type 0} → (B → Ledger) → (old new : Office B)
     → (register : List ℕ) → Refusal → Type 0
 LacksMemory ledger old new register why = After ledger old new (λ past.

@@ -1,4 +1,5 @@
--- The report of an accounting register over the files of one office, on a range of days, in a form.
+-- The definition of an accounting register's report over the files of one office, on a range of
+-- days.
 use Rattle.std.specs.Prelude.{◌≡◌, ◌↔◌, ℕ, List, [], ◌∷◌, ◌++◌, map, Option, Some}
 use Rattle.std.specs.declared.io.Write as writers
 use Rattle.command_io.specs.declared.status.ExitStatus.{ExitStatus}
@@ -18,30 +19,32 @@ use Rattle.carried_books.specs.Joining.Days.{HasNumber}
 use Rattle.carried_books.specs.Joining.Files.{HasJoined, rows_over}
 use Rattle.carried_books.specs.declared.joining.files.JoinedFiles.{JoinedFiles}
 
--- `days` are the days in the range of the accounting register's rows in all files.
+-- True if `days` are the civil days in the range, with the energy of the register's intervals in
+-- all files.
 pub record AreDaysOver (zone : Zone) (register : List ℕ) (files : List (List Fact))
     (range : DayRange) (days : List DayAccount) : Type 0 where
   pub all : List DayAccount
   pub are : AreAccounts zone (rows_over register files) all
   pub asked : days ≡ accounts_within range all
 
--- The text of the report over all files: the register's days in the range, by the clocks of the
--- zone, in the requested form.
+-- The text of the report over all files. It has the register's days in the range, by the clocks of
+-- the time zone, in the requested units and format.
 abbrev pub IsReportOver : Zone → (register : List ℕ) → (files : List (List Fact)) → ReportForm
     → (text : List ℕ) → Type 0
 IsReportOver zone register files form text = (days : List DayTotal)
     × AreDaysOver zone register files form.range (map account_of days)
     × (text ≡ report_text form days)
 
--- The report over all files was printed, or a part of it if a write failed.
+-- The report over all files was printed. If a write failed, only a beginning of the report was
+-- printed.
 pub record PrintsOver (zone : Zone) (register : List ℕ) (files : List (List Fact))
     (form : ReportForm) (status : ExitStatus) (had holds : Option (List ℕ)) : Type 0 where
   pub text : List ℕ
   pub is : IsReportOver zone register files form text
   pub told : IsTold text Fine status had holds
 
--- The report was printed from the data that were kept of joined files, if their total energy fits
--- in 128 bits.
+-- The report was printed from the data that were collected from joined files, if their total energy
+-- fits in 128 bits.
 abbrev pub ReportsJoined : {W : Type 0} → writers.Ghosts W → JoinedFiles → ReportForm
     → (had holds : W) → ExitStatus → Type 0
 ReportsJoined w joined form had holds status =
@@ -50,15 +53,17 @@ ReportsJoined w joined form had holds status =
     → HasNumber (rows_over register files)
     → PrintsOver zone register files form status (w.contents had) (w.contents holds)
 
--- For one file the report over all files has the days of the register in this file.
+-- The theorem that a report over one file has the register's days in this file.
 abbrev pub OneFileTellsItsDays : Type 0
 OneFileTellsItsDays = (zone : Zone) (register : List ℕ) (facts : List Fact) (range : DayRange)
     (days : List DayAccount)
     → AreDaysOver zone register (facts ∷ []) range days
     ↔ AreDaysWithin zone facts (Some register) range days
 
--- If a meter was rolled over from one file into another, both files report the days that one file
--- with the complete journal would report.
+-- The theorem that a report of a meter's days over two files equals the report over a single file.
+--
+-- The meter was rolled over from the first file into the second. The single file has the complete
+-- journal of the meter.
 abbrev pub BothFilesTellTheJoinedDays : Type 0
 BothFilesTellTheJoinedDays = (zone : Zone) (old new both : List Share) (accounts : List DayAccount)
     → AreCountedOnce old new both

@@ -1,5 +1,7 @@
--- The latest meter at an accounting register over earlier files and a running office. Lists have
--- the first installed meter first.
+-- The definition of the latest meter at an accounting register over earlier files and a running
+-- office.
+--
+-- Lists have the first installed meter first.
 use Rattle.std.specs.Prelude.{◌≡◌, ◌-◌, Bool, not, ◌&&◌, if◌then◌else◌, ℕ, length, List, [], ◌∷◌, Option, Some, None}
 use Rattle.std.specs.List.{slice_get}
 use Rattle.std.specs.Option.{option_map}
@@ -13,35 +15,37 @@ use Rattle.carried_books.specs.Joining.Meters.{AddMeters, as_one}
 use Rattle.carried_books.specs.declared.joining.earlier.EarlierRegister.{EarlierRegister}
 use Rattle.carried_books.specs.declared.joining.sites.LatestMeter.{LatestMeter}
 
--- The meters of earlier files at an accounting register, each as all of these files have it; empty
--- if none has the register.
+-- The meters at an accounting register in earlier files, each with its data from all of these
+-- files; empty if no file has the register.
 abbrev pub earlier_meters : List EarlierRegister → (register : List ℕ) → List Installation
 earlier_meters [] register = []
 earlier_meters (one ∷ more) register =
     if same one.name register then one.meters.items else earlier_meters more register
 
--- Whether the office's meter `row` is the meter `stands` that the earlier files left open.
+-- Whether the office's meter `row` continues the meter `stands`, which the earlier files left open.
 abbrev pub is_left : (stands row : Installation) → Bool
 is_left stands row = not stands.ended && same row.opening.meter stands.opening.meter
 
--- The latest meter if only earlier files have one.
+-- The latest meter at a register if only earlier files have a meter there.
 abbrev pub of_earlier : Installation → LatestMeter
 of_earlier stands = record { meter = stands; earlier = Some stands.total }
 
--- The latest meter if only the office has one.
+-- The latest meter at a register if only the office has a meter there.
 abbrev pub of_office : Installation → LatestMeter
 of_office row = record { meter = row; earlier = None }
 
--- The latest meter if the office has `row` and the earlier files have `stands` last. It is the
--- meter over all files if the earlier ones left it open.
+-- The latest meter if the office has the meter `row`, and the last meter of the earlier files is
+-- `stands`.
+--
+-- If the earlier files left `row` open, it is the meter over all files.
 abbrev pub of_both : (stands row : Installation) → LatestMeter
 of_both stands row =
     if is_left stands row
     then (record { meter = as_one stands row; earlier = Some stands.total })
     else of_office row
 
--- The latest meter over all files, given the latest of the earlier files and that of the office;
--- `None` if there is neither.
+-- The latest meter over all files, from the earlier files' last meter and the office's latest
+-- meter. `None` if neither of these meters exists.
 abbrev pub latest : (stands row : Option Installation) → Option LatestMeter
 latest None None = None
 latest None (Some row) = Some (of_office row)
@@ -58,12 +62,12 @@ abbrev pub latest_meter : (earlier : List Installation) → (row : Option Instal
     → Option LatestMeter
 latest_meter earlier row = latest (last_of earlier) row
 
--- The state of the latest meter.
+-- The opening and the state of the latest meter at an accounting register.
 abbrev pub meter_of : LatestMeter → Installation
 meter_of told = told.meter
 
--- If the office's meters join those of the earlier files, the latest meter is the last of all files
--- at the accounting register.
+-- The theorem on the latest meter at an accounting register. If the office's meters join those of
+-- the earlier files, then the reported meter is the last meter of all files.
 abbrev pub LatestIsOfAllFiles : Type 0
 LatestIsOfAllFiles = (register : List ℕ) (facts : List Fact) (earlier all : List Installation)
     → AreLawful facts

@@ -1,5 +1,7 @@
--- The meters at an accounting register over the files of one office, for their statements on a
--- range of days. A file is given by its records, and lists of files have the latest file first.
+-- The definition of statements of an accounting register's meters over the files of one office, on
+-- a range of days.
+--
+-- A file is given by its records, and lists of files have the latest file first.
 use Rattle.std.specs.Prelude.{◌≡◌, ◌⊎◌, ℕ, ◌+◌, ◌-◌, ◌^◌, min, Bool, true, false, List, [], ◌∷◌, ◌++◌, map, filter, drop, All, Option, Some, None}
 use Rattle.std.specs.declared.io.Write as writers
 use Rattle.command_io.specs.declared.status.ExitStatus.{ExitStatus}
@@ -36,17 +38,17 @@ use Rattle.carried_books.specs.declared.joining.meters.Apart.{Apart}
 use Rattle.carried_books.specs.declared.joining.kept_meters.KeptMeter.{KeptMeter}
 use Rattle.carried_books.specs.declared.joining.statements.JoinedStatement.{JoinedStatement}
 
--- ---- a meter over several files
+-- ---- The data of a meter over several files
 
--- What files have of a meter: its state, its entries in order with voided ones, its interval rows,
--- and its rejected readings.
+-- The data of a meter over several files. It has the meter's state, its entries in order with
+-- voided entries, its energy intervals, and its rejected readings.
 pub record MeterOver : Type 0 where
   pub stands : Installation
   pub entries : List MeterEntry
   pub rows : List Share
   pub holds : List HeldReading
 
--- What one file has of a meter that the file lists.
+-- The data of a meter in one file that lists the meter.
 abbrev pub meter_in : List Fact → Installation → MeterOver
 meter_in facts row = record {
   stands = row;
@@ -55,14 +57,16 @@ meter_in facts row = record {
   holds = holds_of facts row.opening.meter;
 }
 
--- The entries that only this file has. If the meter continues from an earlier file, its opening is
--- left out, since it repeats the last valid entry before the rollover.
+-- The entries of a meter in one file that no earlier file has.
+--
+-- If the meter continues from an earlier file, its opening is left out, since it repeats the last
+-- valid entry before the file rollover.
 abbrev pub own_entries : (goes_on : Bool) → List MeterEntry → List MeterEntry
 own_entries true entries = drop 1 entries
 own_entries false entries = entries
 
--- What several files have of a meter, from `one` of the earlier files and `next` of the next file,
--- in which the meter continues.
+-- The data of a meter over several files. It combines the data `one` of the earlier files with the
+-- data `next` of the next file, in which the meter continues.
 abbrev pub both_of : (one next : MeterOver) → MeterOver
 both_of one next = record {
   stands = as_one one.stands next.stands;
@@ -71,9 +75,10 @@ both_of one next = record {
   holds = one.holds ++ next.holds;
 }
 
--- ---- the meters at a register
+-- ---- Joining the meters at a register over several files
 
--- `next` continues the last of these meters. `after` has the meter over all files in its place.
+-- The meter `next` continues the last meter in `known`. In `after`, the meter at this index is the
+-- meter over all files.
 pub record IsOneOver (known : List MeterOver) (next : MeterOver) (after : List MeterOver) :
     Type 0 where
   pub before : List MeterOver
@@ -82,34 +87,38 @@ pub record IsOneOver (known : List MeterOver) (next : MeterOver) (after : List M
   pub goes : GoesOn one.stands next.stands
   pub after_is : after ≡ before ++ both_of one next ∷ []
 
--- All of these meters precede `next`, which is appended to them.
+-- All meters in the list `known` precede the meter `next`, and `next` is appended to this list.
 pub record IsNextOver (known : List MeterOver) (next : MeterOver) (after : List MeterOver) :
     Type 0 where
   pub earlier : All (λ one. is_before one.stands next.stands ≡ true) known
   pub after_is : after ≡ known ++ next ∷ []
 
--- `next` continues the last of these meters, or is appended because all of them precede it.
+-- The meter `next` continues the last meter in `known`. Or all meters in `known` precede `next`,
+-- and `next` is appended to this list.
 abbrev pub AddsOver : (known : List MeterOver) → MeterOver → (after : List MeterOver) → Type 0
 AddsOver known next after = IsOneOver known next after ⊎ IsNextOver known next after
 
--- What each file has of its meters at an accounting register: those of the first file in the order
--- of installation, then those of the next, and so on.
+-- The data of the meters at an accounting register in all files, file by file. The meters of each
+-- file are in the order of installation.
 abbrev pub parts_over : (register : List ℕ) → (files : List (List Fact)) → List MeterOver
 parts_over register [] = []
 parts_over register (facts ∷ files) =
     parts_over register files ++ map (meter_in facts) (installations_of facts register)
 
--- The files join at the accounting register, and `meters` are its meters over all files. A meter
--- that the latest file does not have is as the earlier files have it.
+-- The files join at the accounting register, and `meters` are its meters over all files.
+--
+-- A meter that the latest file does not have keeps its data from the earlier files.
 pub record AreMetersOver (register : List ℕ) (files : List (List Fact)) (meters : List MeterOver) :
     Type 0 where
   pub recorded : StaysRecorded register files
   pub joined : TakesAll AddsOver [] (parts_over register files) meters
 
--- ---- the statement
+-- ---- The statement of a meter over several files
 
--- The statement of a meter over all files: its first and last entry in the range, its corrections,
--- the energy of the interval rows that start there, and the rejected readings there.
+-- The statement of a meter over all files.
+--
+-- It has the first and last entry and the corrections in the range. Its energy is that of the
+-- intervals that start in the range. It also has the counts of rejected readings in the range.
 abbrev pub statement_over : Zone → DayRange → MeterOver → MeterStatement
 statement_over zone range m = record {
   meter = m.stands.opening.meter;
@@ -118,44 +127,44 @@ statement_over zone range m = record {
   held = held_within zone range m.holds;
 }
 
--- The statements of the meters that were installed in the range, by their openings in the first
--- file.
+-- The statements of the meters that were installed in the range. The opening of a meter in its
+-- first file is its time of installation.
 abbrev pub statements_over : Zone → DayRange → List MeterOver → List MeterStatement
 statements_over zone range meters =
     map (statement_over zone range) (filter (λ m. was_there zone range m.stands) meters)
 
--- `rows` are the statements of the accounting register's meters over the files.
+-- `text` has the statements of the accounting register's meters over the files.
 abbrev pub IsStatementOver : Zone → (register : List ℕ) → (files : List (List Fact))
     → StatementForm → (text : List ℕ) → Type 0
 IsStatementOver zone register files form text = (meters : List MeterOver)
     × AreMetersOver register files meters
     × (text ≡ statement_text form (statements_over zone form.range meters))
 
--- ---- what is stored of a meter
+-- ---- The collected data of a meter over several files
 
--- The value that is kept of a meter: its state, and its statement for the range.
+-- The collected data of a meter: its state, and its statement for the range.
 abbrev pub kept_of : Zone → DayRange → MeterOver → KeptMeter
 kept_of zone range m = record { stands = m.stands; told = statement_over zone range m }
 
--- Each kept value is that of the meter at its index.
+-- The collected data in `kept` are those of the meter at the same index in `meters`.
 abbrev pub AreTold : Zone → DayRange → List KeptMeter → List MeterOver → Type 0
 AreTold zone range kept meters = kept ≡ map (kept_of zone range) meters
 
--- The state of a kept meter.
+-- The state of a meter whose data were collected.
 abbrev pub stands_of : KeptMeter → Installation
 stands_of kept = kept.stands
 
--- The statement of a kept meter.
+-- The statement of a meter whose data were collected.
 abbrev pub told_of : KeptMeter → MeterStatement
 told_of kept = kept.told
 
--- The statements of those kept meters that were installed in the range.
+-- The statements of the meters in `kept` that were installed in the range.
 abbrev pub rows_of_those : Zone → DayRange → List KeptMeter → List MeterStatement
 rows_of_those zone range kept =
     map told_of (filter (λ one. was_there zone range one.stands) kept)
 
--- `kept` has the statements that joined files give for the meters of an accounting register, on the
--- days of the range. Days are those of the zone.
+-- `kept` has the statements of an accounting register's meters over joined files, on the days of
+-- the range in the time zone.
 pub record HasStated (zone : Zone) (range : DayRange) (register : List ℕ)
     (files : List (List Fact)) (kept : JoinedStatement) : Type 0 where
   pub recorded : kept.is_recorded ≡ is_recorded_in register files
@@ -164,15 +173,15 @@ pub record HasStated (zone : Zone) (range : DayRange) (register : List ℕ)
   pub are : AreMetersOver register files meters
   pub told : AreTold zone range kept.meters.items meters
 
--- ---- one more file
+-- ---- Collecting the data of a register's meters in one more file
 
--- The tally of some entries becomes that of these and further entries.
+-- The tally of some entries becomes the tally of these entries and the entries in `entries`.
 abbrev pub TalliesOn : Zone → DayRange → List MeterEntry → (old new : EntryTally) → Type 0
 TalliesOn zone range entries old new = (before : List MeterEntry)
     → old ≡ tally_of zone range before → new ≡ tally_of zone range (before ++ entries)
 
--- What a file adds to a meter that continues in it or begins there: the tally continues the earlier
--- one, energy and rejected readings are of this file only.
+-- The statement of a meter in one file. Its tally continues that of the earlier files; its energy
+-- and rejected readings are those of this file.
 pub record TellsPart (zone : Zone) (range : DayRange) (meter : List ℕ) (goes_on : Bool)
     (facts : List Fact) (begun : EntryTally) (told : MeterStatement) : Type 0 where
   pub meter_is : told.meter ≡ meter
@@ -181,7 +190,7 @@ pub record TellsPart (zone : Zone) (range : DayRange) (meter : List ℕ) (goes_o
   pub energy : told.mwh ≡ energy_within zone range (rows_of_meter facts meter)
   pub held : told.held ≡ held_within zone range (holds_of facts meter)
 
--- The counts of rejected readings of two parts added up; each count stays at 2^64 - 1.
+-- The sums of two counts of rejected readings, for each cause; each sum saturates at 2^64 - 1.
 abbrev pub both_held : (one more : HeldCounts) → HeldCounts
 both_held one more = record {
   not_accumulated = counted (one.not_accumulated + more.not_accumulated);
@@ -194,7 +203,7 @@ both_held one more = record {
   not_below_range = counted (one.not_below_range + more.not_below_range);
 }
 
--- The kept meter with what the next file adds to it.
+-- The collected data of a meter over the earlier files and the next file.
 abbrev pub with_part : KeptMeter → Installation → (part : MeterStatement) → KeptMeter
 with_part kept row part = record {
   stands = as_one kept.stands row;
@@ -206,8 +215,7 @@ with_part kept row part = record {
   };
 }
 
--- The kept values of some meters become those of these and of the meters of one more file, if all
--- of these join.
+-- If the meters in `listed` of one more file join, then their data are added to the collected data.
 abbrev pub TellsAll : Zone → DayRange → (facts : List Fact) → (listed : List Installation)
     → (old new : List KeptMeter) → Option Apart → Type 0
 TellsAll zone range facts listed old new None = (meters : List MeterOver)
@@ -216,7 +224,8 @@ TellsAll zone range facts listed old new None = (meters : List MeterOver)
     × AreTold zone range new after
 TellsAll zone range facts listed old new (Some apart) = Unit {0}
 
--- The meters of the file were added, or two meters are returned that don't join.
+-- The meters of the file were added to the collected meters, or two meters are returned that don't
+-- join.
 abbrev pub AddsListed : Zone → DayRange → (facts : List Fact) → (listed : List Installation)
     → (old new : List KeptMeter) → Option Apart → Type 0
 AddsListed zone range facts listed old new apart =
@@ -224,7 +233,9 @@ AddsListed zone range facts listed old new apart =
     × TellsAll zone range facts listed old new apart
 
 -- The file does not join the earlier files, for a reason that a report over files would also give.
--- The order of interval rows does not matter here, since energies are added up in any order.
+--
+-- The order of energy intervals does not matter in a statement, since energies are added up in any
+-- order.
 abbrev pub DoesNotGoOn : (register : List ℕ) → (facts : List Fact) → (old : JoinedStatement)
     → Unjoined → Type 0
 DoesNotGoOn register facts old unjoined.NotRecorded =
@@ -233,24 +244,25 @@ DoesNotGoOn register facts old (unjoined.Apart apart) =
     AreApart (map stands_of old.meters.items) (installations_of facts register) apart
 DoesNotGoOn register facts old unjoined.OutOfTurn = ⊥
 
--- ---- the printed text
+-- ---- The printed text of the statements
 
--- The text of these statements was printed, or a part of it if a write failed.
+-- The text of the statements in `rows` was printed. If a write failed, only a beginning of the text
+-- was printed.
 abbrev pub PrintsRows : {W : Type 0} → (contents : W → Option (List ℕ)) → StatementForm
     → List MeterStatement → ExitStatus → (had holds : W) → Type 0
 PrintsRows contents form rows status had holds =
     IsTold (statement_text form rows) Fine status (contents had) (contents holds)
 
--- The statements of the register's meters over the files were printed, or a part of them if a write
--- failed.
+-- The statements of the register's meters over the files were printed. If a write failed, only a
+-- beginning of them was printed.
 pub record PrintsStatement (zone : Zone) (register : List ℕ) (files : List (List Fact))
     (form : StatementForm) (status : ExitStatus) (had holds : Option (List ℕ)) : Type 0 where
   pub text : List ℕ
   pub is : IsStatementOver zone register files form text
   pub told : IsTold text Fine status had holds
 
--- The statements were printed from the data that were kept of joined files, for the days of the
--- form.
+-- The statements were printed from the data that were collected from joined files, for the
+-- requested days.
 abbrev pub StatesJoined : {W : Type 0} → writers.Ghosts W → JoinedStatement → StatementForm
     → (had holds : W) → ExitStatus → Type 0
 StatesJoined w joined form had holds status =
@@ -258,9 +270,10 @@ StatesJoined w joined form had holds status =
     → HasStated zone form.range register files joined
     → PrintsStatement zone register files form status (w.contents had) (w.contents holds)
 
--- ---- one file
+-- ---- The theorem on the statement over a single file
 
--- For one file that an office wrote, the statements over all files are those of the file's meters.
+-- The theorem that a statement over one file, which an office wrote, has the statements of the
+-- file's meters.
 abbrev pub OneFileStatesItsMeters : Type 0
 OneFileStatesItsMeters = (zone : Zone) (range : DayRange) (register : List ℕ) (facts : List Fact)
     (meters : List MeterOver)
@@ -268,16 +281,18 @@ OneFileStatesItsMeters = (zone : Zone) (range : DayRange) (register : List ℕ) 
     → statements_over zone range meters
     ≡ statements_of zone range facts (installations_of facts register)
 
--- ---- a meter that is rolled over
+-- ---- The theorem on the statement of a meter that is rolled over
 
--- An entry with its index in one file that has `count` entries of the old file before it.
+-- A meter entry with its index in a single file, in which `count` entries of the old file come
+-- first.
 abbrev pub moved_entry : (count : ℕ) → MeterEntry → MeterEntry
 moved_entry count (entry.Opening last) = entry.Opening last
 moved_entry count (entry.Later row sf) = entry.Later (moved_row count row) sf
 
--- `both` is the meter in one file that has the journals of the old and the new file. The new
--- entries follow the old ones, each quarter hour has the energy of both, and the new rejected
--- readings follow the old ones.
+-- `both` is the meter in one file that has the journals of the old and the new file.
+--
+-- The new entries follow the old ones, each quarter hour has the energy of both files, and the new
+-- rejected readings follow the old ones.
 pub record HaveOneJournal (old new both : MeterOver) : Type 0 where
   pub count : ℕ
   pub name : both.stands.opening.meter ≡ old.stands.opening.meter
@@ -286,8 +301,10 @@ pub record HaveOneJournal (old new both : MeterOver) : Type 0 where
   pub rows : AreCountedOnce old.rows new.rows both.rows
   pub holds : both.holds ≡ old.holds ++ new.holds
 
--- If a meter was rolled over from one file into another, its statement over both is that of one
--- file with both journals.
+-- The theorem that the statement of a meter over two files equals the statement over a single file.
+--
+-- The meter was rolled over from the first file into the second. The single file has the meter's
+-- journals of both files.
 abbrev pub BothFilesStateTheJoinedMeter : Type 0
 BothFilesStateTheJoinedMeter = (zone : Zone) (range : DayRange) (old new both : MeterOver)
     → HaveOneJournal old new both

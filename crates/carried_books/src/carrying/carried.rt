@@ -10,8 +10,8 @@ use office_core::Office;
 use office_events::Refusal;
 use std::alloc::Global;
 
-// Feeds the commands of a plan to a new office. Returns the number of installed meters, or why the
-// plan could not be followed.
+// Feeds the commands of a file rollover plan to a new office. Returns the number of installed
+// meters, or the reason why the plan could not be followed.
 fn follow<N: Books>(office: &mut Office<N>, plan: Plan) -> Result<u64, CarryFault>
     ensures follows { Follows N.ledger plan office.old office.new result }
     ensures passes { Passes N.ledger office.old office.new }
@@ -25,11 +25,13 @@ fn follow<N: Books>(office: &mut Office<N>, plan: Plan) -> Result<u64, CarryFaul
     }
 }
 
-/// Sets up a new office from the store of an old one, and returns the number of its meters.
+/// Sets up a new office from the store of an old office, and returns the number of installed
+/// meters.
 ///
-/// The new office gets the old one's devices, lists and registers. Each open meter is opened at its
-/// last valid entry, up to a timestamp if one is given; the meters come in the order of these
-/// entries. The old store is only queried, before the new office is given any command.
+/// The new office gets the devices, point lists and accounting registers of the old office. Each
+/// open meter is opened at its last valid entry, up to timestamp `until` if it is given. The meters
+/// come in the order of these entries. The old store is only queried, before the new office is
+/// given any command.
 pub fn carry_books<O: Books, N: Books>(
     alloc: Global,
     old: &mut O,

@@ -1,4 +1,4 @@
-//! The commands that set up a new office with the contents of an old one.
+//! The commands of a file rollover, which set up a new office with the contents of an old one.
 ghost use Rattle.std.specs.Prelude.{◌≡◌, ◌++◌, ◌∷◌, [], map, OnOk};
 ghost use Rattle.office_books.specs.Ledgers.{Consults, Finds};
 ghost use Rattle.carried_books.specs.Carrying.Adding.{Adds};
@@ -11,14 +11,14 @@ use office_events::{
 };
 use std::alloc::{AllocError, Global};
 
-/// A command with its timestamp.
+/// A command with its timestamp, in seconds since 1970-01-01 UTC.
 #[derive(Drop)]
 pub struct TimedCommand {
     pub at: u64,
     pub command: Command,
 }
 
-// ---- the command of each row
+// ---- Commands that set up a device, a point list, an accounting register or a meter
 
 fn add_device(at: u64, device: &Device) -> TimedCommand
     ensures { result ≡ commands.add_device at device.now }
@@ -86,7 +86,7 @@ fn install(opening: &Opening) -> TimedCommand
     }
 }
 
-// ---- devices
+// ---- Commands that set up devices in the new office
 
 // Adds the command for a device's point list, if the device has one.
 fn add_list<B: Books>(
@@ -105,7 +105,7 @@ fn add_list<B: Books>(
     Ok(())
 }
 
-// Adds the commands for these accounting registers.
+// Adds one command for each accounting register in `registers`.
 fn add_each(
     added: &mut Vec<TimedCommand>,
     at: u64,
@@ -154,7 +154,7 @@ fn set_up_device<B: Books>(
     add_registers(added, books, at, device)
 }
 
-// Adds the commands for these devices, each with its point list and its accounting registers.
+// Adds the commands for each device in `devices`, its point list and its accounting registers.
 fn set_up_devices<B: Books>(
     added: &mut Vec<TimedCommand>,
     books: &mut B,
@@ -172,9 +172,9 @@ fn set_up_devices<B: Books>(
     Ok(())
 }
 
-// ---- meters
+// ---- Commands that install meters in the new office
 
-// Adds the commands that install meters with these openings.
+// Adds one command for each opening in `openings`, which installs a meter with this opening.
 fn add_installs(added: &mut Vec<TimedCommand>, openings: &[Opening]) -> Result<(), AllocError>
     ensures { OnOk result
         (added.new.items ≡ added.old.items ++ map commands.install openings.now) }
@@ -185,8 +185,8 @@ fn add_installs(added: &mut Vec<TimedCommand>, openings: &[Opening]) -> Result<(
     Ok(())
 }
 
-// The timestamp at which devices are set up: that of the first opening. Without openings it is the
-// latest recorded timestamp.
+// Returns the timestamp at which devices are set up: the timestamp of the first opening, or the
+// latest recorded timestamp if there are no openings.
 fn first_moment<B: Books>(books: &mut B, openings: &[Opening]) -> Result<u64, BooksFault>
     ensures found { Finds (B.ledger books.old) (B.ledger books.new) result
         (λ known at. at ≡ commands.first_moment known openings.now) }
@@ -198,8 +198,8 @@ fn first_moment<B: Books>(books: &mut B, openings: &[Opening]) -> Result<u64, Bo
     }
 }
 
-/// Returns the commands that set up these devices as the store has them, and then install meters
-/// with these openings.
+/// Returns the commands that set up the devices in `devices` with the point lists and registers
+/// that the store has for them. The commands then install a meter for each opening in `openings`.
 pub fn commands_for<B: Books>(
     alloc: Global,
     books: &mut B,

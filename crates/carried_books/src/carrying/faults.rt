@@ -1,13 +1,13 @@
-//! Reasons why an office was not rolled over.
+//! Reasons why an office was not rolled over into a new file.
 use office_events::{Name, Refusal};
 
-/// Why an office was not rolled over into a new one.
+/// The reason why an office was not rolled over into a new file.
 #[derive(Clone, Copy, Debug, PartialEq, Eq)]
 pub enum CarryFault {
     /// The old office's store failed, or memory ran out. The refusal says which.
     Old(Refusal),
     /// The new office refused a command.
     New(Refusal),
-    /// The open meter with this name has no valid entry up to the timestamp.
+    /// The open meter with this name has no valid entry up to the requested timestamp.
     NotYet(Name),
 }

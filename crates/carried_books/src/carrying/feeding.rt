@@ -1,4 +1,4 @@
-//! Feeds commands to an office in order.
+//! Feeds the commands of a file rollover to an office, in order.
 ghost use Rattle.carried_books.specs.Carrying.Feeding.{Feeds, FeedsOne, Passes};
 
 use crate::carrying::commands::TimedCommand;
@@ -18,7 +18,8 @@ fn feed_one<B: Books>(office: &mut Office<B>, timed: TimedCommand) -> Result<(),
     }
 }
 
-/// Feeds commands to an office, each at its timestamp, up to the first that the office refuses.
+/// Feeds commands to an office, each at its timestamp, up to the first command that the office
+/// refuses.
 pub fn feed_all<B: Books>(
     office: &mut Office<B>,
     commands: Vec<TimedCommand>,

@@ -1,4 +1,4 @@
-//! Finds the open meters, and their openings in a new office.
+//! Finds the open meters of an old office, and their openings in the new office.
 ghost use Rattle.std.specs.Prelude.{◌≡◌, ◌≤◌, ◌∷◌, [], IfOk};
 ghost use Rattle.std.specs.List.{AllPairs};
 ghost use Rattle.std.specs.List.Sorted.{IsPermutation};
@@ -14,15 +14,15 @@ use office_books::{Books, BooksFault};
 use office_events::{Device, Installation, Name, Opening, Register};
 use std::alloc::{AllocError, Global};
 
-/// The openings of all open meters, or a meter for which there is none yet.
+/// The openings of all open meters, or the name of a meter that has no valid entry to open it at.
 #[derive(Drop)]
 pub enum Openings {
     All(Vec<Opening>),
-    /// The meter with this name has no valid entry up to the timestamp.
+    /// The meter with this name has no valid entry up to the requested timestamp.
     NotYet(Name),
 }
 
-// Adds the open meter at an accounting register, if there is one.
+// Adds the open meter at an accounting register, if the register has an open meter.
 fn add_open<B: Books>(
     rows: &mut Vec<Installation>,
     books: &mut B,
@@ -41,7 +41,7 @@ fn add_open<B: Books>(
     Ok(())
 }
 
-// Adds the open meters at these accounting registers.
+// Adds the open meter at each accounting register in `registers`.
 fn add_registers<B: Books>(
     rows: &mut Vec<Installation>,
     books: &mut B,
@@ -72,7 +72,7 @@ fn add_device<B: Books>(
     add_registers(rows, books, &registers)
 }
 
-// Adds the open meters at these devices' accounting registers.
+// Adds the open meters at the accounting registers of each device in `devices`.
 fn add_devices<B: Books>(
     rows: &mut Vec<Installation>,
     books: &mut B,
@@ -89,7 +89,8 @@ fn add_devices<B: Books>(
     Ok(())
 }
 
-/// Returns the open meters at the accounting registers of these devices, in their order.
+/// Returns the open meters at the accounting registers of the devices in `devices`, in the order of
+/// the devices.
 pub fn open_meters<B: Books>(
     alloc: Global,
     books: &mut B,
@@ -104,7 +105,8 @@ pub fn open_meters<B: Books>(
     Ok(rows)
 }
 
-// The opening of the same meter, with the counter in the state `last`.
+// Returns the opening of a meter in the new office: the old `opening`, with the counter in the
+// state `last`.
 fn opened_at(opening: &Opening, last: Last) -> Opening
     ensures { result ≡ openings.opened_at opening.now last }
 {
@@ -116,8 +118,8 @@ fn opened_at(opening: &Opening, last: Last) -> Opening
     }
 }
 
-/// Returns the openings of these meters, each at its last valid entry up to `until`; or a meter
-/// that has no such entry.
+/// Returns the openings of the meters in `rows` in the new office, each at the meter's last valid
+/// entry up to `until`. If a meter has no such entry, returns the meter's name.
 pub fn openings_of<B: Books>(
     alloc: Global,
     books: &mut B,
@@ -138,7 +140,7 @@ pub fn openings_of<B: Books>(
     Ok(Openings::All(opened))
 }
 
-/// Returns these openings in the order of their timestamps.
+/// Returns the openings in `opened` in the order of their timestamps.
 pub fn in_order(opened: Vec<Opening>) -> Result<Vec<Opening>, AllocError>
     ensures same { IfOk result (λ v. IsPermutation opened.items v.items) }
     ensures ordered { IfOk result (λ v. AllPairs (λ (a b : Opened). a.at ≤ b.at) v.items) }

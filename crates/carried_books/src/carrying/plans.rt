@@ -1,4 +1,4 @@
-//! Plans a rollover: queries the old store before the new office gets any command.
+//! Plans a file rollover: queries the old store before the new office gets any command.
 ghost use Rattle.office_books.specs.Ledgers.{Consults, Finds};
 ghost use Rattle.carried_books.specs.Carrying.Plans as plans;
 
@@ -8,19 +8,22 @@ use office_books::{Books, BooksFault};
 use office_events::{Device, Name, Opening};
 use std::alloc::Global;
 
-/// The plan of a rollover: the commands for the new office and the number of meters that they
-/// install; or a meter that can't be rolled over yet.
+/// The plan of a file rollover.
+///
+/// The plan has the commands for the new office and the number of meters that they install. Or it
+/// names a meter that can't be rolled over yet.
 #[derive(Drop)]
 pub enum Plan {
     Ready {
         commands: Vec<TimedCommand>,
         meters: u64,
     },
-    /// The open meter with this name has no valid entry up to the timestamp.
+    /// The open meter with this name has no valid entry up to the requested timestamp.
     NotYet(Name),
 }
 
-// The plan that sets up these devices and installs meters with these openings.
+// Returns the plan that sets up the devices in `devices` and installs a meter for each opening in
+// `opened`.
 fn plan_for<B: Books>(
     alloc: Global,
     books: &mut B,
@@ -39,7 +42,7 @@ fn plan_for<B: Books>(
     })
 }
 
-/// Returns the plan of a rollover. The office's store is only queried.
+/// Returns the plan of a file rollover. The old office's store is only queried.
 pub fn plan_of<B: Books>(
     alloc: Global,
     books: &mut B,

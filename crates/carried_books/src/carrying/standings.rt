@@ -9,13 +9,14 @@ use energy_core::{Entry, Last};
 use office_books::{Books, BooksFault, MeterEntry};
 use office_events::Name;
 
-// The number of entries in one query, and the largest number of queries. Entry indexes have 64
-// bits.
+// The number of entries in one query. `MOST_PIECES` is the largest number of queries, since the
+// index of an entry has 64 bits.
 const PIECE: u32 = 65536;
 
 const MOST_PIECES: u64 = 281_474_976_710_655;
 
-// Whether `at` is not later than `until`; true for each timestamp without `until`.
+// Returns whether the timestamp `at` is not later than `until`. If `until` is `None`, the result is
+// true.
 fn is_until(until: Option<u64>, at: u64) -> bool
     ensures { result ≡ standings.is_until until at }
 {
@@ -25,7 +26,7 @@ fn is_until(until: Option<u64>, at: u64) -> bool
     }
 }
 
-// The state of the counter after an entry of a meter.
+// Returns the state of a meter's counter after an entry of the meter.
 fn shown(entry: &MeterEntry) -> Last
     ensures { result ≡ standings.shown_by entry.now }
 {
@@ -51,14 +52,15 @@ fn stands(entry: &MeterEntry) -> bool
     }
 }
 
-// Whether an entry is valid and not later than `until`.
+// Returns whether an entry is valid (not voided) and not later than `until`.
 fn counts(until: Option<u64>, entry: &MeterEntry) -> bool
     ensures { result ≡ standings.counts until entry.now }
 {
     stands(entry) && is_until(until, shown(entry).at)
 }
 
-// The state of the counter after one more entry; `found` if the entry does not count.
+// Returns the state of the counter after one more entry. The state remains `found` if the entry is
+// voided or later than `until`.
 fn last_with(found: Option<Last>, until: Option<u64>, entry: &MeterEntry) -> Option<Last>
     ensures { (before : List Listed) → found ≡ standings.last_among until before
         → result ≡ standings.last_among until (before ++ entry.now ∷ []) }
@@ -70,7 +72,8 @@ fn last_with(found: Option<Last>, until: Option<u64>, entry: &MeterEntry) -> Opt
     }
 }
 
-// The state of the counter after further entries; `found` if none of them counts.
+// Returns the state of the counter after further entries. The state remains `found` if each of
+// these entries is voided or later than `until`.
 fn last_after(found: Option<Last>, until: Option<u64>, entries: &[MeterEntry]) -> Option<Last>
     ensures { (before : List Listed) → found ≡ standings.last_among until before
         → result ≡ standings.last_among until (before ++ entries.now) }
@@ -82,8 +85,8 @@ fn last_after(found: Option<Last>, until: Option<u64>, entries: &[MeterEntry]) -
     last
 }
 
-// The state of a meter's counter at its last valid entry up to `until`; `None` if it has none. The
-// entries are queried in chunks.
+// Returns the state of a meter's counter at its last valid entry up to `until`; `None` if the meter
+// has no such entry. The entries are queried in chunks.
 fn last_in_pieces<B: Books>(
     books: &mut B,
     meter: &Name,
@@ -104,8 +107,8 @@ fn last_in_pieces<B: Books>(
     Err(BooksFault::Memory)
 }
 
-/// Returns the state of a meter's counter at its last valid entry up to `until`; `None` if it has
-/// none.
+/// Returns the state of a meter's counter at its last valid entry up to `until`; `None` if the
+/// meter has no such entry.
 pub fn last_until<B: Books>(
     books: &mut B,
     meter: &Name,

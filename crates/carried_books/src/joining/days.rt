@@ -1,4 +1,4 @@
-//! Adds up the interval rows of several files by civil day.
+//! Adds up the energy intervals of several files by civil day.
 ghost use Rattle.std.specs.Prelude.{◌≡◌, map};
 ghost use Rattle.std.proofs.Props.{props};
 
@@ -7,10 +7,10 @@ use office_books::RowSink;
 use office_events::{Refusal, StoreCause};
 use std::alloc::{AllocError, Global};
 
-/// Adds up interval rows by civil day, as they arrive.
+/// Adds up energy intervals by civil day, as they arrive.
 ///
-/// A row that starts before an earlier row, or after the last timestamp, is out of order: a fault.
-/// After a failure all rows are dropped.
+/// An interval that starts before an earlier one, or after the last timestamp, is out of order,
+/// which is a fault. After a fault, or after memory ran out, all further intervals are dropped.
 #[derive(Drop)]
 pub struct JoinedDays {
     zone: Zone,
@@ -27,7 +27,7 @@ impl JoinedDays {
     ghost use Rattle.office_core.specs.DaySums.{EndsAs};
     ghost use Rattle.carried_books.specs.Joining.Days.{AddsRow};
 
-    /// Creates a sink without rows. The call allocates no memory.
+    /// Creates a sum to which no interval was added yet. The function allocates no memory.
     pub fn new(alloc: Global, zone: Zone) -> JoinedDays
         ensures zone { result.zone ≡ zone }
         ensures works { result.fault ≡ None }
@@ -41,14 +41,14 @@ impl JoinedDays {
         }
     }
 
-    /// Returns the zone of the days.
+    /// Returns the time zone by which energy intervals are assigned to civil days.
     pub fn zone(&self) -> Zone
         ensures { result ≡ self.now.zone }
     {
         self.zone
     }
 
-    // Adds a row.
+    // Adds an energy interval, or records the fault that it is out of order.
     fn add(&mut self, row: Share)
         requires works { self.old.fault ≡ None }
         ensures { AddsRow self.old row self.new }
@@ -63,15 +63,15 @@ impl JoinedDays {
         }
     }
 
-    /// Returns the first failure, if any: a row was out of order, or memory ran out.
+    /// Returns the first failure, if any: an interval was out of order, or memory ran out.
     pub fn fault(&self) -> Option<DayFault>
         ensures { result ≡ self.now.fault }
     {
         self.fault
     }
 
-    /// Returns the days in order, or the first failure. A row out of order is refused as a row
-    /// without a day.
+    /// Returns the civil days with their energy, in order, or the first failure. If an interval was
+    /// out of order, the refusal is that of a row without a civil day.
     pub(crate) fn into_days(self) -> Result<Vec<DayTotal>, Refusal>
         ensures { EndsAs self.fault self.fold.accounts result }
     {
@@ -82,7 +82,7 @@ impl JoinedDays {
         }
     }
 
-    /// Returns the days so far, in order.
+    /// Returns the civil days of the intervals that were added so far, in order.
     pub fn into_rows(self) -> Vec<DayTotal>
         ensures { map account_of result.items ≡ self.fold.accounts }
     {
@@ -90,10 +90,10 @@ impl JoinedDays {
     }
 }
 
-/// The sum of rows that were in order, without the zone of the days.
+/// The sum of energy intervals of earlier files by civil day, without the time zone of the days.
 ///
-/// The zone is left out because of the checker of one of the kits. It does not cover a call over
-/// the store of a file that borrows a value with a zone.
+/// The time zone is left out because a proof rule does not cover a call over a file's store that
+/// borrows a value with a time zone.
 #[derive(Drop)]
 pub struct EarlierDays {
     fold: DayFold,
@@ -106,7 +106,7 @@ impl EarlierDays {
     ghost use Rattle.interval_core.specs.Days.{account_of};
     ghost use Rattle.carried_books.specs.Joining.Days.{GoesOnFrom};
 
-    /// Takes the sum out of a sink.
+    /// Creates the sum of earlier files from a sum of intervals, leaving out its time zone.
     pub fn of(days: JoinedDays) -> EarlierDays
         ensures { result.fold ≡ days.fold }
     {
@@ -114,14 +114,15 @@ impl EarlierDays {
         EarlierDays { fold, latest }
     }
 
-    /// Returns the civil days of the sum, in order.
+    /// Returns the energy of each civil day, in order.
     pub fn into_rows(self) -> Vec<DayTotal>
         ensures { map account_of result.items ≡ self.fold.accounts }
     {
         self.fold.into_rows()
     }
 
-    /// Returns a copy that continues from these days, by the clocks of a zone.
+    /// Returns a copy of the sum to which further energy intervals can be added, by the civil days
+    /// of the time zone `zone`.
     pub(crate) fn go_on(&self, zone: Zone) -> Result<JoinedDays, AllocError>
         ensures { IfOk result (GoesOnFrom zone self.now) }
     {

@@ -16,9 +16,10 @@ use office_books::{Books, BooksFault, Span};
 use office_events::{Device, Installation, Name, Register};
 use std::alloc::{AllocError, Global};
 
-/// An accounting register in earlier files: its meters and its days.
+/// An accounting register in earlier files: its meters and its energy by day.
 ///
-/// The meters are in the order of installation, each as all of these files have it.
+/// The meters are in the order of installation. Each meter has its first opening, its latest state
+/// and its energy in all of these files.
 #[derive(Drop)]
 pub struct EarlierRegister {
     pub name: Name,
@@ -26,14 +27,15 @@ pub struct EarlierRegister {
     pub days: EarlierDays,
 }
 
-/// What files have of an accounting register so far. The next file is compared with it.
+/// The data of an accounting register in the files that were added so far. The next file is
+/// compared with them.
 #[derive(Drop)]
 pub struct KeptRegister {
     pub name: Name,
     pub files: JoinedFiles,
 }
 
-// The accounting register with its data, once all files have been added.
+// Returns the accounting register with its collected data, after all files were added.
 fn earlier_of(kept: KeptRegister) -> EarlierRegister
     ensures { told result ≡ kept_as kept }
 {
@@ -46,10 +48,10 @@ fn earlier_of(kept: KeptRegister) -> EarlierRegister
     }
 }
 
-/// Adds the register of the next file, and returns why the file does not join those before it, if
-/// so.
+/// Adds the register's data in the next file, and returns the reason if the file does not join the
+/// earlier files.
 ///
-/// The store is only queried.
+/// The store of the next file is only queried.
 pub fn add_kept<B: Books>(
     kept: &mut KeptRegister,
     books: &mut B,
@@ -64,7 +66,8 @@ pub fn add_kept<B: Books>(
     add_books(&mut kept.files, books, &name, Span::All)
 }
 
-// Compares the meters at an accounting register with those of the earlier files.
+// Compares the meters of a store at an accounting register with the register's meters in the
+// earlier files.
 fn hold_meters<B: Books>(kept: &KeptRegister, books: &mut B) -> Result<Option<Unjoined>, BooksFault>
     ensures holds { (known : List Fact) → (B.ledger books.old).holds known
         → (B.ledger books.new).is_clean
@@ -84,11 +87,11 @@ fn hold_meters<B: Books>(kept: &KeptRegister, books: &mut B) -> Result<Option<Un
     }
 }
 
-/// Compares the file of a running office with the files before it, and returns why it does not join
-/// them, if so.
+/// Compares the file of a running office with the earlier files, and returns the reason if it does
+/// not join them.
 ///
-/// The call checks that the register is recorded, and that its meters join. What is stored stays
-/// that of the files before. The store of the office is only queried.
+/// The function checks that the register is recorded, and that its meters join. The collected data
+/// stay those of the earlier files. The store of the office is only queried.
 pub fn hold_kept<B: Books>(
     kept: &KeptRegister,
     books: &mut B,
@@ -109,7 +112,8 @@ pub fn hold_kept<B: Books>(
     }
 }
 
-/// The accounting registers of several files, each from the first file on that has it.
+/// The accounting registers of several files. Each register is collected from the first file that
+/// has it.
 #[derive(Drop)]
 pub struct KeptRegisters {
     alloc: Global,
@@ -117,7 +121,7 @@ pub struct KeptRegisters {
     kept: Vec<KeptRegister>,
 }
 
-// Whether the accounting register with this name is kept already.
+// Returns whether the accounting register with this name is collected already.
 fn is_kept(kept: &[KeptRegister], name: &Name) -> bool {
     for one in kept {
         if one.name.is(name) {
@@ -127,7 +131,7 @@ fn is_kept(kept: &[KeptRegister], name: &Name) -> bool {
     false
 }
 
-// Adds what the store has of each kept register.
+// Adds the data in the next file's store to each collected register.
 fn add_all<B: Books>(
     kept: &mut Vec<KeptRegister>,
     books: &mut B,
@@ -149,7 +153,8 @@ fn add_all<B: Books>(
     Ok(None)
 }
 
-// Compares the store with each kept register, and returns the first reason why it does not join.
+// Compares the store with each collected register, and returns the first reason why the store does
+// not join.
 fn hold_all<B: Books>(kept: &[KeptRegister], books: &mut B) -> Result<Option<Unjoined>, BooksFault>
     ensures { Consults (B.ledger books.old) (B.ledger books.new) result }
 {
@@ -166,7 +171,7 @@ fn hold_all<B: Books>(kept: &[KeptRegister], books: &mut B) -> Result<Option<Unj
     Ok(None)
 }
 
-// Adds an accounting register of the store, if it is not kept yet.
+// Adds an accounting register of the store, if the register is not collected yet.
 fn add_new<B: Books>(
     alloc: Global,
     zone: Zone,
@@ -197,7 +202,7 @@ fn add_new<B: Books>(
     }
 }
 
-// Adds those of these accounting registers that are not kept yet.
+// Adds the accounting registers in `registers` that are not collected yet.
 fn add_registers<B: Books>(
     alloc: Global,
     zone: Zone,
@@ -220,7 +225,7 @@ fn add_registers<B: Books>(
     Ok(None)
 }
 
-// Adds those accounting registers of a device that are not kept yet.
+// Adds those accounting registers of a device that are not collected yet.
 fn add_device<B: Books>(
     alloc: Global,
     zone: Zone,
@@ -236,7 +241,7 @@ fn add_device<B: Books>(
     }
 }
 
-// Adds those accounting registers of these devices that are not kept yet.
+// Adds the accounting registers of the devices in `devices` that are not collected yet.
 fn add_devices<B: Books>(
     alloc: Global,
     zone: Zone,
@@ -259,7 +264,7 @@ fn add_devices<B: Books>(
     Ok(None)
 }
 
-// Adds all accounting registers of the store that are not kept yet.
+// Adds all accounting registers of the store that are not collected yet.
 fn add_others<B: Books>(
     alloc: Global,
     zone: Zone,
@@ -274,7 +279,8 @@ fn add_others<B: Books>(
     }
 }
 
-// Adds all accounting registers of the store, those that are kept and new ones.
+// Adds the data of all accounting registers in the store, whether or not they are collected
+// already.
 fn add_books_to<B: Books>(
     alloc: Global,
     zone: Zone,
@@ -309,7 +315,7 @@ impl KeptRegisters {
     }
 }
 
-/// Keeps all accounting registers, whichever register and range were requested.
+/// Collects all accounting registers of the files, whichever register and range were requested.
 impl Keeping for KeptRegisters {
     ghost use Rattle.std.specs.Prelude.{◌≡◌};
 
@@ -335,14 +341,14 @@ impl Keeping for KeptRegisters {
     }
 }
 
-/// The registers of earlier files, with which the file of a running office is compared.
+/// The accounting registers of earlier files, with which the file of a running office is compared.
 #[derive(Drop)]
 pub struct HeldRegisters {
     pub kept: KeptRegisters,
 }
 
-/// Compares a file with all registers, for any requested register and range, and stores nothing of
-/// it.
+/// Compares a file with all accounting registers, whichever register and range were requested, and
+/// collects no data of the file.
 impl Keeping for HeldRegisters {
     ghost use Rattle.std.specs.Prelude.{◌≡◌};
 

@@ -1,4 +1,4 @@
-//! Joins the files of one office at an accounting register, in order.
+//! Joins the files of one office at an accounting register, the oldest file first.
 ghost use Rattle.std.specs.Prelude.{◌≡◌, ℕ, List, [], IfOk};
 ghost use Rattle.office_events.specs.declared.facts.Fact.{Fact};
 ghost use Rattle.office_rules.specs.Intervals.{rows_of_register};
@@ -17,18 +17,20 @@ use office_books::{Books, BooksFault, Span};
 use office_events::{Installation, Name};
 use std::alloc::Global;
 
-/// Why a file does not join the earlier files.
+/// The reason why a file does not join the earlier files of its office.
 #[derive(Clone, Copy, Debug, PartialEq, Eq)]
 pub enum Unjoined {
     /// The file does not record the accounting register, though an earlier file does.
     NotRecorded,
-    /// A meter at the register does not continue an earlier meter, and does not begin after it.
+    /// A meter of the file at the accounting register neither continues an earlier meter nor begins
+    /// after the earlier meters were closed.
     Apart(Apart),
-    /// An interval row comes after a later one.
+    /// An energy interval of the file starts before an earlier interval.
     OutOfTurn,
 }
 
-/// An accounting register over several files: whether it is recorded, its meters, and its days.
+/// An accounting register over several files: whether it is recorded, its meters, and its energy by
+/// day.
 #[derive(Drop)]
 pub struct JoinedFiles {
     pub is_recorded: bool,
@@ -36,7 +38,8 @@ pub struct JoinedFiles {
     pub days: JoinedDays,
 }
 
-/// Creates the join of no files. The call allocates no memory.
+/// Creates the data of an accounting register to which no file was added yet. The function
+/// allocates no memory.
 pub fn no_files(alloc: Global, zone: Zone) -> JoinedFiles
     ensures { (span : Asked) (register : List ℕ) → HasJoined zone span register [] result }
 {
@@ -59,7 +62,8 @@ pub(crate) fn is_recorded<B: Books>(books: &mut B, register: &Name) -> Result<bo
     }
 }
 
-/// Adds the meters of a file at an accounting register, and returns why they don't join, if so.
+/// Adds the meters of a store at an accounting register, and returns two meters that don't join, if
+/// any.
 pub(crate) fn join_meters<B: Books>(
     meters: &mut Vec<Installation>,
     books: &mut B,
@@ -80,8 +84,8 @@ pub(crate) fn join_meters<B: Books>(
     }
 }
 
-// Adds the interval rows of an accounting register in a span, and returns why they don't join, if
-// so.
+// Adds the energy intervals of an accounting register in a span of time, and returns the reason if
+// they are out of order.
 fn join_days<B: Books>(
     days: &mut JoinedDays,
     books: &mut B,
@@ -104,8 +108,8 @@ fn join_days<B: Books>(
     }
 }
 
-// Adds the meters and the interval rows of an accounting register, and returns why they don't join,
-// if so.
+// Adds the meters and the energy intervals of an accounting register in a file. Returns the reason
+// if they don't join the meters and intervals of the earlier files.
 fn add_rows<B: Books>(
     joined: &mut JoinedFiles,
     books: &mut B,
@@ -126,7 +130,8 @@ fn add_rows<B: Books>(
     }
 }
 
-// Adds an accounting register of the next file, and returns why the file does not join, if so.
+// Adds an accounting register of the next file, and returns the reason if the file does not join
+// the earlier files.
 fn add_file<B: Books>(
     joined: &mut JoinedFiles,
     books: &mut B,
@@ -150,9 +155,11 @@ fn add_file<B: Books>(
     }
 }
 
-/// Adds the register of the next file: its meters, and its quarter hours in a span.
+/// Adds the register's data in the next file: its meters, and its quarter-hour energies in a span
+/// of time.
 ///
-/// Returns why the file does not join those before it, if so. The store is only queried.
+/// Returns the reason if the next file does not join the earlier files.
+/// The store of the next file is only queried.
 pub fn add_books<B: Books>(
     joined: &mut JoinedFiles,
     books: &mut B,

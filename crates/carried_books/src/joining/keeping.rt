@@ -1,4 +1,4 @@
-//! A trait for values that have the data of several files of one office, in order.
+//! A trait for values that collect the data of several files of one office, the oldest file first.
 
 use crate::joining::files::{JoinedFiles, Unjoined, add_books, no_files};
 use interval_core::{DayRange, Zone};
@@ -7,10 +7,10 @@ use office_core::span_around;
 use office_events::Name;
 use std::alloc::Global;
 
-/// What is stored of files, to report a register on the days of a range.
+/// A collector of the data of several files, to report a register on the days of a range.
 ///
-/// Code that has a connection to a file is proved over any implementation: no rule covers a call
-/// over the file's store that names the stored value.
+/// Code that connects to a file is proved for every implementation of this trait. This is needed
+/// because no proof rule covers a call over the file's store that names the collected value.
 pub trait Keeping: Drop {
     ghost use Rattle.std.specs.Prelude.{ℕ, List, [], IfOk};
     ghost use Rattle.interval_core.specs.declared.zone.Zone.{Zone};
@@ -20,20 +20,21 @@ pub trait Keeping: Drop {
     ghost use Rattle.carried_books.specs.Joining.Keeping.{KeepsFile, PartsFile};
     ghost use Rattle.carried_books.specs.declared.joining.files.Unjoined.{Unjoined as Why};
 
-    /// The value is what is stored of these files, by the clocks of a zone. The list has the latest
-    /// file first.
+    /// True if the value has the data of the files in a list, by civil days of a time zone. The
+    /// list has the latest file first.
     ghost keeps: { Zone → DayRange → List ℕ → List (List Fact) → Self → Type 0 };
-    /// A file with these facts does not join the stored files, for this reason.
+    /// True if a file with the given records does not join the collected files, for the given
+    /// reason.
     ghost parts: { DayRange → List ℕ → List Fact → Self → Why → Type 0 };
 
-    /// Creates the value for no files. The call allocates no memory.
+    /// Creates a value that has collected no files yet. The function allocates no memory.
     fn none(alloc: Global, zone: Zone, range: DayRange) -> Self
         ensures { (register : List ℕ) → keeps zone range register [] result };
 
-    /// Adds the register of the next file, and returns why the file does not join those before it,
-    /// if so.
+    /// Adds the register's data in the next file, and returns the reason if the file does not join
+    /// the earlier files.
     ///
-    /// The store is only queried.
+    /// The store of the next file is only queried.
     fn add<B: Books>(
         &mut self,
         books: &mut B,
@@ -49,7 +50,7 @@ pub trait Keeping: Drop {
         ensures reads { Consults (B.ledger books.old) (B.ledger books.new) result };
 }
 
-/// Stores the meters at the register and its days.
+/// Collects the meters of an accounting register and its energy by civil day.
 impl Keeping for JoinedFiles {
     ghost use Rattle.office_core.specs.DayRange.{span_of};
     ghost use Rattle.carried_books.specs.Joining.Files.{DoesNotJoin, HasJoined};

@@ -1,4 +1,4 @@
-//! The data that are kept of a meter over several files, for its statement.
+//! The data of a meter that are collected over several files, for its statement.
 ghost use Rattle.std.specs.Prelude.{◌≡◌, ◌≤◌, if◌then◌else◌};
 ghost use Rattle.office_books.specs.Entries.{all_entries};
 ghost use Rattle.office_books.specs.Holds.{holds_of};
@@ -23,14 +23,14 @@ pub struct KeptMeter {
     pub told: MeterStatement,
 }
 
-// The number of entries in one query, and the largest number of queries. Entry indexes have 64
-// bits.
+// The number of entries in one query. `MOST_PIECES` is the largest number of queries, since entry
+// indexes have 64 bits.
 const PIECE: u32 = 65536;
 
 const MOST_PIECES: u64 = 281_474_976_710_655;
 
-// The index of the first entry that only this file has: 2 if the meter continues from an earlier
-// file, otherwise 1.
+// Returns the index of a meter's first entry that no earlier file has. The index is 2 if the meter
+// continues from an earlier file, otherwise 1.
 fn first_place(goes_on: bool) -> u64
     ensures place { result ≡ if goes_on then 2 else 1 }
     ensures few { result ≤ 2 }
@@ -38,8 +38,8 @@ fn first_place(goes_on: bool) -> u64
     if goes_on { 2 } else { 1 }
 }
 
-// The earlier tally of a meter with the entries added that only this file has. The entries are
-// queried in chunks.
+// Returns the tally of a meter's entries in the earlier files and in this store. The entries of
+// this store are queried in chunks.
 fn tally_on<B: Books>(
     books: &mut B,
     begun: EntryTally,
@@ -65,8 +65,8 @@ fn tally_on<B: Books>(
     Err(BooksFault::Memory)
 }
 
-// The energy of a meter in the range, in mWh. Only the quarter hours around the range's days are
-// queried.
+// Returns the energy of a meter in the range, in mWh. Only the quarter hours around the range's
+// days are queried.
 fn energy<B: Books>(
     books: &mut B,
     zone: &Zone,
@@ -82,7 +82,7 @@ fn energy<B: Books>(
     Ok(energy.mwh())
 }
 
-// The counts of a meter's rejected readings in the range.
+// Returns the counts of a meter's rejected readings in the range.
 fn held<B: Books>(
     books: &mut B,
     zone: &Zone,
@@ -98,8 +98,8 @@ fn held<B: Books>(
     Ok(held.counts())
 }
 
-/// Returns what a file adds to a meter that continues in it or begins there. Its tally continues
-/// the earlier one.
+/// Returns the statement of a meter in one file. Its tally of entries continues the tally of the
+/// earlier files.
 pub(crate) fn told_in<B: Books>(
     books: &mut B,
     begun: EntryTally,
@@ -123,7 +123,7 @@ pub(crate) fn told_in<B: Books>(
     })
 }
 
-// The counts of rejected readings of two parts, added up for each cause.
+// Returns the sums of two counts of rejected readings, a sum for each cause of rejection.
 fn both_held(one: &HeldCounts, more: &HeldCounts) -> HeldCounts
     ensures { result ≡ statements.both_held one.now more.now }
 {
@@ -139,7 +139,7 @@ fn both_held(one: &HeldCounts, more: &HeldCounts) -> HeldCounts
     }
 }
 
-/// Returns the kept meter with what the next file adds to it.
+/// Returns the data of a meter over the earlier files and the next file.
 pub(crate) fn with_part(kept: &KeptMeter, row: &Installation, part: &MeterStatement) -> KeptMeter
     ensures { result ≡ statements.with_part kept.now row.now part.now }
 {

@@ -1,6 +1,6 @@
 //! Theorems on reports, statements and sites over several files.
 //!
-//! The contract of each function states a theorem for all values; its body at most calls other
+//! The contract of each function states a theorem. The body of the function is empty or calls other
 //! theorems.
 ghost use Rattle.carried_books.specs.Joining.Reports.{BothFilesTellTheJoinedDays};
 ghost use Rattle.carried_books.specs.Joining.Reports.{OneFileTellsItsDays};
@@ -10,36 +10,40 @@ ghost use Rattle.carried_books.specs.Joining.Statements.{OneFileStatesItsMeters}
 
 use office_rules::names_are_distinct;
 
-/// Proves that the days of an accounting register over one file are those of this file.
+/// Proves that a report over one file has the register's days in this file.
 pub fn one_file_tells_its_days()
     ensures { OneFileTellsItsDays }
 {}
 
-/// Proves that if a meter was rolled over from one file into another, both files report its days as
-/// its complete journal gives them.
+/// Proves that a report of a meter's days over two files equals the report over a single file.
+///
+/// The meter was rolled over from the first file into the second. The single file has the complete
+/// journal of the meter.
 pub fn both_files_tell_the_joined_days()
     ensures { BothFilesTellTheJoinedDays }
 {}
 
-/// Proves that the statement of an accounting register over one file, which an office wrote, is
-/// that of the file's meters.
+/// Proves that a statement over one file has the statements of the file's meters. An office must
+/// have written the file.
 pub fn one_file_states_its_meters()
     ensures { OneFileStatesItsMeters }
 {
     names_are_distinct();
 }
 
-/// Proves that if a meter was rolled over from one file into another, its statement over both is
-/// that of one file with both journals.
+/// Proves that the statement of a meter over two files equals the statement over a single file.
+///
+/// The meter was rolled over from the first file into the second. The single file has the meter's
+/// journals of both files.
 pub fn both_files_state_the_joined_meter()
     ensures { BothFilesStateTheJoinedMeter }
 {}
 
-/// Proves that the latest meter that is reported of an accounting register is the last meter of all
-/// files.
+/// Proves that the latest meter that is reported for an accounting register is the register's last
+/// meter in all files.
 ///
-/// The meters of the latest file must join those of the others, and an office must have written
-/// that file.
+/// The meters of the latest file must join those of the earlier files, and an office must have
+/// written the latest file.
 pub fn latest_is_of_all_files()
     ensures { LatestIsOfAllFiles }
 {

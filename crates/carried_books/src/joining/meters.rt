@@ -1,4 +1,4 @@
-//! Joins the meters at an accounting register over several files, in order.
+//! Joins the meters at an accounting register over several files, the oldest file first.
 ghost use Rattle.std.specs.Prelude.{◌≡◌, ◌↔◌, ◌&&◌, IsTrue, not, find, IfOk};
 ghost use Rattle.meter_audit.specs.CarriedFiles.{GoesOnAs};
 ghost use Rattle.carried_books.specs.Joining.Meters as meters;
@@ -10,8 +10,8 @@ use office_books::installed;
 use office_events::Installation;
 use std::alloc::AllocError;
 
-/// Two meters at a register that don't join: the state of an earlier meter, and a later meter that
-/// does not continue or follow it.
+/// Two meters at a register that don't join, an earlier meter and a later meter. The later meter
+/// neither continues the earlier meter nor begins after the earlier meter was closed.
 #[derive(Clone, Copy, Debug, PartialEq, Eq)]
 pub struct Apart {
     pub stands: Installation,
@@ -24,14 +24,15 @@ pub(crate) fn both(one: bool, other: bool) -> bool
     one && other
 }
 
-// Whether two states of a counter are equal.
+// Returns whether two states of a counter are equal.
 fn is_same(last: &Last, other: &Last) -> bool
     ensures { IsTrue result ↔ (last.now ≡ other.now) }
 {
     last.at == other.at && last.raw == other.raw && last.sf == other.sf
 }
 
-// Whether the meter `meter`, in this state, continues as the meter `next` of the next file.
+// Returns whether the meter `meter`, in the state `last`, continues as the meter `next` of the next
+// file.
 fn goes_on_as(meter: &Installed, last: &Last, ended: bool, next: &Installed) -> bool
     ensures { IsTrue result ↔ GoesOnAs meter.now last.now ended next.now }
 {
@@ -41,7 +42,8 @@ fn goes_on_as(meter: &Installed, last: &Last, ended: bool, next: &Installed) -> 
         && is_same(&next.opening, last)
 }
 
-/// Returns whether a meter continues as the meter of the same name in a later file.
+/// Returns whether the meter `stands` continues as the meter `row` of the same name in a later
+/// file.
 pub(crate) fn goes_on(stands: &Installation, row: &Installation) -> bool
     ensures { IsTrue result ↔ GoesOn stands.now row.now }
 {
@@ -54,8 +56,8 @@ pub(crate) fn goes_on(stands: &Installation, row: &Installation) -> bool
     )
 }
 
-/// Returns the meter over both files: with its first opening, its later state and the energy of
-/// both.
+/// Returns the meter over both files: with the first opening of `stands`, the later state of `row`,
+/// and the energy in both files.
 pub(crate) fn as_one(stands: &Installation, row: &Installation) -> Installation
     ensures { result ≡ meters.as_one stands.now row.now }
 {
@@ -67,7 +69,8 @@ pub(crate) fn as_one(stands: &Installation, row: &Installation) -> Installation
     }
 }
 
-/// Returns whether the meter `stands` was closed before the meter `row` began, under another name.
+/// Returns whether the meter `stands` was closed before the meter `row` began. The two meters must
+/// have different names.
 pub(crate) fn is_before(stands: &Installation, row: &Installation) -> bool
     ensures { result ≡ meters.is_before stands.now row.now }
 {
@@ -76,7 +79,7 @@ pub(crate) fn is_before(stands: &Installation, row: &Installation) -> bool
     both(stands.ended, both(is_earlier, !is_same))
 }
 
-// The first of these meters that was not closed before the meter `row` began.
+// Returns the first meter in `known` that was not closed before the meter `row` began.
 fn not_before(known: &[Installation], row: &Installation) -> Option<Installation>
     ensures { result ≡ find (λ stands. not (meters.is_before stands row.now)) known.now }
 {
@@ -88,7 +91,8 @@ fn not_before(known: &[Installation], row: &Installation) -> Option<Installation
     None
 }
 
-// Appends a meter to these, or returns one of them that was not closed before it began.
+// Appends the meter `row` to `known`, or returns a meter in `known` that was not closed before
+// `row` began.
 fn add_next(known: &mut Vec<Installation>, row: &Installation) -> Result<Option<Apart>, AllocError>
     ensures { IfOk result (AddsNext known.old.items row.now known.new.items) }
 {
@@ -104,8 +108,8 @@ fn add_next(known: &mut Vec<Installation>, row: &Installation) -> Result<Option<
     }
 }
 
-// Adds a meter that continues the last of these meters or follows all of them, or returns two
-// meters that don't join.
+// Adds the meter `row` to `known`: `row` continues the last meter or follows all meters. Returns
+// two meters if they don't join.
 fn add_meter(known: &mut Vec<Installation>, row: &Installation) -> Result<Option<Apart>, AllocError>
     ensures { IfOk result (AddsOrIsApart known.old.items row.now known.new.items) }
 {
@@ -120,8 +124,8 @@ fn add_meter(known: &mut Vec<Installation>, row: &Installation) -> Result<Option
     add_next(known, row)
 }
 
-/// Adds the meters of a file to those of the files before, and returns the first two that don't
-/// join, if any.
+/// Adds the meters in `listed`, of one file, to the earlier files' meters in `known`. Returns the
+/// first two meters that don't join, if any.
 ///
 /// The meters of the file are in the order of installation.
 pub fn add_meters(

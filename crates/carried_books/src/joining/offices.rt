@@ -14,7 +14,7 @@ use office_core::Office;
 use office_events::{Installation, Name, Refusal};
 use office_rules::facts_are_lawful;
 
-// Adds the interval rows of these meters in a span, one meter after another.
+// Adds the energy intervals of the meters in `meters` in a span of time, one meter after another.
 fn add_meters_within<B: Books>(
     days: &mut JoinedDays,
     office: &mut Office<B>,
@@ -32,7 +32,7 @@ fn add_meters_within<B: Books>(
     Ok(())
 }
 
-// Adds the interval rows of an accounting register in a span, as the office has them.
+// Adds the energy intervals of an accounting register in a span of time, from the office's records.
 fn add_register<B: Books>(
     days: &mut JoinedDays,
     office: &mut Office<B>,
@@ -50,8 +50,8 @@ fn add_register<B: Books>(
     }
 }
 
-// The refusal if memory for the days runs out: that of a query for the register, or `Memory` if the
-// register exists.
+// Returns the refusal if memory for the days runs out: the refusal of a query for the register, or
+// `Memory` if the register exists.
 fn without_memory<B: Books>(office: &mut Office<B>, register: &Name) -> Refusal
     ensures lacks { LacksMemory B.ledger office.old office.new register.now result }
     ensures asks { OnlyAsks {T = Vec DayTotal Global} B.ledger office.old office.new (Err result) }
@@ -62,11 +62,12 @@ fn without_memory<B: Books>(office: &mut Office<B>, register: &Name) -> Refusal
     }
 }
 
-/// Returns the days of a register over earlier files and a running office, in mWh.
+/// Returns the days of a register over earlier files and a running office, with energy in mWh.
 ///
-/// The days are those of the earlier files, and those of the office's quarter hours in a span, by
-/// the clocks of a zone. The zone must be that of the earlier days. The office is only queried. A
-/// row that starts before an earlier row is refused as a row without a day.
+/// The days have the energy of the earlier files and of the office's quarter hours in a span, by
+/// the civil days of a time zone. The zone must be that of the earlier days. The office is only
+/// queried. If a quarter hour starts before an earlier one, the refusal is that of a row without a
+/// civil day.
 pub fn days_over<B: Books>(
     office: &mut Office<B>,
     zone: Zone,

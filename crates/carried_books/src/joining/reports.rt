@@ -13,7 +13,7 @@ use interval_core::{DayTotal, accounts_are_one};
 use office_books::RowSink;
 use std::io::Write;
 
-// Passes all days to the sink, in order.
+// Passes each day of a report to the writer `sink`, in order.
 fn hand_on<K: RowSink<DayTotal>>(days: &[DayTotal], sink: &mut K)
     ensures took { TakesAll K.takes sink.old days.now sink.new }
     ensures few { length days.now < 2 ^ 64 }
@@ -23,7 +23,7 @@ fn hand_on<K: RowSink<DayTotal>>(days: &[DayTotal], sink: &mut K)
     }
 }
 
-// Writes the end of a report, and returns the exit status.
+// Prints the end of a report, and returns the exit status.
 fn finish<W: Write>(rows: &mut ReportRows<'_, W>) -> ExitStatus
     ensures { PrintsLast W.contents result rows.old rows.new }
 {
@@ -35,8 +35,7 @@ fn finish<W: Write>(rows: &mut ReportRows<'_, W>) -> ExitStatus
     }
 }
 
-/// Prints the energy of the days that are in the form's range, by period, in the form's unit and
-/// format.
+/// Prints the energy of the days in the form's range, by period, in the form's unit and format.
 pub fn report_days<W: Write>(days: &[DayTotal], form: &ReportForm, output: &mut W) -> ExitStatus
     ensures { IsTold (report_text form.now days.now) ExitStatus.Fine result
         (W.contents output.old) (W.contents output.new) }
@@ -49,7 +48,7 @@ pub fn report_days<W: Write>(days: &[DayTotal], form: &ReportForm, output: &mut 
 /// Prints the energy of an accounting register over joined files, on the days of a range, by
 /// period, in the form's unit and format.
 ///
-/// The files must have been joined with the interval rows around the days of the range.
+/// The files must have been joined with the quarter hours around the days of the range.
 pub fn report_joined<W: Write>(joined: JoinedFiles, form: &ReportForm, output: &mut W) -> ExitStatus
     ensures { ReportsJoined W.Write joined form.now output.old output.new result }
 {

@@ -6,16 +6,16 @@ use crate::joining::earlier::EarlierRegister;
 use crate::joining::meters::{as_one, both};
 use office_events::{Installation, Name};
 
-/// A meter as all files have it, with the part of its energy, in mWh, in earlier files, if they
-/// have the meter.
+/// A meter over all files, with its energy in the earlier files, in mWh, if the earlier files have
+/// the meter.
 #[derive(Clone, Copy, Debug, PartialEq, Eq)]
 pub struct LatestMeter {
     pub meter: Installation,
     pub earlier: Option<u64>,
 }
 
-/// Returns the meters of earlier files at a register, in the order of installation, each as all of
-/// these files have it.
+/// Returns the meters at a register in earlier files, in the order of installation. Each meter has
+/// its data from all of these files.
 ///
 /// The result is empty if the files have no such register.
 pub fn earlier_meters<'a>(earlier: &'a [EarlierRegister], register: &Name) -> &'a [Installation]
@@ -29,7 +29,8 @@ pub fn earlier_meters<'a>(earlier: &'a [EarlierRegister], register: &Name) -> &'
     &[]
 }
 
-// Whether the office's meter `row` is the meter `stands` that the earlier files left open.
+// Returns whether the office's meter `row` continues the meter `stands`, which the earlier files
+// left open.
 fn is_left(stands: &Installation, row: &Installation) -> bool
     ensures { result ≡ sites.is_left stands.now row.now }
 {
@@ -37,7 +38,7 @@ fn is_left(stands: &Installation, row: &Installation) -> bool
     both(!stands.ended, is_one)
 }
 
-// The latest meter if only earlier files have one.
+// Returns the latest meter at a register if only earlier files have a meter there.
 fn of_earlier(stands: &Installation) -> LatestMeter
     ensures { result ≡ sites.of_earlier stands.now }
 {
@@ -47,7 +48,8 @@ fn of_earlier(stands: &Installation) -> LatestMeter
     }
 }
 
-// The latest meter if the office has `row` and the earlier files have `stands` last.
+// Returns the latest meter if the office has the meter `row`, and the last meter of the earlier
+// files is `stands`.
 fn of_both(stands: &Installation, row: &Installation) -> LatestMeter
     ensures { result ≡ sites.of_both stands.now row.now }
 {
@@ -64,7 +66,8 @@ fn of_both(stands: &Installation, row: &Installation) -> LatestMeter
     }
 }
 
-// The latest meter over all files; `None` if neither the earlier files nor the office have one.
+// Returns the latest meter at a register over all files; `None` if neither the earlier files nor
+// the office have a meter there.
 fn latest(stands: &Option<Installation>, row: &Option<Installation>) -> Option<LatestMeter>
     ensures { result ≡ sites.latest stands.now row.now }
 {
@@ -86,8 +89,8 @@ fn latest(stands: &Option<Installation>, row: &Option<Installation>) -> Option<L
 /// Returns the latest meter at a register, from its meters in earlier files and its latest meter in
 /// the office.
 ///
-/// If the files left the office's meter open, the result is the meter of all files, with their
-/// energy. If the office has no meter there, the result is the last meter of the files.
+/// If the files left the office's meter open, the result is the meter over all files, with their
+/// energy. If the office has no meter at the register, the result is the last meter of the files.
 pub fn latest_meter(earlier: &[Installation], row: &Option<Installation>) -> Option<LatestMeter>
     ensures { result ≡ sites.latest_meter earlier.now row.now }
 {

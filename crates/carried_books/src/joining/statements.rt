@@ -1,4 +1,4 @@
-//! Makes the statements of the meters at an accounting register over the files of one office.
+//! Creates the statements of the meters at an accounting register over the files of one office.
 ghost use Rattle.std.specs.Prelude.{◌≡◌, ◌∷◌, ◌++◌, [], List, map, find, not, IfErr, IfOk, OnOk};
 ghost use Rattle.std.specs.Option.{option_map};
 ghost use Rattle.office_events.specs.declared.facts.Fact.{Fact};
@@ -22,8 +22,10 @@ use office_events::{Installation, Name};
 use std::alloc::{AllocError, Global};
 use std::io::Write;
 
-/// The meters of an accounting register over several files: whether it is recorded, and the
-/// statement of each meter on a range of days, by the clocks of a zone.
+/// The meters of an accounting register, with their statements over several files of an office.
+///
+/// The value says whether the files record the register, and has the statement of each meter on a
+/// range of days in a time zone.
 #[derive(Drop)]
 pub struct JoinedStatement {
     pub is_recorded: bool,
@@ -31,7 +33,7 @@ pub struct JoinedStatement {
     pub zone: Zone,
 }
 
-// The first of these meters that was not closed before the meter `row` began.
+// Returns the first meter in `known` that was not closed before the meter `row` began.
 fn not_before(known: &[KeptMeter], row: &Installation) -> Option<Installation>
     ensures { result ≡ option_map stands_of
         (find (λ one. not (meters.is_before one.stands row.now)) known.now) }
@@ -44,7 +46,8 @@ fn not_before(known: &[KeptMeter], row: &Installation) -> Option<Installation>
     None
 }
 
-// Appends a meter to these, or returns one of them that was not closed before it began.
+// Appends the meter `row` to the earlier meters in `known`. If a meter in `known` was not closed
+// before `row` began, returns this meter instead.
 fn add_next<B: Books>(
     known: &mut Vec<KeptMeter>,
     books: &mut B,
@@ -74,8 +77,8 @@ fn add_next<B: Books>(
     }
 }
 
-// Adds a meter that continues the last of these meters or follows all of them. On an error the last
-// one may be missing.
+// Adds the meter `row` to the meters in `known`, if `row` continues the last meter in `known` or
+// follows all of them. On an error the last meter may be missing from `known`.
 fn add_row<B: Books>(
     known: &mut Vec<KeptMeter>,
     books: &mut B,
@@ -104,8 +107,8 @@ fn add_row<B: Books>(
     add_next(known, books, zone, range, row)
 }
 
-// Adds meters of a file in the order of installation, and returns the first two that don't join, if
-// any.
+// Adds the meters of a file in the order of installation. Returns the first two meters that don't
+// join, if any.
 fn add_listed<B: Books>(
     known: &mut Vec<KeptMeter>,
     books: &mut B,
@@ -130,7 +133,7 @@ fn add_listed<B: Books>(
     Ok(None)
 }
 
-// Adds the meters at an accounting register of the store.
+// Adds the meters of the store at an accounting register to those of the earlier files.
 fn add_meters<B: Books>(
     known: &mut Vec<KeptMeter>,
     books: &mut B,
@@ -148,7 +151,7 @@ fn add_meters<B: Books>(
     add_listed(known, books, zone, range, &listed)
 }
 
-/// Stores the statements of the register's meters.
+/// Collects the statements of an accounting register's meters over several files.
 impl Keeping for JoinedStatement {
     ghost keeps = { HasStated };
 
@@ -181,9 +184,9 @@ impl Keeping for JoinedStatement {
     }
 }
 
-// ---- the printed text
+// ---- The printed text of the statements
 
-// Adds the statement of a meter, if the meter was installed in the range.
+// Adds the statement of a meter, if the meter was installed in the range of days.
 fn add_told(
     rows: &mut Vec<MeterStatement>,
     zone: &Zone,
@@ -200,7 +203,7 @@ fn add_told(
     Ok(())
 }
 
-// The statements of the meters that were installed in the range.
+// Returns the statements of the meters that were installed in the range of days.
 fn rows_of(
     alloc: Global,
     zone: &Zone,
@@ -225,11 +228,11 @@ fn print_rows<W: Write>(form: &StatementForm, rows: &[MeterStatement], output: &
     }
 }
 
-/// Prints the statement of a register's meters over joined files, on the days of a range.
+/// Prints the statements of a register's meters over joined files, on the days of a range.
 ///
-/// The statement has each meter that was installed in the range, in the order of installation, with
-/// the data of all files. The range must be that of the join. On `Err` memory ran out, and nothing
-/// is printed.
+/// The meters are those that were installed in the range, in the order of installation, with their
+/// data from all files. The range must be that with which the files were joined. On `Err` memory
+/// ran out, and nothing is printed.
 pub fn state_joined<W: Write>(
     alloc: Global,
     joined: &JoinedStatement,

@@ -1,4 +1,5 @@
--- A fold over the first items of a list, extended by the next item.
+-- Proves that a fold can be extended by one item. Applying the step to item `i` after a fold over
+-- the first `i` items is the fold over the first `i` + 1 items.
 use Rattle.std.proofs.Common.{◌≡◌, ◌∙◌, ◌+◌, ◌<◌, ◌∷◌, [], ap, sym, ℕ, List, length, take, get_or}
 use Rattle.std.specs.Prelude.{fold}
 use Rattle.std.proofs.lemmas.List.{take_more}

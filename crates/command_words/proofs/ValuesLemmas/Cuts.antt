@@ -1,4 +1,4 @@
--- Lemmas on texts that are split at the first or the last byte of a kind.
+-- Lemmas about splitting a text at the first or last byte that satisfies a predicate.
 use Rattle.std.proofs.Common.{◌≡◌, ◌≢◌, ◌∙◌, ◌+◌, ◌-◌, ◌<◌, ◌≤◌, [], ap, sym, ℕ, Bool, List, Option, Some, None, length, take, drop, get_or, not, true, false, arith, length-drop}
 use Rattle.std.specs.Borrow.{Bor}
 use Rattle.std.specs.Prelude.{MatchOption, ◌==◌}
@@ -13,7 +13,8 @@ use Rattle.std.proofs.lemmas.Str.{len_utf8_ascii}
 use Rattle.std.proofs.lemmas.Str.Pattern.{IsSplitOnceResult, NoCharPasses-char, split_once_first}
 use Rattle.std.proofs.lemmas.List.Sums.{suffix_len_is}
 
--- If no byte is of the kind, the part before the split is the whole text.
+-- If no byte of a text satisfies the predicate, then the text before the split is the complete
+-- text.
 first_none : (p : ℕ → Bool) (bs : List ℕ) → position_or_len p bs ≡ length bs → (before_first p bs ≡ bs) × (after_first p bs ≡ [])
 first_none p bs e = (ap (λ n. take n bs) e ∙ take-length bs, ap (λ n. drop (n + 1) bs) e ∙ drop_of_length-le bs (omega arith))
 
@@ -24,7 +25,8 @@ first_cut c bs None cut low = first_none (λ b. b == c) bs (split_once_first c b
 first_cut c bs (Some x) cut low =
     let h = split_once_first c bs (Some x) cut low in (h.1, h.2)
 
--- The last byte of the kind is at `j - 1`: that byte is of the kind, and no byte from `j` on is.
+-- If byte `j - 1` satisfies the predicate and no later byte does, then the text after the split
+-- begins at byte `j`.
 pub last_at : (p : ℕ → Bool) (bs : List ℕ) (j : ℕ) → j ≤ length bs → ((k : ℕ) → j ≤ k → k < length bs → p (get_or bs k 0) ≡ false)
     → (0 < j → p (get_or bs (j - 1) 0) ≡ true) → suffix_len (λ x. not (p x)) bs ≡ length bs - j
 last_at p bs j within rest at = suffix_len_is (λ x. not (p x)) bs j 0 within (λ k low high. ap not (rest k low high)) (λ some. ap not (at some))
@@ -49,7 +51,8 @@ places n s i j size within ends = (omega arith, omega arith)
 before_it : (i j : ℕ) → j ≡ i + 1 → i ≡ j - 1
 before_it i j ends = omega arith
 
--- The text before the last byte of the kind, and the text after it.
+-- If a text is split at its last byte `c`, then the results are the text before this byte and the
+-- text after it.
 last_found : (c : ℕ) (bs front back : List ℕ) → c < 128 → SplitsAroundMatch (RFindsChar c) bs front back
     → (front ≡ before_last (λ b. b == c) bs) × (back ≡ after_last (λ b. b == c) bs)
 last_found c bs front back low cut =

@@ -1,4 +1,4 @@
--- The program that tables describe, as a definition of `clap`.
+-- Defines the `clap` commands and options that a program's tables describe.
 use Rattle.std.specs.Prelude.{◌≡◌, ℕ, Some, List, Result, true, fold, map}
 use Rattle.std.specs.Borrow.{Bor}
 use Rattle.clap.specs.Words.{App, FailsBy, Rule, Text, fault_of, new_app, new_rule, subcommand_of, subcommand_rows_of, with_rule, with_subcommand}
@@ -11,60 +11,60 @@ use Rattle.command_words.specs.declared.clap_table.tables.ProgramText.{ProgramTe
 use Rattle.command_words.specs.declared.clap_table.tables.Value.{Value}
 use Rattle.command_words.specs.declared.clap_table.tables.Value.TheVariants as value
 
--- The rule of an option `--name`, whose identifier is its name.
+-- The `clap` rule of an option `--name`, with the name as its identifier.
 abbrev pub long_rule : Text → Rule
 long_rule name = record (new_rule name) { long = Some name }
 
--- The rule of a required option with a value.
+-- The `clap` rule of a required option with a value.
 abbrev pub required_option : Text → Rule
 required_option name = record (long_rule name) { value_names = 1; required = true }
 
--- The rule of an optional option with a value.
+-- The `clap` rule of an optional option with a value.
 abbrev pub optional_option : Text → Rule
 optional_option name = record (long_rule name) { value_names = 1 }
 
--- The rule of an optional option that may be given several times.
+-- The `clap` rule of an optional option that may be given several times.
 abbrev pub repeated_option : Text → Rule
 repeated_option name = record (long_rule name) { value_names = 1; action = Some Append }
 
--- The rule of a required option that may be given several times.
+-- The `clap` rule of a required option that may be given several times.
 abbrev pub several_option : Text → Rule
 several_option name =
     record (long_rule name) { value_names = 1; required = true; action = Some Append }
 
--- The rule of a flag: an option without a value.
+-- The `clap` rule of a flag: an option without a value.
 abbrev pub flag : Text → Rule
 flag name = record (long_rule name) { action = Some SetTrue }
 
--- The rule of a flag that also has a short form of one letter.
+-- The `clap` rule of a flag that also has a short form of one letter.
 abbrev pub lettered_flag : ℕ → Text → Rule
 lettered_flag letter name = record (flag name) { short = Some letter }
 
--- The rule of a required positional argument.
+-- The `clap` rule of a required positional argument.
 abbrev pub word : Text → Rule
 word name = record (new_rule name) { value_names = 1; required = true }
 
--- A command with this name and these options.
+-- A `clap` command with the name `name` and these options.
 abbrev pub command_with : Text → List Rule → App
 command_with name options = fold with_rule (new_app name) options
 
--- The program `a`, whose arguments do not begin with its name, and which prints its version on
--- request.
+-- The program `a`, with two settings for `clap`. The arguments do not begin with the program's
+-- name, and `--version` is accepted.
 abbrev pub as_program : App → App
 as_program a = record a { top = record a.top { no_binary_name = true; has_version = true } }
 
--- The program `a` with these commands.
+-- The program `a` with the subcommands `commands`.
 abbrev pub with_apps : App → List App → App
 with_apps a commands = fold (λ a c. with_subcommand a c.top) a commands
 
--- A program with this name, these commands, and then the later ones.
+-- A program with the name `name`, the subcommands `commands`, and then the subcommands `later`.
 abbrev pub program_with : Text → (commands later : List App) → App
 program_with name commands later =
     as_program (with_apps (with_apps (new_app name) commands) later)
 
--- ---- what the tables describe
+-- ---- the `clap` definitions of the rows in a program's tables
 
--- The rule of an option with this name, of the kind that the table gives.
+-- The `clap` rule of the option `name`, for the kind of option that the table states.
 abbrev pub rule_by : Text → Value → Rule
 rule_by name (value.Required shown) = required_option name
 rule_by name (value.Optional shown) = optional_option name
@@ -75,47 +75,48 @@ rule_by name value.Absent = flag name
 rule_by name (value.Letter letter) = lettered_flag letter name
 rule_by name (value.Word shown choices) = word name
 
--- The rule of an option that a table describes.
+-- The `clap` rule of an option in a table.
 abbrev pub option_rule : OptionText → Rule
 option_rule o = rule_by o.name.now o.value
 
--- The command `a` with one more option that a table describes.
+-- The command `a` with one more option from a table.
 abbrev pub with_option : App → OptionText → App
 with_option a o = with_rule a (option_rule o)
 
--- The command `a` with these options that tables describe.
+-- The command `a` with several more options from a table.
 abbrev pub with_options : App → List OptionText → App
 with_options a options = fold with_option a options
 
--- The command that a table describes.
+-- The `clap` command for a command in a table.
 abbrev pub command_app : CommandText → App
 command_app c = with_options (new_app c.name.now) c.options.now
 
--- The program `a` with one more command that a table describes.
+-- The program `a` with one more command from a table.
 abbrev pub with_command : App → CommandText → App
 with_command a c = with_subcommand a (command_app c).top
 
--- The program `a` with these commands that tables describe.
+-- The program `a` with several more commands from a table.
 abbrev pub with_commands : App → List CommandText → App
 with_commands a commands = fold with_command a commands
 
--- The program that tables describe.
+-- The `clap` definition of the program that a table describes.
 abbrev pub program_app : ProgramText → App
 program_app p =
     as_program (with_commands (with_commands (new_app p.name.now) p.commands.now) p.later.now)
 
--- ---- what `clap` parses
+-- ---- the results of parsing arguments with `clap`
 
--- The bytes of these arguments.
+-- The bytes of each argument.
 abbrev pub texts : List (Bor Text) → List Text
 texts words = map (λ word. word.now) words
 
--- `clap` parses the arguments as a command of the program, with these option values.
+-- States that `found` has the subcommand and the option values that `clap` parses from the
+-- arguments `words`.
 abbrev pub IsFound : ProgramText → List (Bor Text) → ArgMatches → Type 0
 IsFound program words found =
     subcommand_rows_of found ≡ subcommand_of (program_app program) (texts words)
 
--- The result fits the errors that `clap` may report for these arguments. If there are none, the
--- result is no error.
+-- States that parsing the arguments fails only with an error that `clap` may report for these
+-- arguments.
 abbrev pub Fails : {T : Type 0} → ProgramText → List (Bor Text) → Result T Error → Type 0
 Fails program words result = FailsBy (fault_of (program_app program) (texts words)) result

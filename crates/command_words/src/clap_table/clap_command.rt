@@ -1,4 +1,4 @@
-//! Builds the command of `clap` from tables.
+//! Builds a `clap` command from tables of commands and options.
 ghost use Rattle.std.specs.Prelude.{◌≡◌, IfOk, false};
 ghost use Rattle.clap.specs.Words.{app_of, rule_of};
 ghost use Rattle.clap.specs.declared.builder.command.Command.TheViews.{out-Command as fields_of};
@@ -9,7 +9,7 @@ use crate::clap_table::tables::{CommandText, OptionText, ProgramText, Value};
 use clap::{Arg, ArgAction, Command};
 use std::alloc::{AllocError, Global};
 
-// Returns the argument definition of `clap` for an option.
+// Builds the `clap` argument for an option in a table.
 fn argument<'a>(alloc: Global, option: OptionText<'a>) -> Arg<'a>
     ensures rule { rule_of result ≡ option_rule option.entry }
     ensures local { result.global ≡ false }
@@ -37,7 +37,7 @@ fn argument<'a>(alloc: Global, option: OptionText<'a>) -> Arg<'a>
     }
 }
 
-// Returns the command with one more option.
+// Adds an option from a table to a `clap` command.
 fn with_option<'a>(
     alloc: Global,
     command: Command<'a>,
@@ -51,7 +51,7 @@ fn with_option<'a>(
     command.arg(argument)
 }
 
-// Returns the command with these options after its own.
+// Adds several options from a table to a `clap` command.
 fn with_options<'a>(
     alloc: Global,
     command: Command<'a>,
@@ -69,7 +69,7 @@ fn with_options<'a>(
     Ok(command)
 }
 
-// Returns the command that a table describes.
+// Builds the `clap` command for a command in a table.
 fn leaf_command<'a>(alloc: Global, text: CommandText<'a>) -> Result<Command<'a>, AllocError>
     ensures app { IfOk result (λ c. app_of c ≡ command_app text.entry) }
     ensures local { IfOk result (λ c. (fields_of c).has_globals ≡ false) }
@@ -80,7 +80,7 @@ fn leaf_command<'a>(alloc: Global, text: CommandText<'a>) -> Result<Command<'a>,
     with_options(alloc, command, text.options)
 }
 
-// Returns the program with one more command.
+// Adds a subcommand from a table to the `clap` command of the program.
 fn with_command<'a>(
     alloc: Global,
     program: Command<'a>,
@@ -92,7 +92,7 @@ fn with_command<'a>(
     program.subcommand(command)
 }
 
-// Returns the program with these commands after its own.
+// Adds several subcommands from a table to the `clap` command of the program.
 fn with_commands<'a>(
     alloc: Global,
     program: Command<'a>,
@@ -108,7 +108,8 @@ fn with_commands<'a>(
     Ok(program)
 }
 
-/// Returns the program that tables describe. Its arguments do not begin with its name.
+/// Builds the `clap` command of the program in a table. The arguments must not begin with the
+/// program's name.
 pub(crate) fn command<'a>(alloc: Global, text: ProgramText<'a>) -> Result<Command<'a>, AllocError>
     ensures { IfOk result (λ c. app_of c ≡ program_app text.entry) }
 {

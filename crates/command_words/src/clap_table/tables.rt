@@ -1,34 +1,33 @@
-//! The tables that describe a program's arguments.
+//! The types of the tables that describe a program's commands and options.
 
-/// Whether an option has a value, and the name that the help shows for it.
+/// The kind of an option, with the placeholder that the help text shows for its value.
 #[derive(Clone, Copy)]
 pub enum Value<'a> {
-    /// The option and its value are required.
+    /// A required option with a value.
     Required(&'a str),
-    /// The option is optional. If it is given, it has a value.
+    /// An optional option with a value.
     Optional(&'a str),
-    /// The option is optional. If it is given, its value is one of these words.
+    /// An optional option whose value is one of the words in `choices`.
     Chosen {
         shown: &'a str,
         choices: &'a [&'a str],
     },
-    /// The option is optional, and may be given several times, each time with a value.
+    /// An optional option with a value that may be given several times.
     Repeated(&'a str),
-    /// The option is required, and may be given several times, each time with a value.
+    /// A required option with a value that may be given several times.
     Several(&'a str),
-    /// The option is a flag: it has no value, and is optional.
+    /// A flag: an optional option without a value.
     Absent,
-    /// The option is a flag that also has a short form of one letter, such as `-n`.
+    /// A flag that also has a short form of one letter, such as `-n`.
     Letter(char),
-    /// A required positional argument instead of an option, in the order of the table. If only a
-    /// few words are accepted, `choices` has them.
+    /// A required positional argument. If only a few words are accepted, `choices` lists them.
     Word {
         shown: &'a str,
         choices: &'a [&'a str],
     },
 }
 
-/// An option `--name` or a positional argument, with a sentence of help.
+/// An option `--name` or a positional argument, with its help text.
 #[derive(Clone, Copy)]
 pub struct OptionText<'a> {
     pub name: &'a str,
@@ -36,7 +35,8 @@ pub struct OptionText<'a> {
     pub help: &'a str,
 }
 
-/// A command with its options. `about` is a sentence of help, `after` the text below the options.
+/// A command with its options. The help text begins with `about`, and ends with `after` below the
+/// options.
 #[derive(Clone, Copy)]
 pub struct CommandText<'a> {
     pub name: &'a str,
@@ -45,8 +45,8 @@ pub struct CommandText<'a> {
     pub options: &'a [OptionText<'a>],
 }
 
-/// A program with its commands and its version, which it prints on request. The commands are in two
-/// tables, because proofs about one long table take too many steps.
+/// A program with its version and its commands. The commands are in two tables, because a proof
+/// about one long table takes too many steps.
 #[derive(Clone, Copy)]
 pub struct ProgramText<'a> {
     pub name: &'a str,
@@ -54,6 +54,6 @@ pub struct ProgramText<'a> {
     pub about: &'a str,
     pub after: &'a str,
     pub commands: &'a [CommandText<'a>],
-    /// The commands that follow those of `commands`.
+    /// Further commands, after the commands of the field `commands`.
     pub later: &'a [CommandText<'a>],
 }

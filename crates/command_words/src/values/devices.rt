@@ -1,4 +1,4 @@
-//! Parses the list of devices in an option.
+//! Parses a list of devices in an option's value.
 ghost use Rattle.std.specs.Prelude.{◌≡◌, ◌<◌, ◌≤◌, IfOk, MatchResult, is_ok, length, option_map};
 ghost use Rattle.std.specs.List.{slice_split};
 ghost use Rattle.command_words.specs.Values.Devices.{CutsAtEquals, CutsAtLastColon, device_in, devices_in};
@@ -10,13 +10,13 @@ use crate::values::list_fault::{DeviceFault, ListFault};
 use crate::values::numbers::number_up_to;
 use std::alloc::{AllocError, Global};
 
-/// The most devices of a list.
+/// The maximum number of devices in a list.
 pub const MOST_DEVICES: usize = 64;
 
-/// The highest port.
+/// The greatest TCP port.
 pub const MOST_PORT: u32 = 65_535;
 
-/// A device of the list, `NAME=HOST:PORT`. The texts are as they were given.
+/// A device `NAME=HOST:PORT` of a list. The texts are as the user wrote them.
 #[derive(Clone, Copy, Debug, PartialEq, Eq, Drop)]
 pub struct Device<'a> {
     pub name: &'a str,
@@ -24,21 +24,21 @@ pub struct Device<'a> {
     pub port: u16,
 }
 
-// Splits a part of the list at its first `=`.
+// Splits a part `NAME=HOST:PORT` of a device list at its first `=`.
 fn around_equals<'a>(part: &'a str) -> Option<(&'a str, &'a str)>
     ensures { CutsAtEquals part.now result }
 {
     part.split_once('=')
 }
 
-// Splits an address at its last `:`.
+// Splits an address `HOST:PORT` at its last `:`.
 fn around_colon<'a>(address: &'a str) -> Option<(&'a str, &'a str)>
     ensures { CutsAtLastColon address.now result }
 {
     address.rsplit_once(':')
 }
 
-// Parses a part as a device.
+// Parses a part `NAME=HOST:PORT` of a device list.
 fn device_in<'a>(part: &'a str) -> Option<Device<'a>>
     ensures { option_map place_of result ≡ device_in part.now }
 {
@@ -55,14 +55,14 @@ fn device_in<'a>(part: &'a str) -> Option<Device<'a>>
     })
 }
 
-// Splits a list at its commas.
+// Splits a device list at its commas.
 fn parts_of<'a>(alloc: Global, text: &'a str) -> Result<Vec<&'a str>, AllocError>
     ensures { IfOk result (λ parts. texts parts.items ≡ slice_split is_comma text.now) }
 {
     text.split(',').collect(alloc)
 }
 
-// Returns the name in a part of the list, even if the part is no device.
+// Returns the device name in a part of a list, even if the part is otherwise invalid.
 fn name_of<'a>(part: &'a str) -> &'a str
     ensures { result.now ≡ name_in part.now }
 {
@@ -72,14 +72,15 @@ fn name_of<'a>(part: &'a str) -> &'a str
     }
 }
 
-// Returns whether one of the parts has the name.
+// Returns whether one of the parts of a list has the device name `name`.
 fn has_name(parts: &[&str], name: &str) -> bool
     ensures { result ≡ has_name parts.now name.now }
 {
     parts.iter().any(|part| name == name_of(part))
 }
 
-// Checks that each name is unique. On error, returns a part whose name occurs again.
+// Checks that the device names of all parts are different. If a name occurs twice, the error has a
+// part with this name.
 fn distinct<'a>(parts: &[&'a str]) -> Result<(), ListFault<'a>>
     ensures { is_ok result ≡ have_distinct_names parts.now }
 {
@@ -92,7 +93,7 @@ fn distinct<'a>(parts: &[&'a str]) -> Result<(), ListFault<'a>>
     Ok(())
 }
 
-// Parses each part as a device.
+// Parses each part of a device list.
 fn each_device<'a>(alloc: Global, parts: &[&'a str]) -> Result<Vec<Device<'a>>, ListFault<'a>>
     ensures { Reads (each_of device_in (texts parts.now)) result }
 {
@@ -107,7 +108,7 @@ fn each_device<'a>(alloc: Global, parts: &[&'a str]) -> Result<Vec<Device<'a>>, 
     Ok(devices)
 }
 
-// Checks that the list has at most 64 parts. On error, returns the part after the 64th.
+// Checks that a device list has at most 64 parts. If there are more, the error has the 65th part.
 fn few<'a>(parts: &[&'a str]) -> Result<(), ListFault<'a>>
     ensures { MatchResult result (λ _. length parts.now ≤ 64) (λ _. 64 < length parts.now) }
 {
@@ -120,11 +121,11 @@ fn few<'a>(parts: &[&'a str]) -> Result<(), ListFault<'a>>
     }
 }
 
-/// Parses a list of `NAME=HOST:PORT`, joined by commas: 1 to 64 devices, each name once. NAME ends
-/// at the first `=`, and HOST at the last `:`. Both must not be empty.
+/// Parses a comma-separated list of 1 to 64 devices `NAME=HOST:PORT` with different names. NAME
+/// ends at the first `=`, and HOST at the last `:`. Neither may be empty.
 ///
-/// Of several faults, a part too many is reported first, then a name that occurs twice, then a part
-/// that is no device.
+/// If a list has several faults, the error is the first of these: more than 64 parts, a repeated
+/// name, an invalid part.
 pub fn devices_in<'a>(alloc: Global, text: &'a str) -> Result<Vec<Device<'a>>, ListFault<'a>>
     ensures { Reads (devices_in text.now) result }
 {

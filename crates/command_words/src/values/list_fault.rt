@@ -1,25 +1,25 @@
-//! Why a text is no list of devices.
+//! A reason why a text is no valid list of devices.
 use crate::values::devices::{MOST_DEVICES, MOST_PORT};
 use std::alloc::{AllocError, AllocFailed};
 use std::error::Error;
 use std::fmt;
 use std::fmt::{Display, Formatter};
 
-/// Why a part of a list is no device.
+/// A reason why a part of a device list is invalid.
 #[derive(Clone, Copy, Debug, PartialEq, Eq, Drop)]
 pub enum DeviceFault {
     /// The part is not `NAME=HOST:PORT`, or its port is out of range.
     Malformed,
-    /// Another part of the list has the same name.
+    /// Another part of the list has the same device name.
     Repeated,
-    /// The list has more than 64 parts, and this is the part after the 64th.
+    /// The part is the 65th of the list, which may have at most 64 parts.
     TooMany,
 }
 
-/// Why a text is no list of devices.
+/// A reason why a text is no valid list of devices.
 #[derive(Clone, Copy, Debug, PartialEq, Eq, Drop)]
 pub enum ListFault<'a> {
-    /// A part of the list is no device.
+    /// The part `part` of the list is no valid device.
     Part { part: &'a str, fault: DeviceFault },
     Memory,
 }

@@ -1,10 +1,10 @@
-//! Numbers in option values.
+//! Parses numbers in option values.
 ghost use Rattle.std.specs.Prelude.{◌≡◌, ◌≤◌, IfSome};
 ghost use Rattle.command_words.specs.Values.Numbers.{number_up_to};
 
 use sun_points::number_of_digits;
 
-/// The most digits of a number.
+/// The maximum number of digits in a number.
 pub const MOST_DIGITS: usize = 10;
 
 /// Parses a number from 1 to `most`, of one to ten digits.

@@ -1,4 +1,4 @@
--- Lemmas on bytes that are sent to a link in parts.
+-- Lemmas on the bytes of a response that are sent to a link in parts.
 use Rattle.std.proofs.Common.{◌≡◌, ◌∙◌, ℕ, Bool, true, false, List, [], ◌++◌, Option, Result, Ok, Err, refl, sym, ap, subst, append_assoc, is_err, not, ◌&&◌}
 use Rattle.std.specs.Io.KnownBytes.{Appends}
 use Rattle.std.proofs.KnownBytes.{Appends-nil, Appends-trans, Keeps-refl, Keeps-trans}
@@ -6,7 +6,8 @@ use Rattle.std.proofs.lemmas.List.{append-nil}
 use Rattle.mb_wire.specs.Links.{Gives, risen}
 use Rattle.http_answer.specs.Sending.Sending.{OnlyGives, Outgoing, Puts, Sends}
 
--- The rest of the buffer and further bytes are sent with one write.
+-- If the buffered bytes and further bytes are written to the link with one write, then the further
+-- bytes are sent.
 pub Sends-given : {X E : Type 0} (result : Result X E) (base a b : Option (List ℕ)) (buffered kept : List ℕ) (old new : Bool) (all more : List ℕ) → old ≡ false → new ≡ is_err result → kept ≡ []
     → Sends base a buffered old all → (left : List ℕ) → buffered ++ more ≡ left → Gives result a b left → Sends base b kept new (all ++ more)
 Sends-given (Ok x) base a b buffered kept old new all more works failed none so_far left is gives =
@@ -30,7 +31,8 @@ Sends-given (Err e) base a b buffered kept old new all more works failed none so
       whole = λ w. absurd cc;
     }
 
--- Further bytes are appended to the buffer.
+-- If further bytes are appended to the write buffer, then they count as sent, since a later write
+-- passes them to the link.
 pub Sends-buffered : (base a : Option (List ℕ)) (buffered kept : List ℕ) (old new : Bool) (all more : List ℕ) → new ≡ old → kept ≡ buffered ++ more → Sends base a buffered old all → Sends base a kept new (all ++ more)
 Sends-buffered base a buffered kept old new all more same is so_far = record {
   sent = so_far.sent;
@@ -40,7 +42,7 @@ Sends-buffered base a buffered kept old new all more same is so_far = record {
   whole = λ w. ap (λ t. t ++ more) (so_far.whole (sym same ∙ w)) ∙ sym is;
 }
 
--- After a failed write, further bytes are lost.
+-- After a failed write to the link, the writer drops all further bytes of the response.
 pub Sends-lost : (base a : Option (List ℕ)) (buffered : List ℕ) (old : Bool) (all more : List ℕ) → old ≡ true → Sends base a buffered old all → Sends base a buffered old (all ++ more)
 Sends-lost base a buffered old all more failed so_far = record {
   sent = so_far.sent;
@@ -50,14 +52,15 @@ Sends-lost base a buffered old all more failed so_far = record {
   whole = λ w. absurd cc;
 }
 
--- The bytes of the buffer are written to the link.
+-- If the buffered bytes are written to the link, then the response has the same bytes as before.
 pub Sends-flushed : {X E : Type 0} (result : Result X E) (base a b : Option (List ℕ)) (buffered kept : List ℕ) (old new : Bool) (all : List ℕ) → old ≡ false → new ≡ is_err result → kept ≡ []
     → Sends base a buffered old all → Gives result a b buffered → Sends base b kept new all
 Sends-flushed result base a b buffered kept old new all works failed none so_far gives =
     subst (Sends base b kept new) (append-nil all)
     (Sends-given result base a b buffered kept old new all [] works failed none so_far buffered (append-nil buffered) gives)
 
--- If one of two consecutive steps fails, both together count as one failure.
+-- After two consecutive calls, at most one failed write is counted, since no write follows a failed
+-- write.
 risen_twice : (a b c : Bool) (count : ℕ) → (a ≡ true → b ≡ true) → (b ≡ true → c ≡ true) → risen (c && not b) (risen (b && not a) count) ≡ risen (c && not a) count
 risen_twice true true true count ab bc = refl
 risen_twice true true false count ab bc = refl
@@ -80,20 +83,22 @@ OnlyGives-then {x = x} {y = y} {z = z} first next = record {
   last = next.last ∙ first.last;
 }
 
--- One text is sent and then another, so both are sent in this order.
+-- If a first text and then a second text are sent, then the link gets the first text followed by
+-- the second text.
 pub Puts-then : {x y z : Outgoing} {s t : List ℕ} → Puts x y s → Puts y z t → Puts x z (s ++ t)
 Puts-then {x = x} {y = y} {z = z} {s = s} {t = t} first next = record {
   put = λ base all so_far. subst (Sends base z.given z.buffered z.failed) (append_assoc all s t) (next.put base (all ++ s) (first.put base all so_far));
   link = OnlyGives-then first.link next.link;
 }
 
--- Without a failed write and with an empty buffer, the link received all bytes.
+-- Without a failed write and with an empty buffer, the link has received all bytes of the response.
 pub Sends-all : (base given : Option (List ℕ)) (buffered : List ℕ) (failed : Bool) (all : List ℕ) → failed ≡ false → buffered ≡ [] → Sends base given buffered failed all → Appends base given all
 Sends-all base given buffered failed all works none sends =
     let order : all ≡ sends.sent = sends.in_order ∙ ap (λ l. sends.sent ++ l) (sends.whole works ∙ none) ∙ append-nil sends.sent in
     subst (Appends base given) (sym order) sends.came
 
--- If the link received nothing since `base` and the buffer is empty, nothing was sent.
+-- If the link has received nothing since `base` and the buffer is empty, no byte of a response was
+-- sent.
 pub HasPut-none : (base given : Option (List ℕ)) (buffered : List ℕ) (failed : Bool) → given ≡ base → buffered ≡ [] → Sends base given buffered failed []
 HasPut-none base given buffered failed same none = record {
   sent = [];
@@ -103,7 +108,7 @@ HasPut-none base given buffered failed same none = record {
   whole = λ _. sym none;
 }
 
--- A call that writes nothing changes only what `OnlyGives` allows.
+-- If a call writes nothing, then it satisfies `OnlyGives`.
 OnlyGives-none : (x : Outgoing) → OnlyGives x x
 OnlyGives-none x = record {
   link = refl;

@@ -1,5 +1,5 @@
 -- The command of each route, from the members of its JSON body. `name` is the route's parameter: an
--- accounting register, or for a void a meter. It is None if the parameter is no valid name.
+-- accounting register, or for a void a meter. `name` is None if the parameter is no valid name.
 use Rattle.std.specs.Prelude.{ℕ, List, Option, Some, None, Result, Ok, Err, codes}
 use Rattle.serde_json.specs.Data.{Data}
 use Rattle.http_answer.specs.Commands.Json.Tables.{close_members, device_members, exchange_members, fault_of, install_members, manual_members, register_fault, rescale_members, reset_members, void_members}
@@ -41,7 +41,8 @@ install name d = command.Install (record {
   range = or_full_range (optional_in (codes "range") d);
 })
 
--- The command that closes the meter at a register, and installs another there.
+-- The command that closes the meter at an accounting register, and installs another meter at that
+-- register.
 abbrev pub exchange : Option (List ℕ) → Data → Command
 exchange name d = command.Exchange (record {
   register = name;
@@ -62,7 +63,7 @@ reset name d = command.Reset (record {
   after = natural_in (codes "after") d;
 })
 
--- The command that records that a meter's counter was set to another value at another scale.
+-- The command that records a meter's change to another counter value and scale.
 abbrev pub rescale : Option (List ℕ) → Data → Command
 rescale name d = command.Rescale (record {
   register = name;
@@ -71,7 +72,7 @@ rescale name d = command.Rescale (record {
   sf = integer_in (codes "sf") d;
 })
 
--- The command that enters a reading by hand. Its timestamp is optional.
+-- The command that enters a reading by hand. The reading's timestamp is optional.
 abbrev pub manual : Option (List ℕ) → Data → Command
 manual name d = command.Manual (record {
   register = name;
@@ -95,13 +96,13 @@ void name d = command.Void (record {
   place = natural_in (codes "place") d;
 })
 
--- The command if the body has no fault, otherwise the fault.
+-- The command if the JSON body has no fault, otherwise the fault.
 abbrev pub unless_fault : Option BodyFault → Command → Result Command BodyFault
 unless_fault None c = Ok c
 unless_fault (Some fault) c = Err fault
 
--- The command that a JSON body gives for this route, or the fault of the body. A point list is no
--- JSON and a query has no command, so both give `Malformed`.
+-- The command in the JSON body for this route, or the fault of the body. The result is `Malformed`
+-- for the route of a point list (CSV) and for the routes of queries.
 abbrev pub command_of : Route → Option (List ℕ) → Data → Result Command BodyFault
 command_of route.Devices name d = unless_fault (fault_of device_members d) (add_device d)
 command_of route.List name d = Err Malformed

@@ -1,4 +1,4 @@
--- What the bytes of a body give: a command, or the reason why there is no command.
+-- The result of parsing a request's body: a command, or the fault of the body.
 use Rattle.std.specs.Prelude.{◌≡◌, ◌⊎◌, ℕ, List, Option, Some, Result, Ok, Err, IsUtf8}
 use Rattle.serde_json.specs.Data.{Data}
 use Rattle.serde_json.specs.Read.{read}
@@ -14,49 +14,50 @@ use Rattle.http_answer.specs.Commands.Commands.{command_of}
 use Rattle.http_answer.specs.declared.commands.fault.CommandFault.{CommandFault}
 use Rattle.http_answer.specs.declared.commands.fault.CommandFault.TheVariants.{Malformed, Negative, Faulty, Memory}
 
--- The bytes are a JSON text (RFC 8259) of this value.
+-- The bytes are a JSON text (RFC 8259) with the value `d`.
 pub record IsJson (bytes : List ℕ) (d : Data) : Type 0 where
   pub utf8 : IsUtf8 bytes
   pub value : read bytes ≡ Some d
 
--- The fault of a JSON body, converted to the fault of a command.
+-- The fault of a command, converted from the fault of its JSON body.
 abbrev pub fault_told : BodyFault → CommandFault
 fault_told body.Malformed = Malformed
 fault_told body.Negative = Negative
 fault_told body.Memory = Memory
 
--- The result of parsing a JSON body, converted to the result of a command.
+-- The result for a command, converted from the result of parsing its JSON body.
 abbrev pub told : Result Command BodyFault → Result Command CommandFault
 told (Ok c) = Ok c
 told (Err fault) = Err (fault_told fault)
 
--- The bytes are a JSON text, and its value gives this command or fault.
+-- The bytes are a JSON text, and its value contains this command or has this fault.
 pub record GivesJson (at : Route) (name : Option (List ℕ)) (bytes : List ℕ)
     (given : Result Command CommandFault) : Type 0 where
   pub value : Data
   pub is : IsJson bytes value
   pub gives : given ≡ told (command_of at name value)
 
--- The bytes are no JSON text.
+-- The bytes are not a JSON text, and the result is `Malformed`.
 pub record IsNoJson (bytes : List ℕ) (given : Result Command CommandFault) : Type 0 where
   pub none : (d : Data) → IsJson bytes d → ⊥
   pub gives : given ≡ Err Malformed
 
--- The result for a body that should be JSON, unless memory runs out.
+-- The result of parsing a body that must be JSON. For any body, the result may also be `Memory`
+-- (out of memory).
 abbrev pub IsBody : Route → Option (List ℕ) → (bytes : List ℕ) → Result Command CommandFault
     → Type 0
 IsBody at name bytes given =
     GivesJson at name bytes given ⊎ IsNoJson bytes given ⊎ (given ≡ Err Memory)
 
--- The bytes are a point list as CSV. The command stores the list with its plan, the fewest reads
--- that cover it.
+-- The bytes are a point list as CSV. The command stores the list with its reading plan, which is
+-- the fewest reads that cover the list.
 pub record GivesList (name : Option (List ℕ)) (bytes : List ℕ) (c : Command) : Type 0 where
   pub list : Planned
   pub spelled : SpellsList bytes list.points
   pub planned : IsPlanned list
   pub is : c ≡ PutList (record { device = name; list = list })
 
--- The result for a body that should be a point list as CSV.
+-- The result of parsing a body that must be a point list as CSV.
 abbrev pub IsListBody : Option (List ℕ) → (bytes : List ℕ) → Result Command CommandFault → Type 0
 IsListBody name bytes (Ok c) = GivesList name bytes c
 IsListBody name bytes (Err Malformed) = ⊥
@@ -64,7 +65,8 @@ IsListBody name bytes (Err Negative) = ⊥
 IsListBody name bytes (Err (Faulty rows)) = AreFaults (list_faults (rows_read bytes)) rows
 IsListBody name bytes (Err Memory) = Unit {0}
 
--- The result for the body of a route's request. `Memory` says nothing about the body.
+-- The result of parsing the body of a request with this route. If the result is `Memory`, memory
+-- ran out, and the body is arbitrary.
 abbrev pub Gives : Route → Option (List ℕ) → (bytes : List ℕ) → Result Command CommandFault → Type 0
 Gives route.List name bytes given = IsListBody name bytes given
 Gives route.Devices name bytes given = IsBody route.Devices name bytes given

@@ -1,14 +1,14 @@
--- The bytes in a write buffer.
+-- The bytes in the write buffer of a response.
 use Rattle.std.specs.Prelude.{ℕ, List, take, Option}
 use Rattle.http_answer.specs.Sending.Sending.{Progress}
 use Rattle.http_answer.specs.declared.sending.outbox.Outbox.{Outbox}
 
--- The bytes in the write buffer.
+-- The bytes that wait in the write buffer.
 abbrev pub buffered_in : Outbox → List ℕ
 buffered_in outbox = take outbox.filled outbox.buffered
 
--- The state of the bytes for a link: those it received, those in the buffer, and whether a write
--- failed.
+-- The progress of a response: the bytes that the link received, the bytes in the write buffer, and
+-- whether a write failed.
 abbrev pub progress : (given : Option (List ℕ)) → Outbox → Progress
 progress given outbox = record {
   given = given;

@@ -1,18 +1,18 @@
-//! Why a body gives no command.
+//! The reasons why the body of a request contains no valid command.
 use crate::commands::json::BodyFault;
 use point_list::FaultyRows;
 use std::error::Error;
 use std::fmt;
 use std::fmt::{Display, Formatter};
 
-/// Why a body gives no command.
+/// The reason why the body of a request contains no valid command.
 #[derive(Debug, Drop)]
 pub enum CommandFault {
-    /// The body is no JSON object, or a required member is missing or has the wrong type.
+    /// The body is not a JSON object, or a required member is missing or has the wrong type.
     Malformed,
-    /// All members exist, and a number that must not be negative is negative.
+    /// All required members exist, but a number that must not be negative is negative.
     Negative,
-    /// The faulty rows of a point list.
+    /// The body is a point list with these faulty rows.
     Faulty(FaultyRows),
     /// Out of memory.
     Memory,

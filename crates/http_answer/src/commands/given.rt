@@ -1,4 +1,4 @@
-//! The command that the bytes of a body give.
+//! Parses the body of a request into a command.
 ghost use Rattle.std.specs.Prelude.{◌≡◌};
 ghost use Rattle.serde_json.specs.View.{view};
 ghost use Rattle.http_answer.specs.Commands.Commands.{command_of};
@@ -51,7 +51,7 @@ fn json_command(
     }
 }
 
-// Parses a point list into the command that stores it with its plan.
+// Parses a point list (CSV) into the command that stores the list with its reading plan.
 fn put_list(alloc: Global, device: Option<Name>, bytes: &[u8]) -> Result<Command, CommandFault>
     ensures given { IsListBody device bytes.now result }
     ensures few { HasFewRows result }
@@ -68,9 +68,9 @@ fn put_list(alloc: Global, device: Option<Name>, bytes: &[u8]) -> Result<Command
 
 /// Parses the body of a request into a command.
 ///
-/// `name` is the parameter of the route, if it is a name. The body of [`Route::List`] is CSV, any
-/// other body is one JSON object. Members that the command does not have are ignored. For the route
-/// of a query the body is `Malformed`.
+/// `name` is the route's parameter, if it is a valid name. The body for [`Route::List`] is CSV; the
+/// body for any other command is one JSON object. Unknown members are ignored. For the route of a
+/// query the result is `Malformed`.
 pub fn command_in(
     alloc: Global,
     route: Route,

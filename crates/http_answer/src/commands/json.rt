@@ -1,4 +1,4 @@
-//! The members of the commands' JSON bodies.
+//! Reads the members of the JSON bodies of commands.
 
 mod body;
 mod devices;

@@ -1,4 +1,4 @@
-//! The commands for the meter at a register.
+//! Parses the commands for the meter at an accounting register, from JSON bodies.
 ghost use Rattle.std.specs.Prelude.{◌≡◌};
 ghost use Rattle.serde_json.specs.View.{view};
 ghost use Rattle.http_request.specs.declared.routing.routes.Route.TheVariants as route;
@@ -10,7 +10,7 @@ use crate::commands::json::{
 use crate::commands::values::{name, or_full_range};
 use office_events::{Close, Command, Exchange, Install, Manual, Name, Rescale, Reset, VoidEntry};
 
-// Reads the command that installs a meter.
+// Parses the command that installs a meter at an accounting register.
 pub(crate) fn install(register: Option<Name>, body: &Body) -> Result<Command, BodyFault>
     ensures { result ≡ command_of route.Install register (view body.now) }
 {
@@ -25,7 +25,8 @@ pub(crate) fn install(register: Option<Name>, body: &Body) -> Result<Command, Bo
     }))
 }
 
-// Reads the command that closes a meter and installs another.
+// Parses the command that closes a meter and installs another meter at the same accounting
+// register.
 pub(crate) fn exchange(register: Option<Name>, body: &Body) -> Result<Command, BodyFault>
     ensures { result ≡ command_of route.Exchange register (view body.now) }
 {
@@ -42,7 +43,7 @@ pub(crate) fn exchange(register: Option<Name>, body: &Body) -> Result<Command, B
     }))
 }
 
-// Reads the command that resets a counter.
+// Parses the command that records a reset of a meter's counter.
 pub(crate) fn reset(register: Option<Name>, body: &Body) -> Result<Command, BodyFault>
     ensures { result ≡ command_of route.Reset register (view body.now) }
 {
@@ -54,7 +55,7 @@ pub(crate) fn reset(register: Option<Name>, body: &Body) -> Result<Command, Body
     }))
 }
 
-// Reads the command that sets a counter to another value and scale.
+// Parses the command that records a meter's change to another counter value and scale.
 pub(crate) fn rescale(register: Option<Name>, body: &Body) -> Result<Command, BodyFault>
     ensures { result ≡ command_of route.Rescale register (view body.now) }
 {
@@ -67,7 +68,7 @@ pub(crate) fn rescale(register: Option<Name>, body: &Body) -> Result<Command, Bo
     }))
 }
 
-// Reads the command that enters a reading by hand.
+// Parses the command that enters a meter reading by hand.
 pub(crate) fn manual(register: Option<Name>, body: &Body) -> Result<Command, BodyFault>
     ensures { result ≡ command_of route.Manual register (view body.now) }
 {
@@ -80,7 +81,7 @@ pub(crate) fn manual(register: Option<Name>, body: &Body) -> Result<Command, Bod
     }))
 }
 
-// Reads the command that closes a meter.
+// Parses the command that closes a meter with its last reading.
 pub(crate) fn close(register: Option<Name>, body: &Body) -> Result<Command, BodyFault>
     ensures { result ≡ command_of route.Close register (view body.now) }
 {
@@ -92,7 +93,7 @@ pub(crate) fn close(register: Option<Name>, body: &Body) -> Result<Command, Body
     }))
 }
 
-// Reads the command that voids an entry of a meter.
+// Parses the command that voids an entry of a meter.
 pub(crate) fn void(meter: Option<Name>, body: &Body) -> Result<Command, BodyFault>
     ensures { result ≡ command_of route.Void meter (view body.now) }
 {

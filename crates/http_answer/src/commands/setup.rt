@@ -1,4 +1,4 @@
-//! The commands that set up devices and registers.
+//! Parses the commands that add devices and accounting registers, from JSON bodies.
 ghost use Rattle.std.specs.Prelude.{◌≡◌};
 ghost use Rattle.serde_json.specs.View.{view};
 ghost use Rattle.http_answer.specs.Commands.Json.Tables.{device_members, fault_of, register_fault};
@@ -8,7 +8,7 @@ use crate::commands::json::{Body, BodyFault, device_in, register_in};
 use crate::commands::values::{given_scale, name};
 use office_events::{AddDevice, AddRegister, Command};
 
-// Reads the command that adds a device.
+// Parses the command that adds a device.
 pub(crate) fn add_device(body: &Body) -> Result<Command, BodyFault>
     ensures { result ≡ unless_fault (fault_of device_members (view body.now))
         (add_device (view body.now)) }
@@ -22,7 +22,7 @@ pub(crate) fn add_device(body: &Body) -> Result<Command, BodyFault>
     }))
 }
 
-// Reads the command that adds a register.
+// Parses the command that adds an accounting register.
 pub(crate) fn add_register(body: &Body) -> Result<Command, BodyFault>
     ensures { result ≡ unless_fault (register_fault (view body.now))
         (add_register (view body.now)) }

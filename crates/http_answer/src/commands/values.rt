@@ -1,4 +1,4 @@
-//! The values of a command's fields, from the members of a body.
+//! Converts the members of a JSON body to the values of a command's fields.
 ghost use Rattle.std.specs.Prelude.{◌≡◌};
 ghost use Rattle.office_events.specs.Names.{named};
 ghost use Rattle.http_answer.specs.Commands.Values.{or_full_range};
@@ -8,7 +8,7 @@ use crate::commands::json::Scale;
 use energy_core::MAX_RANGE;
 use office_events::{GivenScale, Name};
 
-// Returns the name that a text spells, if it is a name.
+// Returns the text as a name, if it is a valid name.
 pub(crate) fn name(text: &str) -> Option<Name>
     ensures { result ≡ named text.now }
 {

@@ -1,13 +1,13 @@
-//! The bodies of responses that report a number.
+//! Formats the JSON bodies of responses that report a refusal or another error by number.
 ghost use Rattle.std.specs.Prelude.{◌≡◌};
 ghost use Rattle.http_answer.specs.Sending.Bodies.{fault_text, refused_text};
 
 use http_request::Status;
 
-/// A text of at most 8,192 bytes: the body of a response.
+/// A text of at most 8,192 bytes, for the body of a response.
 pub type Text = script_text::Text<8192>;
 
-/// Formats the body for a refusal, by its number.
+/// Formats the JSON body that reports a refusal by its number.
 pub fn refused_body(number: u8) -> Text
     ensures { result ≡ refused_text number }
 {
@@ -17,7 +17,7 @@ pub fn refused_body(number: u8) -> Text
     text
 }
 
-/// Formats the body for any other fault, by its status.
+/// Formats the JSON body that reports any other error by its HTTP status code.
 pub fn fault_body(status: Status) -> Text
     ensures { result ≡ fault_text status }
 {

@@ -1,4 +1,4 @@
-//! A buffer that collects bytes before they are written to a link.
+//! A write buffer that collects the bytes of a response before they are written to a link.
 ghost use Rattle.std.specs.Prelude.{◌≡◌, ◌≤◌, ◌<◌, ◌+◌, ◌++◌, [], length};
 ghost use Rattle.std.specs.Prelude.{true, false, not, ◌&&◌};
 ghost use Rattle.std.specs.Io.KnownBytes.{Keeps};
@@ -6,10 +6,10 @@ ghost use Rattle.mb_wire.specs.Links.{risen};
 
 use mb_wire::{Link, give_all};
 
-// The size of the buffer in bytes.
+// The size of the write buffer in bytes.
 const ROOM: usize = 512;
 
-// A write buffer for a link. After the first failed write it drops all bytes.
+// A write buffer for a link. After the first failed write, the buffer drops all bytes.
 #[derive(Drop)]
 pub(crate) struct Outbox {
     pub(crate) buffered: [u8; 512],
@@ -59,7 +59,7 @@ impl Outbox {
         self.filled = 0;
     }
 
-    // Flushes the buffer if it has no room for `count` more bytes.
+    // Writes the buffered bytes to the link if the buffer has no room for `count` more bytes.
     fn make_room<L: Link>(&mut self, link: &mut L, count: usize)
         ensures sends { PutsNothing (progress (L.given link.old) self.old)
             (progress (L.given link.new) self.new) }
@@ -102,7 +102,7 @@ impl Outbox {
         self.failed = give_all(link, bytes).is_err();
     }
 
-    // Sends bytes after all earlier ones, through the buffer if they fit.
+    // Sends bytes after all earlier bytes: through the buffer if they fit, otherwise directly.
     pub(crate) fn put<L: Link>(&mut self, link: &mut L, bytes: &[u8])
         ensures sends { PutsAfter (progress (L.given link.old) self.old)
             (progress (L.given link.new) self.new) bytes.now }

@@ -1,4 +1,4 @@
-//! The text of a response.
+//! Formats the status line and headers of HTTP responses.
 ghost use Rattle.std.specs.Prelude.{◌++◌, decimal};
 ghost use Rattle.http_answer.specs.Sending.Sending.{Puts};
 ghost use Rattle.http_answer.specs.Sending.Replies.{json_reply, status_line, text_head};
@@ -36,7 +36,8 @@ pub fn put_json<L: Link>(status: Status, body: &[u8], writer: &mut ReplyWriter<'
     writer.put(body);
 }
 
-/// Writes the head of a text response. The lines of the text follow, by [`ReplyWriter::put`].
+/// Writes the head of a plain-text response. The caller then writes the lines of the text with
+/// [`ReplyWriter::put`].
 pub fn put_text_head<L: Link>(writer: &mut ReplyWriter<'_, L>)
     ensures { Puts writer.old writer.new text_head }
 {

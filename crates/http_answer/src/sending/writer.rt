@@ -1,4 +1,4 @@
-//! A buffered writer to a link.
+//! A buffered writer of HTTP responses to a link.
 ghost use Rattle.std.specs.Prelude.{◌≡◌, ◌≤◌, ℕ, List, [], Option, take, false, is_err};
 ghost use Rattle.http_answer.specs.Sending.Giving.{Gives};
 ghost use Rattle.http_answer.specs.Sending.Sending.{HasPut, OnlyGives, Outgoing, Puts};
@@ -7,7 +7,7 @@ use crate::sending::outbox::Outbox;
 use mb_wire::{Link, LinkFailed};
 use std::marker::Model;
 
-/// A buffered writer to a link. After the first failed write it writes nothing more.
+/// A buffered writer to a link. After the first failed write, the writer drops all bytes.
 #[derive(Drop)]
 pub struct ReplyWriter<'l, L: Link> {
     link: &'l mut L,
@@ -30,7 +30,7 @@ impl<'l, L: Link> Model for ReplyWriter<'l, L> {
 }
 
 impl<'l, L: Link> ReplyWriter<'l, L> {
-    /// Makes a writer to this link, with an empty buffer.
+    /// Makes a writer to this link, with an empty write buffer.
     pub fn new(link: &'l mut L) -> ReplyWriter<'l, L>
         ensures link { result.link ≡ link.entry.ghost_name }
         ensures given { result.given ≡ L.given link.entry.now }
@@ -47,14 +47,15 @@ impl<'l, L: Link> ReplyWriter<'l, L> {
         }
     }
 
-    /// Sends bytes after all earlier ones, through the buffer.
+    /// Sends bytes after all earlier bytes, through the write buffer.
     pub fn put(&mut self, bytes: &[u8])
         ensures { Puts self.old self.new bytes.now }
     {
         self.outbox.put(self.link, bytes);
     }
 
-    /// Flushes the buffer. Returns `Ok` if all bytes were written to the link.
+    /// Writes the buffered bytes to the link. Returns `Ok` if all bytes of the response were
+    /// written to the link.
     pub fn finish(&mut self) -> Result<(), LinkFailed>
         ensures given { (base : Option (List ℕ)) (all : List ℕ) → HasPut base self.old all
             → Gives result base self.new.given all }
@@ -69,7 +70,7 @@ impl<'l, L: Link> ReplyWriter<'l, L> {
         }
     }
 
-    /// Returns the link, and drops buffered bytes.
+    /// Returns the link, and drops the bytes that are still buffered.
     pub fn into_link(self) -> &'l mut L
         ensures link { result.ghost_name ≡ self.entry.link }
         ensures given { L.given result.now ≡ self.entry.given }

@@ -1,4 +1,4 @@
--- A complete head does not change when more bytes arrive.
+-- Lemmas: a complete request head does not change when more bytes arrive.
 use Rattle.std.proofs.Common.{◌≡◌, ◌∙◌, ℕ, ◌+◌, ◌-◌, ◌<◌, ◌≤◌, List, [], ◌∷◌, ◌++◌, length, take, drop, map, Option, inl, inr, refl, sym, ap, subst, arith, append_assoc, length-drop, length-append}
 use Rattle.std.specs.Prelude.{All}
 use Rattle.std.proofs.lemmas.List.{drop-append-le, take-append-le}
@@ -74,7 +74,7 @@ head_stays a b at x =
       },
     )
 
--- The size of the body does not change when more bytes arrive.
+-- The size of a request's body does not change when more bytes arrive.
 size_stays : (table : Table) (mid new seen : List ℕ) (s t : Option (List ℕ)) (at : Head) (size : ℕ) → seen ≡ mid → size ≡ body_size table (start_at seen at) → IsHeadAt mid at → Came mid new s t → size ≡ body_size table (start_at new at)
 size_stays table mid new seen s t at size same is head came =
     is ∙ ap (λ b. body_size table (start_at b at)) same ∙ ap (body_size table) (sym (start_stays mid came.chunk at head)) ∙ ap (λ b. body_size table (start_at b at)) (sym came.bytes)
@@ -97,14 +97,14 @@ lacks table old mid new seen r s t at size first head same is came few = record 
   body = subst (λ n. length new < at.len + n) (size_stays table mid new seen s t at size same is head came) few;
 }
 
--- A complete head lacks a part of its body until the whole body has arrived.
+-- Bytes with a complete head lack a part of the body until all bytes of the body have arrived.
 lacks_still : (table : Table) (mid earlier seen : List ℕ) (at : Head) (size : ℕ) → seen ≡ mid → size ≡ body_size table (start_at seen at) → IsHeadAt mid at
     → length (mid ++ earlier) < at.len + size → LacksBody table (mid ++ earlier)
 lacks_still table mid earlier seen at size same is head few =
     let start : body_size table (start_at (mid ++ earlier) at) ≡ size = ap (body_size table) (start_stays mid earlier at head) ∙ ap (λ b. body_size table (start_at b at)) (sym same) ∙ sym is in
     record { at = at; head = head_stays mid earlier at head; body = omega (arith, few, start) }
 
--- If the request has no body, reading stops in time once its head is complete.
+-- If the request has no body, the buffer makes no read after the head is complete.
 pub stops_at_head : (table : Table) (old new : Inbox) (was now : Option LastTake) → StopsAtOnce IsOpenHead old new was now → StopsAtOnce (IsUnfinished table) old new was now
 stops_at_head table old new was now (inl none) = inl none
 stops_at_head table old new was now (inr some) = inr record {
@@ -115,7 +115,8 @@ stops_at_head table old new was now (inr some) = inr record {
   size = some.size;
 }
 
--- If reading the head and reading the body each stop in time, reading the request does.
+-- If the buffer makes no read after a complete head or a complete body, it makes none after a
+-- complete request.
 pub stops_at_body : (table : Table) (old mid new : Inbox) (seen chunk : List ℕ) (was then now : Option LastTake) (at : Head) (size : ℕ) → bytes_in mid ≡ bytes_in old ++ chunk → IsHeadAt (bytes_in mid) at
     → seen ≡ bytes_in mid → size ≡ body_size table (start_at seen at) → StopsAtOnce IsOpenHead old mid was then → StopsAtOnce (λ bytes. length bytes < at.len + size) mid new then now
     → StopsAtOnce (IsUnfinished table) old new was now

@@ -1,4 +1,4 @@
--- The bytes that were read begin with at most one request.
+-- Lemmas: the received bytes begin with at most one request.
 use Rattle.std.proofs.Common.{◌≡◌, ◌∙◌, ℕ, List, length, take, drop, refl, sym, ap, arith, length-drop}
 use Rattle.httparse.specs.Grammar.{RequestHead}
 use Rattle.httparse.proofs.GrammarLemmas.{request_unique}
@@ -21,13 +21,13 @@ start_is bytes at x =
     let headers = x.0.1.1.headers in
     λ i. record { method = method i; target = target i; headers = headers i }
 
--- Two results of parsing a head from the same bytes have the same parts.
+-- Two heads parsed from equal bytes have equal methods, targets, headers and sizes.
 pub start_one : (bytes : List ℕ) (a b : Head) → IsHeadAt bytes a → IsHeadAt bytes b → (start_at bytes a ≡ start_at bytes b) × (a.len ≡ b.len)
 start_one bytes a b x y =
     let same = head_unique bytes a.len b.len x.0.0 y.0.0 x.0.1.0 y.0.1.0 in
     (start_is bytes a x ∙ ap start_of same.0 ∙ sym (start_is bytes b y), same.1)
 
--- Bytes that lack a part of the body hold no complete request.
+-- Bytes with only a part of the body hold no complete request.
 pub lacks_not_whole : (table : Table) (bytes : List ℕ) (at : Head) → LacksBody table bytes → IsWhole table bytes at → ⊥
 lacks_not_whole table bytes at l w =
     let one = start_one bytes l.at at l.head w.head in
@@ -38,7 +38,7 @@ lacks_not_whole table bytes at l w =
 pub open_not_whole : (table : Table) (bytes : List ℕ) (at : Head) → IsOpenHead bytes → IsWhole table bytes at → ⊥
 open_not_whole table bytes at o w = o.none at.len w.head.0.0 w.head.0.1.0
 
--- A complete head and body are the request that the bytes hold.
+-- Bytes with a complete head and body hold the request with this head and this body.
 pub request_of_whole : (table : Table) (bytes : List ℕ) (at : Head) → IsWhole table bytes at → HoldsRequest table bytes (start_at bytes at) (body_of table bytes at)
 request_of_whole table bytes at w = record {
   head = w.head.0.0;

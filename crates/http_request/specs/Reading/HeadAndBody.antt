@@ -1,4 +1,4 @@
--- What the buffer holds when reading ends.
+-- The contents of the buffer after the head or body of a request was read.
 use Rattle.std.specs.Prelude.{◌≡◌, ◌<◌, ◌≤◌, ℕ, false, ◌⊎◌, List, ◌++◌, length, Option, Result, Ok, Err}
 use Rattle.std.specs.Io.KnownBytes.{IsAtEnd}
 use Rattle.http_request.specs.Head.Heads.{IsOpenHead, Looks, is_open}
@@ -9,13 +9,14 @@ use Rattle.http_request.specs.declared.reading.inbox.Inbox.{Inbox}
 use Rattle.http_request.specs.declared.reading.inbox.TakeFault.{TakeFault}
 use Rattle.http_request.specs.declared.reading.inbox.TakeFault.TheVariants.{Read, Short, TurnsUsed}
 
--- A read that ended with Short has no byte left in the input.
+-- After a read that failed with Short, the input has no bytes left.
 abbrev pub EndsAt : TakeFault → Option (List ℕ) → Type 0
 EndsAt Read after = Unit {0}
 EndsAt Short after = IsAtEnd after
 EndsAt TurnsUsed after = Unit {0}
 
--- Either a complete or a bad head was read, or reading failed while the head was incomplete.
+-- Either the buffer holds a complete or an invalid request head, or reading failed while the head
+-- was incomplete.
 abbrev pub ReadsHead : Result HeadState TakeFault → List ℕ → List ℕ → Option (List ℕ)
     → Option (List ℕ) → Type 0
 ReadsHead (Ok head_state) old new before after =
@@ -30,13 +31,13 @@ ReadsUpTo count (Ok x) old new before after = Came old new before after × (coun
 ReadsUpTo count (Err fault) old new before after =
     Came old new before after × (length new < count) × EndsAt fault after
 
--- No read was made: the count of reads and the link's last read are unchanged.
+-- The buffer made no read: its count of reads and the link's last read are unchanged.
 pub record TakesNothing (old new : Inbox) (was now : Option LastTake) : Type 0 where
   pub takes : new.takes ≡ old.takes
   pub bytes : bytes_in new ≡ bytes_in old
   pub last : now ≡ was
 
--- The bytes before the last read were still incomplete, in the sense of `GoesOn`.
+-- The bytes before the last read were still incomplete, as the predicate `GoesOn` defines it.
 pub record TakesWhatLacks (GoesOn : List ℕ → Type 0) (old new : List ℕ) (now : Option LastTake) :
     Type 0 where
   pub earlier : List ℕ
@@ -45,8 +46,8 @@ pub record TakesWhatLacks (GoesOn : List ℕ → Type 0) (old new : List ℕ) (n
   pub bytes : new ≡ (old ++ earlier) ++ chunk
   pub size : length chunk ≡ brought now
 
--- No read was made once the bytes were complete: either there was no read, or the bytes before the
--- last read were incomplete.
+-- The buffer made no read after its bytes were complete: either it made no read at all, or its
+-- bytes were incomplete before the last read.
 abbrev pub StopsAtOnce : (List ℕ → Type 0) → Inbox → Inbox → (was now : Option LastTake) → Type 0
 StopsAtOnce GoesOn old new was now =
     TakesNothing old new was now ⊎ TakesWhatLacks GoesOn (bytes_in old) (bytes_in new) now

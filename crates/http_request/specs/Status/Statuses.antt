@@ -3,7 +3,7 @@ use Rattle.std.specs.Prelude.{ℕ, List, codes}
 use Rattle.http_request.specs.declared.status.Status.{Status}
 use Rattle.http_request.specs.declared.status.Status.TheVariants.{Fine, BadRequest, Forbidden, NotFound, MethodNotAllowed, Conflict, LengthRequired, ContentTooLarge, Misdirected, Unprocessable, FieldsTooLarge, Unavailable}
 
--- The status code.
+-- The number of an HTTP status.
 abbrev pub number_of_status : Status → ℕ
 number_of_status Fine = 200
 number_of_status BadRequest = 400
@@ -18,7 +18,7 @@ number_of_status Unprocessable = 422
 number_of_status FieldsTooLarge = 431
 number_of_status Unavailable = 503
 
--- The reason phrase.
+-- The reason phrase of an HTTP status.
 abbrev pub reason_of_status : Status → List ℕ
 reason_of_status Fine = codes "OK"
 reason_of_status BadRequest = codes "Bad Request"

@@ -1,4 +1,4 @@
--- A complete request.
+-- A complete HTTP request: its head and its body in the received bytes.
 use Rattle.std.specs.Prelude.{◌≡◌, ◌+◌, ◌<◌, ◌≤◌, ◌⊎◌, ℕ, Bool, true, false, List, length, take, drop, Option, Some, None, Result, Ok, Err}
 use Rattle.httparse.specs.Grammar.{RequestHead}
 use Rattle.http_request.specs.Head.Heads.{IsHead, IsHeadAt, IsOpenHead, Looks}
@@ -17,47 +17,48 @@ use Rattle.http_request.specs.declared.ask.Ask.{Ask}
 use Rattle.http_request.specs.declared.status.Status.{Status}
 use Rattle.http_request.specs.declared.status.Status.TheVariants.{BadRequest, FieldsTooLarge}
 
--- The size of the body in bytes: 0 if a test failed, for a query, or without a size.
+-- The size of a request's body in bytes: 0 if a test of the head failed, for a query, or without
+-- Content-Length.
 abbrev pub size_unless : Option Status → Bool → Option ℕ → ℕ
 size_unless (Some status) question size = 0
 size_unless None true size = 0
 size_unless None false None = 0
 size_unless None false (Some size) = size
 
--- The size in bytes of the body that belongs to the request: none for a query or a failed test of
--- the head, otherwise the value of Content-Length.
+-- The size in bytes of the body of a request. For a command whose head passes all tests, it is the
+-- value of Content-Length, otherwise 0.
 abbrev pub body_size : Table → Start → ℕ
 body_size table start =
     size_unless (head_fault table start) (asks (route_in table start.target))
     (size_in (post_headers_of start.headers))
 
--- The bytes hold a complete head, and after it the complete body.
+-- The bytes hold a complete request head, followed by its complete body.
 pub record IsWhole (table : Table) (bytes : List ℕ) (at : Head) : Type 0 where
   pub head : IsHeadAt bytes at
   pub body : at.len + body_size table (start_at bytes at) ≤ length bytes
 
--- The bytes hold a complete head, but end before its body does.
+-- The bytes hold a complete request head, but only a part of its body.
 pub record LacksBody (table : Table) (bytes : List ℕ) : Type 0 where
   pub at : Head
   pub head : IsHeadAt bytes at
   pub body : length bytes < at.len + body_size table (start_at bytes at)
 
--- The bytes hold no complete request and no bad head.
+-- The bytes hold neither a complete request nor an invalid head.
 abbrev pub IsUnfinished : Table → List ℕ → Type 0
 IsUnfinished table bytes = IsOpenHead bytes ⊎ LacksBody table bytes
 
--- The bytes hold this complete request or bad head. An incomplete head is neither.
+-- The bytes hold this complete request or invalid head. The state Open matches no bytes.
 abbrev pub Holds : Table → List ℕ → HeadState → Type 0
 Holds table bytes Open = ⊥
 Holds table bytes TooLarge = Looks bytes TooLarge
 Holds table bytes NoHead = Looks bytes NoHead
 Holds table bytes (Whole at) = IsWhole table bytes at
 
--- The bytes hold a complete request or a bad head.
+-- The bytes hold a complete request or an invalid head.
 abbrev pub IsReadWhole : Table → List ℕ → Type 0
 IsReadWhole table bytes = (head_state : HeadState) × Holds table bytes head_state
 
--- Either a complete request or a bad head was read, or reading failed before that.
+-- Either the buffer holds a complete request or an invalid head, or reading failed before that.
 abbrev pub ReadsRequest : Table → Result HeadState TakeFault → List ℕ → List ℕ → Option (List ℕ)
     → Option (List ℕ) → Type 0
 ReadsRequest table (Ok head_state) old new before after =
@@ -73,12 +74,12 @@ TestsRequest table bytes TooLarge result = result ≡ Err FieldsTooLarge
 TestsRequest table bytes NoHead result = result ≡ Err BadRequest
 TestsRequest table bytes (Whole at) result = TestsHead table (start_at bytes at) result
 
--- The body of a request.
+-- The bytes of a request's body: those after the head, as many as the body has.
 abbrev pub body_of : Table → List ℕ → Head → List ℕ
 body_of table bytes at = take (body_size table (start_at bytes at)) (drop at.len bytes)
 
--- The bytes begin with a complete request: a head within the limits with these parts, and this
--- body.
+-- The bytes begin with a complete request with this body. Its head is within the limits and has
+-- these parts.
 pub record HoldsRequest (table : Table) (bytes : List ℕ) (start : Start) (body : List ℕ) : Type 0
   where
     pub head : RequestHead
@@ -88,7 +89,7 @@ pub record HoldsRequest (table : Table) (bytes : List ℕ) (start : Start) (body
     pub whole : len + body_size table start ≤ length bytes
     pub body_is : body ≡ take (body_size table start) (drop len bytes)
 
--- The two requests have equal heads and equal bodies.
+-- The two requests have equal heads (method, target and headers) and equal bodies.
 pub record IsOneRequest (start other_start : Start) (body other_body : List ℕ) : Type 0 where
   pub one_start : start ≡ other_start
   pub one_body : body ≡ other_body

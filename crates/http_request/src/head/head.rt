@@ -1,4 +1,4 @@
-//! The head of a request, parsed by `httparse` within its limits.
+//! Parses the head of an HTTP request with `httparse`, within limits of size and of headers.
 ghost use Rattle.std.specs.Prelude.{◌≡◌, IfSome, IsNone};
 ghost use Rattle.http_request.specs.Head.Heads.{HasNoHead, IsHeadAt, Looks, front_of};
 
@@ -6,42 +6,42 @@ use crate::head::lines::{has_head_end, head_line_count};
 use httparse::Status;
 use httparse::spans::{EMPTY_HEADER_SPAN, HeaderSpan, Span, parse_request};
 
-/// The most headers of a head.
+/// The most headers in the head of a request.
 pub const MOST_HEADERS: usize = 64;
 
-/// The most bytes of a head.
+/// The most bytes in the head of a request.
 pub const MOST_BYTES: usize = 8192;
 
-/// The head of a request, as spans of the bytes that it was parsed from.
+/// The head of an HTTP request, as spans of the bytes that hold it.
 #[derive(Clone, Copy)]
 pub struct Head {
     pub method: Span,
     pub target: Span,
     pub headers: [HeaderSpan; MOST_HEADERS],
-    /// The number of headers. The rest of `headers` is unused.
+    /// The number of headers. The entries of `headers` from this index on are unused.
     pub count: usize,
-    /// The size of the head in bytes, with the empty line that ends it.
+    /// The size of the head in bytes, including the empty line at its end.
     pub len: usize,
 }
 
-/// The result of looking for a head in the bytes that were read.
+/// The result of looking for the head of a request in the received bytes.
 #[derive(Clone, Copy)]
 pub enum HeadState {
-    /// No complete head yet: its end has not arrived.
+    /// An incomplete head: its end has not arrived.
     Open,
-    /// A head past the limits: no end in its first 8,192 bytes, or more than 64 lines after its
-    /// first.
+    /// A head past the limits: the first 8,192 bytes hold no end of the head, or more than 64 lines
+    /// follow the request line.
     TooLarge,
-    /// A malformed head: it ends within the limits, but is not the head of a request.
+    /// A malformed head: it ends within the limits, but is not the head of an HTTP request.
     NoHead,
-    /// A complete head within the limits.
+    /// A complete request head within the limits.
     Whole(Head),
 }
 
 impl HeadState {
     ghost use Rattle.http_request.specs.Head.Heads.{is_open};
 
-    /// Returns whether the head is still incomplete.
+    /// Returns whether the request head is still incomplete.
     pub fn is_open(&self) -> bool
         ensures { result ≡ is_open self.now }
     {
@@ -49,7 +49,7 @@ impl HeadState {
     }
 }
 
-// Returns the head at the front of the bytes, if it is complete and within the limits.
+// Returns the request head at the start of the bytes, if it is complete and within the limits.
 fn head_of(bytes: &[u8]) -> Option<Head>
     ensures head { IfSome result (IsHeadAt bytes.now) }
     ensures none { IsNone result → HasNoHead bytes.now }
@@ -70,7 +70,8 @@ fn head_of(bytes: &[u8]) -> Option<Head>
     })
 }
 
-// Returns the first 8,192 bytes, or all bytes if there are fewer. A head has to end in them.
+// Returns the first 8,192 bytes, or all bytes if there are fewer. A request head has to end within
+// them.
 fn front_of(bytes: &[u8]) -> &[u8]
     ensures { result.now ≡ front_of bytes.now }
 {
@@ -81,7 +82,7 @@ fn front_of(bytes: &[u8]) -> &[u8]
     }
 }
 
-/// Parses the head at the front of the bytes that were read.
+/// Parses the request head at the start of the received bytes.
 pub fn parse_head(bytes: &[u8]) -> HeadState
     ensures { Looks bytes.now result }
 {

@@ -1,11 +1,11 @@
-//! The headers of a head, by name.
+//! Looks up the headers of a request by name.
 ghost use Rattle.std.specs.Prelude.{◌≡◌, ℕ, List, [], ◌∷◌, ◌++◌, length, map, All};
 ghost use Rattle.httparse.specs.Spans.{IsHeaderWithin, header_bytes};
 ghost use Rattle.http_request.specs.Head.Headers.{same_name, values_of, Gives};
 
 use httparse::spans::HeaderSpan;
 
-/// How often a header is given, with its value if it is given once.
+/// How often a request has a header: never, once with its value, or more than once.
 #[derive(Clone, Copy, Debug, PartialEq, Eq)]
 pub enum Given<'b> {
     Never,
@@ -13,14 +13,15 @@ pub enum Given<'b> {
     Often,
 }
 
-/// Compares two header names without case.
+/// Returns whether two header names are equal. Upper and lower case are equal.
 pub(crate) fn same_name(one: &[u8], other: &[u8]) -> bool
     ensures { result ≡ same_name one.now other.now }
 {
     one.eq_ignore_ascii_case(other)
 }
 
-// Adds a header's next value: the first makes it `Once`, any further one `Often`.
+// Counts one more value of a header: the result is `Once` after the first value, and `Often` after
+// any later value.
 fn one_more<'b>(found: Given<'b>, value: &'b [u8]) -> Given<'b>
     ensures { (values : List (List ℕ)) → Gives found.entry values
         → Gives result (values ++ value.now ∷ []) }
@@ -31,8 +32,8 @@ fn one_more<'b>(found: Given<'b>, value: &'b [u8]) -> Given<'b>
     }
 }
 
-/// Returns how often the header of this name is given, and its value. The case of the name is
-/// ignored.
+/// Returns how often a request has the header `name`, and its value. Upper and lower case in the
+/// name are equal.
 pub fn header_value<'b>(bytes: &'b [u8], headers: &[HeaderSpan], name: &[u8]) -> Given<'b>
     requires within { All (IsHeaderWithin (length bytes.now)) headers.now }
     ensures { Gives result (values_of name.now (map (header_bytes bytes.now) headers.now)) }

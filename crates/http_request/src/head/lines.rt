@@ -1,4 +1,4 @@
-//! Lines of bytes, and the empty line that ends a head.
+//! Splits received bytes into lines, and finds the empty line that ends a request's head.
 ghost use Rattle.std.specs.Prelude.{◌≡◌, length};
 ghost use Rattle.http_request.specs.Head.Lines.{has_head_end, is_empty_line, lines_of_head};
 
@@ -15,9 +15,9 @@ fn is_empty_line(line: &[u8]) -> bool
 
 #[derive(Clone, Copy)]
 struct LineScan {
-    // The number of lines of the head before the empty line that ends it.
+    // The number of lines of the request head before the empty line at its end.
     lines: usize,
-    // Whether the empty line has arrived.
+    // Whether the empty line that ends the head has arrived.
     ended: bool,
 }
 
@@ -47,14 +47,14 @@ fn scan(bytes: &[u8]) -> LineScan
     }
 }
 
-/// Returns whether the bytes hold the end of a head: an empty line after a nonempty line.
+/// Returns whether the bytes hold the end of a request head: an empty line after a nonempty line.
 pub fn has_head_end(bytes: &[u8]) -> bool
     ensures { result ≡ has_head_end bytes.now }
 {
     scan(bytes).ended
 }
 
-/// Returns the number of lines of a head before the empty line that ends it.
+/// Returns the number of lines of a request head before the empty line at its end.
 pub fn head_line_count(bytes: &[u8]) -> usize
     ensures { result ≡ length (lines_of_head bytes.now) }
 {

@@ -1,4 +1,4 @@
-//! Reads from a link until a head, and then a body, is complete.
+//! Reads from a link until the head of a request, and then its body, is complete.
 ghost use Rattle.std.specs.Prelude.{◌≡◌, ◌≤◌, ◌<◌, OnOk, length};
 ghost use Rattle.std.specs.Io.KnownBytes.{Keeps};
 ghost use Rattle.mb_wire.specs.Links.{risen};
@@ -10,8 +10,9 @@ use crate::head::{HeadState, parse_head};
 use crate::reading::inbox::{Inbox, TakeFault};
 use mb_wire::Link;
 
-/// Reads until the buffer holds a complete or a bad head. The returned state is never `Open`. Fails
-/// if a read fails, the input ends, or 100,000 reads were made.
+/// Reads from a link until the buffer holds a complete or an invalid request head. The returned
+/// state is never `Open`. Fails if a read fails, the input ends, or the buffer has made 100,000
+/// reads.
 pub fn read_head<L: Link>(inbox: &mut Inbox<'_>, link: &mut L) -> Result<HeadState, TakeFault>
     requires { 8192 ≤ room_of inbox.old }
     ensures reads { ReadsHead result (bytes_in inbox.old) (bytes_in inbox.new)
@@ -32,8 +33,8 @@ pub fn read_head<L: Link>(inbox: &mut Inbox<'_>, link: &mut L) -> Result<HeadSta
     }
 }
 
-/// Reads until the buffer holds `count` bytes in all. Fails if a read fails, the input ends, or
-/// 100,000 reads were made.
+/// Reads from a link until the buffer holds `count` bytes in all. Fails if a read fails, the input
+/// ends, or the buffer has made 100,000 reads.
 pub fn read_body<L: Link>(
     inbox: &mut Inbox<'_>,
     link: &mut L,

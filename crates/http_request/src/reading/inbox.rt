@@ -1,4 +1,4 @@
-//! A buffer for the bytes that are read from a link.
+//! A buffer for the bytes of a request that are read from a link.
 ghost use Rattle.std.specs.Prelude.{◌≤◌, length};
 
 use mb_wire::{Link, LinkFailed, Took};
@@ -6,17 +6,17 @@ use std::error::Error;
 use std::fmt;
 use std::fmt::{Display, Formatter};
 
-/// The most reads that one buffer makes.
+/// The most reads from a link that one buffer makes.
 pub const MOST_TAKES: u32 = 100_000;
 
-/// Why reading stopped.
+/// The cause that ended the reading of a request.
 #[derive(Clone, Copy, Debug, PartialEq, Eq)]
 pub enum TakeFault {
-    /// A read failed.
+    /// A read from the link failed.
     Read,
-    /// The input ended.
+    /// The input ended before the request was complete.
     Short,
-    /// The inbox has made 100,000 reads.
+    /// The buffer has made 100,000 reads.
     TurnsUsed,
 }
 
@@ -32,7 +32,7 @@ impl Display for TakeFault {
 
 impl Error for TakeFault {}
 
-/// A buffer in borrowed room for the bytes that are read from a link, with a count of the reads.
+/// A buffer for the bytes of a request, in borrowed memory, with a count of the reads.
 #[derive(Drop)]
 pub struct Inbox<'a> {
     room: &'a mut [u8],
@@ -48,7 +48,7 @@ impl<'a> Inbox<'a> {
     ghost use Rattle.mb_wire.specs.Links.{risen};
     ghost use Rattle.http_request.specs.Reading.Taking.{CountsTakes, EndedBy, TakesOn, brought, bytes_in, is_read_fault, room_of};
 
-    /// Makes an empty inbox.
+    /// Makes an empty buffer in `room`.
     pub fn new(room: &'a mut [u8]) -> Inbox<'a>
         ensures empty { bytes_in result ≡ [] }
         ensures takes { result.takes ≡ 0 }
@@ -61,15 +61,15 @@ impl<'a> Inbox<'a> {
         }
     }
 
-    /// Returns all bytes that were read.
+    /// Returns all bytes that the buffer has read from the link.
     pub fn bytes(&self) -> &[u8]
         ensures { result.now ≡ bytes_in self.entry.now }
     {
         &self.room[..self.filled]
     }
 
-    /// Reads once more, unless 100,000 reads were made. A read that times out counts and adds
-    /// nothing.
+    /// Reads once more from the link, unless the buffer has made 100,000 reads. A read that times
+    /// out counts and adds no bytes.
     pub fn take_more<L: Link>(&mut self, link: &mut L) -> Result<(), TakeFault>
         requires { length (bytes_in self.old) < room_of self.old }
         ensures takes_on { TakesOn result (bytes_in self.old) (bytes_in self.new)

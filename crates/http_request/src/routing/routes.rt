@@ -1,11 +1,11 @@
-//! The routes, and their router.
+//! The routes of the HTTP server, and the router that finds them.
 ghost use Rattle.std.specs.Prelude.{◌≡◌, [], IfOk, OnOk};
 ghost use Rattle.http_request.specs.Routing.Routes.{Fits, add, routes};
 
 use matchit::{InsertError, Router};
 use std::alloc::{AllocError, Global};
 
-/// The route of a target.
+/// The route of a request target.
 #[derive(Clone, Copy, Debug, PartialEq, Eq, Drop)]
 pub enum Route {
     Devices,
@@ -27,7 +27,8 @@ pub enum Route {
 impl Route {
     ghost use Rattle.http_request.specs.Routing.Targets.{is_question, method_of};
 
-    /// Returns whether the route is a query. All other routes are commands, which change something.
+    /// Returns whether the route is a query (GET). All other routes are commands (POST), which
+    /// change something.
     pub fn is_question(self) -> bool
         ensures { result ≡ is_question self }
     {
@@ -37,7 +38,7 @@ impl Route {
         )
     }
 
-    /// Returns the HTTP method of the route.
+    /// Returns the HTTP method of the route: GET for a query, POST for a command.
     pub fn method(self) -> &'static [u8]
         ensures { result.now ≡ method_of self }
     {
@@ -59,8 +60,8 @@ fn add(router: &mut Router<Route>, text: &str, route: Route) -> Result<(), Alloc
     }
 }
 
-// Adds all routes to an empty router. It is a function apart from `router`, because the prover
-// would need a minute for one function that drops the router at each `?`.
+// Adds all routes to an empty router. This function is separate from `router`, because the prover
+// needs a minute for a function that drops the router at each `?`.
 fn fill(router: &mut Router<Route>) -> Result<(), AllocError>
     requires { router.old ≡ [] }
     ensures { OnOk result (router.new ≡ routes) }
@@ -82,7 +83,7 @@ fn fill(router: &mut Router<Route>) -> Result<(), AllocError>
     Ok(())
 }
 
-/// Makes the router of all routes.
+/// Makes the router with all routes of the HTTP server.
 pub fn router(alloc: Global) -> Result<Router<Route>, AllocError>
     ensures { IfOk result (λ r. r ≡ routes) }
 {

@@ -1,4 +1,4 @@
-//! The route of a request's target.
+//! Finds the route of a request target, and the value of the route's parameter.
 ghost use Rattle.std.specs.Prelude.{◌≡◌, IfSome, IsUtf8, None, option_map};
 ghost use Rattle.std.specs.Str.{IsAscii};
 ghost use Rattle.matchit.specs.Params.{walk};
@@ -9,7 +9,7 @@ use crate::routing::routes::Route;
 use matchit::{Params, Router};
 use std::str::from_utf8;
 
-/// The route of a target, and the value of the route's parameter.
+/// The route of a request target, and the value of the route's parameter.
 #[derive(Clone, Copy, Debug, PartialEq, Eq, Drop)]
 pub struct Found<'v> {
     pub route: Route,
@@ -42,15 +42,16 @@ fn found_at<'v>(router: &Router<Route>, target: &'v str) -> Option<Found<'v>>
     }
 }
 
-/// Returns whether a target has a question mark. Such a target has no route.
+/// Returns whether a request target has a question mark. A target with a question mark has no
+/// route.
 pub fn has_query(target: &[u8]) -> bool
     ensures { result ≡ has_query target.now }
 {
     target.iter().any(|byte| *byte == b'?')
 }
 
-// Finds the route of a text with a byte past ASCII. Its parameter is not read, since no name has
-// such a byte.
+// Finds the route of a target with a byte outside ASCII. The parameter stays unread, since all
+// names are ASCII.
 fn bare_route<'v>(router: &Router<Route>, target: &'v str) -> Option<Found<'v>>
     ensures route { option_map (λ f. f.route) result ≡ first_route router.now target.now }
     ensures name { IfSome result (λ f. name_of f ≡ None) }
@@ -64,8 +65,8 @@ fn bare_route<'v>(router: &Router<Route>, target: &'v str) -> Option<Found<'v>>
     }
 }
 
-/// Finds the route of a target, and the value of its parameter. [`router`](super::router) makes the
-/// router.
+/// Finds the route of a request target, and the value of the route's parameter.
+/// [`router`](super::router) makes the router.
 #[tactic(auto, using(crate::proofs::RoutingLemmas::Plain::all_ascii, crate::proofs::RoutingLemmas::Plain::not_ascii))]
 pub fn route_of<'v>(router: &Router<Route>, target: &'v [u8]) -> Option<Found<'v>>
     requires { IsUtf8 target.now }

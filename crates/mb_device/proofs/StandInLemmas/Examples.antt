@@ -1,4 +1,4 @@
--- The most turns of a connection, as a number.
+-- The greatest number of turns of a connection to a simulated device.
 use Rattle.std.proofs.Common.{◌≡◌, refl}
 use Rattle.mb_device.specs.declared.stand_in.connections.TheConstants.{MOST_TURNS}
 

@@ -1,4 +1,4 @@
--- What a simulated device does on a connection.
+-- Defines the effects of one connection to a simulated device.
 use Rattle.std.specs.Prelude.{ℕ, List, []}
 use Rattle.std.specs.declared.result.Result.{Result}
 use Rattle.mb_device.specs.Server.{Around, Serves, Standing}
@@ -6,7 +6,7 @@ use Rattle.mb_device.specs.Tricks.{begun}
 use Rattle.mb_device.specs.declared.server.ServeFault.{ServeFault}
 use Rattle.mb_device.specs.declared.trick.Trick.{Trick}
 
--- A new server serves the connection, and plays these tricks on its responses.
+-- True if a new server with these injected faults served the connection.
 pub record ServesSome (tricks : List (ℕ × Trick)) (result : Result ℕ ServeFault)
     (old new : Around) : Type 0 where
   pub left : Standing

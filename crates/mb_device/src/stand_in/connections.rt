@@ -1,4 +1,4 @@
-//! Connections to a simulated device, one after another.
+//! Accepts connections to a simulated device, one after another.
 ghost use Rattle.std.specs.Prelude.{◌≤◌, ◌+◌};
 ghost use Rattle.mb_device.specs.Server.{around};
 ghost use Rattle.mb_device.specs.StandIn.Connections.{ServesSome};
@@ -10,11 +10,12 @@ use socket_link::SocketLink;
 use std::io::{self, Read, Write};
 use std::net::{OpenListener, OpenStream};
 
-/// The most turns of one connection. A turn waits at most one second for input.
+/// The most turns of one connection. Each turn waits at most one second for input.
 pub const MOST_TURNS: u32 = 100_000;
 
-/// Responds on a link until its input ends, in at most `MOST_TURNS` turns. Returns the number of
-/// executed frames, with those whose response a trick dropped, buffered or cut off.
+/// Responds to frames of a link until its input ends, in at most `MOST_TURNS` turns. Returns the
+/// number of frames executed, including frames whose response an injected fault dropped, delayed or
+/// cut off.
 pub fn answer_one<L: Link>(
     link: &mut L,
     bank: &mut Bank,
@@ -29,7 +30,7 @@ pub fn answer_one<L: Link>(
     server.serve(link, bank, MOST_TURNS)
 }
 
-// Responds on one connection. Any failure ends only this connection.
+// Serves one connection. A failure ends only this connection.
 fn answer_stream<S: Read + Write + OpenStream + Drop>(
     stream: S,
     bank: &mut Bank,
@@ -44,11 +45,11 @@ fn answer_stream<S: Read + Write + OpenStream + Drop>(
     let _answered = answer_one(&mut link, bank, tricks);
 }
 
-/// Accepts `connections` connections, one after another, and responds on each.
+/// Accepts `connections` connections, one after another, and serves the simulated device on each.
 ///
-/// The tricks begin again on each connection; the register map keeps its values. A failure of a
-/// connection ends only that connection. A client that sends nothing keeps its connection for at
-/// most `MOST_TURNS` seconds. If the listener fails, the call returns its error.
+/// Injected faults start again on each connection, and the register map keeps its values. A failure
+/// ends only its connection, and a client that sends nothing loses its connection after at most
+/// `MOST_TURNS` seconds. If the listener fails, the call returns the listener's error.
 pub fn answer_all<L: OpenListener>(
     listener: &L,
     connections: u32,

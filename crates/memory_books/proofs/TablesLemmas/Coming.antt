@@ -1,4 +1,4 @@
--- One more record for a table.
+-- Lemmas about a table to which records are added one by one.
 use Rattle.std.proofs.Common.{◌≡◌, ℕ, ◌+◌, ◌<◌, ◌≤◌, List, [], ◌∷◌, ◌++◌, reverse, take, drop, length, get_or, sym, ap, subst, ◌∙◌, arith}
 use Rattle.std.proofs.lemmas.List.{reverse-append, length-reverse, length-take-le, take-append-drop, take-append-le, take_all, length-append}
 use Rattle.office_events.specs.declared.facts.Fact.{Fact}
@@ -11,13 +11,13 @@ lawful_before : (later known : List Fact) → AreLawful (later ++ known) → Are
 lawful_before [] known h = h
 lawful_before (f ∷ later) known h = lawful_before later known h.1
 
--- The first of lawful records are lawful.
+-- If a list of records is lawful, then each initial part of the list is lawful.
 pub first_lawful : (facts : List Fact) (k : ℕ) → AreLawful (latest_first facts) → AreLawful (latest_first (take k facts))
 first_lawful facts k h =
     lawful_before (reverse (drop k facts)) (reverse (take k facts))
     (subst AreLawful (ap reverse (sym (take-append-drop k facts)) ∙ reverse-append (take k facts) (drop k facts)) h)
 
--- After one more record the table has reached one more.
+-- After the next record is added to a table, the table agrees with one more record of the list.
 pub come_on : {T : Type 0} (says : T → List Fact → Type 0) (old new : Kept T) (facts : List Fact) (f : Fact) → AreLawful (latest_first facts)
     → HasCome says old facts → old.count < length facts → f ≡ get_or facts old.count f → new.count ≡ old.count + 1
     → ((known : List Fact) → AreLawful (f ∷ known) → length known ≡ old.count → says old.table known → says new.table (f ∷ known))
@@ -32,13 +32,15 @@ come_on says old new facts f lawful come less is counted put =
       said = subst (says new.table) (sym (ap (λ (k : ℕ). reverse (take k facts)) counted ∙ more)) (put before may long come.said);
     }
 
--- A table that has reached all records.
+-- If as many records were added to a table as the list has, then the table agrees with all records
+-- of the list.
 pub come_whole : {T : Type 0} (says : T → List Fact → Type 0) (kept : Kept T) (facts : List Fact) → HasCome says kept facts
     → length facts ≤ kept.count → says kept.table (latest_first facts)
 come_whole says kept facts come all =
     subst (λ (xs : List Fact). says kept.table (reverse xs)) (take_all kept.count facts all) come.said
 
--- More records remove nothing from a table.
+-- After the store gets more records, a table still agrees with the records that were added to the
+-- table.
 pub come_with : {T : Type 0} (says : T → List Fact → Type 0) (kept : Kept T) (facts more : List Fact) → HasCome says kept facts → HasCome says kept (facts ++ more)
 come_with says kept facts more come = record {
   few = omega (arith, come.few, length-append facts more);

@@ -1,4 +1,4 @@
--- Lookups by key.
+-- Lemmas about lookups by key in the tables of a store in memory.
 use Rattle.std.proofs.Common.{◌≡◌, ℕ, ◌==◌, ◌&&◌, Bool, true, false, cond, List, [], ◌∷◌, reverse, length, Option, Some, None, refl, ap, ◌∙◌, Result, Ok, Err, IfOk}
 use Rattle.std.specs.List.{filter, filter_map, cons_option, slice_get}
 use Rattle.std.specs.Option.{option_and_then, option_map}
@@ -87,7 +87,8 @@ by_caller name number (fact.Poll p) = refl
 by_caller name number (fact.Outcome e) = refl
 by_caller name number (fact.Reply r) = refl
 
--- The record at an index that a table has.
+-- A lookup through the table of indices has the same result as a search for the latest record with
+-- the key.
 pub looked_up : {Y : Type 0} (at : List Fact → ℕ → Option Y) (facts known : List Fact) (place : Option ℕ) (key own : Key) (kind : Kind) → facts ≡ reverse known
     → place ≡ latest_place (has_key kind key) known → key ≡ own
     → option_and_then (at facts) place ≡ option_and_then (at (reverse known)) (latest_place (has_key kind own) known)
@@ -120,7 +121,8 @@ filter_map_same : {X Y : Type 0} (g k : X → Option Y) → ((x : X) → g x ≡
 filter_map_same g k is [] = refl
 filter_map_same g k is (x ∷ xs) = ap (λ o. cons_option o (filter_map g xs)) (is x) ∙ ap (cons_option (k x)) (filter_map_same g k is xs)
 
--- The registers that a read covers.
+-- The lookup of the accounting registers that a Modbus read covers agrees with the definition of
+-- this lookup.
 if_chosen : {X : Type 0} (b : Bool) (x : X) (ys zs : List X) → ys ≡ zs → cons_option (cond b (Some x) None) ys ≡ cond b (x ∷ zs) zs
 if_chosen true x ys zs is = ap (λ l. x ∷ l) is
 if_chosen false x ys zs is = is

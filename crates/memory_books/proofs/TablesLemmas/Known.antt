@@ -1,4 +1,4 @@
--- The properties of an installation in lawful records.
+-- Lemmas about an installation in lawful records.
 use Rattle.std.proofs.Common.{◌≡◌, suc, Bool, List, [], ◌∷◌, Some, sym, subst, ◌∙◌, inl, inr, arith}
 use Rattle.std.specs.List.{find, Contains}
 use Rattle.std.proofs.lemmas.Bool.{cases_Bool, cond-true, cond-false}
@@ -36,7 +36,7 @@ known journals kept ranges facts o lawful there =
       account = λ rows is. subst (λ (rs : List EntryRow). HasAccount (installed o) (entries_in rs)) (sym is) (kept (installed o) (journal_of facts o.meter) own fits).account;
     }
 
--- A search finds an element of the list.
+-- If a search finds an element, then the element is in the list.
 pub found_is_there : {X : Type 0} (p : X → Bool) (xs : List X) (x : X) → find p xs ≡ Some x → Contains xs x
 found_is_there p [] x h = absurd (cc)
 found_is_there p (y ∷ ys) x h =

@@ -1,4 +1,5 @@
--- Installations that are found index by index.
+-- Lemmas about the list of an accounting register's installations, which are found through indices
+-- of records.
 use Rattle.std.proofs.Common.{◌≡◌, ℕ, ◌+◌, ◌<◌, List, [], ◌∷◌, ◌++◌, map, reverse, take, length, get_or, Option, Some, None, refl, sym, ap, ◌∙◌}
 use Rattle.std.specs.List.{filter_map, cons_option}
 use Rattle.std.specs.Option.{option_map, option_to_list}
@@ -37,7 +38,8 @@ module _ (known facts : List Fact) where
   rows_more places i d row rows more lt so_far is came =
       came ∙ ap (λ (before : List Installation). before ++ option_to_list row) so_far ∙ sym (one_there places i d row lt is)
 
-  -- The meter of an opening at an index of the records.
+  -- If the record at an index is an opening, then a search for its meter's name finds the
+  -- installation of this opening.
   pub meter_there : AreLawful known → facts ≡ reverse known → (place : ℕ) (o : Opening) → opening_at facts place ≡ Some o
       → meter_of known o.meter ≡ option_map (installation_of known) (opening_at facts place)
   meter_there lawful is place o there_is =

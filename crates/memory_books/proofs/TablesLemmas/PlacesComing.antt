@@ -1,4 +1,4 @@
--- One more record in a table of indices.
+-- Lemmas about a table of indices after one more record.
 use Rattle.std.proofs.Common.{◌≡◌, ℕ, cond, List, [], ◌∷◌, ◌++◌, reverse, length, Some, sym, ap, ◌∙◌, inl, inr, Result, Ok, Err, OnOk, OnErr}
 use Rattle.std.specs.BTreeMap.{BTreeMap, get, get_by}
 use Rattle.std.specs.declared.vec.Vec.{Vec}
@@ -12,7 +12,8 @@ use Rattle.memory_books.specs.Tables.Keys.{key_cmp, is_same_key}
 use Rattle.memory_books.specs.Tables.Places.{key_in, is_key, has_key, places_of, under}
 use Rattle.memory_books.proofs.TablesLemmas.SameKeys.{is_eq-key_cmp, one_key}
 
--- The index of a record with a key is under this key only.
+-- After a record's index is added to a table under the record's key only, the table agrees with the
+-- records.
 pub place_comes : (kind : Kind) (known : List Fact) (f : Fact) (key : Key) (place : ℕ) (before after : Key → List ℕ) → length known ≡ place → key_in kind f ≡ Some key
     → ((other : Key) → before other ≡ reverse (places_of (has_key kind other) known))
     → ((other : Key) → after other ≡ cond (is_eq (key_cmp key other)) (before key ++ place ∷ []) (before other))
@@ -32,7 +33,8 @@ place_comes kind known f key place before after long own says adds other =
           ∙ sym (ap reverse (cond-false _ _ _ (has ∙ e)))
     ]
 
--- A write of the same value changes nothing.
+-- If an equal list of indices replaces a list in the map, then the indices under each key are
+-- unchanged.
 pub kept_under : {Z : Type 0} (old new : BTreeMap Key (Vec ℕ Z)) (key : Key) (w v : Vec ℕ Z) → get_by (key_cmp key) old ≡ Some v → w.items ≡ v.items
     → ((q : Key) → get key_cmp new q ≡ cond (is_eq (key_cmp key q)) (Some w) (get key_cmp old q))
     → (other : Key) → under (get key_cmp new other) ≡ under (get key_cmp old other)
@@ -44,7 +46,8 @@ kept_under old new key w v there same updates other =
       | inr e ↦ ap under (updates other ∙ cond-false _ _ _ (is_eq-key_cmp key other ∙ e))
     ]
 
--- A consequence of a call's contract.
+-- If a call guarantees a property of its `Ok` result, then it guarantees every property that
+-- follows from this property.
 pub on_ok_then : {T E P Q : Type 0} (r : Result T E) → (P → Q) → OnOk r P → OnOk r Q
 on_ok_then (Ok x) f h = f h
 on_ok_then (Err e) f h = tt

@@ -1,4 +1,4 @@
--- Tables of polls, one record after another.
+-- Lemmas about the tables of polls after one more record.
 use Rattle.std.proofs.Common.{◌≡◌, ◌⊎◌, ℕ, ◌-◌, ◌<◌, ◌≤◌, ◌==◌, Bool, true, false, cond, ◌&&◌, not, List, [], ◌∷◌, ◌++◌, map, reverse, length, get_or, Option, None, refl, sym, ap, ◌∙◌, inl, inr, arith}
 use Rattle.std.specs.Prelude.{is_some, slice_set}
 use Rattle.std.specs.List.{find, filter, slice_get}
@@ -21,7 +21,7 @@ use Rattle.office_rules.specs.Readings.{poll_row, poll_row_of}
 use Rattle.office_rules.proofs.Lists.{reverse_cons, get_last, get_others}
 use Rattle.memory_books.specs.Tables.Polls.{row_with_end, polls_but}
 
--- Polls are numbered from 1.
+-- In lawful records, polls are numbered consecutively from 1.
 pub numbered : (known : List Fact) → AreLawful known → AreNumbered (polls_in known)
 numbered [] h = tt
 numbered (fact.Device d ∷ known) h = numbered known h.1
@@ -38,7 +38,7 @@ numbered (fact.Reply r ∷ known) h = numbered known h.1
 differ : (a b : ℕ) → a ≡ b → (a == b) ≡ false → ⊥
 differ a b is apart = grind (arith, nat_tests)
 
--- The number of a poll that exists.
+-- If a poll is recorded, then its number is at least 1 and at most the number of polls.
 pub number_within : (n : ℕ) (polls : List Poll) → AreNumbered polls → is_some (find (λ (poll : Poll). poll.number == n) polls) ≡ true → (1 ≤ n) × (n ≤ length polls)
 number_within n [] h there = absurd (cc)
 number_within n (p ∷ polls) h there =
@@ -49,7 +49,7 @@ number_within n (p ∷ polls) h there =
           (rest.0, omega (arith, rest.1))
     ]
 
--- A poll that does not exist has no outcome.
+-- True if the records have no outcome of the poll with number `n`.
 abbrev pub NoEnd : List Fact → ℕ → Type 0
 NoEnd known n = (ends_of known n ≡ []) × (end_of known n ≡ None)
 
@@ -75,7 +75,8 @@ no_end_beyond (fact.Reply r ∷ known) n h beyond = no_end_beyond known n h.1 be
 abbrev pub row_so : Poll → Option EndedPoll → PollRow
 row_so poll ended = record { poll = poll; ended = ended }
 
--- The next poll.
+-- After a poll starts, the table of polls has its earlier rows, followed by the row of the new poll
+-- without an outcome.
 pub poll_comes : (known : List Fact) (p : Poll) → AreLawful (fact.Poll p ∷ known)
     → map (poll_row known) (reverse (polls_in known)) ++ row_so p None ∷ [] ≡ map (poll_row (fact.Poll p ∷ known)) (reverse (p ∷ polls_in known))
 poll_comes known p h =
@@ -84,7 +85,7 @@ poll_comes known p h =
     ap (λ (o : Option EndedPoll). map (poll_row known) (reverse (polls_in known)) ++ row_so p o ∷ []) (sym none.1)
     ∙ sym (ap (map (poll_row known)) (reverse_cons p (polls_in known)) ∙ map-append (poll_row known) (reverse (polls_in known)) (p ∷ []))
 
--- The end of a poll.
+-- After a poll gets its outcome, the rows of all other polls are unchanged.
 row_past : (known : List Fact) (e : EndedPoll) (p : Poll) → (e.poll == p.number) ≡ false → poll_row (fact.Outcome e ∷ known) p ≡ poll_row known p
 row_past known e p other = ap (row_so p) (cond-false _ _ _ other)
 
@@ -102,7 +103,7 @@ rows_past known e (p ∷ polls) h beyond =
     ∙ ap (λ (row : PollRow). map (poll_row known) (reverse polls) ++ row ∷ []) one
     ∙ sym (ap (map (poll_row known)) (reverse_cons p polls) ∙ map-append (poll_row known) (reverse polls) (p ∷ []))
 
--- The rows after the end of a poll: the last row of some, or another row.
+-- The rows of polls after the poll at index `i` gets the outcome `e`.
 abbrev ended_in_place : EndedPoll → PollRow → List PollRow → ℕ → List PollRow
 ended_in_place e d rows i = slice_set rows i (row_with_end e (get_or rows i d))
 
@@ -163,7 +164,7 @@ end_comes known e rows after h is ends =
     ∙ ap (λ (rs : List PollRow). ended_in_place e d rs (e.poll - 1)) is
     ∙ end_comes_to known e (polls_in known) d (numbered known h.1) within.0 within.1
 
--- The row at a number.
+-- The poll with number `n` has the index `n - 1` in the table of polls.
 pub row_at_number : (known : List Fact) (polls : List Poll) (n : ℕ) → AreNumbered polls → 1 ≤ n
     → slice_get (map (poll_row known) (reverse polls)) (n - 1) ≡ option_map (poll_row known) (find (λ (poll : Poll). poll.number == n) polls)
 row_at_number known [] n h low = refl
@@ -190,7 +191,8 @@ no_row_at_zero known h = zero_at (polls_in known) (numbered known h)
     zero_at (p ∷ polls) so =
         ap (option_map (poll_row known)) (cond-false _ _ _ (ne_eqb p.number 0 (λ is. omega (arith, so.0)))) ∙ zero_at polls so.1
 
--- The pending polls.
+-- After an outcome, its poll is removed from the list of pending polls. After a start, the new poll
+-- is appended to this list.
 and_false : (b : Bool) → (b && false) ≡ false
 and_false true = refl
 and_false false = refl
@@ -232,7 +234,7 @@ polls_wait known p h =
     ∙ ap (λ (ps : List Poll). filter waits (reverse (polls_in known)) ++ ps) (cond-true _ _ _ passes)
     )
 
--- Lookups by number.
+-- A lookup of a poll in the table by its number finds the recorded poll with this number.
 pub row_found : (known : List Fact) (rows : List PollRow) (n : ℕ) → AreLawful known → rows ≡ map (poll_row known) (reverse (polls_in known)) → 1 ≤ n
     → slice_get rows (n - 1) ≡ poll_row_of known n
 row_found known rows n h is low =

@@ -1,4 +1,4 @@
--- Equal keys.
+-- Lemmas about equal keys.
 use Rattle.std.proofs.Common.{◌≡◌, ℕ, ◌==◌, ◌&&◌, Bool, true, false, List, refl, ap, ◌∙◌, arith}
 use Rattle.std.specs.Ordering.{is_eq, nat_cmp, ordering_then}
 use Rattle.std.specs.Cmp.Lexicographic.{slice_cmp}
@@ -20,7 +20,7 @@ is_eq-then Greater b = refl
 is_eq-nat : (a b : ℕ) → is_eq (nat_cmp a b) ≡ (a == b)
 is_eq-nat a b = grind (arith, nat_tests)
 
--- Keys compare as equal exactly if their names and their numbers are equal.
+-- Two keys compare as equal if and only if their names and their numbers are equal.
 pub is_eq-key_cmp : (a b : Key) → is_eq (key_cmp a b) ≡ is_same_key a b
 is_eq-key_cmp a b =
     is_eq-then (slice_cmp nat_cmp a.name b.name) (nat_cmp a.number b.number)
@@ -31,7 +31,7 @@ both_true : (a b : Bool) → (a && b) ≡ true → (a ≡ true) × (b ≡ true)
 both_true true b h = (refl, h)
 both_true false b h = absurd (cc)
 
--- Keys that are equal by `is_same_key` are identical.
+-- If two keys have equal names and equal numbers, then the keys are identical.
 pub one_key : (a b : Key) → is_same_key a b ≡ true → a ≡ b
 one_key a b h =
     let both = both_true (same a.name b.name) (a.number == b.number) h in

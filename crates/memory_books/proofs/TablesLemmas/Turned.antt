@@ -1,4 +1,4 @@
--- Lists of records read backwards.
+-- Lemmas about reversed lists of records.
 use Rattle.std.proofs.Common.{◌≡◌, Bool, List, [], ◌∷◌, ◌++◌, reverse, refl, sym, ap, ◌∙◌, Option, Some, None}
 use Rattle.std.specs.List.{filter, filter_map, cons_option}
 use Rattle.std.proofs.lemmas.List.{append-nil, reverse-reverse}
@@ -16,11 +16,12 @@ filter_map_reverse h (x ∷ xs) =
     ap (filter_map h) (reverse_cons x xs) ∙ filter_map-append h (reverse xs) (x ∷ [])
     ∙ ap (λ ys. ys ++ cons_option (h x) []) (filter_map_reverse h xs) ∙ one_last h x (h x) (filter_map h xs) refl
 
--- The records of a kind, in order.
+-- Selecting records of one kind from a reversed list yields the selected records in reverse order.
 pub turned : {X Y : Type 0} (h : X → Option Y) (xs : List X) → filter_map h xs ≡ reverse (filter_map h (reverse xs))
 turned h xs = sym (ap reverse (filter_map_reverse h xs) ∙ reverse-reverse (filter_map h xs))
 
--- The records of a kind that pass.
+-- Selecting records that pass a test from a reversed list yields the selected records in reverse
+-- order.
 pub turned_among : {X Y : Type 0} (h : X → Option Y) (p : Y → Bool) (xs : List X)
     → filter p (filter_map h xs) ≡ reverse (filter p (filter_map h (reverse xs)))
 turned_among h p xs = ap (filter p) (turned h xs) ∙ filter_reverse p (filter_map h (reverse xs))

@@ -1,4 +1,5 @@
--- Rows that are passed on one by one.
+-- Lemmas about the query that adds up energy by quarter hour, and passes each finished interval row
+-- to a sink.
 use Rattle.std.proofs.Common.{◌≡◌, ◌+◌, ◌*◌, ◌^◌, ◌<◌, ◌≤◌, List, [], ◌∷◌, ◌++◌, Option, Some, None, refl, sym, ap, subst, ◌∙◌, arith, append_assoc}
 use Rattle.std.specs.Option.{ForSome, option_to_list}
 use Rattle.std.proofs.lemmas.List.{append-nil}
@@ -13,7 +14,8 @@ use Rattle.office_books.specs.Rows.{TakesAll}
 use Rattle.office_books.proofs.Handing.{takes_more, takes_both}
 use Rattle.memory_books.specs.Tables.IntervalRows.{TookBut, Passes}
 
--- Shares after the last of some rows.
+-- After more quarter-hour energies are added, only the last interval row changes, and new rows
+-- follow it.
 after_last : (done : List Share) (row : Share) (shares : List Share) → with_shares (done ++ row ∷ []) shares ≡ done ++ with_shares (row ∷ []) shares
 after_last [] row shares = refl
 after_last (first ∷ []) row shares = refl
@@ -30,7 +32,8 @@ no_done : (done rows : List Share) (waits : Option Share) → rows ≡ done ++ o
 no_done [] rows waits is none w = refl
 no_done (first ∷ done) rows waits is none w = absurd (let e : first ∷ (done ++ option_to_list waits) ≡ [] = sym is ∙ none w in cc)
 
--- Rows with more shares after them.
+-- After more quarter-hour energies are added, the sink has received all interval rows except the
+-- last row.
 pub took_more : {S : Type 0} (takes : S → Share → S → Type 0) (before now after : S) (waited waits : Option Share) (rows shares : List Share)
     → TookBut takes before now waited rows → Passes takes now after waited waits shares → TookBut takes before after waits (with_shares rows shares)
 took_more takes before now after waited waits rows shares took passes = record {
@@ -44,7 +47,7 @@ took_more takes before now after waited waits rows shares took passes = record {
       ap (λ (rs : List Share). with_shares rs shares) (took.none was.0) ∙ was.1;
 }
 
--- The last row is passed on, or there is none.
+-- After the last interval row is passed to the sink, the sink has received all rows.
 pub took_all : {S : Type 0} (takes : S → Share → S → Type 0) (before now after : S) (row : Share) (rows : List Share)
     → TookBut takes before now (Some row) rows → takes now row after → TakesAll takes before rows after
 took_all takes before now after row rows took more =
@@ -57,7 +60,8 @@ took_none takes before now rows took =
     let P : List Share → Type 0 = λ rs. TakesAll takes before rs now in
     subst P (sym (took.rows_are ∙ append-nil took.done)) took.took
 
--- The rows of the shares so far were passed on except the last, and these shares are left.
+-- The state of a query in progress. The sink has received all interval rows of the processed
+-- energies except the last row, and the energies `left` are not processed yet.
 pub record GoesBy {S : Type 0} (takes : S → Share → S → Type 0) (before after : S) (waited waits : Option Share) (shares left : List Share) : Type 0 where
   pub done : List Share
   pub took : TakesAll takes before done after
@@ -90,7 +94,7 @@ goes_by_whole law takes before after waited waits step left none forward goes = 
       (was.1, sym was.2 ∙ none);
 }
 
--- One more share fits in 64 bits.
+-- The energy of the last interval row and of the next quarter-hour energy, in mWh, fits in 64 bits.
 pub room : (waits : Option Share) (share : Share) (left rest : List Share) → left ≡ share ∷ rest
     → energy_of (option_to_list waits) + energy_of left ≤ 4 * 10 ^ 18 → ForSome waits (λ row. row.mwh + share.mwh < 2 ^ 64)
 room waits share left rest is within = λ row at.

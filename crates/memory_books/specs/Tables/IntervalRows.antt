@@ -1,5 +1,5 @@
--- Interval rows that are passed to a sink one by one. The last row is held back until no further
--- share of its quarter hour can follow.
+-- Quarter-hour rows that are passed to a sink one by one. A row is passed to the sink when no
+-- further energy of its quarter hour can follow.
 use Rattle.std.specs.Prelude.{◌≡◌, ℕ, List, [], ◌∷◌, ◌++◌, Option, None}
 use Rattle.std.specs.List.{filter_map, flat_map}
 use Rattle.std.specs.Option.{option_to_list}
@@ -17,7 +17,7 @@ use Rattle.office_events.specs.declared.facts.Fact.{Fact}
 use Rattle.office_rules.specs.Intervals.{rows_of_opening}
 use Rattle.memory_books.specs.Tables.Lookups.{opening_at}
 
--- The sink received all of these rows except the last one, which is held back in `waits`.
+-- True if the sink received all of these rows except the last row, which is still in `waits`.
 pub record TookBut {S : Type 0} (takes : S → Share → S → Type 0) (before after : S)
     (waits : Option Share) (rows : List Share) : Type 0 where
   pub done : List Share
@@ -25,8 +25,8 @@ pub record TookBut {S : Type 0} (takes : S → Share → S → Type 0) (before a
   pub rows_are : rows ≡ done ++ option_to_list waits
   pub none : waits ≡ None → rows ≡ []
 
--- After further shares the sink received all rows except the last one, which is now held back in
--- `waits`.
+-- The effect of further quarter-hour energies. The sink received all finished rows, and the last
+-- row is in `waits`.
 pub record Passes {S : Type 0} (takes : S → Share → S → Type 0) (before after : S)
     (waited waits : Option Share) (shares : List Share) : Type 0 where
   pub done : List Share
@@ -34,21 +34,23 @@ pub record Passes {S : Type 0} (takes : S → Share → S → Type 0) (before af
   pub rows_are : done ++ option_to_list waits ≡ with_shares (option_to_list waited) shares
   pub none : waits ≡ None → (waited ≡ None) × (shares ≡ [])
 
--- The interval rows of the meters whose openings are at these indices of the records, one meter
--- after another.
+-- The quarter-hour rows of the meters whose openings have these indices in the list of records, one
+-- meter after another.
 abbrev pub rows_at : (known facts : List Fact) → (places : List ℕ) → List Share
 rows_at known facts places = flat_map (rows_of_opening known) (filter_map (opening_at facts) places)
 
--- The sink received rows and nothing else.
+-- True if the sink changed only by receiving rows.
 abbrev pub TakesSome : {S : Type 0} → (takes : S → Share → S → Type 0) → (before after : S) → Type 0
 TakesSome takes before after = (rows : List Share) × TakesAll takes before rows after
 
--- The sink received the row if its quarter hour is in the span; otherwise nothing.
+-- True if the sink received the row, or if the row's quarter hour is not in the span and the sink
+-- is unchanged.
 abbrev pub TakesWithin : {S : Type 0} → (takes : S → Share → S → Type 0) → Span → (before : S)
     → Share → (after : S) → Type 0
 TakesWithin takes span before row after = TakesAll takes before (rows_within span (row ∷ [])) after
 
--- If the valid entries among a meter's rows can be added up, the sink received their interval rows.
+-- True if the sink received the quarter-hour rows of a meter, provided that the energy of the
+-- meter's valid entries can be added up.
 abbrev pub TakesRowsOf : {S : Type 0} → (takes : S → Share → S → Type 0) → (before : S)
     → Installed → List EntryRow → (after : S) → Type 0
 TakesRowsOf takes before meter rows after =

@@ -1,5 +1,5 @@
--- The content of the record at an index of the list. Indices count from 0 in the order in which
--- records were added.
+-- Definitions of the content of the record at an index of the list. Index 0 is the record that was
+-- added first.
 use Rattle.std.specs.Prelude.{ℕ, List, Option, Some, None, if◌then◌else◌}
 use Rattle.std.specs.List.{slice_get}
 use Rattle.std.specs.Option.{option_and_then, option_map}
@@ -13,40 +13,43 @@ use Rattle.office_books.specs.Repeats.{as_repeat}
 use Rattle.office_rules.specs.Facts.{as_register, as_opening, as_list, as_reply, if_some}
 use Rattle.office_rules.specs.Readings.{is_read_by}
 
--- The point list in a record; `None` for any other record, and for a list without points.
+-- The point list in a record, or `None` if the record has no point list or the list has no points.
 abbrev pub listed : Fact → Option Planned
 listed f = option_and_then (λ put. if_some put.list.points put.list) (as_list f)
 
--- Compares a request with the stored request in a record; `None` if the record has none.
+-- Compares a request with the request in a record, or returns `None` if the record has no request.
 abbrev pub repeated : (request : List ℕ) → Fact → Option Repeat
 repeated request f = option_map (as_repeat request) (as_reply f)
 
--- The accounting register in the record at an index; `None` if that record has none.
+-- The accounting register in the record at index `place`, or `None` if the record is of another
+-- kind.
 abbrev pub register_at : List Fact → ℕ → Option Register
 register_at facts place = option_and_then as_register (slice_get facts place)
 
--- The accounting register if a read of the span covers it; otherwise `None`.
+-- The accounting register if the Modbus read covers the register, otherwise `None`.
 abbrev pub if_read : ReadSpan → Register → Option Register
 if_read span register = if is_read_by span register then Some register else None
 
--- The accounting register in a record, if a read of the span covers it; otherwise `None`.
+-- The accounting register in a record, or `None` if the record has no accounting register that the
+-- Modbus read covers.
 abbrev pub register_read : ReadSpan → Fact → Option Register
 register_read span f = option_and_then (if_read span) (as_register f)
 
--- The accounting register in the record at an index, if a read of the span covers it; otherwise
--- `None`.
+-- The accounting register in the record at index `place`, or `None` if the record has no accounting
+-- register that the Modbus read covers.
 abbrev pub register_read_at : ReadSpan → List Fact → ℕ → Option Register
 register_read_at span facts place = option_and_then (register_read span) (slice_get facts place)
 
--- The opening in the record at an index; `None` if that record has none.
+-- The opening in the record at index `place`, or `None` if the record is of another kind.
 abbrev pub opening_at : List Fact → ℕ → Option Opening
 opening_at facts place = option_and_then as_opening (slice_get facts place)
 
--- The point list in the record at an index; `None` if that record has none.
+-- The point list in the record at index `place`, or `None` if the record has no point list or the
+-- list has no points.
 abbrev pub list_at : List Fact → ℕ → Option Planned
 list_at facts place = option_and_then listed (slice_get facts place)
 
--- Compares a request with the stored request in the record at an index; `None` if that record has
--- none.
+-- Compares a request with the request in the record at index `place`, or returns `None` if the
+-- record has no request.
 abbrev pub repeat_at : (request : List ℕ) → List Fact → ℕ → Option Repeat
 repeat_at request facts place = option_and_then (repeated request) (slice_get facts place)

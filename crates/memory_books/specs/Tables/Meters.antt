@@ -1,4 +1,4 @@
--- The table of meters, by name.
+-- The table of meters, in which a search by name finds a meter.
 use Rattle.std.specs.Prelude.{◌≡◌, ℕ, false, List, Option, Some, None}
 use Rattle.std.specs.BTreeMap.{get}
 use Rattle.meter_journal.specs.Lists as lists
@@ -11,38 +11,44 @@ use Rattle.memory_books.specs.declared.tables.meters.Meters.{Meters}
 use Rattle.memory_books.specs.Tables.Keys.{key_cmp, named}
 use Rattle.memory_books.specs.Tables.Moving.{HasBegun}
 
--- The table's meter with this name; `None` if the table has none.
+-- The table's meter with this name, or `None` if the table has no such meter.
 abbrev pub meter_at : Meters → List ℕ → Option Meter
 meter_at meters name = get key_cmp meters.meters (named name)
 
--- The opening exists, and the table's meter agrees with what the records have of it.
+-- True if the meter's opening is recorded, and the state and the entry rows in the table equal
+-- those of the records.
 pub record Stands (known : List Fact) (meter : Meter) (found : Option Opening) : Type 0 where
   pub opening : Opening
   pub there : found ≡ Some opening
   pub row : meter.row ≡ installation_of known opening
   pub rows : lists.latest_first meter.rows.items ≡ rows_of known opening
 
--- The table has the meter exactly if the records have its opening, and agrees with the records.
+-- True if the table has a meter exactly if its opening is recorded, and the meter's state and
+-- entries equal those of the records.
 abbrev pub IsMeter : List Fact → Option Meter → Option Opening → Type 0
 IsMeter known None found = found ≡ None
 IsMeter known (Some meter) found = Stands known meter found
 
--- Each meter in the records is in the table under its name, and agrees with the records.
+-- True if the table has exactly the recorded meters, and the state and the entries of each meter
+-- equal those of the records.
 abbrev pub AreMeters : Meters → List Fact → Type 0
 AreMeters meters known =
     (name : List ℕ) → IsMeter known (meter_at meters name) (opening_of known name)
 
--- The meter with this name changed as `became` describes, and the other meters are unchanged.
+-- True if the meter with this name changed as `became` describes, and all other meters are
+-- unchanged.
 pub record Changes (meter : List ℕ) (became : Option Meter → Option Meter → Type 0)
     (old new : Meters) : Type 0 where
   pub own : became (meter_at old meter) (meter_at new meter)
   pub others : (name : List ℕ) → same meter name ≡ false → meter_at new name ≡ meter_at old name
 
--- After its opening the meter is in the table, in the state of the opening.
+-- The effect of an opening on the table of meters. The new meter is added, in its state directly
+-- after the opening.
 abbrev pub Begins : Opening → Option Meter → Option Meter → Type 0
 Begins opening old new = (meter : Meter) × (new ≡ Some meter) × HasBegun opening meter
 
--- If the meter is in the table, it changed as described; otherwise it is still not there.
+-- The effect of a record about a meter. If the meter is in the table, then it changes as `became`
+-- describes. Otherwise it is still not in the table.
 abbrev pub IfThere : (Meter → Meter → Type 0) → Option Meter → Option Meter → Type 0
 IfThere became None new = new ≡ None
 IfThere became (Some old) new = (meter : Meter) × (new ≡ Some meter) × became old meter

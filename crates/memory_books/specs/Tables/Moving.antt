@@ -1,4 +1,4 @@
--- How one more record changes a meter of the table.
+-- The effect of one more record on a meter in the table of meters.
 use Rattle.std.specs.Prelude.{◌≡◌, ◌+◌, ◌≤◌, ◌<◌, ℕ, List, [], ◌∷◌, ◌++◌, length}
 use Rattle.energy_core.specs.declared.entries.Last.{Last}
 use Rattle.meter_journal.specs.declared.lines.EntryRow.{EntryRow}
@@ -16,13 +16,13 @@ use Rattle.office_rules.specs.Meters.{opened, installed, standing, rows_of, inst
 use Rattle.office_books.specs.Sound.{as_begun, HasNumbers, MayEnter}
 use Rattle.memory_books.specs.declared.tables.meter.Meter.{Meter}
 
--- The meter is in the state directly after its opening, without entry rows.
+-- True if the meter is in the state directly after its opening, without further entries.
 pub record HasBegun (opening : Opening) (meter : Meter) : Type 0 where
   pub row : meter.row ≡ as_begun opening
   pub rows : meter.rows.items ≡ []
 
--- The meter has one more entry row. Its state is advanced by the entry if its numbers are in range
--- and the entry is admissible.
+-- The effect of an entry on its meter in the table. The meter has one more entry row. The entry
+-- advances the meter's state if the meter's numbers are in range and the rules accept the entry.
 pub record HasEntered (booked : BookedEntry) (old new : Meter) : Type 0 where
   pub row : IsSound old.row → MayEnter old.row booked.entry
       → new.row ≡ moved_by booked.kind booked.entry old.row
@@ -30,20 +30,20 @@ pub record HasEntered (booked : BookedEntry) (old new : Meter) : Type 0 where
       ≡ old.rows.items
       ++ journal.new_row (lists.latest_first old.rows.items) booked.kind booked.entry ∷ []
 
--- The meter's installation and rows are unchanged.
+-- True if the installation and the entry rows of a meter are unchanged.
 pub record IsSame (old new : Meter) : Type 0 where
   pub row : new.row ≡ old.row
   pub rows : new.rows.items ≡ old.rows.items
 
--- The entry rows, the latest first, before and after a void of the entry with this sequence number.
--- Nothing is claimed if no such entry exists.
+-- The effect of the void of the entry with sequence number `place` on the meter's entry rows, the
+-- latest row first. Nothing is required if the meter has no such entry.
 abbrev pub VoidsAt : Last → (place : ℕ) → (before after : List EntryRow) → Type 0
 VoidsAt last place before after =
     lists.AreNumbered before → 2 ≤ place → place < length before + 2
     → after ≡ journal.with_void last place before
 
--- The entry with this sequence number was voided: the rows are those after the void, and the state
--- of the meter is computed from them.
+-- The effect of a void on its meter in the table. The entry rows change, and the meter's state is
+-- computed again from the changed rows.
 pub record HasStruck (place : ℕ) (old new : Meter) : Type 0 where
   pub rows : VoidsAt (opened old.row.opening) place (lists.latest_first old.rows.items)
       (lists.latest_first new.rows.items)
@@ -53,12 +53,14 @@ pub record HasStruck (place : ℕ) (old new : Meter) : Type 0 where
       → new.row ≡ standing old.row.opening (journal.entries_in (lists.latest_first new.rows.items))
       old.row.ended
 
--- The meter of the table has the opening, the state and the entry rows that the records give.
+-- True if the state and the entry rows of the meter in the table equal those of the opening's meter
+-- in the records.
 pub record IsAsSaid (known : List Fact) (opening : Opening) (meter : Meter) : Type 0 where
   pub row : meter.row ≡ installation_of known opening
   pub rows : lists.latest_first meter.rows.items ≡ rows_of known opening
 
--- `so` is true of all lawful records and every opening in them with which the meter agrees.
+-- True if `so` holds for all lawful records and each recorded opening that agree with this meter of
+-- the table.
 abbrev pub WhereSaid : Meter → (List Fact → Opening → Type 0) → Type 0
 WhereSaid meter so =
     (known : List Fact) (opening : Opening) → AreLawful known → IsRecorded known opening

@@ -1,4 +1,4 @@
--- Tables that find the indices of records by key.
+-- Tables of indices, in which a search by key finds the indices of records.
 use Rattle.std.specs.Prelude.{◌≡◌, ℕ, Bool, false, List, [], ◌∷◌, ◌++◌, cond, reverse, length, Option, Some, None, if◌then◌else◌}
 use Rattle.std.specs.BTreeMap.{get}
 use Rattle.std.specs.Ordering.{is_eq}
@@ -16,7 +16,8 @@ use Rattle.memory_books.specs.declared.tables.places.Kind.TheVariants.{DeviceLis
 use Rattle.memory_books.specs.declared.tables.places.Places.{Places}
 use Rattle.memory_books.specs.Tables.Keys.{key_cmp, named, numbered, is_same_key}
 
--- The key of a point list in a table of this kind; `None` if the table has no point lists.
+-- The key of a point list in a table of this kind, or `None` if the table does not index point
+-- lists.
 abbrev pub list_key : Kind → DeviceList → Option Key
 list_key DeviceLists put = Some (named put.device)
 list_key Registers put = None
@@ -24,7 +25,8 @@ list_key DeviceRegisters put = None
 list_key RegisterOpenings put = None
 list_key Replies put = None
 
--- The key of an accounting register in a table of this kind; `None` if the table has none.
+-- The key of an accounting register in a table of this kind, or `None` if the table does not index
+-- registers.
 abbrev pub register_key : Kind → Register → Option Key
 register_key DeviceLists register = None
 register_key Registers register = Some (named register.name)
@@ -32,7 +34,7 @@ register_key DeviceRegisters register = Some (named register.device)
 register_key RegisterOpenings register = None
 register_key Replies register = None
 
--- The key of an opening in a table of this kind; `None` if the table has no openings.
+-- The key of an opening in a table of this kind, or `None` if the table does not index openings.
 abbrev pub opening_key : Kind → Opening → Option Key
 opening_key DeviceLists opening = None
 opening_key Registers opening = None
@@ -40,7 +42,8 @@ opening_key DeviceRegisters opening = None
 opening_key RegisterOpenings opening = Some (named opening.register)
 opening_key Replies opening = None
 
--- The key of a stored response in a table of this kind; `None` if the table has none.
+-- The key of a stored response in a table of this kind, or `None` if the table does not index
+-- responses.
 abbrev pub reply_key : Kind → Reply → Option Key
 reply_key DeviceLists reply = None
 reply_key Registers reply = None
@@ -48,8 +51,7 @@ reply_key DeviceRegisters reply = None
 reply_key RegisterOpenings reply = None
 reply_key Replies reply = Some (numbered reply.caller reply.number)
 
--- The key of a record in a table of this kind; `None` if the table does not have records of this
--- kind.
+-- The key of a record in a table of this kind, or `None` if the table does not index the record.
 abbrev pub key_in : Kind → Fact → Option Key
 key_in kind (fact.Device device) = None
 key_in kind (fact.List put) = list_key kind put
@@ -62,48 +64,50 @@ key_in kind (fact.Poll poll) = None
 key_in kind (fact.Outcome ended) = None
 key_in kind (fact.Reply reply) = reply_key kind reply
 
--- Whether a record's key is this one; false if it has no key.
+-- True if the optional key is present and equal to `key`.
 abbrev pub is_key : Key → Option Key → Bool
 is_key key None = false
 is_key key (Some own) = is_same_key own key
 
--- Whether the record has this key in a table of this kind.
+-- True if a table of this kind indexes the record under this key.
 abbrev pub has_key : Kind → Key → Fact → Bool
 has_key kind key f = is_key key (key_in kind f)
 
--- The indices, from 0, of the records for which the test is true, the latest first.
+-- The indices of the records that pass the test, the latest first. Index 0 is the record that was
+-- added first.
 abbrev pub places_of : (Fact → Bool) → List Fact → List ℕ
 places_of p [] = []
 places_of p (f ∷ facts) = if p f then length facts ∷ places_of p facts else places_of p facts
 
--- The indices that a table has under a key; none if the table does not have the key.
+-- The indices that a table has under one key, or an empty list if the key is missing.
 abbrev pub under : {Z : Type 0} → Option (Vec ℕ Z) → List ℕ
 under None = []
 under (Some places) = places.items
 
--- The index of the latest record for which the test is true; `None` if there is none.
+-- The index of the latest record that passes the test, or `None` if no record passes.
 abbrev pub latest_place : (Fact → Bool) → List Fact → Option ℕ
 latest_place p known = slice_get (places_of p known) 0
 
--- The table has one more index under this key, and the same indices under the other keys.
+-- True if the index `place` was appended to the indices under `key`, and the indices under all
+-- other keys are unchanged.
 abbrev pub HaveOneMore : Key → (place : ℕ) → (before after : Places) → Type 0
 HaveOneMore key place before after =
     (other : Key) → under (get key_cmp after.places other)
     ≡ cond (is_eq (key_cmp key other)) (under (get key_cmp before.places key) ++ place ∷ [])
     (under (get key_cmp before.places other))
 
--- The table has the same indices under each key.
+-- True if the indices under each key are unchanged.
 abbrev pub AreUnchanged : (before after : Places) → Type 0
 AreUnchanged before after =
     (other : Key) → under (get key_cmp after.places other) ≡ under (get key_cmp before.places other)
 
--- The table has under each key the indices of the records with this key, in the order in which they
--- were added.
+-- True if the indices under each key are the indices of the records with this key, in the order in
+-- which the records were added.
 abbrev pub ArePlacesOf : Kind → Places → List Fact → Type 0
 ArePlacesOf kind places known =
     (key : Key) → under (get key_cmp places.places key)
     ≡ reverse (places_of (has_key kind key) known)
 
--- The table has the indices of the records for its own kind.
+-- True if the indices in the table are those of the records that the table's kind indexes.
 abbrev pub ArePlaces : Places → List Fact → Type 0
 ArePlaces places known = ArePlacesOf places.kind places known

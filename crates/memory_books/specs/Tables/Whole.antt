@@ -1,4 +1,4 @@
--- When all tables of a store agree with its records.
+-- Definitions of when all tables of a store in memory agree with its records.
 use Rattle.std.specs.Prelude.{◌≡◌, List, reverse}
 use Rattle.office_events.specs.declared.facts.Fact.{Fact}
 use Rattle.office_rules.specs.Lawful.{AreLawful}
@@ -12,12 +12,13 @@ use Rattle.memory_books.specs.Tables.Meters.{AreMeters}
 use Rattle.memory_books.specs.Tables.Places.{ArePlaces, ArePlacesOf}
 use Rattle.memory_books.specs.Tables.Polls.{ArePolls, ArePending}
 
--- The table is of this kind, and has the indices of the records that it has reached.
+-- True if the table has this kind, and agrees with the records that were added to the table.
 pub record HasPlaces (kind : Kind) (kept : Kept Places) (facts : List Fact) : Type 0 where
   pub come : HasCome ArePlaces kept facts
   pub kind_is : kept.table.kind ≡ kind
 
--- Each table agrees with the records that it has reached: the first ones of the list.
+-- True if each table of the store agrees with the records that were added to this table, which are
+-- the first records of the list.
 pub record HaveCome (tables : Tables) (facts : List Fact) : Type 0 where
   pub polls : HasCome ArePolls tables.polls facts
   pub pending : HasCome ArePending tables.pending facts
@@ -28,7 +29,7 @@ pub record HaveCome (tables : Tables) (facts : List Fact) : Type 0 where
   pub replies : HasPlaces Replies tables.replies facts
   pub meters : HasCome AreMeters tables.meters facts
 
--- Each table agrees with all of these records, which are given with the latest first.
+-- True if each table of the store agrees with all of these records. The latest record comes first.
 pub record AreWhole (tables : Tables) (known : List Fact) : Type 0 where
   pub polls : ArePolls tables.polls.table known
   pub pending : ArePending tables.pending.table known
@@ -39,8 +40,8 @@ pub record AreWhole (tables : Tables) (known : List Fact) : Type 0 where
   pub replies : ArePlacesOf Replies tables.replies.table known
   pub meters : AreMeters tables.meters.table known
 
--- `so` is true of lawful records with which all tables agree. `facts` has them in the order in
--- which they were added.
+-- True if `so` holds for all lawful records with which all tables agree. `facts` are these records
+-- in the order in which they were added.
 abbrev pub WhereWhole : Tables → (facts : List Fact) → (List Fact → Type 0) → Type 0
 WhereWhole tables facts so =
     (known : List Fact) → facts ≡ reverse known → AreLawful known → AreWhole tables known → so known

@@ -1,4 +1,4 @@
-//! Passes the energy of entries by quarter hour to a sink, row by row.
+//! Adds up the energy of a meter's entries by quarter hour, and passes the rows to a sink.
 ghost use Rattle.std.specs.Prelude.{◌+◌, ◌^◌, ◌≤◌, ◌<◌, ◌∷◌, []};
 ghost use Rattle.std.specs.Option.{ForSome, option_to_list};
 ghost use Rattle.interval_core.specs.Account.{energy_of};
@@ -26,8 +26,8 @@ fn put_within<K: RowSink<Share>>(span: Span, row: Share, sink: &mut K)
     }
 }
 
-/// Joins one more share to the row that is held back, and passes that row on once its quarter hour
-/// is over.
+/// Adds a quarter-hour energy to the row of its quarter hour. When the next quarter hour begins,
+/// the finished row is passed to the sink if it is in the span.
 fn hand_share<K: RowSink<Share>>(waits: &mut Option<Share>, share: Share, span: Span, sink: &mut K)
     requires { ForSome waits.old (λ row. row.mwh + share.mwh < 2 ^ 64) }
     ensures passes { Passes (TakesWithin K.takes span) sink.old sink.new waits.old waits.new
@@ -56,8 +56,8 @@ fn hand_step<K: RowSink<Share>>(waits: &mut Option<Share>, step: &Step, span: Sp
     }
 }
 
-/// Passes the interval rows of the valid entries in the span to the sink, in order. If the entries
-/// cannot be added up, the sink gets some rows, or none.
+/// Passes the quarter-hour rows of the valid entries in the span to the sink, in order. If the
+/// energy of the entries cannot be added up, the sink may get only some of the rows.
 fn hand_rows<K: RowSink<Share>>(meter: &Installed, rows: &[EntryRow], span: Span, sink: &mut K)
     requires range_low { MIN_RANGE ≤ meter.now.range }
     requires range_high { meter.now.range ≤ MAX_RANGE }
@@ -96,8 +96,8 @@ fn hand_rows<K: RowSink<Share>>(meter: &Installed, rows: &[EntryRow], span: Span
     }
 }
 
-/// Passes the interval rows of a meter in the span to the sink, in order. If the entries cannot be
-/// added up, the sink gets some rows, or none.
+/// Passes the quarter-hour rows of a meter in the span to the sink, in order. If the energy of the
+/// meter's entries cannot be added up, the sink may get only some of the rows.
 pub(crate) fn hand_on<K: RowSink<Share>>(
     opening: &Opening,
     rows: &[EntryRow],

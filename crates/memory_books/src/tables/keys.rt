@@ -1,4 +1,4 @@
-//! The keys by which records are looked up.
+//! The keys of lookups in the tables.
 ghost use Rattle.std.specs.Prelude.{nat_eq};
 ghost use Rattle.std.proofs.Common.{rules};
 ghost use Rattle.std.specs.Str.{bytes_eq};
@@ -10,7 +10,7 @@ ghost use Rattle.std.specs.Ordering.{nat_cmp, on, then_cmp, eq_of_both, as_parti
 use office_events::Name;
 use std::cmp::Ordering;
 
-/// A name, with a number if records are looked up by both; otherwise the number is 0.
+/// A key: a name, and a number for lookups by name and number, otherwise 0.
 #[derive(Clone, Copy)]
 pub(crate) struct Key {
     pub(crate) name: Name,

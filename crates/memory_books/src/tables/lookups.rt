@@ -29,21 +29,22 @@ fn as_opening(fact: &Fact) -> Option<Opening>
     }
 }
 
-/// Returns the accounting register at an index; `None` if the record there is no register.
+/// Returns the accounting register in the record at index `place`, or `None` if the record is of
+/// another kind.
 pub(crate) fn register_at(facts: &[Fact], place: usize) -> Option<Register>
     ensures { result ≡ spots.register_at facts.now place }
 {
     as_register(facts.get(place)?)
 }
 
-/// Returns the opening at an index; `None` if the record there is no opening.
+/// Returns the opening in the record at index `place`, or `None` if the record is of another kind.
 pub(crate) fn opening_at(facts: &[Fact], place: usize) -> Option<Opening>
     ensures { result ≡ spots.opening_at facts.now place }
 {
     as_opening(facts.get(place)?)
 }
 
-/// Returns the accounting registers at these indices, in order.
+/// Returns the accounting registers in the records at these indices, in order.
 pub(crate) fn registers_at(
     alloc: Global,
     facts: &[Fact],
@@ -82,8 +83,7 @@ fn register_read_at(facts: &[Fact], place: usize, span: ReadSpan) -> Option<Regi
     as_register_read(facts.get(place)?, span)
 }
 
-/// Returns those of the accounting registers at these indices that a read of the span covers. The
-/// others are not copied.
+/// Returns copies of only those accounting registers at these indices that the Modbus read covers.
 pub(crate) fn registers_read_at(
     alloc: Global,
     facts: &[Fact],
@@ -99,7 +99,8 @@ pub(crate) fn registers_read_at(
         .collect(alloc)
 }
 
-/// The point list in a record; `None` for any other record, and for a list without points.
+/// Returns the point list in a record, or `None` if the record has no point list or the list has no
+/// points.
 fn as_list(fact: &Fact) -> Option<&PlannedList>
     ensures { option_copied result ≡ spots.listed fact.now }
 {
@@ -114,7 +115,8 @@ fn as_list(fact: &Fact) -> Option<&PlannedList>
     }
 }
 
-/// Returns the point list at an index; `None` if there is none, or if it has no points.
+/// Returns the point list in the record at index `place`, or `None` if the record has no point list
+/// or the list has no points.
 pub(crate) fn list_at(facts: &[Fact], place: usize) -> Option<&PlannedList>
     ensures { option_copied result ≡ spots.list_at facts.now place }
 {
@@ -140,7 +142,8 @@ fn as_repeat(fact: &Fact, request: &[u8]) -> Option<Repeat>
     }
 }
 
-/// Compares a request with the stored request at an index; `None` if the record there has none.
+/// Compares a request with the request in the record at index `place`, or returns `None` if the
+/// record has no request.
 pub(crate) fn repeat_at(facts: &[Fact], place: usize, request: &[u8]) -> Option<Repeat>
     ensures { result ≡ spots.repeat_at request.now facts.now place }
 {

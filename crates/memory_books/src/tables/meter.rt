@@ -1,4 +1,4 @@
-//! A meter of the table: its installation and its entry rows.
+//! A meter in the table of meters, with its installation and its entry rows.
 ghost use Rattle.std.specs.Prelude.{◌≡◌, List, Some, take, IfOk, OnOk, OnErr, IfSome};
 ghost use Rattle.std.specs.Option.{option_map};
 ghost use Rattle.meter_journal.specs.Journal.{row_at};
@@ -61,7 +61,7 @@ pub(crate) struct Meter {
 impl Meter {
     ghost use Rattle.memory_books.specs.Tables.Moving.{HasBegun, HasEntered, IsAsSaid, IsSame, HasStruck, WhereSaid};
 
-    /// Creates a meter that was just installed.
+    /// Creates a meter that was just installed, without entries.
     pub(crate) fn begin(alloc: Global, opening: &Opening) -> Meter
         ensures { HasBegun opening.now result }
     {
@@ -71,7 +71,7 @@ impl Meter {
         }
     }
 
-    /// Adds one more entry of the meter. If memory runs out, the meter is unchanged.
+    /// Adds one more entry of the meter, or leaves the meter unchanged if memory runs out.
     pub(crate) fn go_on(&mut self, booked: &BookedEntry) -> Result<(), AllocError>
         ensures ok { OnOk result (HasEntered booked.now self.old self.new) }
         ensures err { OnErr result (IsSame self.old self.new) }
@@ -82,7 +82,7 @@ impl Meter {
         Ok(())
     }
 
-    /// Voids the entry with this sequence number, and computes the meter's state again.
+    /// Voids the entry with sequence number `place`, and computes the meter's state again.
     pub(crate) fn strike(&mut self, place: u64)
         ensures { HasStruck place self.old self.new }
     {
@@ -95,8 +95,8 @@ impl Meter {
         }
     }
 
-    /// Returns the entry with this sequence number, with the meter's state before it and the next
-    /// valid entry; `None` if there is none.
+    /// Returns the meter's entry with sequence number `place`, or `None` without such an entry. The
+    /// result includes the meter's state before the entry, and the next valid entry.
     pub(crate) fn placed(&self, place: u64) -> Option<EntryPlace>
         ensures found { WhereSaid self.now (λ known opening.
             result ≡ option_map (place_in known opening) (row_at place (rows_of known opening))) }
@@ -126,7 +126,8 @@ impl Meter {
         })
     }
 
-    /// Returns at most `most` entries of the meter from a sequence number on, voided ones included.
+    /// Returns at most `most` entries of the meter from sequence number `from` on, voided entries
+    /// included.
     pub(crate) fn entries(
         &self,
         alloc: Global,

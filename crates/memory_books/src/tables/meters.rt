@@ -1,4 +1,4 @@
-//! The table of meters, by name.
+//! The table of meters, in which a search by name finds a meter.
 ghost use Rattle.std.specs.Prelude.{◌≡◌, List, [], IfOk, OnOk, OnErr, IfSome};
 ghost use Rattle.office_events.specs.declared.facts.Fact.{Fact};
 ghost use Rattle.office_books.specs.Entries.{entries_from};
@@ -26,7 +26,7 @@ use office_rules::{
 use std::alloc::{AllocError, Global};
 use std::collections::BTreeMap;
 
-/// The present state of each meter, by name.
+/// The table of meters: the present state and the entries of each meter, by name.
 #[derive(Drop)]
 pub(crate) struct Meters {
     alloc: Global,
@@ -36,7 +36,7 @@ pub(crate) struct Meters {
 impl Meters {
     ghost use Rattle.memory_books.specs.Tables.Meters.{AreMeters, Changes, Begins, IfThere};
 
-    /// Creates an empty table.
+    /// Creates an empty table of meters.
     pub(crate) fn new(alloc: Global) -> Meters
         ensures { AreMeters result [] }
     {
@@ -79,7 +79,8 @@ impl Meters {
         }
     }
 
-    /// Returns the present installation of the meter with this name; `None` if no meter has it.
+    /// Returns the present installation of the meter with this name, or `None` if no meter has the
+    /// name.
     pub(crate) fn row(&self, name: &Name) -> Option<Installation>
         ensures found { (known : List Fact) → AreLawful known → AreMeters self.now known
             → result ≡ meter_of known name.now }
@@ -97,8 +98,8 @@ impl Meters {
         }
     }
 
-    /// Returns the entry of a meter with a sequence number, with the meter's state before it and
-    /// the next valid entry; `None` if there is none.
+    /// Returns the entry of a meter with sequence number `place`, or `None` without such an entry.
+    /// The result includes the meter's state before the entry, and the next valid entry.
     pub(crate) fn entry(&self, name: &Name, place: u64) -> Option<EntryPlace>
         ensures found { (known : List Fact) → AreLawful known → AreMeters self.now known
             → result ≡ entry_at known name.now place }
@@ -111,8 +112,8 @@ impl Meters {
         meter.placed(place)
     }
 
-    /// Returns the entry as `entry` does, but with the meter's total energy instead of the energy
-    /// before the entry.
+    /// Returns the entry of a meter with sequence number `place`, or `None` without such an entry.
+    /// In the result, the meter's state before the entry has the meter's present total energy.
     pub(crate) fn entry_near(&self, name: &Name, place: u64) -> Option<EntryPlace>
         ensures found { (known : List Fact) → AreLawful known → AreMeters self.now known
             → TellsNear known name.now place result }
@@ -129,7 +130,8 @@ impl Meters {
         Some(with_whole_energy(&found, &whole))
     }
 
-    /// Returns at most `most` entries of a meter from a sequence number on, voided ones included.
+    /// Returns at most `most` entries of a meter from sequence number `from` on, voided entries
+    /// included.
     pub(crate) fn entries(
         &self,
         alloc: Global,

@@ -1,4 +1,4 @@
-//! Tables that find the indices of records by key.
+//! Tables of indices, in which a search by key finds the indices of records.
 ghost use Rattle.std.specs.Prelude.{◌≡◌, List, [], reverse, OnOk, OnErr};
 ghost use Rattle.office_events.specs.declared.facts.Fact.{Fact};
 ghost use Rattle.memory_books.specs.Tables.Keys as keys;
@@ -10,22 +10,22 @@ use office_events::{DeviceList, Fact, Name, Opening, Register, Reply};
 use std::alloc::{AllocError, Global};
 use std::collections::BTreeMap;
 
-/// The kind of such a table: which records it has, and by which key.
+/// The kind of a table of indices. It determines the kind of the indexed records, and their key.
 #[derive(Clone, Copy)]
 pub(crate) enum Kind {
-    /// Point lists by their device.
+    /// Point lists by the name of their device.
     DeviceLists,
-    /// Accounting registers by their name.
+    /// Accounting registers by their own name.
     Registers,
-    /// Accounting registers by their device.
+    /// Accounting registers by the name of their device.
     DeviceRegisters,
-    /// Openings by their accounting register.
+    /// Openings of meters by the name of their accounting register.
     RegisterOpenings,
-    /// Stored responses by caller and number.
+    /// Stored responses by idempotency key.
     Replies,
 }
 
-/// Returns the key of a lookup by name alone.
+/// Returns the key of a lookup by name only.
 pub(crate) fn named(name: &Name) -> Key
     ensures { result ≡ keys.named name.now }
 {
@@ -94,7 +94,7 @@ fn key_in(kind: Kind, fact: &Fact) -> Option<Key>
     }
 }
 
-/// A table that finds the indices of the records of its kind by their key.
+/// A table of indices, in which a search by key finds the indices of records of one kind.
 #[derive(Drop)]
 pub(crate) struct Places {
     alloc: Global,
@@ -106,7 +106,7 @@ impl Places {
     ghost use Rattle.memory_books.specs.Tables.Places.{ArePlaces, ArePlacesOf, AreUnchanged, HaveOneMore, places_of, latest_place, has_key};
     ghost use Rattle.memory_books.specs.declared.tables.places.Kind.{Kind};
 
-    /// Creates an empty table.
+    /// Creates an empty table of this kind.
     pub(crate) fn new(alloc: Global, kind: Kind) -> Places
         ensures places { ArePlaces result [] }
         ensures kind { result.kind ≡ kind }
@@ -133,7 +133,7 @@ impl Places {
         Ok(())
     }
 
-    /// Returns the indices of the records under a key, in the order in which they were added.
+    /// Returns the indices of the records with this key, in the order in which they were added.
     pub(crate) fn all(&self, key: Key) -> &[usize]
         ensures { (kind : Kind) (known : List Fact) → ArePlacesOf kind self.now known
             → result.now ≡ reverse (places_of (has_key kind key) known) }
@@ -144,7 +144,8 @@ impl Places {
         }
     }
 
-    /// Returns the index of the latest record under a key.
+    /// Returns the index of the latest record with this key, or `None` if the table has no such
+    /// record.
     pub(crate) fn latest(&self, key: Key) -> Option<usize>
         ensures { (kind : Kind) (known : List Fact) → ArePlacesOf kind self.now known
             → result ≡ latest_place (has_key kind key) known }

@@ -1,4 +1,4 @@
-//! Tables of all polls by number, and of the pending polls.
+//! The table of all polls by number, and the table of pending polls.
 ghost use Rattle.std.specs.Prelude.{◌≡◌, [], List, length, IfOk};
 ghost use Rattle.office_events.specs.declared.facts.Fact.{Fact};
 ghost use Rattle.office_rules.specs.Facts.{polls_in, pending_in};
@@ -9,7 +9,7 @@ use crate::tables::table::Table;
 use office_events::{EndedPoll, Fact, Poll, PollRow};
 use std::alloc::{AllocError, Global};
 
-/// All polls, each with its outcome if it has one.
+/// The table of all polls, each with its outcome if the poll has ended.
 #[derive(Drop)]
 pub(crate) struct Polls {
     rows: Vec<PollRow>,
@@ -18,7 +18,7 @@ pub(crate) struct Polls {
 impl Polls {
     ghost use Rattle.memory_books.specs.Tables.Polls.{ArePolls, EndsPoll};
 
-    /// Creates an empty table.
+    /// Creates an empty table of polls.
     pub fn new(alloc: Global) -> Polls
         ensures { ArePolls result [] }
     {
@@ -27,7 +27,7 @@ impl Polls {
         }
     }
 
-    /// Stores the outcome of a poll. An outcome of an unknown poll is ignored.
+    /// Stores the outcome of a poll, and ignores an outcome of an unknown poll.
     fn end(&mut self, ended: &EndedPoll)
         ensures { EndsPoll ended.now self.old.rows.items self.new.rows.items }
     {
@@ -39,7 +39,7 @@ impl Polls {
         }
     }
 
-    /// Returns the poll with this number, with its outcome if it has one; `None` if there is none.
+    /// Returns the poll with this number, or `None` if the table has no such poll.
     pub fn row(&self, number: u64) -> Option<PollRow>
         ensures { (known : List Fact) → AreLawful known → ArePolls self.now known
             → result ≡ poll_row_of known number }
@@ -51,7 +51,7 @@ impl Polls {
         }
     }
 
-    /// Returns the number of polls.
+    /// Returns the number of polls in the table.
     pub fn count(&self) -> u64
         ensures { (known : List Fact) → ArePolls self.now known → result ≡ length (polls_in known) }
     {
@@ -89,7 +89,7 @@ impl Table for Polls {
     }
 }
 
-/// The polls without an outcome.
+/// The table of pending polls.
 #[derive(Drop)]
 pub(crate) struct Pending {
     polls: Vec<Poll>,
@@ -98,7 +98,7 @@ pub(crate) struct Pending {
 impl Pending {
     ghost use Rattle.memory_books.specs.Tables.Polls.{ArePending, polls_but};
 
-    /// Creates an empty table.
+    /// Creates an empty table of pending polls.
     pub fn new(alloc: Global) -> Pending
         ensures { ArePending result [] }
     {
@@ -113,7 +113,7 @@ impl Pending {
         self.polls.retain(|poll| number != poll.number);
     }
 
-    /// Returns the polls without an outcome, in the order in which they were started.
+    /// Returns the pending polls, in the order in which they were started.
     pub fn all(&self, alloc: Global) -> Result<Vec<Poll>, AllocError>
         ensures { (known : List Fact) → ArePending self.now known
             → IfOk result (λ v. v.items ≡ pending_in known) }

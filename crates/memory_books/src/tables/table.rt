@@ -1,4 +1,4 @@
-//! Tables that are brought up to date with the records when a lookup needs them.
+//! Tables to which the missing records of the store's list are added before a lookup.
 ghost use Rattle.std.specs.Prelude.{◌≡◌, List, [], length, OnOk};
 ghost use Rattle.office_events.specs.declared.facts.Fact.{Fact};
 ghost use Rattle.office_rules.specs.Lawful.{AreLawful};
@@ -7,21 +7,22 @@ ghost use Rattle.memory_books.specs.Tables.Growing.{HasCome, latest_first};
 use office_events::Fact;
 use std::alloc::AllocError;
 
-/// A table of records for lookups.
+/// A table for lookups of records, which is updated record by record.
 pub(crate) trait Table: Drop {
     ghost use Rattle.std.specs.Prelude.{◌≡◌, List, ◌∷◌, length, Option, OnOk, OnErr};
     ghost use Rattle.office_events.specs.declared.facts.Fact.{Fact};
     ghost use Rattle.office_rules.specs.Lawful.{AreLawful};
     ghost use Rattle.memory_books.specs.declared.tables.places.Kind.{Kind};
 
-    /// For a table of indices its kind, which never changes; `None` for other tables.
+    /// The kind of a table of indices, which never changes, or `None` for any other table.
     ghost kind: { Self → Option Kind };
 
-    /// The table agrees with these records, the latest first.
+    /// The relation between a table and the records with which it agrees. The latest record comes
+    /// first.
     ghost says: { Self → List Fact → Type 0 };
 
-    /// Adds the record at this index to the table, after the records before it. Indices count from
-    /// 0. If memory runs out, the table is unchanged.
+    /// Adds the next record to the table, or leaves the table unchanged if memory runs out. `place`
+    /// is the record's index in the list, counted from 0.
     fn put(&mut self, place: usize, fact: &Fact) -> Result<(), AllocError>
         ensures ok { (known : List Fact) → AreLawful (fact.now ∷ known) → length known ≡ place
             → says self.old known
@@ -31,7 +32,7 @@ pub(crate) trait Table: Drop {
         ensures kind { kind self.new ≡ kind self.old };
 }
 
-/// A table, with the number of records that it has reached.
+/// A table, with the number of records that were added to it.
 #[derive(Drop)]
 pub(crate) struct Kept<T> {
     pub table: T,
@@ -39,7 +40,7 @@ pub(crate) struct Kept<T> {
 }
 
 impl<T: Table> Kept<T> {
-    /// Creates a table that has reached no record.
+    /// Creates a table to which no record was added yet.
     pub fn new(table: T) -> Kept<T>
         ensures table { result.table ≡ table }
         ensures count { result.count ≡ 0 }
@@ -47,8 +48,8 @@ impl<T: Table> Kept<T> {
         Kept { table, count: 0 }
     }
 
-    /// Adds the records that the table has not reached yet. If memory runs out, it may have reached
-    /// only some of them.
+    /// Adds all missing records of the list to the table. If memory runs out, some records may
+    /// remain missing.
     pub fn catch_up(&mut self, facts: &[Fact]) -> Result<(), AllocError>
         ensures kept { AreLawful (latest_first facts.now) → HasCome T.says self.old facts.now
             → HasCome T.says self.new facts.now }

@@ -34,8 +34,8 @@ use office_events::{
 };
 use std::alloc::{AllocError, Global};
 
-/// The tables of the store. Each agrees with the records that it has reached. Lookups require that
-/// all of them are up to date.
+/// All tables of a store in memory. Each table agrees with the records that were added to it. A
+/// lookup requires that all records were added to all tables.
 #[derive(Drop)]
 pub struct Tables {
     polls: Kept<Polls>,
@@ -51,7 +51,7 @@ pub struct Tables {
 impl Tables {
     ghost use Rattle.memory_books.specs.Tables.Whole.{HaveCome, AreWhole, WhereWhole};
 
-    /// Creates empty tables.
+    /// Creates all tables of a store without records.
     pub fn new(alloc: Global) -> Tables
         ensures { (facts : List Fact) → HaveCome result facts }
     {
@@ -67,8 +67,8 @@ impl Tables {
         }
     }
 
-    /// Adds the records that the tables have not reached yet. If memory runs out, a table may still
-    /// lack some of them.
+    /// Adds all missing records to all tables. If memory runs out, some records may still be
+    /// missing in a table.
     pub fn catch_up(&mut self, facts: &[Fact]) -> Result<(), AllocError>
         ensures kept { AreLawful (latest_first facts.now) → HaveCome self.old facts.now
             → HaveCome self.new facts.now }
@@ -86,7 +86,7 @@ impl Tables {
         Ok(())
     }
 
-    /// Returns the poll with this number, with its outcome if it has one; `None` if there is none.
+    /// Returns the poll with this number, or `None` if no poll has the number.
     pub fn poll(&self, number: u64) -> Option<PollRow>
         ensures { (known : List Fact) → AreLawful known → AreWhole self.now known
             → result ≡ poll_row_of known number }
@@ -94,14 +94,14 @@ impl Tables {
         self.polls.table.row(number)
     }
 
-    /// Returns how many polls were started.
+    /// Returns the number of polls that were started.
     pub fn poll_count(&self) -> u64
         ensures { (known : List Fact) → AreWhole self.now known → result ≡ length (polls_in known) }
     {
         self.polls.table.count()
     }
 
-    /// Returns the polls without an outcome, in the order in which they were started.
+    /// Returns the pending polls, in the order in which they were started.
     pub fn pending(&self, alloc: Global) -> Result<Vec<Poll>, AllocError>
         ensures { (known : List Fact) → AreWhole self.now known
             → IfOk result (λ v. v.items ≡ pending_in known) }
@@ -109,7 +109,7 @@ impl Tables {
         self.pending.table.all(alloc)
     }
 
-    /// Borrows the point list of a device, so that a lookup of a part copies no points.
+    /// Borrows the point list of a device, so that counting its reads copies no points.
     fn list_among<'a>(&self, facts: &'a [Fact], device: &Name) -> Option<&'a PlannedList>
         ensures { (known : List Fact) → facts.now ≡ reverse known → AreWhole self.now known
             → option_copied result ≡ list_of known device.now }
@@ -120,7 +120,7 @@ impl Tables {
         }
     }
 
-    /// Returns a copy of the point list of a device; `None` if it has none.
+    /// Returns a copy of the point list of a device, or `None` if the device has no point list.
     pub fn list(&self, facts: &[Fact], device: &Name) -> Result<Option<PlannedList>, AllocError>
         ensures { (known : List Fact) → facts.now ≡ reverse known → AreWhole self.now known
             → IfOk result (λ list. list ≡ list_of known device.now) }
@@ -131,7 +131,8 @@ impl Tables {
         }
     }
 
-    /// Returns the number of reads in the plan of a device; `None` if it has no point list.
+    /// Returns the number of reads in the plan of a device, or `None` if the device has no point
+    /// list.
     pub fn read_count(&self, facts: &[Fact], device: &Name) -> Option<usize>
         ensures { (known : List Fact) → facts.now ≡ reverse known → AreWhole self.now known
             → result ≡ read_count_of (list_of known device.now) }
@@ -160,7 +161,7 @@ impl Tables {
         }
     }
 
-    /// Returns the accounting register with this name; `None` if there is none.
+    /// Returns the accounting register with this name, or `None` if no register has the name.
     pub fn register(&self, facts: &[Fact], name: &Name) -> Option<Register>
         ensures { (known : List Fact) → facts.now ≡ reverse known → AreWhole self.now known
             → result ≡ register_of known name.now }
@@ -184,7 +185,7 @@ impl Tables {
         registers_at(alloc, facts, self.device_registers.table.all(named(device)))
     }
 
-    /// Returns the accounting registers of a device that a read of the span covers.
+    /// Returns the accounting registers of a device that the Modbus read covers.
     pub fn registers_read(
         &self,
         alloc: Global,
@@ -200,7 +201,7 @@ impl Tables {
         registers_read_at(alloc, facts, places, span)
     }
 
-    /// Returns the number of accounting registers of a device. Allocates no memory.
+    /// Returns the number of accounting registers of a device, without allocating memory.
     pub fn register_count(&self, device: &Name) -> usize
         ensures { (known : List Fact) → AreWhole self.now known
             → result ≡ length (registers_of known device.now) }
@@ -208,7 +209,8 @@ impl Tables {
         self.device_registers.table.all(named(device)).len()
     }
 
-    /// Returns the latest opening at an accounting register; `None` if there is none.
+    /// Returns the latest opening at an accounting register, or `None` if no meter was installed
+    /// there.
     pub fn installed(&self, facts: &[Fact], register: &Name) -> Option<Opening>
         ensures { (known : List Fact) → facts.now ≡ reverse known → AreWhole self.now known
             → result ≡ installed_at known register.now }
@@ -219,8 +221,8 @@ impl Tables {
         }
     }
 
-    /// Compares a request with the stored request of the same caller and number; `None` if none is
-    /// stored.
+    /// Compares a request with the stored request of the same idempotency key, or returns `None` if
+    /// the store has no request with this key.
     pub fn repeat(
         &self,
         facts: &[Fact],
@@ -241,7 +243,7 @@ impl Tables {
         }
     }
 
-    /// Returns the present installation of a meter; `None` if no meter has the name.
+    /// Returns the present installation of a meter, or `None` if no meter has the name.
     pub fn meter(&self, name: &Name) -> Option<Installation>
         ensures found { (known : List Fact) → AreLawful known → AreWhole self.now known
             → result ≡ meter_of known name.now }
@@ -250,8 +252,8 @@ impl Tables {
         self.meters.table.row(name)
     }
 
-    /// Returns the latest installation at an accounting register, open or closed; `None` if there
-    /// is none.
+    /// Returns the latest installation at an accounting register, open or closed, or `None` if no
+    /// meter was installed there.
     pub fn installation(&self, facts: &[Fact], register: &Name) -> Option<Installation>
         ensures found { WhereWhole self.now facts.now (λ known.
             result ≡ installation_at known register.now) }
@@ -263,8 +265,8 @@ impl Tables {
         }
     }
 
-    /// Returns the entry of a meter with a sequence number, with the meter's state before it and
-    /// the next valid entry; `None` if there is none.
+    /// Returns the entry of a meter with sequence number `place`, or `None` without such an entry.
+    /// The result includes the meter's state before the entry, and the next valid entry.
     pub fn entry(&self, meter: &Name, place: u64) -> Option<EntryPlace>
         ensures found { (known : List Fact) → AreLawful known → AreWhole self.now known
             → result ≡ entry_at known meter.now place }
@@ -273,8 +275,8 @@ impl Tables {
         self.meters.table.entry(meter, place)
     }
 
-    /// Returns the entry as `entry` does, but with the meter's total energy instead of the energy
-    /// before the entry.
+    /// Returns the entry of a meter with sequence number `place`, or `None` without such an entry.
+    /// In the result, the meter's state before the entry has the meter's present total energy.
     pub fn entry_near(&self, meter: &Name, place: u64) -> Option<EntryPlace>
         ensures found { (known : List Fact) → AreLawful known → AreWhole self.now known
             → TellsNear known meter.now place result }
@@ -283,7 +285,8 @@ impl Tables {
         self.meters.table.entry_near(meter, place)
     }
 
-    /// Returns at most `most` entries of a meter from a sequence number on, voided ones included.
+    /// Returns at most `most` entries of a meter from sequence number `from` on, voided entries
+    /// included.
     pub fn entries(
         &self,
         alloc: Global,
@@ -323,8 +326,8 @@ impl Tables {
         Ok(rows)
     }
 
-    /// Returns the installations at an accounting register, closed ones included, in the order in
-    /// which they were installed.
+    /// Returns the installations at an accounting register in order of installation, closed meters
+    /// included.
     pub fn installations(
         &self,
         alloc: Global,
@@ -338,7 +341,7 @@ impl Tables {
     }
 
     /// Passes the energy of a meter to the sink, one row for each quarter hour in the span, in
-    /// order of their starts. Allocates no memory.
+    /// order of time, without allocating memory.
     pub fn intervals<K: RowSink<Share>>(&self, meter: &Name, span: Span, sink: &mut K)
         ensures whole { (known : List Fact) → AreLawful known → AreWhole self.now known
             → TakesAll (TakesWithin K.takes span) sink.old (rows_of_meter known meter.now)
@@ -377,8 +380,8 @@ impl Tables {
         }
     }
 
-    /// Passes the energy of an accounting register to the sink, one row for each quarter hour in
-    /// the span, meter after meter. Allocates no memory.
+    /// Passes the energy of an accounting register to the sink, one row for each meter and quarter
+    /// hour in the span, without allocating memory.
     pub fn register_intervals<K: RowSink<Share>>(
         &self,
         facts: &[Fact],

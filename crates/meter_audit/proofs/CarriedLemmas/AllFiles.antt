@@ -1,4 +1,4 @@
--- What files report together of a meter that continues from each into the next.
+-- The joint report of several files about a meter that continues from each file into the next.
 use Rattle.std.proofs.Common.{◌≡◌, ℕ, ◌+◌, ◌≤◌, false, List, [], ◌∷◌, ◌++◌, map, refl, sym, ap, subst, ◌∙◌, arith}
 use Rattle.energy_core.specs.declared.entries.Entry.{Entry}
 use Rattle.energy_core.specs.declared.entries.Last.{Last}
@@ -24,7 +24,8 @@ use Rattle.meter_audit.proofs.CarriedLemmas.Fitting.{carried_journals_fit, ended
 use Rattle.meter_audit.proofs.CarriedLemmas.Over.{well_carried}
 use Rattle.meter_audit.proofs.CarriedLemmas.Quarters.{carries_go_on}
 
--- Tables report what consecutive entries give, without voids.
+-- The tables report the state of a list of entries that were recorded one after another, without
+-- voids.
 record AreEntered (meter : Installed) (tables : Tables) : Type 0 where
   pub rows : List EntryRow
   pub fit : AreFitting meter (entering rows)
@@ -33,7 +34,7 @@ record AreEntered (meter : Installed) (tables : Tables) : Type 0 where
   pub intervals : tables.intervals ≡ interval_rows meter (entering rows)
   pub ended : tables.ended ≡ has_closing (entering rows)
 
--- The tables of one fine file report what consecutive entries give.
+-- Consistent tables of one file report the state of a list of entries without voids.
 fine_entered : (meter : Installed) (tables : Tables) → AreFine meter tables → AreEntered meter tables
 fine_entered meter tables fine =
     let alone = fitting_rows_stand_alone meter fine.rows fine.fit in
@@ -47,7 +48,7 @@ fine_entered meter tables fine =
       ended = ap (λ (t : Tables). t.ended) fine.are ∙ alone_ended meter fine.rows fine.fit;
     }
 
--- ---- entries after entries
+-- ---- entries that follow the entries of another file
 
 moved_entering : (count : ℕ) (rows : List EntryRow) → map (moved_line count) (entering rows) ≡ entering rows
 moved_entering count [] = refl
@@ -57,8 +58,8 @@ entering_both : (new old : List EntryRow) → entering new ++ entering old ≡ e
 entering_both [] old = refl
 entering_both (row ∷ new) old = ap (λ (lines : Journal). Entered row.kind row.entry ∷ lines) (entering_both new old)
 
--- No entry lowers the energy. So if the energy at the end is within the limit, each earlier one
--- is too.
+-- If the energy after the last entry is within the limit, so is the energy after each earlier
+-- entry, because no entry lowers the energy.
 within : (meter : Installed) (lines : Journal) (rows : List EntryRow) → IsWellInstalled (carried meter lines)
     → AreFitting (carried meter lines) (entering rows)
     → total_in meter lines + total_in (carried meter lines) (entering rows) ≤ MAX_TOTAL
@@ -131,7 +132,8 @@ total_grows : (old : Tables) (later : List InFile) → old.total ≤ (told_by_al
 total_grows old [] = omega arith
 total_grows old (new ∷ later) = omega (arith, total_grows (told_by_both old new.tables) later)
 
--- What the files so far report together; the last of them left the meter as its tables say.
+-- The joint report of several files is that of recorded entries, if the meter continues in each
+-- file from the file before it.
 all_entered : (meter : Installed) (so_far : Tables) (old : InFile) (later : List InFile) → IsWellInstalled meter
     → AreEntered meter so_far → so_far.last ≡ old.tables.last → so_far.ended ≡ old.tables.ended
     → old.meter.range ≡ meter.range → old.meter.ceiling ≡ meter.ceiling

@@ -1,4 +1,4 @@
--- A worked example, computed from the definitions.
+-- Worked examples of a meter in two and in three files, computed from the definitions.
 use Rattle.std.proofs.Common.{◌≡◌, ℕ, pos, true, List, [], ◌∷◌, map, Some, None, refl, ap, arith}
 use Rattle.std.proofs.lemmas.Int.{ints}
 use Rattle.energy_core.specs.declared.entries.Entry.TheVariants as entry
@@ -17,7 +17,7 @@ use Rattle.meter_audit.specs.CarriedFiles.{GoesOnAs, InFile, told_by_all}
 use Rattle.meter_audit.specs.Fitting.{Tables, tables_of}
 use Rattle.meter_audit.proofs.CarriedLemmas.Fitting.{carried_journals_fit}
 
--- A meter with a counter of 32 bits that counts Wh, at most 100 kW.
+-- A meter with a 32-bit counter that counts Wh and a ceiling of 100 kW.
 abbrev installed : (at raw : ℕ) → Installed
 installed at raw = record { range = 4294967296; ceiling = 100000; opening = record { at = at; raw = raw; sf = pos 0 } }
 
@@ -33,7 +33,8 @@ share start mwh = record { start = start; mwh = mwh }
 abbrev house : Installed
 house = installed 1000 5000
 
--- The last entry of the old file, at 2550, was voided; so the meter continues from 2500.
+-- The journal in the old file. Its last entry, at 2550 s, is voided, so the meter continues in the
+-- new file from 2500 s.
 abbrev old : Journal
 old = Voided 4 ∷ read 2550 5305 ∷ read 2500 5300 ∷ read 1900 5200 ∷ []
 
@@ -55,8 +56,8 @@ old_fits = (
 carried_at_2500 : carried house old ≡ installed 2500 5300
 carried_at_2500 = refl
 
--- Two readings in the new file, the first in the quarter hour from 1800, in which the files
--- changed.
+-- The journal in the new file: two readings, the first of them in the quarter hour in which the
+-- files change.
 abbrev new : Journal
 new = read 3600 5400 ∷ read 2600 5310 ∷ []
 
@@ -72,7 +73,7 @@ new_intervals : interval_rows (installed 2500 5300) new ≡ share 1800 19000 ∷
 unfolding unit_of
 new_intervals = refl
 
--- The quarter hour from 1800 has the energy of both files.
+-- The quarter hour from 1800 s has the energy of both files.
 intervals_of_both : interval_rows house (joined_journal old new) ≡ share 900 177777 ∷ share 1800 141223 ∷ share 2700 81000 ∷ []
 unfolding unit_of
 intervals_of_both = refl
@@ -81,13 +82,13 @@ total_of_both : total_in house (joined_journal old new) ≡ 400000
 unfolding unit_of
 total_of_both = refl
 
--- The entry with number 2 in the new file has number 5 in the joined journal, because the old
--- file has three entries.
+-- Entry 2 of the new file has sequence number 5 in the joined journal, because the old file has
+-- three entries.
 void_of_both : joined_journal old (Voided 2 ∷ new)
     ≡ Voided 5 ∷ read 3600 5400 ∷ read 2600 5310 ∷ Voided 4 ∷ read 2550 5305 ∷ read 2500 5300 ∷ read 1900 5200 ∷ []
 void_of_both = refl
 
--- The void is lawful in the new file, and therefore in the joined journal of both files.
+-- A void that is lawful in the new file is also lawful in the joined journal.
 void_fits : AreFitting (installed 2500 5300) (Voided 2 ∷ new)
 unfolding unit_of
 void_fits = (
@@ -110,12 +111,13 @@ well_installed = record { raw = omega arith; scale = (grind (arith, ints), grind
 void_of_both_fits : AreFitting house (joined_journal old (Voided 2 ∷ new))
 void_of_both_fits = carried_journals_fit house old (Voided 2 ∷ new) well_installed old_fits refl void_fits stays_within
 
--- After the void, one step from 2500 to 3600 replaces two steps.
+-- After a void in the new file, one step from 2500 s to 3600 s replaces two steps in the joined
+-- journal.
 void_intervals : interval_rows house (joined_journal old (Voided 2 ∷ new)) ≡ share 900 177777 ∷ share 1800 140404 ∷ share 2700 81819 ∷ []
 unfolding unit_of
 void_intervals = refl
 
--- ---- three files
+-- ---- a meter in three files
 
 abbrev file : Installed → List EntryRow → InFile
 file meter rows = record { meter = meter; tables = tables_of meter rows }
@@ -135,7 +137,7 @@ second_goes_on = record { unended = refl; range = refl; ceiling = refl; opening 
 third_goes_on : GoesOnAs second.meter second.tables.last second.tables.ended third.meter
 third_goes_on = record { unended = refl; range = refl; ceiling = refl; opening = refl }
 
--- The third file does not continue from the first if the file between them is left out.
+-- The meter of the third file does not continue from the first file if the second file is left out.
 third_not_after_first : GoesOnAs house first.tables.last first.tables.ended third.meter → ⊥
 third_not_after_first h = let at : 3600 ≡ 2500 = ap (λ (l : Last). l.at) h.opening in omega (arith, at)
 
@@ -146,11 +148,11 @@ three_total : told_by_three.total ≡ 500000
 unfolding unit_of
 three_total = refl
 
--- The files change in the quarter hour from 1800, and at the end of another one.
+-- One change of files is within a quarter hour, and the other is at the end of a quarter hour.
 three_intervals : told_by_three.intervals ≡ share 900 177777 ∷ share 1800 141223 ∷ share 2700 81000 ∷ share 3600 100000 ∷ []
 unfolding unit_of
 three_intervals = refl
 
--- The openings of the later files are no entries.
+-- The opening rows of later files are not entries of the joint report.
 three_places : map (λ (told : TableRow). told.place) told_by_three.entries ≡ 6 ∷ 5 ∷ 4 ∷ 3 ∷ 2 ∷ 1 ∷ []
 three_places = refl

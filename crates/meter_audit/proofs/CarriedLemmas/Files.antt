@@ -1,4 +1,5 @@
--- The tables of two files, of a meter that continues from the old file into the new one.
+-- The tables of an old and a new file, for a meter that continues from the old file into the new
+-- file.
 use Rattle.std.proofs.Common.{◌≡◌, ℕ, ◌+◌, ◌-◌, ◌<◌, Bool, true, false, cond, List, [], ◌∷◌, ◌++◌, map, take, length, append_assoc, refl, sym, ap, subst, ◌∙◌, arith}
 use Rattle.std.specs.Prelude.{ℤ}
 use Rattle.std.proofs.lemmas.List.{length-append}
@@ -29,13 +30,13 @@ use Rattle.meter_audit.proofs.CarriedLemmas.Fitting.{HasRoom, fits_over}
 use Rattle.meter_audit.proofs.CarriedLemmas.Over.{left_by, last_over, follow_over, steps_over, total_over, entries_over, place_over}
 use Rattle.meter_audit.proofs.CarriedLemmas.Quarters.{rows_of_both, counted_once}
 
--- The meter is well installed in the new file.
+-- The meter is well installed in the new file if the rules accept the rows of the old file.
 well_from : (meter : Installed) (old : List EntryRow) → IsWellInstalled meter → AllFit meter old → IsWellInstalled (carried_from meter old)
 well_from meter old well h =
     let sound = accounts_are_sound meter.range meter.opening (entries_in old) _ _ well.raw well.scale (fitting_account meter old well h) in
     record { raw = sound.raw; scale = sound.scale }
 
--- ---- what the tables report
+-- ---- the values in the joined tables
 
 scale_over : (meter : Installed) (count : ℕ) (rows old : List EntryRow)
     → scale_after meter (map (moved_row count) rows ++ old) ≡ scale_after (carried_from meter old) rows
@@ -94,7 +95,7 @@ carried_tables_are_one law meter old new well h unended new_h =
       ended = ended_over count new old unended;
     }
 
--- ---- each row fits
+-- ---- the rules accept each row of the joined tables
 
 come_over : (meter : Installed) (es old : List Entry) (stands : Bool) (k : EntryKind) (e : Entry) → ((last_after (left_by meter old) es).raw < meter.range)
     → HasRoom meter es old e → MayCome (left_by meter old) es stands k e → MayCome meter (es ++ old) stands k e

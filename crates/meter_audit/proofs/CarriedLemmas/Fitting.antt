@@ -1,4 +1,4 @@
--- What fits in the new file fits in the journal of both.
+-- A line that the rules accept in the new file is also accepted in the joined journal.
 use Rattle.std.proofs.Common.{◌≡◌, ℕ, ◌+◌, ◌*◌, ◌^◌, ◌<◌, ◌≤◌, ◌==◌, Bool, true, false, cond, ◌&&◌, nat_lt, if◌then◌else◌, List, [], ◌∷◌, ◌++◌, map, length, Option, Some, None, Ok, refl, sym, ap, subst, ◌∙◌, inl, inr, arith}
 use Rattle.std.specs.List.{find}
 use Rattle.std.specs.Option.{option_map, option_or}
@@ -36,12 +36,12 @@ use Rattle.meter_journal.proofs.Voiding.{whole_with}
 use Rattle.meter_audit.specs.Carried.{carried, moved_line, moved_row, StaysWithin, CarriedJournalsFit}
 use Rattle.meter_audit.proofs.CarriedLemmas.Over.{left_by, last_over, total_over, entries_over, moved_same, moved_other, rows_over, entries_of_both, well_carried}
 
--- ---- entries
+-- ---- new entries
 
 abbrev pub terms_of : Installed → (total : ℕ) → Terms
 terms_of meter total = record { ceiling = meter.ceiling; total = total }
 
--- With one more entry, the joined journal's energy stays within the limit.
+-- The energy of the joined journal with one more entry stays within the limit of one meter.
 abbrev pub HasRoom : Installed → (es old : List Entry) → Entry → Type 0
 HasRoom meter es old e = total_after meter (es ++ old) + energy_of meter.range (last_after (left_by meter old) es) e ≤ 4 * 10 ^ 18
 
@@ -127,7 +127,7 @@ held_still range last reading None false fuller c up h = absurd (cc)
 fuller_too : (limit total more step : ℕ) → total ≤ more → nat_lt limit (total + step) ≡ true → nat_lt limit (more + step) ≡ true
 fuller_too limit total more step le h = grind (arith, nat_tests, le, h)
 
--- With more energy, a reading is rejected for the same cause.
+-- A rejected reading is rejected for the same cause if the total energy is greater.
 held_more : (range ceiling total more : ℕ) (last : Last) (reading : Reading) (c : Cause) → total ≤ more
     → verdict_of range (record { ceiling = ceiling; total = total }) last reading ≡ verdict.Held c
     → verdict_of range (record { ceiling = ceiling; total = more }) last reading ≡ verdict.Held c
@@ -149,7 +149,7 @@ held_over meter es old reading c le h =
     (held_more meter.range meter.ceiling (total_after (left_by meter old) es) (total_after meter (es ++ old)) (last_after (left_by meter old) es)
     reading c le h)
 
--- ---- the rows after a void, after the entries before them
+-- ---- the rows after a void, appended to the rows of the old file
 
 abbrev LeavesNext : Last → (place : ℕ) → List EntryRow → Around → Option EntryRow → Type 0
 LeavesNext opening place rows a None = entries_in (with_void opening place rows) ≡ entries_in a.before
@@ -204,14 +204,14 @@ leaves_next opening place (row ∷ rows) a there =
           (one_later opening place row rows found.0 found.0.next row.stands refl off (leaves_next opening place rows found.0 found.1))
     ]
 
--- Later entries never lower the energy.
+-- Adding entries never lowers the energy of a meter.
 grows : (meter : Installed) (later es : List Entry) → AllFollow meter.range meter.opening (later ++ es)
     → (total_after meter es ≤ total_after meter (later ++ es)) × AllFollow meter.range meter.opening es
 grows meter [] es h = (omega arith, h)
 grows meter (e ∷ later) es h =
     let rest = grows meter later es h.1 in (omega (arith, rest.0, whole_with meter e (later ++ es) h), rest.1)
 
--- ---- voids
+-- ---- voids in the new file
 
 abbrev pub moved_around : (count : ℕ) → (old : List EntryRow) → Around → Around
 moved_around count old a = record {
@@ -262,8 +262,8 @@ rolled_entry l n at raw rolls on reading is =
 reads : (k : EntryKind) (e : Entry) → is_read k e ≡ true → is_reading k ≡ true
 reads k e h = by_read (λ k e. is_reading k ≡ true) (λ at raw rolls. refl) k e h
 
--- The next entry is also plausible in the joined journal, because its energy without the voided
--- entry stays within the limit.
+-- The entry after a voided entry is also plausible in the joined journal, because the energy
+-- without the voided entry stays within the limit.
 plausible_over : (meter : Installed) (es old : List Entry) (n : EntryRow) (e : Entry) (later : List Entry) (whole : ℕ)
     → n.entry ≡ e → n.stands ≡ true → is_reading n.kind ≡ true
     → AllFollow meter.range (last_after meter old) (later ++ (rolled (last_after (left_by meter old) es) n).entry ∷ es)
@@ -306,7 +306,7 @@ next_over meter count place rows old a (Some n) under before follow room free le
     (plausible_over meter es (entries_in old) n n.entry left.1.0 _ refl left.0 (reads n.kind n.entry free) all
     (sym (ap (total_after M) left.1.1)) room under before h)
 
--- ---- journals
+-- ---- joined journals
 
 pub ended_over : (count : ℕ) (lines more : Journal) → is_ended lines ≡ false → is_ended (map (moved_line count) more ++ lines) ≡ is_ended more
 ended_over count lines [] h = h

@@ -16,9 +16,9 @@ use Rattle.meter_journal.proofs.Keeping.{entries_standing, entries_struck, mappe
 use Rattle.meter_journal.proofs.Voiding.{whole_with}
 use Rattle.meter_audit.specs.Carried.{carried, moved_line, moved_row}
 
--- ---- entries after others
+-- ---- entries that follow the entries of another file
 
--- The meter as it is installed in the file after these entries.
+-- The meter as it is installed in the file that follows the entries `old`.
 abbrev pub left_by : Installed → List Entry → Installed
 left_by meter old = record { range = meter.range; ceiling = meter.ceiling; opening = last_after meter old }
 
@@ -51,7 +51,7 @@ total_over meter (e ∷ es) old h g =
       ap (λ (l : Last). energy_of meter.range l e) (last_over meter.opening es old),
     )
 
--- ---- rows after others
+-- ---- rows that follow the rows of another file
 
 pub entries_over : (count : ℕ) (rows old : List EntryRow) → entries_in (map (moved_row count) rows ++ old) ≡ entries_in rows ++ entries_in old
 entries_over count [] old = refl

@@ -28,7 +28,7 @@ use Rattle.meter_journal.proofs.Merging.{rows_are_accounts}
 use Rattle.meter_audit.specs.Carried.{carried, joined_journal, AreCountedOnce, CarriesGoOn, CarriesCountOnce}
 use Rattle.meter_audit.proofs.CarriedLemmas.Over.{last_over, follow_over, steps_over, total_over, rows_over, entries_of_both, well_carried}
 
--- ---- rows after rows, and others after these
+-- ---- merging of interval rows is associative
 
 abbrev one_of : Share → Share → Share
 one_of row share = record { start = row.start; mwh = row.mwh + share.mwh }
@@ -45,8 +45,7 @@ same_rows s m n rows is = ap (λ x. let r : Share = record { start = s; mwh = x 
 through : (x y z : ℕ) (c : Bool) → x == y ≡ true → y == z ≡ c → x == z ≡ c
 through x y z c at is = ap (λ n. n == z) (eqb-true x y at) ∙ is
 
--- Of three rows, merging the first two before the third gives the same rows as merging the last
--- two before the first.
+-- Merging three interval rows from the left produces the same rows as merging them from the right.
 three : (x y z : Share) (zs : List Share) (b c : Bool) → x.start == y.start ≡ b → y.start == z.start ≡ c
     → with_shares (cond b (one_of x y ∷ []) (x ∷ y ∷ [])) (z ∷ zs) ≡ joined x (cond c (one_of y z ∷ zs) (y ∷ z ∷ zs))
 three x y z zs true true at next =
@@ -56,8 +55,7 @@ three x y z zs true false at next = cond-false _ _ _ (through x.start y.start z.
 three x y z zs false true off next = ap (λ rs. x ∷ rs) (cond-true _ _ _ next) ∙ sym (cond-false _ _ _ off)
 three x y z zs false false off next = ap (λ rs. x ∷ rs) (cond-false _ _ _ next) ∙ sym (cond-false _ _ _ off)
 
--- With at least two more rows, it does not matter whether the first two rows or the last row and
--- the shares are merged first.
+-- Merging the first two rows and merging shares into the last row can be done in either order.
 longer : (x y next : Share) (ys zs : List Share) (b : Bool) → x.start == y.start ≡ b
     → with_shares (cond b (one_of x y ∷ next ∷ ys) (x ∷ y ∷ next ∷ ys)) zs ≡ joined x (y ∷ with_shares (next ∷ ys) zs)
 longer x y next ys zs true at = sym (cond-true _ _ _ at)
@@ -88,19 +86,19 @@ rows_of_both (step ∷ steps) old =
     ap (λ rs. with_shares rs (shares_of step)) (rows_of_both steps old)
     ∙ after_each_other (rows_of_steps old) (rows_of_steps steps) (shares_of step)
 
--- ---- the rows whose starts pass a test
+-- ---- the interval rows whose starts pass a test
 
 abbrev pub passing : (ℕ → Bool) → List Share → List Share
 passing f rows = filter (λ (row : Share). f row.start) rows
 
--- Of the rows whose starts pass the test, both lists have the same energy and the same starts. A
--- start that occurs twice counts once.
+-- The rows of both lists whose starts pass the test have the same energy and the same set of
+-- starts.
 pub record CountTheSame (f : ℕ → Bool) (xs ys : List Share) : Type 0 where
   pub energy : energy_of (passing f xs) ≡ energy_of (passing f ys)
   pub any : (p : ℕ → Bool) → list_any p (starts_of (passing f xs)) ≡ list_any p (starts_of (passing f ys))
   pub count : distinct_count (starts_of (passing f xs)) ≡ distinct_count (starts_of (passing f ys))
 
--- Both lists have the same energy and the same starts. A start that occurs twice counts once.
+-- Two lists of interval rows have the same energy and the same set of starts.
 abbrev Counts : (xs ys : List Share) → Type 0
 Counts xs ys = (energy_of xs ≡ energy_of ys)
     × ((p : ℕ → Bool) → list_any p (starts_of xs) ≡ list_any p (starts_of ys))
@@ -115,7 +113,7 @@ counted f xs ys h = record { energy = h.0; any = h.1; count = h.2 }
 count_same : (f : ℕ → Bool) (xs : List Share) → CountTheSame f xs xs
 count_same f xs = record { energy = refl; any = λ p. refl; count = refl }
 
--- If two lists count the same, they still do with one more row in front of each.
+-- Prepending the same row to two lists with the same energy and starts preserves this equality.
 one_before : (row : Share) (xs ys : List Share) → Counts xs ys → Counts (row ∷ xs) (row ∷ ys)
 one_before row xs ys h =
     let mwh : Share → ℕ = λ r. r.mwh in (
@@ -149,7 +147,8 @@ one_less : (b : Bool) (n : ℕ) → b ≡ true → n ≡ cond b 0 1 + n
 one_less true n h = omega arith
 one_less false n h = absurd (let f : false ≡ true = h in cc)
 
--- Two rows of one quarter hour count the same as the single row that has the energy of both.
+-- Two rows of one quarter hour have the same energy and the same start as one row with the energy
+-- of both.
 two_are_one : (s m n : ℕ) (rows : List Share) → Counts (share_from s (m + n) ∷ rows) (share_from s m ∷ share_from s n ∷ rows)
 two_are_one s m n rows =
     let mwh : Share → ℕ = λ r. r.mwh in
@@ -186,7 +185,8 @@ seam f row share shares true at =
     (seam_from f row.start row.mwh share.mwh shares (f row.start) refl)
 seam f row share shares false off = count_same f (row ∷ share ∷ shares)
 
--- Shares that are merged into rows count the same as the rows followed by the shares.
+-- Merging shares into interval rows preserves the energy and the starts of the rows followed by the
+-- shares.
 pub both_count : (f : ℕ → Bool) (rows shares : List Share) → CountTheSame f (with_shares rows shares) (rows ++ shares)
 both_count f [] shares = count_same f shares
 both_count f (row ∷ []) [] = count_same f (row ∷ [])
@@ -221,7 +221,7 @@ counted_once rows shares ascending =
       whole = merged_sum rows shares;
     }
 
--- ---- journals
+-- ---- joined journals
 
 pub carries_go_on : CarriesGoOn
 carries_go_on meter lines more well h more_h =

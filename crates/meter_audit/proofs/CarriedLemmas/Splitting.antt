@@ -1,4 +1,5 @@
--- Lines after the entries of a journal fit in a file in which the meter continues.
+-- Lines that the rules accept after a journal are also accepted in a new file in which the meter
+-- continues.
 use Rattle.std.proofs.Common.{◌≡◌, ◌≢◌, ℕ, ◌+◌, ◌-◌, ◌<◌, ◌≤◌, ◌==◌, Bool, true, false, cond, List, [], ◌∷◌, ◌++◌, map, length, Option, Some, None, Ok, refl, sym, ap, subst, ◌∙◌, inl, inr, arith}
 use Rattle.std.specs.List.{find}
 use Rattle.std.specs.Option.{option_map, option_or}
@@ -35,9 +36,9 @@ use Rattle.meter_audit.specs.Carried.{carried, moved_line, moved_row, AllComeLat
 use Rattle.meter_audit.proofs.CarriedLemmas.Fitting.{terms_of, before_full, moved_around, next_moved}
 use Rattle.meter_audit.proofs.CarriedLemmas.Over.{left_by, last_over, total_over, entries_over, moved_same, moved_other, rows_over, entries_of_both, well_carried}
 
--- ---- with less energy
+-- ---- readings and entries after less energy
 
--- The journal of both files has at least the energy of the new file.
+-- The joined journal has at least the energy of the new file.
 abbrev HasMore : Installed → (es old : List Entry) → Type 0
 HasMore meter es old = total_after (left_by meter old) es ≤ total_after meter (es ++ old)
 
@@ -130,9 +131,9 @@ held_there meter es old reading c other h =
     ∙ held_there_too meter.range l reading (find (test less) before_full) (test less cause.TotalFull) (test all cause.TotalFull) c other
     (sym (ap (judged meter.range l reading) (parts all)) ∙ is)
 
--- ---- voids
+-- ---- voids in the new file
 
--- No row has a later sequence number.
+-- No row has the sequence number `place` if all rows have smaller sequence numbers.
 none_there : (place : ℕ) (rows : List EntryRow) → AreNumbered rows → length rows + 2 ≤ place → row_at place rows ≡ None
 none_there place [] h le = refl
 none_there place (row ∷ rows) h le =
@@ -180,9 +181,10 @@ next_there meter count before old (Some n) more h =
     plausible_there meter (entries_in before) (entries_in old) n.entry more
     (subst (λ (es : List Entry). IsPlausibleNext meter es n.entry) (entries_over count before old) h)
 
--- ---- journals
+-- ---- joined journals
 
--- The later lines are the lines of a new file, moved by the number of entries in the old file.
+-- The lines `later` are the lines of a new file, with sequence numbers raised by the number of
+-- entries in the old file.
 record IsMoved (meter : Installed) (count : ℕ) (lines later : Journal) : Type 0 where
   more : Journal
   moved : map (moved_line count) more ≡ later

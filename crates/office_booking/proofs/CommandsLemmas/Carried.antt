@@ -1,4 +1,4 @@
--- From an executed command to the event that requests it.
+-- Proof that executing a command has the effect of the event that requests this command.
 use Rattle.std.proofs.Common.{◌≡◌, ℕ, false, List, [], ◌∷◌, ◌++◌, map, reverse, refl, sym, ap, subst, ◌∙◌, Option, Some, None, Result, Ok, Err, OnOk, IfOk}
 use Rattle.std.proofs.lemmas.List.{append-nil}
 use Rattle.std.proofs.lemmas.Bool.{cond-false}
@@ -29,7 +29,8 @@ use Rattle.office_rules.specs.Lawfulness.{IsPast, FactsAreLawful, PutsPlanned}
 use Rattle.office_booking.specs.declared.commands.effects.Done.{Done}
 use Rattle.office_booking.specs.Commands.Effects.{replies_by, started_on, slot_obeyed, slots_obeyed, facts_obeyed, Obeys, Carries}
 
--- The records after the event.
+-- If an event requests a command, then the records after the event equal the records after the
+-- command, with the stored answer to the request.
 pub fed_is : (past : History) (at : ℕ) (e : Event) (c : Command) (replies : List Fact) → command_in e ≡ Some c → replies_by at e ≡ replies
     → facts_of (Fed at e ∷ past) ≡ facts_obeyed at (slots_of past) (facts_of past) c replies
 fed_is past at (event.Connected given) c replies is kept = absurd (cc)
@@ -48,7 +49,7 @@ fed_is past at (event.Asked asked) c replies is kept =
     ap (λ (fs : List Fact). reverse (added asked.command ++ fs) ++ facts_of past) kept
     ∙ ap (λ (x : Command). reverse (added x ++ replies) ++ facts_of past) same
 
--- The slots after the event.
+-- If an event requests a command, then the slots after the event equal the slots after the command.
 map_same : (f g : sessions.Slot → sessions.Slot) → ((slot : sessions.Slot) → f slot ≡ g slot) → (slots : List sessions.Slot) → map f slots ≡ map g slots
 map_same f g h [] = refl
 map_same f g h (slot ∷ slots) = ap (λ l. l ∷ map f slots) (h slot) ∙ ap (λ ls. g slot ∷ ls) (map_same f g h slots)
@@ -101,7 +102,8 @@ pub on_ok : {T : Type 0} (P Q : Type 0) (result : Result T BooksFault) → (P �
 on_ok P Q (Ok x) h p = h p
 on_ok P Q (Err why) h p = tt
 
--- What a command leaves is what the event leaves.
+-- If a command is executed correctly, then the event that requests the command is executed
+-- correctly.
 pub carries : (old new : Ledger) (after : List Slot) (past : History) (at : ℕ) (e : Event) (c : Command) (replies : List Fact) (result : Result Done BooksFault)
     → command_in e ≡ Some c → replies_by at e ≡ replies → Obeys old new after (slots_of past) (facts_of past) at c replies result
     → Carries old new after past at e result
@@ -112,14 +114,14 @@ carries old new after past at e c replies result is kept obeys = record {
   sent = λ h clean. if_ok _ _ result (λ done own. own ∙ ap (notes.frames_by (next_poll (facts_of past)) at (slots_of past) (facts_of past)) (sym is)) (obeys.sent h clean);
 }
 
--- The additions of the event may follow.
+-- If an event is accepted, then the records after the event are lawful.
 pub lawful_fed : FactsAreLawful → (past : History) (at : ℕ) (e : Event) (c : Command) (replies : List Fact) → IsPast past → IsAccepted past at e
     → command_in e ≡ Some c → replies_by at e ≡ replies → PutsPlanned (Some c) → AreLawful (facts_obeyed at (slots_of past) (facts_of past) c replies)
 lawful_fed law past at e c replies is_past accepted is kept planned =
     subst AreLawful (fed_is past at e c replies is kept)
     (law (Fed at e ∷ past) (accepted, is_past.accepted) (subst PutsPlanned (sym is) planned, is_past.planned))
 
--- A slot that no start concerns is unchanged.
+-- If a command starts no polls, then the existing slots are unchanged.
 idle_events : (c : Command) → is_start c ≡ false → sessions.started_on c ≡ None
 idle_events (command.AddDevice c) h = refl
 idle_events (command.PutList c) h = refl
@@ -156,7 +158,7 @@ keeps_idle now number at spans c slots more h is keeps =
     subst (KeepsSlots now)
     (sym (ap (λ ls. ls ++ slots_added (Some c)) (slots_idle number at spans c slots h) ∙ ap (λ ls. slots ++ ls) is)) keeps
 
--- The answer to a command that starts nothing, and what it sends.
+-- If a command starts no polls, then it has the defined answer and sends no frames.
 pub idle_answer : (slots : List sessions.Slot) (facts : List Fact) (at : ℕ) (c : Command) → is_start c ≡ false → answers.Done (kind_of c) ≡ answer_to slots facts at c
 idle_answer slots facts at c h = sym (cond-false (is_start c) _ _ h)
 
@@ -169,7 +171,7 @@ idle_sent slots facts number at c h =
     sym (ap (λ (g : Option (List ℕ)). frames_from number at (spans_by facts c) (slot_of slots g)) (idle_events c h)
     ∙ none_from number at (spans_by facts c) slots)
 
--- One more slot.
+-- After a slot for a new device is added, the slots in memory still agree with the devices.
 keeps_push : (now : List Slot) (kept : List sessions.Slot) (new : Slot) (slot : sessions.Slot) → KeepsSlots now kept → KeepsSlot new slot
     → KeepsSlots (now ++ new ∷ []) (kept ++ slot ∷ [])
 keeps_push [] [] new slot keeps this = (this, tt)
@@ -190,7 +192,8 @@ pub ok_any : {T : Type 0} (P : Type 0) (result : Result T BooksFault) → P → 
 ok_any P (Ok x) p = p
 ok_any P (Err why) p = tt
 
--- What a command leaves that starts nothing.
+-- If a command starts no polls, its records are written and a new device gets a slot, then the
+-- command is executed correctly.
 pub obeys_idle : (old new : Ledger) (after : List Slot) (slots more : List sessions.Slot) (known : List Fact) (at : ℕ) (c : Command) (replies : List Fact)
     (result : Result Done BooksFault) → is_start c ≡ false → slots_added (Some c) ≡ more → OnOk result (KeepsSlots after (slots ++ more))
     → Moves old new known (facts_obeyed at slots known c replies) result → IfOk result (λ done. done.answer ≡ answers.Done (kind_of c))

@@ -1,4 +1,4 @@
--- Records that were looked up, and then written.
+-- Properties of a write of records to the store that follows lookups in the store.
 use Rattle.std.proofs.Common.{◌≡◌, List, [], ◌∷◌, ◌++◌, ◌⊎◌, inl, inr, sym, subst, Result, Ok, Err}
 use Rattle.office_events.specs.declared.facts.Fact.{Fact}
 use Rattle.office_rules.specs.Lawful.{AreLawful}
@@ -7,7 +7,7 @@ use Rattle.office_books.specs.Ledgers.{Ledger, Books, Moves, with_facts}
 use Rattle.office_books.proofs.Moving.{passes, settles}
 use Rattle.office_booking.specs.Commands.Effects.{Tries}
 
--- What the store was requested to do.
+-- If a call of the store's `book` has its guarantees, then the guarantees of `Tries` also hold.
 pub asked : (old new : Ledger) (facts : List Fact) (result : Result (Unit {0}) BooksFault) → Books old new facts result → Tries old new facts result
 asked old new facts (Ok done) books = record {
   booked = books.booked;
@@ -24,7 +24,8 @@ asked old new facts (Err why) books = record {
   goes = passes old new (Err why) books.goes;
 }
 
--- If the records are right after the lookups, writing them moves the store.
+-- If the store has the defined records after a write, then the write changes the store as `Moves`
+-- defines.
 pub tried : (old new : Ledger) (known later facts : List Fact) (result : Result (Unit {0}) BooksFault) → Tries old new facts result
     → (old.holds known → old.is_clean → with_facts facts known ≡ later) → AreLawful later → Moves old new known later result
 tried old new known later facts (Ok done) tries right lawful =

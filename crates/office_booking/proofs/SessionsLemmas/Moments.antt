@@ -1,4 +1,4 @@
--- No event on a session is later than the latest accepted event.
+-- Proof that each event of a session is at or before the latest accepted event.
 use Rattle.std.proofs.Common.{◌≡◌, ℕ, ◌≤◌, nat_lt, Bool, true, false, cond, List, [], ◌∷◌, ◌++◌, map, refl, Option, Some, None, arith, subst}
 use Rattle.std.proofs.lemmas.Bool.{cond_both, ltb-false, or_parts}
 use Rattle.energy_core.proofs.Tables.{none_pass}
@@ -17,7 +17,7 @@ use Rattle.office_rules.specs.History.{History, Opened, Fed, facts_of, slots_of,
 use Rattle.office_rules.specs.Refusals.{AreAccepted, refusal_of, refuses, reasons}
 use Rattle.office_booking.specs.Sessions.Moments.{none_later}
 
--- An accepted event is not too early.
+-- If an event is accepted, then its timestamp is not before the latest accepted event.
 not_back : (past : History) (at : ℕ) (e : Event) → refusal_of past at e ≡ None → latest_of past ≤ at
 not_back past at e h =
     let all = none_pass (refuses past at e) reasons h in
@@ -35,7 +35,7 @@ before_later : (at later : ℕ) → at ≤ later → (slots : List sessions.Slot
 before_later at later h [] all = tt
 before_later at later h (slot ∷ slots) all = (one_later at later h slot.present all.0, before_later at later h slots all.1)
 
--- An event of the office has its own timestamp on a session.
+-- True if each of these session events has the timestamp `at`.
 abbrev AtMoment : ℕ → List session.Event → Type 0
 AtMoment at [] = Unit {0}
 AtMoment at (happening ∷ later) = (session.moment_of happening ≡ at) × AtMoment at later
@@ -128,7 +128,7 @@ all_before (Fed at e ∷ past) accepted =
     (before_later (latest_of past) at (not_back past at e accepted.0.right) (slots_of past) (all_before past accepted.1))
     (added_before at (command_in e))
 
--- No event on a session is later than an accepted event.
+-- If an event is accepted next, then each earlier event of a session is at or before its timestamp.
 pub before_event : (past : History) (at : ℕ) (e : Event) → AreAccepted past → refusal_of past at e ≡ None → AllBefore at (slots_of past)
 before_event past at e accepted none =
     before_later (latest_of past) at (not_back past at e none) (slots_of past) (all_before past accepted)

@@ -1,4 +1,4 @@
--- A draft grows step by step.
+-- Properties of a pending write to which records are added one by one.
 use Rattle.std.proofs.Common.{◌≡◌, ℕ, ◌+◌, ◌<◌, ◌==◌, Bool, true, false, cond, List, [], ◌∷◌, ◌++◌, reverse, take, length, get_or, refl, sym, ap, subst, ◌∙◌, Option, Some, None, append_assoc}
 use Rattle.std.specs.List.{find, filter}
 use Rattle.std.specs.Option.{option_map, option_to_list}
@@ -34,7 +34,7 @@ use Rattle.office_booking.specs.Settling.Drafts.{so_far, HasMore, IsTold, AreTol
 use Rattle.office_booking.proofs.SettlingLemmas.Told.{SkipsTold, told_skipped, told_last}
 use Rattle.office_booking.proofs.SettlingLemmas.ReadRegisters.{with_read, told_read}
 
--- Records that are lawful now were lawful earlier.
+-- True if lawful records stay lawful after the records that `more` added are removed.
 abbrev pub KeepsLawful : (List Fact → List Fact) → Type 0
 KeepsLawful more = (facts : List Fact) → AreLawful (more facts) → AreLawful facts
 
@@ -75,11 +75,12 @@ pub before_outcomes : (at : ℕ) (settled : List (ℕ × session.Settlement)) �
 before_outcomes at [] facts h = h
 before_outcomes at (settled ∷ later) facts h = before_outcome at settled facts (before_outcomes at later (with_outcome at settled facts) h)
 
--- Nothing is added.
+-- If a pending write is unchanged, then it has no added records and no added notifications.
 pub stays : (holds : List Fact → Type 0) (clean : Type 0) (draft : Draft) → Grows holds clean draft draft (λ facts. facts) (λ facts. [])
 stays holds clean draft = λ recorded h c told lawful. record { facts = refl; notes = sym (append-nil draft.notes.items); told = told }
 
--- The same with equal functions.
+-- If given records and notifications were added to a pending write, then equal records and
+-- notifications were also added.
 pub grows_like : (holds : List Fact → Type 0) (clean : Type 0) (old new : Draft) (f g : List Fact → List Fact) (n m : List Fact → List Note)
     → ((facts : List Fact) → g facts ≡ f facts) → ((facts : List Fact) → m facts ≡ n facts) → Grows holds clean old new f n → Grows holds clean old new g m
 grows_like holds clean old new f g n m same_facts same_notes on = λ recorded h c told lawful.
@@ -90,7 +91,8 @@ grows_like holds clean old new f g n m same_facts same_notes on = λ recorded h 
       told = all.told;
     }
 
--- One step after another.
+-- If two calls add to a pending write, then the additions are those of the first call, followed by
+-- those of the second call.
 pub grows_then : (holds mid : List Fact → Type 0) (clean later : Type 0) (old between new : Draft) (f g : List Fact → List Fact) (n m : List Fact → List Note)
     → ((recorded : List Fact) → holds recorded → mid recorded) → (later → clean) → KeepsLawful g → Grows holds clean old between f n → Grows mid later between new g m
     → Grows holds later old new (λ facts. g (f facts)) (λ facts. n facts ++ m (f facts))
@@ -106,7 +108,8 @@ grows_then holds mid clean later old between new f g n m kept cleaner before fir
       told = two.told;
     }
 
--- One record with its notification.
+-- If one record and its notification are added to a pending write, then the earlier records and
+-- notifications are unchanged.
 pub one_added : (holds : List Fact → Type 0) (clean : Type 0) (old new : Draft) (x : Fact) (y : Note) → IsTold x
     → HasMore old new x y → Grows holds clean old new (λ facts. x ∷ facts) (λ facts. y ∷ [])
 one_added holds clean old new x y is more = λ recorded h c told lawful.
@@ -120,7 +123,8 @@ told_reading : (meter : List ℕ) (poll : ℕ) (reading : Reading) (verdict : Ve
 told_reading meter poll reading (Accepted rolls step) = refl
 told_reading meter poll reading (Held cause) = tt
 
--- A reading at a register.
+-- If an accounting register has a reading, then one record and one notification are added to the
+-- pending write.
 pub read_at : (holds : List Fact → Type 0) (clean : Type 0) (at : ℕ) (poll : Poll) (words : List ℕ) (register : Register) (old new : Draft) (row : Installation)
     → is_read_by poll.span register ≡ true
     → ((recorded : List Fact) → holds recorded → clean → AreTold old.facts.items → AreLawful (so_far old recorded) → Some row ≡ open_at (so_far old recorded) register.name)
@@ -157,7 +161,8 @@ no_meter_at holds clean at poll words register draft read found = λ recorded h 
     ap (λ o. option_to_list (option_map (reading_note reading) o)) there ∙ sym (cond-true _ _ _ read) in
     record { facts = is; notes = sym (append-nil draft.notes.items) ∙ ap (λ xs. draft.notes.items ++ xs) told_so; told = told }
 
--- One more register.
+-- The records for the readings of several accounting registers are those of the earlier registers,
+-- followed by the record of the last register.
 pub registers-more : (at : ℕ) (poll : Poll) (words : List ℕ) (xs : List Register) (y : Register) (facts : List Fact)
     → with_registers at poll words (xs ++ y ∷ []) facts ≡ with_register at poll words y (with_registers at poll words xs facts)
 registers-more at poll words [] y facts = refl
@@ -185,7 +190,7 @@ one_register_more holds mid clean later old between new at poll words rs i r les
     (grows_then holds mid clean later old between new (with_registers at poll words (take i rs)) (with_register at poll words r)
     (registers_notes at poll words (take i rs)) (register_notes at poll words r) kept cleaner (before_register at poll words r) first second)
 
--- Reported records contain no polls and no registers.
+-- A record of an outcome or a reading is neither a record of a poll nor of an accounting register.
 no_poll : SkipsTold as_poll
 no_poll (fact.Device device) told = absurd told
 no_poll (fact.List put) told = absurd told
@@ -227,7 +232,7 @@ its_row : (recorded : List Fact) (row : PollRow) (o : Option Poll) → Some row 
 its_row recorded row None h = absurd (cc)
 its_row recorded row (Some poll) h = let e : row ≡ poll_row recorded poll = cc in ap Some (sym (ap (λ (r : PollRow). r.poll) e))
 
--- The response to a known or an unknown poll.
+-- If a response belongs to a poll that is not recorded, then it adds no readings.
 pub reply_to_none : (holds : List Fact → Type 0) (clean : Type 0) (draft : Draft) (at number : ℕ) (words : List ℕ)
     → ((recorded : List Fact) → holds recorded → clean → None ≡ poll_row_of recorded number)
     → Grows holds clean draft draft (λ facts. with_reply at (poll_of facts number) words facts) (λ facts. reply_notes at (poll_of facts number) words facts)
@@ -259,7 +264,7 @@ reply_to holds mid clean old new at number words row rs found known kept on = λ
     let added = on recorded (kept recorded h) c told (subst AreLawful (sym is) lawful) in
     record { facts = added.facts ∙ is; notes = added.notes ∙ ap (λ xs. old.notes.items ++ xs) told_so; told = added.told }
 
--- An outcome, and what its response means.
+-- If a poll's outcome is converted to a record and back, then the result equals the outcome.
 outcome_again : (o : plain.Outcome) (r : Option Reply) → outcome_of (told_as o r) ≡ o
 outcome_again Answered r = refl
 outcome_again (Exception code) r = refl

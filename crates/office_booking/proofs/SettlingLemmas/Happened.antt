@@ -1,4 +1,4 @@
--- What an event of a device leaves.
+-- Properties of the office's records and slots after a device event.
 use Rattle.std.proofs.Common.{◌≡◌, ℕ, List, [], ◌∷◌, ◌++◌, map, reverse, refl, sym, ap, subst, ◌∙◌, Option, Some, None}
 use Rattle.std.proofs.lemmas.List.{append-nil}
 use Rattle.poll_core.specs.Settling as session
@@ -20,7 +20,7 @@ use Rattle.office_booking.specs.declared.sessions.slots.Slot.{Slot}
 use Rattle.office_booking.specs.Settling.Settling.{IsSettling}
 use Rattle.office_booking.specs.Settling.Events.{IsNext}
 
--- An event of a device sends nothing, and adds no device.
+-- If an event is a device event, then it starts no polls and adds no devices.
 pub slots_happened : (past : History) (at : ℕ) (e : Event) → IsSettling e
     → map (slot_after (next_poll (facts_of past)) at [] e) (slots_of past) ≡ slots_of (Fed at e ∷ past)
 slots_happened past at (event.Connected given) s = sym (append-nil _)
@@ -30,7 +30,7 @@ slots_happened past at (event.Gone given closing) s = sym (append-nil _)
 slots_happened past at (event.Command c) s = absurd s
 slots_happened past at (event.Asked asked) s = absurd s
 
--- A connection settles nothing.
+-- If an event is a new connection, then it ends no polls.
 unreached : (number at : ℕ) (given : Option (List ℕ)) (device : Device) (present : Option (List session.Event))
     → settled_on number at (event.Connected given) device present ≡ []
 unreached number at given device None = refl
@@ -68,7 +68,7 @@ notes_happened number at (event.Gone given closing) s slots facts = refl
 notes_happened number at (event.Command c) s slots facts = absurd s
 notes_happened number at (event.Asked asked) s slots facts = absurd s
 
--- An event of a device is no retry.
+-- If an event is a device event, then it has no idempotency key and is not a retry.
 is_new : (facts : List Fact) (e : Event) → IsSettling e → kept_of facts e ≡ None
 is_new facts (event.Connected given) s = refl
 is_new facts (event.Bytes given piece) s = refl
@@ -85,14 +85,16 @@ puts_nothing (event.Gone given closing) s = tt
 puts_nothing (event.Command c) s = absurd s
 puts_nothing (event.Asked asked) s = absurd s
 
--- The event extends the past, and leaves lawful records.
+-- If a device event is accepted, then the history with this event is valid and its records are
+-- lawful.
 lawful_next : FactsAreLawful → (past : History) (slots : List Slot) (at : ℕ) (e : Event) → IsSettling e → IsNext past slots at e
     → AreLawful (facts_of (Fed at e ∷ past))
 lawful_next law past slots at e s next =
     law (Fed at e ∷ past) (record { new = is_new (facts_of past) e s; right = next.accepted }, next.is_past.accepted)
     (puts_nothing e s, next.is_past.planned)
 
--- A draft of an event: the records of the event follow from it.
+-- True if a pending write has exactly the records and the notifications that are defined for the
+-- device event.
 pub record DraftStands (past : History) (at : ℕ) (e : Event) (draft : Draft) : Type 0 where
   pub facts : so_far draft (facts_of past) ≡ facts_of (Fed at e ∷ past)
   pub notes : draft.notes.items ≡ notes_of (next_poll (facts_of past)) at e (slots_of past) (facts_of past)

@@ -1,4 +1,4 @@
--- How an event moves the store.
+-- Properties of the store after the records of a device event are written.
 use Rattle.std.proofs.Common.{◌≡◌, ◌⊎◌, ℕ, List, [], ◌∷◌, ◌++◌, refl, sym, ap, subst, inr, Result, Ok, Err}
 use Rattle.std.specs.Prelude.{OnOk, OnErr}
 use Rattle.std.specs.Result.{IsErrAnd}
@@ -15,7 +15,7 @@ use Rattle.office_books.specs.declared.faults.BooksFault.{BooksFault}
 use Rattle.office_books.proofs.Moving.{failed, passes_then}
 use Rattle.office_books.specs.Ledgers.{Ledger, LedgerAfterCalls, Consults, Moves, with_facts}
 
--- The event has no records.
+-- If an event adds no records, then the store is unchanged.
 pub moves_nothing : (old : Ledger) (facts known : List Fact) → facts ≡ [] → Moves {T = Unit {0}} old old known (with_facts facts known) (Ok tt)
 moves_nothing old facts known none =
     let same : with_facts facts known ≡ known = ap (λ fs. with_facts fs known) none in
@@ -27,11 +27,11 @@ moves_nothing old facts known none =
       goes = record { clean = λ clean. clean; faults = refl; zone = refl };
     }
 
--- What the store holds after the records of an event, and that these are lawful.
+-- True if the store's records, followed by the records `facts`, are the lawful records `later`.
 abbrev pub Leads : Ledger → (clean : Type 0) → (facts known later : List Fact) → Type 0
 Leads old clean facts known later = old.holds known → clean → (with_facts facts known ≡ later) × AreLawful (with_facts facts known)
 
--- A store that was only read before it moves.
+-- If records are written after lookups, then the write changes the store as `Moves` defines.
 pub moves_after : {T U : Type 0} (old mid new : Ledger) (facts known later : List Fact) (x : T) (r : Result U BooksFault)
     → Consults old mid (Ok x) → Leads old mid.is_clean facts known later
     → (AreLawful (with_facts facts known) → Moves mid new known (with_facts facts known) r)
@@ -52,7 +52,8 @@ moves_after old mid new facts known later x r reads leads moves refused goes = r
   goes = passes_then old mid new x r reads.goes goes;
 }
 
--- A failed event settles nothing that is reported.
+-- If processing a device event fails, then no notifications are reported and the store's records
+-- are unchanged.
 pub settles_not : {T : Type 0} (past : History) (at : ℕ) (e : Event) (old new : Ledger) (after : List Slot) (fault : BooksFault)
     (r : Result (Vec Note Global) BooksFault) → Moves {T = T} old new (facts_of past) (facts_of (Fed at e ∷ past)) (Err fault)
     → IsErrAnd r (λ f. f ≡ fault) → Settles past at e old new after r

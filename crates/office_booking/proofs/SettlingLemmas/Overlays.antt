@@ -1,4 +1,4 @@
--- Installations after the records of a draft.
+-- Properties of an installed meter's state after the records of a pending write.
 use Rattle.std.proofs.Common.{◌≡◌, ℕ, ◌+◌, ◌<◌, Bool, true, false, cond, List, [], ◌∷◌, ◌++◌, reverse, take, length, get_or, refl, sym, ap, subst, ◌∙◌, Option, Some, None, suc, arith}
 use Rattle.std.specs.List.{cons_option, find, Contains}
 use Rattle.std.specs.Option.{option_map, option_and_then}
@@ -31,7 +31,7 @@ use Rattle.office_booking.specs.Settling.Drafts.{IsTold, AreTold}
 use Rattle.office_booking.specs.Settling.Following.{with_result, with_entry, installation_with, IsIn, IsAfterFacts}
 use Rattle.office_booking.proofs.SettlingLemmas.Told.{told_openings, told_first, told_at, lawful_first}
 
--- The theorems on entries.
+-- The theorems about meter entries on which the proofs below depend.
 pub record Laws : Type 0 where
   pub names : NamesAreDistinct
   pub kept : MetersAreKept
@@ -39,11 +39,11 @@ pub record Laws : Type 0 where
   pub booked : energy.EnteredIsBooked
   pub go_on : energy.AccountsGoOn
 
--- An installation as its journal gives it.
+-- The state of an installed meter after the entries of its journal.
 abbrev at_journal : Opening → journal.Journal → Installation
 at_journal o lines = standing o (journal.entries_of (opened o) lines) (journal.is_ended lines)
 
--- An accepted reading is entered.
+-- If a reading is accepted, then the state of its installed meter advances to the reading.
 reading_entered : Laws → (o : Opening) (lines : journal.Journal) (k : EntryKind) (e : Entry) → k ≡ kind.Reading
     → journals.EntryFits (installed o) (journal.entries_of (opened o) lines) k e → HasAccount (installed o) (journal.entries_of (opened o) lines)
     → (at_journal o lines).last.raw < o.range → with_entry (at_journal o lines) e ≡ at_journal o (journal.Entered k e ∷ lines)
@@ -63,7 +63,7 @@ reading_entered laws o lines kind.Closing e is fits account low = absurd (cc)
 reading_entered laws o lines kind.Reset e is fits account low = absurd (cc)
 reading_entered laws o lines kind.Rescale e is fits account low = absurd (cc)
 
--- An entry of a draft advances its own meter, and no other.
+-- If a pending write has a reading, then only the installation of the reading's meter advances.
 booked_goes_on : Laws → (facts : List Fact) (o : Opening) (b : BookedEntry) (same_meter : Bool) → same b.meter o.meter ≡ same_meter
     → b.kind ≡ kind.Reading → LineFits facts b.meter (journal.Entered b.kind b.entry) → AreLawful facts → IsRecorded facts o
     → (installation_of facts o).last.raw < o.range
@@ -88,7 +88,8 @@ known_goes_on o lines line true rows ended =
     ap (λ rs. standing o (journal.entries_in rs) (journal.is_ended lines)) (sym rows)
     ∙ ap (λ e. standing o (journal.entries_of (opened o) (line ∷ lines)) e) (sym ended)
 
--- An installation after one more reported record.
+-- If an outcome or a reading is added, then the state of an installed meter changes as the
+-- accounting rules define.
 pub goes_on : Laws → (f : Fact) (facts : List Fact) (o : Opening) → IsTold f → AreLawful (f ∷ facts) → IsRecorded facts o
     → (installation_of facts o).last.raw < o.range → installation_with f (installation_of facts o) ≡ installation_of (f ∷ facts) o
 goes_on laws (fact.Device device) facts o told h recorded low = absurd told
@@ -104,7 +105,8 @@ goes_on laws (fact.Poll poll) facts o told h recorded low = absurd told
 goes_on laws (fact.Outcome ended) facts o told h recorded low = refl
 goes_on laws (fact.Reply reply) facts o told h recorded low = absurd told
 
--- The state of the installation after the first records of a draft.
+-- True if `following` is the state of the installation after the first `i` records of a pending
+-- write.
 abbrev pub StandsAfterFirst : Installation → List Fact → ℕ → Installation → Type 0
 StandsAfterFirst row facts i following = (known : List Fact) → AreTold facts → AreLawful (reverse facts ++ known)
     → IsIn known row → following ≡ installation_of (reverse (take i facts) ++ known) row.opening
@@ -132,7 +134,7 @@ one_fact_more laws row facts i following new x less is sound stands with_it = λ
     ∙ goes_on laws x first row.opening (told_at facts i x less is told) fits (still_recorded (take i facts) known row.opening (told_first i facts told) at_first.recorded) low
     ∙ ap (λ fs. installation_of fs row.opening) (sym more)
 
--- What is found in a list is in the list.
+-- If a search finds an element in a list, then the element is in the list.
 found_step : {X : Type 0} (p : X → Bool) (b : Bool) (y x : X) (ys : List X) → (find p ys ≡ Some x → Contains ys x)
     → cond b (Some y) (find p ys) ≡ Some x → Contains (y ∷ ys) x
 found_step p true y x ys later h = (0, omega arith, same_Some y x h)
@@ -142,12 +144,13 @@ found_contains : {X : Type 0} (p : X → Bool) (xs : List X) (x : X) → find p 
 found_contains p [] x h = absurd (cc)
 found_contains p (y ∷ ys) x h = found_step p (p y) y x ys (found_contains p ys x) h
 
--- Reported records install nothing.
+-- Outcomes and readings install no meter.
 installed_after : (facts known : List Fact) (register : List ℕ) → AreTold facts → installed_at (reverse facts ++ known) register ≡ installed_at known register
 installed_after facts known register told =
     ap (λ os. find (λ (o : Opening). same o.register register) os) (told_openings facts known told)
 
--- A register without a meter has none after reported records.
+-- If an accounting register has no open meter, then it has no open meter after outcomes and
+-- readings.
 pub none_open : (facts known : List Fact) (register : List ℕ) → AreTold facts → None ≡ installation_at known register
     → None ≡ open_at (reverse facts ++ known) register
 none_open facts known register told none =
@@ -159,7 +162,8 @@ none_open facts known register told none =
     none_by None h = refl
     none_by (Some opening) h = absurd (cc)
 
--- The installation at a register, after reported records.
+-- After a pending write, the open installation of an accounting register equals the installation in
+-- the store, advanced by the pending records.
 found_open : (facts known : List Fact) (register : List ℕ) (row new : Installation) (found : Option Opening) → AreTold facts → AreLawful (reverse facts ++ known)
     → IsAfterFacts row facts new → installed_at known register ≡ found → Some row ≡ option_map (installation_of known) found
     → if_open new ≡ open_at (reverse facts ++ known) register

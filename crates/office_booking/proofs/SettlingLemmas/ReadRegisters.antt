@@ -1,4 +1,4 @@
--- Registers without a reading in a read add nothing.
+-- Proof that a Modbus read adds no records for an accounting register that it does not cover.
 use Rattle.std.proofs.Common.{◌≡◌, ℕ, List, [], ◌∷◌, ◌++◌, inl, inr, refl, sym, ap, ◌∙◌}
 use Rattle.std.specs.List.{filter}
 use Rattle.std.proofs.lemmas.Bool.{cases_Bool, cond-true, cond-false}
@@ -9,7 +9,8 @@ use Rattle.office_events.specs.declared.answers.Note.{Note}
 use Rattle.office_rules.specs.Readings.{is_read_by, with_register, with_registers}
 use Rattle.office_rules.specs.Notes.{register_notes, registers_notes}
 
--- The readings of the registers in the read are the readings of all.
+-- The readings in a response, over all accounting registers of the device, equal the readings of
+-- the registers that the read covers.
 pub with_read : (at : ℕ) (poll : Poll) (words : List ℕ) (registers : List Register) (facts : List Fact)
     → with_registers at poll words (filter (is_read_by poll.span) registers) facts ≡ with_registers at poll words registers facts
 with_read at poll words [] facts = refl
@@ -25,7 +26,8 @@ with_read at poll words (r ∷ rs) facts =
           ∙ ap (λ (fs : List Fact). with_registers at poll words rs fs) (sym unread)
     ]
 
--- Registers without a reading in a read add no notifications.
+-- The notifications for a response, over all accounting registers of the device, equal the
+-- notifications for the registers that the read covers.
 pub told_read : (at : ℕ) (poll : Poll) (words : List ℕ) (registers : List Register) (facts : List Fact)
     → registers_notes at poll words (filter (is_read_by poll.span) registers) facts ≡ registers_notes at poll words registers facts
 told_read at poll words [] facts = refl

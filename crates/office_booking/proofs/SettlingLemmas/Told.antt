@@ -1,4 +1,4 @@
--- Lookups after reported records.
+-- Properties of lookups in lists of records that have only outcomes and readings.
 use Rattle.std.proofs.Common.{◌≡◌, ℕ, ◌<◌, length, get_or, arith, List, [], ◌∷◌, ◌++◌, reverse, take, drop, refl, ap, subst, sym, ◌∙◌, Option, None, append_assoc, zero, suc}
 use Rattle.std.specs.List.{cons_option, filter_map}
 use Rattle.std.proofs.lemmas.List.{reverse-append, take-append-drop}
@@ -8,7 +8,7 @@ use Rattle.office_rules.specs.Facts.{as_opening, openings_in}
 use Rattle.office_rules.specs.Lawful.{AreLawful}
 use Rattle.office_booking.specs.Settling.Drafts.{IsTold, AreTold}
 
--- A lookup that finds nothing among reported records.
+-- True if the lookup `f` finds nothing in any outcome or reading.
 abbrev pub SkipsTold : {X : Type 0} → (Fact → Option X) → Type 0
 SkipsTold f = (x : Fact) → IsTold x → f x ≡ None
 
@@ -21,7 +21,7 @@ told_skipped f skips (x ∷ facts) known told =
     ∙ told_skipped f skips facts (x ∷ known) told.1
     ∙ ap (λ o. cons_option o (filter_map f known)) (skips x told.0)
 
--- A reported record is no opening.
+-- A record of an outcome or a reading is not an opening of a meter.
 no_opening : SkipsTold as_opening
 no_opening (fact.Device device) told = absurd told
 no_opening (fact.List put) told = absurd told
@@ -51,12 +51,12 @@ pub told_last : (facts : List Fact) (x : Fact) → AreTold facts → IsTold x �
 told_last [] x told is = (is, tt)
 told_last (f ∷ facts) x told is = (told.0, told_last facts x told.1 is)
 
--- Records that are lawful now were lawful earlier.
+-- If a list of records is lawful, then its earlier records are lawful without the later ones.
 pub lawful_before : (new facts : List Fact) → AreLawful (new ++ facts) → AreLawful facts
 lawful_before [] facts h = h
 lawful_before (x ∷ new) facts h = lawful_before new facts h.1
 
--- The first of some lawful records are lawful.
+-- If all records of a pending write are lawful, then its first `i` records are lawful.
 pub lawful_first : (facts known : List Fact) (i : ℕ) → AreLawful (reverse facts ++ known) → AreLawful (reverse (take i facts) ++ known)
 lawful_first facts known i lawful =
     lawful_before (reverse (drop i facts)) (reverse (take i facts) ++ known)

@@ -1,4 +1,4 @@
--- The loop over the turns of one event on a session.
+-- Properties of the loop over the outcomes of one event on a session.
 use Rattle.std.proofs.Common.{◌≡◌, ℕ, ◌+◌, ◌-◌, ◌≤◌, inl, inr, List, [], ◌∷◌, ◌++◌, length, take, drop, refl, sym, ap, ◌∙◌, subst, arith, Option, Some, None, append_assoc, length-drop}
 use Rattle.std.proofs.lemmas.List.{append-nil, take_rest, take_all, take-append-drop}
 use Rattle.std.proofs.Math.Seq.{take-add}
@@ -26,8 +26,8 @@ notes-append at (x ∷ xs) ys facts =
     ap (λ zs. outcome_notes at x facts ++ zs) (notes-append at xs ys (with_outcome at x facts))
     ∙ sym (append_assoc (outcome_notes at x facts) _ _)
 
--- The state so far: the session is within the event, and the draft has what was reported. Before
--- the first report nothing has changed.
+-- The state of the loop over the outcomes of an event. The session is still processing the event,
+-- and the pending write has the outcomes so far. If no outcome was found, nothing has changed.
 pub record Turned (holds : List Fact → Type 0) (clean unchanged : Type 0) (old now : State) (happening : Event) (call : Call) (first draft : Draft) : Type 0 where
   pub call_is : IsCall call now (moment_of happening)
   pub timeout : now.timeout ≡ old.timeout
@@ -49,7 +49,8 @@ begins holds clean unchanged old happening call draft rests before same = record
   quiet = λ none. same;
 }
 
--- A call reports this, or nothing more.
+-- The result of one call of the session for an event: an outcome of a poll, or the end of the
+-- event.
 pub record Called (mid new : State) (before after : Event) (settled : Option (ℕ × Settlement)) : Type 0 where
   pub timeout : new.timeout ≡ mid.timeout
   pub window : new.window ≡ mid.window
@@ -59,7 +60,7 @@ longer_is_some : {X : Type 0} (xs : List X) (x : X) → xs ++ x ∷ [] ≡ [] �
 longer_is_some [] x h = cc
 longer_is_some (y ∷ xs) x h = cc
 
--- One more outcome was reported.
+-- After the loop finds one more outcome, the pending write also has this outcome.
 pub turns : (holds mid : List Fact → Type 0) (clean later unchanged changed : Type 0) (old between new : State) (before after : Event) (call : Call)
     (first draft next : Draft) (o : ℕ × Settlement) → Turned holds clean unchanged old between before call first draft
     → moment_of after ≡ moment_of before → new.settling ≡ Some call → new.last ≡ moment_of after → Called between new before after (Some o)
@@ -83,7 +84,7 @@ turns holds mid clean later unchanged changed old between new before after call 
   quiet = λ none. absurd (longer_is_some t.told o none);
 }
 
--- Nothing more was reported.
+-- After the loop ends, the pending write has all outcomes of the event.
 pub ends : (holds : List Fact → Type 0) (clean unchanged : Type 0) (old between new : State) (before after : Event) (call : Call) (first draft : Draft)
     → Turned holds clean unchanged old between before call first draft → moment_of after ≡ moment_of before → Called between new before after None
     → TellsSettled holds clean old new after first draft
@@ -107,7 +108,7 @@ ends_quietly holds clean unchanged old between new before after call first draft
     ((called.told none.events t.told (t.within none.events none.stands)).1
     ∙ ap (λ n. outcomes_at n none.events after) (called.timeout ∙ t.timeout) ∙ none.nothing)
 
--- If something was reported, the event settles something.
+-- If a call of the session returned an outcome, then the event ends a poll.
 pub is_loud : {P : Type 0} (holds : List Fact → Type 0) (clean unchanged : Type 0) (old between new : State) (before after : Event) (call : Call) (first draft : Draft)
     (o : ℕ × Settlement) → Turned holds clean unchanged old between before call first draft → Called between new before after (Some o) → SettlesNothing old after → P
 is_loud holds clean unchanged old between new before after call first draft o t called none =
@@ -120,7 +121,7 @@ is_loud holds clean unchanged old between new before after call first draft o t 
     none_first [] ys h = refl
     none_first (x ∷ xs) ys h = absurd (cc)
 
--- The bytes of a chunk from an index on.
+-- The bytes of a chunk, beginning at index `at`.
 abbrev pub slice_at : ℕ → List ℕ → List ℕ
 slice_at at piece = take (length piece - at) (drop at piece)
 
@@ -161,7 +162,7 @@ called_by_event mid new happening settled tells = record {
   told = λ events told before. tells.told events [] told before;
 }
 
--- A chunk that settles nothing settles nothing with its first bytes.
+-- If a chunk of bytes ends no poll, then the first bytes of the chunk end no poll.
 pub shorter_settles : (longer : (timeout : ℕ) (events : List Event) (moment : ℕ) (piece more : List ℕ) →
     outcomes_at timeout events (Piece moment (piece ++ more)) ≡ [] → outcomes_at timeout events (Piece moment piece) ≡ [])
     → (old : State) (moment n : ℕ) (piece : List ℕ) → SettlesNothing old (Piece moment piece) → SettlesNothing old (Piece moment (take n piece))

@@ -1,4 +1,4 @@
--- A slot that an event does not concern.
+-- Properties of a slot, if a device event does not concern the slot's device.
 use Rattle.std.proofs.Common.{◌≡◌, ℕ, Bool, true, false, List, [], ◌∷◌, Option, Some, None, is_some, refl, sym, ap, subst, ◌∙◌}
 use Rattle.poll_core.specs.Settling as session
 use Rattle.office_events.specs.declared.facts.Device.{Device}
@@ -21,7 +21,7 @@ none_where : (b : Bool) (x : session.Event) → false ≡ is_some (if b then Som
 none_where true x h = absurd (let f : false ≡ true = h in cc)
 none_where false x h = refl
 
--- Nothing happens on its session.
+-- If a device event does not concern a device, then it causes no session event at the device.
 nothing_on : (number at : ℕ) (e : Event) (device : Device) (before : List session.Event) → IsSettling e → false ≡ is_some (happening_on at e device)
     → reaches number at [] e device before ≡ []
 nothing_on number at (event.Connected given) device before settling none = refl
@@ -48,7 +48,7 @@ slot_stays : (number at : ℕ) (e : Event) (slot : sessions.Slot) → IsSettling
 slot_stays number at e slot settling apart none =
     rw (sym apart) (unreached number at e slot slot.present refl (λ before. nothing_on number at e slot.device before settling none))
 
--- The slot is unchanged.
+-- If a device event does not concern a device, then the device's slot is unchanged.
 pub still_kept : (number at : ℕ) (e : Event) (kept : Slot) (stood : sessions.Slot) → IsSettling e → false ≡ connects e kept.device
     → false ≡ is_some (happening_on at e kept.device) → MayReach at kept stood → KeepsSlot kept (slot_after number at [] e stood)
 still_kept number at e kept stood settling apart none reach =
@@ -57,7 +57,7 @@ still_kept number at e kept stood settling apart none reach =
     (sym (slot_stays number at e stood settling (subst (λ (d : Device). false ≡ connects e d) is apart) (subst (λ (d : Device). false ≡ is_some (happening_on at e d)) is none)))
     reach.keeps
 
--- Nothing is added.
+-- If a device event does not concern a device, then it adds no records for the device.
 pub adds_none : (holds : List Fact → Type 0) (clean : Type 0) (draft : Draft) (number at : ℕ) (e : Event) (kept : Slot) (stood : sessions.Slot) → IsSettling e
     → false ≡ is_some (happening_on at e kept.device) → MayReach at kept stood
     → Grows holds clean draft draft (with_outcomes at (settled_by number at e stood)) (outcomes_notes at (settled_by number at e stood))

@@ -1,4 +1,4 @@
--- The reads that a session allows, one by one.
+-- Properties of the reads that are started on a session one by one.
 use Rattle.std.proofs.Common.{◌≡◌, ℕ, suc, ◌+◌, ◌*◌, ◌%◌, ◌≤◌, ◌<◌, min, Bool, true, false, List, [], ◌∷◌, ◌++◌, map, length, take, drop, get_or, refl, sym, ap, subst, ◌∙◌, inl, inr, if◌then◌else◌, Option, Some, None, append_assoc, arith, is_none, nat_lt}
 use Rattle.std.proofs.Math.Seq.{drop-cons}
 use Rattle.std.proofs.lemmas.Bool.{le-ltb}
@@ -26,7 +26,8 @@ use Rattle.office_booking.specs.declared.sessions.slots.Slot.{Slot}
 use Rattle.office_booking.specs.Starting.Starts.{IsBefore, sent_from, slot_sent}
 use Rattle.office_rules.proofs.Rounds.{round_count}
 
--- The number of reads that a session allows.
+-- The count of reads that can be started on a session equals the length of the list of started
+-- reads.
 pub sends_count : (number at : ℕ) (device : Device) (events : List session.Event) (spans : List ReadSpan) (id count window n : ℕ)
     → IsReady device.timeout device.window events id count → count ≤ window → window ≡ device.window
     → n ≡ min (min count device.window) (length spans) → n ≡ length (sends_on number at device events spans)
@@ -42,7 +43,8 @@ ready_on device kept events id count keeps ready =
     subst (λ t. IsReady t device.window events id count) keeps.timeout
     (subst (λ w. IsReady kept.timeout w events id count) keeps.window ready)
 
--- The session allowed the first `i` of these reads; further reads may follow.
+-- The state after `i` reads. These reads were started on the session, and the remaining reads may
+-- follow.
 pub record SoFar (number at : ℕ) (device : Device) (events : List session.Event) (spans : List ReadSpan) (i : ℕ) : Type 0 where
   pub made : List Send
   pub long : length made ≡ i
@@ -60,7 +62,8 @@ begin number at device events spans = record {
       ∙ ap (λ (es : List session.Event). sends_on (number + 0) at device es spans) (sym (append-nil events));
 }
 
--- The session allows one more read.
+-- The effect of starting one more read on the session. The read can be started, and its poll is the
+-- next poll.
 pub record Next (number at : ℕ) (device : Device) (here : List session.Event) (span : ReadSpan) (rest : List ReadSpan) : Type 0 where
   pub can : is_startable device (Some here) ≡ true
   pub first : sends_on number at device here (span ∷ rest)
@@ -86,7 +89,8 @@ starts_further at device events made send =
     append_assoc events (map (start_by at device) made) (start_by at device send ∷ [])
     ∙ ap (λ (es : List session.Event). events ++ es) (sym (map-append (start_by at device) made (send ∷ [])))
 
--- The session allows one more read while the count exceeds the reads so far.
+-- The condition for starting one more read. A read can be started if fewer reads were started than
+-- the session allows.
 pub record Further (number at : ℕ) (device : Device) (events : List session.Event) (spans : List ReadSpan) (i : ℕ) (made : List Send) (span : ReadSpan) : Type 0 where
   pub can : is_startable device (Some (events ++ map (start_by at device) made)) ≡ true
   pub so_far : SoFar number at device events spans (i + 1)
@@ -127,7 +131,7 @@ further number at device events spans i span there so more inside =
       is = refl;
     }
 
--- All reads were allowed.
+-- If a list has the length 0, then the list is empty.
 none_left : {X : Type 0} (xs : List X) → length xs ≡ 0 → xs ≡ []
 none_left [] h = refl
 none_left (x ∷ xs) h = absurd (omega (arith, h))
@@ -140,7 +144,7 @@ complete number at device events spans i so all =
     let none : rest ≡ [] = none_left rest (omega (arith, all, ap length so.sends, length-append so.made rest, so.long)) in
     sym (so.sends ∙ ap (λ (ss : List Send). so.made ++ ss) none ∙ append-nil so.made)
 
--- The transaction identifier advances by one.
+-- After a read is started, the next transaction identifier is larger by one, modulo 65536.
 pub id_after : (at : ℕ) (device : Device) (events : List session.Event) (made : List Send) (send : Send) (id next : ℕ)
     → id ≡ session.next_id (events ++ map (start_by at device) made) → next ≡ (id + 1) % 65536
     → next ≡ session.next_id (events ++ map (start_by at device) (made ++ send ∷ []))
@@ -149,7 +153,8 @@ id_after at device events made send id next is goes =
     ∙ sym (next_id-start (events ++ map (start_by at device) made) at send.number device.unit (span_view send.span))
     ∙ ap session.next_id (starts_further at device events made send)
 
--- A start that is not refused at the latest timestamp is not refused later.
+-- If the session allows a start at its latest timestamp, then it allows the start at each later
+-- timestamp.
 abbrev fault_by : (full busy back over : Bool) → Option StartFault
 fault_by full busy back over =
     if full then Some WindowFull else if busy then Some IdBusy else if back then Some ClockBack else if over then Some Closed else None
@@ -166,7 +171,7 @@ pub start_passes : (device : Device) (events : List session.Event) (moment : ℕ
 start_passes device events moment later can =
     none_by _ _ (nat_lt (last_moment events) (last_moment events)) (nat_lt moment (last_moment events)) _ can (le-ltb moment (last_moment events) later)
 
--- No event is later than a start at this timestamp.
+-- After reads are started at a timestamp, no event of the session is later than this timestamp.
 pub last_more : (at : ℕ) (device : Device) (events : List session.Event) (made : List Send) (send : Send)
     → last_moment (events ++ map (start_by at device) (made ++ send ∷ [])) ≤ at
 last_more at device events made send =
@@ -175,7 +180,8 @@ last_more at device events made send =
     ∙ last_moment-push (events ++ map (start_by at device) made) (start_by at device send) in
     omega (arith, is)
 
--- The frames so far, and one more.
+-- After one more read is started, the frames to send are the earlier frames followed by the frame
+-- of this read.
 pub frames_after : (device : Device) (made : List Send) (send : Send) (out more : List ℕ) → out ≡ flat_map (frame_of device) made
     → more ≡ frame_of device send → out ++ more ≡ flat_map (frame_of device) (made ++ send ∷ [])
 frames_after device [] send out more is one = ap (λ (o : List ℕ). o ++ more) is ∙ one ∙ sym (append-nil (frame_of device send))
@@ -184,7 +190,8 @@ frames_after device (first ∷ made) send out more is one =
     ∙ append_assoc (frame_of device first) (flat_map (frame_of device) made) more
     ∙ ap (λ (o : List ℕ). frame_of device first ++ o) (frames_after device made send (flat_map (frame_of device) made) more refl one)
 
--- The records so far, and one more.
+-- After one more read is started, the poll records are the earlier records followed by the record
+-- of this read.
 pub polls_after : (at number id : ℕ) (device : Device) (here : List session.Event) (span : ReadSpan) (made : List Send) (facts more : List Fact)
     → more ≡ facts ++ poll_by at device (record { number = number; id = id; span = span }) ∷ [] → facts ≡ map (poll_by at device) made
     → id ≡ session.next_id here
@@ -194,7 +201,7 @@ polls_after at number id device here span made facts more one is next =
     ∙ ap (λ (n : ℕ). map (poll_by at device) made ++ poll_by at device (record { number = number; id = n; span = span }) ∷ []) next
     ∙ sym (map-append (poll_by at device) made ((record { number = number; id = session.next_id here; span = span }) ∷ []))
 
--- The session after one more start.
+-- After one more read is started, the session in memory agrees with the session's events.
 pub keeps_after : (at : ℕ) (device : Device) (events : List session.Event) (made : List Send) (send : Send) (kept new : State)
     → KeepsSession device kept (events ++ map (start_by at device) made) → (new.timeout ≡ kept.timeout) × (new.window ≡ kept.window)
     → Stands new ((events ++ map (start_by at device) made) ++ start_by at device send ∷ [])
@@ -205,12 +212,13 @@ keeps_after at device events made send kept new keeps terms stands = record {
   window = terms.1 ∙ keeps.window;
 }
 
--- The buffer has room for one more frame.
+-- If a buffer has at most `12 * i` bytes, then one more frame of 12 bytes leaves at most `12 * (i +
+-- 1)` bytes.
 pub room_after : (i len : ℕ) (out bytes more : List ℕ) → length out ≤ i * 12 → len ≡ 12 → length bytes ≡ 260 → more ≡ out ++ take len bytes → length more ≤ (i + 1) * 12
 room_after i len out bytes more room size long is =
     omega (arith, room, size, ap length is, length-append out (take len bytes), length-take-le len bytes (omega (arith, size, long)))
 
--- The slot after its reads were sent.
+-- After reads are started on a slot's session, the events of the session include these reads.
 sent_events : (at : ℕ) (slot : sessions.Slot) (before : List session.Event) (sends : List Send)
     → with_happenings slot before (map (start_by at slot.device) sends)
     ≡ record { device = slot.device; ended = slot.ended; present = Some (before ++ map (start_by at slot.device) sends) }

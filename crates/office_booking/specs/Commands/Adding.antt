@@ -1,4 +1,4 @@
--- The records that a command adds.
+-- The records that a command adds to the store.
 use Rattle.std.specs.Prelude.{◌≡◌, ℕ, List, Option}
 use Rattle.std.specs.Option.{option_map, option_and_then}
 use Rattle.office_events.specs.declared.commands.Command.{Command}
@@ -10,22 +10,22 @@ use Rattle.office_events.specs.declared.facts.Fact.TheVariants as fact
 use Rattle.office_rules.specs.Sessions as sessions
 use Rattle.office_rules.specs.History as history
 
--- `facts` are the records that the command adds to `known`. They depend neither on the slots nor on
--- the number of the next poll.
+-- True if executing the command adds the records `facts` to the records `known`, for any slots and
+-- any next poll number.
 abbrev pub AreAdded : (at : ℕ) → Command → (known facts : List Fact) → Type 0
 AreAdded at c known facts =
     (number : ℕ) (slots : List sessions.Slot) → facts ≡ history.added_by number at slots known c
 
--- The record of the void that a command requests; `None` if its meter's name is invalid.
+-- The record that a command to void a meter entry adds, or `None` if the meter's name is invalid.
 abbrev pub void_by : (at : ℕ) → VoidEntry → Option Fact
 void_by at c =
     option_map (λ meter. fact.Void (record { meter = meter; place = c.place; at = at })) c.meter
 
--- The record of the point list that a command stores; `None` if its device's name is invalid.
+-- The record of the point list that a command sets, or `None` if the device's name is invalid.
 abbrev pub list_by : PutList → Option Fact
 list_by c = option_map (λ device. fact.List (record { device = device; list = c.list })) c.device
 
--- The record of the accounting register that a command adds; `None` if one of its names is invalid.
+-- The record of the accounting register that a command adds, or `None` if a name is invalid.
 abbrev pub register_by : AddRegister → Option Fact
 register_by c =
     option_and_then (λ name. option_map (λ device. history.register_by c name device) c.device)

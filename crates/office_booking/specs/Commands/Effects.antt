@@ -1,4 +1,4 @@
--- What the office records, starts, sends and answers when it executes an accepted command.
+-- The effects of an accepted command: its records, started polls, request frames and answer.
 use Rattle.std.specs.Prelude.{◌≡◌, ◌⊎◌, ℕ, ◌+◌, ◌≤◌, List, [], ◌∷◌, ◌++◌, map, length, Option, Some, None, OnOk, OnErr, Result, IfOk}
 use Rattle.office_rules.specs.Lawful.{AreLawful}
 use Rattle.poll_core.specs.Settling as session
@@ -24,20 +24,21 @@ use Rattle.office_books.specs.declared.faults.BooksFault.{BooksFault}
 use Rattle.office_books.specs.Ledgers.{Ledger, LedgerAfterCalls, Moves, with_facts}
 use Rattle.office_booking.specs.declared.commands.effects.Done.{Done}
 
--- The event requests a command.
+-- True if the event requests a command.
 abbrev pub AsksCommand : Event → Type 0
 AsksCommand (event.Command c) = Unit {0}
 AsksCommand (event.Asked asked) = Unit {0}
 AsksCommand _ = ⊥
 
--- The record of the response that is stored for an event with an idempotency key; empty for other
--- events.
+-- A list with the stored answer to the event's request, if the event has an idempotency key.
+-- Otherwise an empty list.
 abbrev pub replies_by : (at : ℕ) → Event → List Fact
 replies_by at (event.Asked asked) = reply_by at asked
 replies_by at _ = []
 
--- On `Ok` the records are written; on an error none is, but a crash may leave all of them. This
--- assumes that the store's records with the new ones are lawful.
+-- The guarantees of writing records to the store, if the resulting records are lawful. On `Ok` the
+-- store has all of the records. On an error the store has none of them, but a crash may leave all
+-- of them in the store.
 pub record Tries (old new : Ledger) (facts : List Fact)
     (result : Result (Unit {0}) BooksFault) : Type 0 where
   pub booked : (known : List Fact) → old.holds known → AreLawful (with_facts facts known)
@@ -54,31 +55,32 @@ pub record Tries (old new : Ledger) (facts : List Fact)
       → OnErr result (new.may_leave left ⊎ new.may_leave (left ++ with_facts facts known ∷ []))
   pub goes : LedgerAfterCalls old new result
 
--- A slot after the command's reads were started on its session; unchanged without a session.
+-- The device's slot after the command's reads are started on its session. A slot without a session
+-- is unchanged.
 abbrev pub started_on : (number at : ℕ) → List ReadSpan → Command → sessions.Slot
     → Option (List session.Event) → sessions.Slot
 started_on number at spans c slot None = slot
 started_on number at spans c slot (Some before) =
     with_happenings slot before (starts_by number at spans (Some c) slot.device before)
 
--- A slot after the command: its session has the reads that the command starts.
+-- The device's slot after the command. The slot's session has the reads that the command starts.
 abbrev pub slot_obeyed : (number at : ℕ) → List ReadSpan → Command → sessions.Slot → sessions.Slot
 slot_obeyed number at spans c slot = started_on number at spans c slot slot.present
 
--- All slots after the command, followed by the slot of a device that the command adds.
+-- All slots after the command. If the command adds a device, the device's slot is the last slot.
 abbrev pub slots_obeyed : (number at : ℕ) → List ReadSpan → Command → List sessions.Slot
     → List sessions.Slot
 slots_obeyed number at spans c slots =
     map (slot_obeyed number at spans c) slots ++ slots_added (Some c)
 
--- The records after the command, with the stored response of its request if it has one.
+-- All records of the store after the command, with the stored answer to its request, if any.
 abbrev pub facts_obeyed : (at : ℕ) → List sessions.Slot → List Fact → Command
     → (replies : List Fact) → List Fact
 facts_obeyed at slots known c replies =
     with_facts (added_by (next_poll known) at slots known c ++ replies) known
 
--- Executing the command takes the store from any records to the records after the command, if these
--- are lawful.
+-- True if executing the command changes the store from its earlier records to the records after the
+-- command, if the later records are lawful.
 abbrev pub MovesOnBy : {T : Type 0} → (at : ℕ) → Command → (replies : List Fact)
     → (old new : Ledger) → Result T BooksFault → Type 0
 MovesOnBy at c replies old new result =
@@ -86,8 +88,8 @@ MovesOnBy at c replies old new result =
     → let later = facts_obeyed at slots known c replies in
     AreLawful later → Moves old new known later result
 
--- The command was executed over these slots and records: its records are written, its reads are
--- started, its frames are to be sent, and the answer is the defined one.
+-- The guarantees of executing a command. The command's records are written, its reads are started,
+-- its request frames are returned to be sent, and its answer is correct.
 pub record Obeys (old new : Ledger) (after : List Slot) (slots : List sessions.Slot)
     (known : List Fact) (at : ℕ) (c : Command)
     (replies : List Fact) (result : Result Done BooksFault) : Type 0 where
@@ -101,8 +103,8 @@ pub record Obeys (old new : Ledger) (after : List Slot) (slots : List sessions.S
       → IfOk result (λ done.
       done.outgoing ≡ notes.frames_by (next_poll known) at slots known (Some c))
 
--- The accepted event was executed after this past: its records are written, its reads are started,
--- its frames are to be sent, and the answer is the defined one.
+-- The guarantees of executing an accepted event that requests a command. The records are written,
+-- the reads are started, the request frames are returned to be sent, and the answer is correct.
 pub record Carries (old new : Ledger) (after : List Slot) (past : History) (at : ℕ) (e : Event)
     (result : Result Done BooksFault) : Type 0 where
   pub books : Moves old new (facts_of past) (facts_of (Fed at e ∷ past)) result
@@ -114,8 +116,8 @@ pub record Carries (old new : Ledger) (after : List Slot) (past : History) (at :
       → IfOk result (λ done.
       done.outgoing ≡ outgoing_of (next_poll (facts_of past)) at e (slots_of past) (facts_of past))
 
--- `Carries` holds for every accepted event that requests this command and stores the response
--- `replies`. `before` are the slots after the past of the event.
+-- True if `Carries` holds for every accepted event that requests this command and has this stored
+-- answer. `before` are the slots before the event.
 abbrev pub CarriesOut : (old new : Ledger) → (before after : List Slot) → (at : ℕ) → Command
     → (replies : List Fact) → Result Done BooksFault → Type 0
 CarriesOut old new before after at c replies result =
@@ -123,8 +125,8 @@ CarriesOut old new before after at c replies result =
     → IsAccepted past at e → command_in e ≡ Some c → replies_by at e ≡ replies
     → Carries old new after past at e result
 
--- `Carries` holds for this event after every past that left the slots `before` and accepts the
--- event.
+-- True if `Carries` holds for this event after every history that accepts the event and leads to
+-- the slots `before`.
 abbrev pub CarriesEvent : (old new : Ledger) → (before after : List Slot) → (at : ℕ) → Event
     → Result Done BooksFault → Type 0
 CarriesEvent old new before after at e result =
@@ -135,59 +137,61 @@ CarriesEvent old new before after at e result =
 abbrev pub sends_by : (at : ℕ) → sessions.Slot → List Fact → Command → List sessions.Send
 sends_by at slot known c = starts.sends_of (next_poll known) at (spans_by known c) slot
 
--- The poll records of the reads that the command starts on the slot.
+-- The poll records of the reads that the command starts on the session of the slot.
 abbrev pub polls_by : (at : ℕ) → sessions.Slot → List Fact → Command → List Fact
 polls_by at slot known c = starts.polls_of (next_poll known) at (spans_by known c) slot
 
--- The bytes of the frames of the reads that the command starts on the slot.
+-- The bytes of the request frames for the reads that the command starts on the session of the slot.
 abbrev pub frames_by : (at : ℕ) → sessions.Slot → List Fact → Command → List ℕ
 frames_by at slot known c = starts.frames_of (next_poll known) at (spans_by known c) slot
 
--- The slot after the reads that the command starts on it.
+-- The slot after the command's reads are started on its session.
 abbrev pub slot_by : (at : ℕ) → sessions.Slot → List Fact → Command → sessions.Slot
 slot_by at slot known c = starts.slot_sent (next_poll known) at (spans_by known c) slot
 
--- The records after a start: first its polls, then the stored response of its request, are added to
--- `known`.
+-- The records after a command starts polls: the records `known`, then the started polls, then the
+-- stored answer to the request.
 abbrev pub facts_started : (at : ℕ) → sessions.Slot → List Fact → Command → (replies : List Fact)
     → List Fact
 facts_started at slot known c replies = with_facts (polls_by at slot known c ++ replies) known
 
--- `so` is true of every slot with this stored state, and of all records that leave a number for one
--- more poll.
+-- True if `so` holds for every slot that agrees with the slot `kept` in memory. The number of polls
+-- in the records is at most the maximum.
 abbrev pub WhereStarted : (kept : Slot) → (sessions.Slot → List Fact → Type 0) → Type 0
 WhereStarted kept so = (slot : sessions.Slot) (known : List Fact) → KeepsSlot kept slot
     → next_poll known ≤ MAX_POLLS + 1 → so slot known
 
--- The answer to a start: the number of its first poll, the number of polls that it started, and the
--- number of reads that it requests.
+-- The answer to a command that starts polls: the number of its first poll, the number of started
+-- polls, and the number of requested reads.
 abbrev pub start_answer : (at : ℕ) → sessions.Slot → List Fact → Command → Answer
 start_answer at slot known c =
     answer.Started (next_poll known) (length (sends_by at slot known c)) (reads_in_all known c)
 
--- A start writes its poll records and the stored response of its request, if the resulting records
--- are lawful.
+-- True if a command that starts polls writes its poll records and the stored answer to its request,
+-- if the resulting records are lawful.
 abbrev pub BooksStart : (at : ℕ) → Command → (replies : List Fact) → (old new : Ledger)
     → Result Done BooksFault → sessions.Slot → (known : List Fact) → Type 0
 BooksStart at c replies old new result slot known =
     let later = facts_started at slot known c replies in
     AreLawful later → Moves old new known later result
 
--- After a successful start the session of the slot has its polls.
+-- True if after the command succeeds, the session of the slot has the polls that the command
+-- started.
 abbrev pub StandsStarted : (at : ℕ) → Command → (old new : Ledger) → (after : Slot)
     → Result Done BooksFault → sessions.Slot → (known : List Fact) → Type 0
 StandsStarted at c old new after result slot known =
     starts.IsBefore at slot → old.holds known → new.is_clean
     → OnOk result (KeepsSlot after (slot_by at slot known c))
 
--- A successful start has the answer `start_answer`.
+-- True if the answer equals `start_answer` whenever the command succeeds in starting polls.
 abbrev pub AnswersStart : (at : ℕ) → Command → (old new : Ledger)
     → Result Done BooksFault → sessions.Slot → (known : List Fact) → Type 0
 AnswersStart at c old new result slot known =
     old.holds known → new.is_clean
     → IfOk result (λ done. done.answer ≡ start_answer at slot known c)
 
--- A successful start sends exactly the frames of its reads.
+-- True if a command that succeeds in starting polls returns exactly the request frames of its
+-- reads.
 abbrev pub SendsStart : (at : ℕ) → Command → (old new : Ledger)
     → Result Done BooksFault → sessions.Slot → (known : List Fact) → Type 0
 SendsStart at c old new result slot known =

@@ -1,4 +1,4 @@
--- What the opening of an office writes to the store, and the slots with which the office begins.
+-- The records that the opening of an office adds, and the slots of the opened office.
 use Rattle.std.specs.Prelude.{◌≡◌, ℕ, true, ◌∷◌, None, Result, IfOk}
 use Rattle.std.specs.declared.alloc.Global.{Global}
 use Rattle.std.specs.declared.vec.Vec.{Vec}
@@ -13,25 +13,25 @@ use Rattle.office_booking.specs.Sessions.Keeping.{KeepsSlots}
 use Rattle.office_books.specs.declared.faults.BooksFault.{BooksFault}
 use Rattle.office_books.specs.Ledgers.{Ledger, Moves}
 
--- The stored slot of a device that is not connected.
+-- A slot for the device, without a session.
 unfoldable pub opened : Device → Slot
 opened device = record { device = device; session = None; idle = λ i. true }
 
--- The office may be opened at timestamp `at` after this past.
+-- True if the office may be opened at timestamp `at` after the history `past`.
 pub record MayOpen (past : History) (at : ℕ) : Type 0 where
   pub is_past : IsPast past
   pub accepted : opening_refusal_of (facts_of past) at ≡ None
 
--- The opening records each pending poll as lost, all of them at once. Each device has a slot
--- without a session.
+-- The guarantees of an opening of the office. The opening records all pending polls as lost, or
+-- none of them, and each device has a slot without a session.
 pub record Opens (past : History) (at : ℕ) (old new : Ledger)
     (result : Result (Vec Slot Global) BooksFault) : Type 0 where
   pub books : Moves old new (facts_of past) (facts_of (Opened at ∷ past)) result
   pub slots : old.holds (facts_of past) → new.is_clean
       → IfOk result (λ slots. KeepsSlots slots.items (slots_of (Opened at ∷ past)))
 
--- The two reasons to refuse an opening: its timestamp is before the latest record, or past the
--- limit.
+-- True for the two reasons to refuse an opening of the office. Its timestamp is before the latest
+-- record's timestamp, or above the limit.
 abbrev pub IsOfOpening : Refusal → Type 0
 IsOfOpening refusal.ClockBack = Unit {0}
 IsOfOpening refusal.Limit = Unit {0}

@@ -1,4 +1,4 @@
--- Finding a stored slot by the name of its device.
+-- The search for a slot by the name of its device.
 use Rattle.std.specs.Prelude.{◌≡◌, ℕ, Bool, true, List, Option, Some, None, is_some}
 use Rattle.std.specs.List.{position}
 use Rattle.office_events.specs.declared.commands.Command.{Command}
@@ -6,22 +6,22 @@ use Rattle.office_events.specs.declared.commands.Command.TheVariants as command
 use Rattle.office_rules.specs.Facts.{is_named}
 use Rattle.office_booking.specs.declared.sessions.slots.Slot.{Slot}
 
--- The index of the first slot whose device has the name; `None` if there is none or the name is
--- invalid.
+-- The index of the first slot whose device has the name, or `None` if no device has the name or if
+-- the name is invalid.
 abbrev pub place_in : List Slot → Option (List ℕ) → Option ℕ
 place_in kept given = position (λ slot. is_named given slot.device.name) kept
 
--- Whether a slot's device has the name.
+-- True if the device of a slot has the name.
 abbrev pub has_slot : List Slot → Option (List ℕ) → Bool
 has_slot kept given = is_some (place_in kept given)
 
--- If the command starts polls, its device has a slot.
+-- True if the device of a command that starts polls has a slot.
 abbrev pub StartsOnSlot : List Slot → Command → Type 0
 StartsOnSlot kept (command.StartPoll c) = has_slot kept c.device ≡ true
 StartsOnSlot kept (command.StartRound c) = has_slot kept c.device ≡ true
 StartsOnSlot kept _ = Unit {0}
 
--- If the event has a command that starts polls, the device of the command has a slot.
+-- True if the device of an event that starts polls has a slot.
 abbrev pub AsksOnSlot : List Slot → Option Command → Type 0
 AsksOnSlot kept None = Unit {0}
 AsksOnSlot kept (Some c) = StartsOnSlot kept c

@@ -1,4 +1,5 @@
--- The pending write of an event: the records that it will add to the store, and its notifications.
+-- The pending write of a device event: records that are not yet in the store, and their
+-- notifications.
 use Rattle.std.specs.Prelude.{◌≡◌, List, [], ◌∷◌, ◌++◌, reverse, Result, OnOk, IfOk, IsOk}
 use Rattle.meter_journal.specs.declared.lines.EntryKind.TheVariants as kind
 use Rattle.office_events.specs.declared.facts.Fact.{Fact}
@@ -9,59 +10,61 @@ use Rattle.office_books.specs.declared.faults.BooksFault.{BooksFault}
 use Rattle.office_books.specs.Ledgers.{Ledger}
 use Rattle.office_booking.specs.declared.settling.drafts.Draft.{Draft}
 
--- The store's records with those of the pending write added, the latest first.
+-- The store's records followed by the records of the pending write. The resulting list has the
+-- latest record first.
 abbrev pub so_far : Draft → (known : List Fact) → List Fact
 so_far draft known = reverse draft.facts.items ++ known
 
--- The pending write has one more record and its notification.
+-- True if one record and its notification were added to the pending write `old`, which gives `new`.
 pub record HasMore (old new : Draft) (f : Fact) (note : Note) : Type 0 where
   pub facts : new.facts.items ≡ old.facts.items ++ f ∷ []
   pub notes : new.notes.items ≡ old.notes.items ++ note ∷ []
 
--- The record is the outcome of a poll, or a reading, accepted or rejected. An event that settles
--- polls adds no other record.
+-- True if the record is the outcome of a poll, an accepted reading or a rejected reading. A device
+-- event adds no other records.
 abbrev pub IsTold : Fact → Type 0
 IsTold (fact.Outcome ended) = Unit {0}
 IsTold (fact.Entry booked) = booked.kind ≡ kind.Reading
 IsTold (fact.Hold held) = Unit {0}
 IsTold _ = ⊥
 
--- All of these records are outcomes of polls or readings.
+-- True if all of these records are outcomes of polls, accepted readings or rejected readings.
 abbrev pub AreTold : List Fact → Type 0
 AreTold [] = Unit {0}
 AreTold (f ∷ facts) = IsTold f × AreTold facts
 
--- The pending write grew by the records that `more` adds and the notifications that `tells` gives.
+-- True if the records `more` and the notifications `tells` were added to the pending write `old`,
+-- which gives `new`.
 pub record IsAdded (known : List Fact) (old new : Draft) (more : List Fact → List Fact)
     (tells : List Fact → List Note) : Type 0 where
   pub facts : so_far new known ≡ more (so_far old known)
   pub notes : new.notes.items ≡ old.notes.items ++ tells (so_far old known)
   pub told : AreTold new.facts.items
 
--- `IsAdded` holds for all records of the store, if no wrong result of the store was taken as true
--- and the resulting records are lawful.
+-- True if the pending write gains the records `more` and the notifications `tells`. This is stated
+-- only for lawful resulting records, and if no wrong result of the store went undetected.
 abbrev pub Grows : (holds : List Fact → Type 0) (clean : Type 0) (old new : Draft)
     → (List Fact → List Fact) → (List Fact → List Note) → Type 0
 Grows holds clean old new more tells =
     (known : List Fact) → holds known → clean → AreTold old.facts.items
     → AreLawful (more (so_far old known)) → IsAdded known old new more tells
 
--- On `Ok`, the pending write grew by the records that `more` adds and the notifications that
--- `tells` gives.
+-- True if a successful call adds the records `more` and the notifications `tells` to the pending
+-- write.
 abbrev pub Adds : {T : Type 0} → (old new : Ledger) → (before after : Draft) → Result T BooksFault
     → (List Fact → List Fact) → (List Fact → List Note) → Type 0
 Adds old new before after result more tells =
     OnOk result (Grows old.holds new.is_clean before after more tells)
 
--- The result is what `says` describes for the store's records with those of the pending write
--- added.
+-- True if the result of a lookup is correct for the store's records followed by the records of the
+-- pending write.
 abbrev pub FindsAfter : {T : Type 0} → (old new : Ledger) → Draft → Result T BooksFault
     → (List Fact → T → Type 0) → Type 0
 FindsAfter old new draft result says =
     (known : List Fact) → old.holds known → new.is_clean → AreTold draft.facts.items
     → AreLawful (so_far draft known) → IfOk result (says (so_far draft known))
 
--- The call succeeds without a query of the store, and leaves the pending write unchanged.
+-- True if the call succeeds without a query of the store, and leaves the pending write unchanged.
 pub record IsIdle {T B : Type 0} (result : Result T BooksFault) (old new : B)
     (before after : Draft) : Type 0 where
   pub ok : IsOk result

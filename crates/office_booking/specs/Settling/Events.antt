@@ -1,4 +1,4 @@
--- What the office does with an accepted event of a device.
+-- The effects of an accepted device event on the office's store, slots and notifications.
 use Rattle.std.specs.Prelude.{◌≡◌, ℕ, List, [], ◌∷◌, None, Result, IfOk, OnOk, IsOk}
 use Rattle.std.specs.declared.alloc.Global.{Global}
 use Rattle.std.specs.declared.vec.Vec.{Vec}
@@ -13,16 +13,16 @@ use Rattle.office_booking.specs.Sessions.Keeping.{KeepsSlots}
 use Rattle.office_books.specs.declared.faults.BooksFault.{BooksFault}
 use Rattle.office_books.specs.Ledgers.{Ledger, Moves}
 
--- The slots are in the state after this past, and no reason to refuse the event applies.
+-- True if the slots agree with the history `past`, and no reason to refuse the event applies.
 pub record IsNext (past : History) (slots : List Slot) (at : ℕ) (e : Event) : Type 0 where
   pub is_past : IsPast past
   pub keeps : KeepsSlots slots (slots_of past)
   pub accepted : refusal_of past at e ≡ None
 
--- The event's outcomes and readings are recorded all at once, and reported as notifications. On
--- `Ok` the slots and the store are in the state after the event.
+-- The guarantees of processing a device event. On `Ok` the store has all outcomes and readings of
+-- the event, the slots have the sessions after the event, and the notifications are correct.
 --
--- On an error the store's records stay, but a crash may leave the records after the event.
+-- On an error the store's records are unchanged, but a crash may leave the records after the event.
 pub record Settles (past : History) (at : ℕ) (e : Event) (old new : Ledger) (after : List Slot)
     (result : Result (Vec Note Global) BooksFault) : Type 0 where
   pub slots : OnOk result (KeepsSlots after (slots_of (Fed at e ∷ past)))
@@ -30,7 +30,7 @@ pub record Settles (past : History) (at : ℕ) (e : Event) (old new : Ledger) (a
   pub notes : old.holds (facts_of past) → new.is_clean → IfOk result (λ told.
       told.items ≡ notes_of (next_poll (facts_of past)) at e (slots_of past) (facts_of past))
 
--- The call succeeds without a query of the store, and reports nothing.
+-- True if the call succeeds without a query of the store, and reports no notifications.
 pub record IsQuiet {B : Type 0} (old new : B)
     (result : Result (Vec Note Global) BooksFault) : Type 0 where
   pub ok : IsOk result

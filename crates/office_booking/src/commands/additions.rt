@@ -18,7 +18,7 @@ use office_books::{Books, BooksFault};
 use office_events::{Command, Exchange, Fact};
 use std::alloc::{AllocError, Global};
 
-/// Returns a list of this record alone; an empty list for `None`.
+/// Returns a list that has the given record as its only element, or an empty list for `None`.
 fn listed(alloc: Global, fact: Option<Fact>) -> Result<Vec<Fact>, AllocError>
     ensures { IfOk result (λ facts. facts.items ≡ option_to_list fact) }
 {
@@ -29,8 +29,8 @@ fn listed(alloc: Global, fact: Option<Fact>) -> Result<Vec<Fact>, AllocError>
     Ok(facts)
 }
 
-/// The two records of an exchange: the closing of the register's open meter, and the opening of the
-/// next meter.
+/// Returns the two records of a meter exchange. The first record closes the open meter of the
+/// accounting register, and the second record opens the new meter.
 fn exchanged<B: Books>(
     alloc: Global,
     books: &mut B,

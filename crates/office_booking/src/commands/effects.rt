@@ -1,4 +1,5 @@
-//! Executes accepted commands.
+//! Executes accepted commands: writes their records, starts their polls and adds slots of new
+//! devices.
 ghost use Rattle.std.specs.Prelude.{◌≡◌, ◌≤◌, ◌+◌, ◌++◌, [], true, false, List, Some, OnOk, OnErr, vec_len, vec_capacity};
 ghost use Rattle.std.specs.Option.{option_to_list};
 ghost use Rattle.office_events.specs.declared.commands.Command.TheVariants as commands;
@@ -24,14 +25,14 @@ use office_rules::facts_are_lawful;
 use poll_core::{LAST_MOMENT, each_once, one_event_more};
 use std::alloc::Global;
 
-/// The answer to a command, and the bytes to send.
+/// The answer to an executed command, and the bytes to send to the command's device.
 #[derive(Drop)]
 pub struct Done {
     pub answer: Answer,
     pub outgoing: Outgoing,
 }
 
-/// Proves that if the command has a point list, the list has the reads of its plan.
+/// Proves that if a command has a point list, then this list has a plan of its reads.
 pub fn puts_planned(command: &Command)
     ensures { PutsPlanned (Some command.now) }
 {
@@ -53,8 +54,8 @@ pub fn puts_planned(command: &Command)
     }
 }
 
-/// Appends the slot of a new device, unless the command failed or adds no device. The list must
-/// have room for the slot.
+/// Appends the slot of a new device if the command succeeded and adds a device. The list must have
+/// room for the slot.
 fn add_slot(slots: &mut Vec<Slot>, device: Option<Device>, done: &Result<Done, BooksFault>)
     requires room { vec_len slots.old + 1 ≤ vec_capacity slots.old }
     ensures added { (kept : List sessions.Slot) → KeepsSlots slots.old.items kept
@@ -72,7 +73,7 @@ fn add_slot(slots: &mut Vec<Slot>, device: Option<Device>, done: &Result<Done, B
     }
 }
 
-/// Adds a device. The slot's memory is reserved before the device is recorded.
+/// Adds a device. Memory for its slot is reserved before the device is recorded.
 fn add_device<B: Books>(
     alloc: Global,
     slots: &mut Vec<Slot>,
@@ -98,7 +99,7 @@ fn add_device<B: Books>(
     done
 }
 
-/// Executes a command that changes no slot: its records are written, and nothing is sent.
+/// Executes a command that changes no slot: its records are written, and no frames are sent.
 fn note<B: Books>(
     alloc: Global,
     slots: &[Slot],
@@ -119,7 +120,7 @@ fn note<B: Books>(
     record(alloc, books, moment, command, reply)
 }
 
-/// Starts the polls of a command on the session of its device.
+/// Executes a command that starts polls on the session of the command's device.
 fn start_at<B: Books>(
     alloc: Global,
     slots: &mut [Slot],
@@ -187,8 +188,9 @@ fn obey<B: Books>(
 
 /// Executes an accepted event that requests a command.
 ///
-/// The command's records and the stored response of the request go into the store all at once. The
-/// polls of the command are started, and a new device gets its slot. On error nothing has changed.
+/// The command's records and the stored answer to the request are written together. The command's
+/// polls are started, and a new device gets a slot. An error changes neither the slots nor the
+/// records.
 pub fn carry_out<B: Books>(
     alloc: Global,
     slots: &mut Vec<Slot>,

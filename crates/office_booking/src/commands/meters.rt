@@ -1,4 +1,4 @@
-//! Builds the records of the installation, the corrections and the closing of a meter.
+//! Builds the records of a meter's installation, corrections and closing.
 ghost use Rattle.std.specs.Prelude.{◌≡◌, ◌≤◌, false, None, Some, Option};
 ghost use Rattle.std.specs.Option.{option_and_then, option_to_list};
 ghost use Rattle.energy_core.specs.declared.entries.Entry.TheVariants as entry;
@@ -19,7 +19,7 @@ use office_events::{
     Manual, Name, Opening, Rescale, Reset, VoidEntry, VoidedEntry,
 };
 
-/// Returns the opening record of a new meter; `None` if a name is invalid.
+/// Returns the record that opens a new meter, or `None` if a name in the command is invalid.
 pub fn opening_by(moment: u64, install: &Install) -> Option<Fact>
     requires field { asks_bad_field moment (command.Install install.now) ≡ false }
     requires scale { asks_bad_scale (command.Install install.now) ≡ false }
@@ -36,7 +36,7 @@ pub fn opening_by(moment: u64, install: &Install) -> Option<Fact>
     }))
 }
 
-/// Returns the installation that an exchange requests after the closing of the old meter.
+/// Returns the installation command for the new meter of an exchange of meters.
 pub fn installed_by(exchange: &Exchange) -> Install
     ensures { result ≡ history.installed_by exchange.now }
 {
@@ -50,8 +50,7 @@ pub fn installed_by(exchange: &Exchange) -> Install
     }
 }
 
-/// The record of an entry of this kind at the meter: the counter advanced to `raw`, over `rolls`
-/// full turns.
+/// Returns the record of an entry that advances a meter's counter to `raw`, with `rolls` rollovers.
 fn step_on(row: &Installation, kind: EntryKind, at: u64, raw: u64, rolls: u64) -> Fact
     requires raw { raw ≤ MAX_SHOWN }
     requires rolls { rolls ≤ MAX_ROLLS }
@@ -69,8 +68,8 @@ fn step_on(row: &Installation, kind: EntryKind, at: u64, raw: u64, rolls: u64) -
     })
 }
 
-/// The record of an entry of this kind at the meter: the counter advanced to `before` and was set
-/// to `after`, at the scale `sf`.
+/// Returns the record of an entry that changes a meter's counter. The counter advanced to `before`
+/// and was then set to `after`, at the scale factor `sf`.
 fn change_on(row: &Installation, kind: EntryKind, at: u64, before: u64, after: u64, sf: i16) -> Fact
     requires before { before ≤ MAX_SHOWN }
     requires after { after ≤ MAX_SHOWN }
@@ -89,7 +88,7 @@ fn change_on(row: &Installation, kind: EntryKind, at: u64, before: u64, after: u
     })
 }
 
-/// Returns the closing entry of the meter that an exchange replaces.
+/// Returns the closing entry of the old meter, which an exchange of meters replaces.
 pub fn closing_by(moment: u64, row: &Installation, exchange: &Exchange) -> Fact
     requires field { asks_bad_field moment (command.Exchange exchange.now) ≡ false }
     requires counter { FitsCounter (command.Exchange exchange.now) }
@@ -104,7 +103,7 @@ pub fn closing_by(moment: u64, row: &Installation, exchange: &Exchange) -> Fact
     )
 }
 
-/// Returns the entry of a counter reset at its meter.
+/// Returns the meter entry that records a reset of the meter's counter.
 pub fn reset_by(moment: u64, row: &Installation, reset: &Reset) -> Fact
     requires counter { FitsCounter (command.Reset reset.now) }
     ensures { Some result ≡ history.made_on moment (command.Reset reset.now) row.now }
@@ -113,7 +112,7 @@ pub fn reset_by(moment: u64, row: &Installation, reset: &Reset) -> Fact
     change_on(row, EntryKind::Reset, moment, reset.before, reset.after, sf)
 }
 
-/// Returns the entry of a change of scale at its meter.
+/// Returns the meter entry that records a change of the scale factor of the meter's counter.
 pub fn rescale_by(moment: u64, row: &Installation, rescale: &Rescale) -> Fact
     requires scale { asks_bad_scale (command.Rescale rescale.now) ≡ false }
     requires counter { FitsCounter (command.Rescale rescale.now) }
@@ -130,7 +129,7 @@ pub fn rescale_by(moment: u64, row: &Installation, rescale: &Rescale) -> Fact
     )
 }
 
-/// Returns the entry of a reading by hand at its meter.
+/// Returns the meter entry that records a manual reading of the meter.
 pub fn manual_by(moment: u64, row: &Installation, manual: &Manual) -> Fact
     requires field { asks_bad_field moment (command.Manual manual.now) ≡ false }
     requires counter { FitsCounter (command.Manual manual.now) }
@@ -149,7 +148,7 @@ pub fn close_by(moment: u64, row: &Installation, close: &Close) -> Fact
     step_on(row, EntryKind::Closing, moment, close.raw, close.rolls)
 }
 
-/// Returns the record that an entry is void; `None` if the meter's name is invalid.
+/// Returns the record that voids a meter entry, or `None` if the meter's name is invalid.
 pub fn void_by(moment: u64, void: &VoidEntry) -> Option<Fact>
     ensures { result ≡ adding.void_by moment void.now }
 {
@@ -160,7 +159,7 @@ pub fn void_by(moment: u64, void: &VoidEntry) -> Option<Fact>
     }))
 }
 
-/// Returns the open meter at the accounting register with the name; `None` if there is none.
+/// Returns the open meter at the named accounting register, or `None` if no meter is open there.
 pub fn open_meter<B: Books>(
     books: &mut B,
     register: &Option<Name>,

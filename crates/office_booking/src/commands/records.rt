@@ -1,4 +1,4 @@
-//! Writes the records of commands that change no slot.
+//! Writes the records of commands that change no existing slot.
 ghost use Rattle.std.specs.Prelude.{◌≡◌, ◌++◌, [], false, List, Option, IfOk};
 ghost use Rattle.std.specs.Option.{option_to_list};
 ghost use Rattle.office_events.specs.declared.facts.Fact.{Fact};
@@ -19,7 +19,7 @@ use office_books::{Books, BooksFault};
 use office_events::{Answer, Command, Fact};
 use std::alloc::{AllocError, Global};
 
-/// Appends the stored response of a request, if there is one, to the records of its command.
+/// Returns the records of a command, followed by the stored answer to its request, if any.
 fn with_reply(facts: Vec<Fact>, reply: Option<Fact>) -> Result<Vec<Fact>, AllocError>
     ensures { IfOk result (λ all. all.items ≡ facts.items ++ option_to_list reply) }
 {
@@ -30,7 +30,7 @@ fn with_reply(facts: Vec<Fact>, reply: Option<Fact>) -> Result<Vec<Fact>, AllocE
     Ok(all)
 }
 
-/// Writes the records of a command, followed by the stored response of its request if there is one.
+/// Writes the records of a command, and the stored answer to its request, if any, to the store.
 pub fn book<B: Books>(
     books: &mut B,
     facts: Vec<Fact>,
@@ -43,8 +43,8 @@ pub fn book<B: Books>(
     books.book(all)
 }
 
-/// Writes the records of a command that starts no polls. If the command adds a device, the caller
-/// adds the slot.
+/// Writes the records of a command that starts no polls to the store. If the command adds a device,
+/// the caller adds the device's slot.
 pub fn record<B: Books>(
     alloc: Global,
     books: &mut B,

@@ -1,4 +1,4 @@
-//! Builds the records of new devices, point lists and accounting registers.
+//! Builds the records of commands that add devices, point lists and accounting registers.
 ghost use Rattle.std.specs.Prelude.{◌≡◌, false, IfOk, Option};
 ghost use Rattle.office_events.specs.declared.commands.Command.TheVariants as command;
 ghost use Rattle.office_rules.specs.Sessions as sessions;
@@ -13,7 +13,7 @@ use office_events::{
 };
 use std::alloc::AllocError;
 
-/// Returns the device that a command adds; `None` if its name is invalid.
+/// Returns the device that a command adds, or `None` if its name is invalid.
 pub fn device_by(add: &AddDevice) -> Option<Device>
     requires { asks_bad_field 0 (command.AddDevice add.now) ≡ false }
     ensures { result ≡ sessions.device_by add.now }
@@ -26,7 +26,7 @@ pub fn device_by(add: &AddDevice) -> Option<Device>
     })
 }
 
-/// Returns the record of the point list that a command stores; `None` if the device's name is
+/// Returns the record of the point list that a command sets, or `None` if the device's name is
 /// invalid.
 pub fn list_by(put: &PutList) -> Result<Option<Fact>, AllocError>
     ensures { IfOk result (λ added. added ≡ adding.list_by put.now) }
@@ -48,7 +48,8 @@ fn function_by(function: u64) -> ReadFunction
     }
 }
 
-/// Returns the record of the accounting register that a command adds; `None` if a name is invalid.
+/// Returns the record of the accounting register that a command adds, or `None` if a name is
+/// invalid.
 pub fn register_by(add: &AddRegister) -> Option<Fact>
     requires field { asks_bad_field 0 (command.AddRegister add.now) ≡ false }
     requires scale { asks_bad_scale (command.AddRegister add.now) ≡ false }

@@ -1,4 +1,4 @@
-//! The response that is stored for a request, so that a retry of the request does not act twice.
+//! Builds the stored answer to a request, by which the office recognizes a retry of the request.
 ghost use Rattle.std.specs.Prelude.{◌≡◌, [], List, IfOk};
 ghost use Rattle.std.specs.Option.{option_to_list};
 ghost use Rattle.office_events.specs.declared.facts.Fact.{Fact};
@@ -8,7 +8,7 @@ ghost use Rattle.office_booking.specs.Commands.Effects.{replies_by};
 use office_events::{Asked, Command, CommandKind, Event, Fact, Reply};
 use std::alloc::AllocError;
 
-/// Returns the kind of a command.
+/// Returns the kind of a command, which is stored with the answer to the command's request.
 pub fn kind_of(command: &Command) -> CommandKind
     ensures { result ≡ history.kind_of command.now }
 {
@@ -28,8 +28,8 @@ pub fn kind_of(command: &Command) -> CommandKind
     }
 }
 
-/// The record of the response to a request, with a copy of the request's bytes; `None` if the
-/// caller's name is invalid.
+/// Returns the record of the answer to a request, or `None` if the caller's name is invalid. The
+/// record has a copy of the request's bytes.
 fn kept_of(moment: u64, asked: &Asked) -> Result<Option<Fact>, AllocError>
     ensures { IfOk result (λ kept. option_to_list kept ≡ history.reply_by moment asked.now) }
 {
@@ -45,7 +45,7 @@ fn kept_of(moment: u64, asked: &Asked) -> Result<Option<Fact>, AllocError>
     })))
 }
 
-/// Returns the record of the response that is stored for a request; `None` for an event without an
+/// Returns the record of the answer to store for an event, or `None` if the event has no
 /// idempotency key.
 pub fn reply_of(moment: u64, event: &Event) -> Result<Option<Fact>, AllocError>
     ensures { IfOk result (λ kept. option_to_list kept ≡ replies_by moment event.now) }

@@ -1,4 +1,4 @@
-//! Finds the reads that a command starts.
+//! Finds the Modbus reads that a command starts.
 ghost use Rattle.std.specs.Prelude.{◌≡◌, true, [], ◌∷◌, IfOk};
 ghost use Rattle.office_rules.specs.History.{spans_by};
 ghost use Rattle.office_rules.specs.Refusals.{is_start, reads_in_all};
@@ -10,14 +10,15 @@ use office_books::{Books, BooksFault, read_count_at, reads_at};
 use office_events::{Command, StartRound};
 use std::alloc::{AllocError, Global};
 
-/// The reads that a command requests, and the number of reads in the complete plan.
+/// The Modbus reads that a command requests, and the number of reads in the complete plan of the
+/// device.
 #[derive(Drop)]
 pub struct Reads {
     pub spans: Vec<ReadSpan>,
     pub of: u64,
 }
 
-/// The reads of a round of the device's plan, from the index that the command gives.
+/// Returns the reads of the device's plan, beginning at the index that the command gives.
 fn reads_of_round<B: Books>(
     alloc: Global,
     books: &mut B,
@@ -42,7 +43,7 @@ fn reads_of_round<B: Books>(
     })
 }
 
-/// The list of one read, for a single poll.
+/// Returns the single read of a poll command, as a list.
 fn only(alloc: Global, span: ReadSpan) -> Result<Reads, AllocError>
     ensures spans { IfOk result (λ reads. reads.spans.items ≡ span ∷ []) }
     ensures all { IfOk result (λ reads. reads.of ≡ 1) }
@@ -52,7 +53,7 @@ fn only(alloc: Global, span: ReadSpan) -> Result<Reads, AllocError>
     Ok(Reads { spans, of: 1 })
 }
 
-/// Returns the reads that a command requests.
+/// Returns the Modbus reads that a command requests.
 pub fn reads_by<B: Books>(
     alloc: Global,
     books: &mut B,

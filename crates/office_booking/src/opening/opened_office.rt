@@ -1,4 +1,4 @@
-//! Opens an office: no device is connected, and each poll without an outcome is lost.
+//! Opens an office: records each pending poll as lost, and creates slots without sessions.
 ghost use Rattle.std.specs.Prelude.{◌≡◌, ◌≤◌, List, map, reverse, None, IfOk, IfSome, OnErr};
 ghost use Rattle.office_events.specs.declared.facts.Fact.{Fact};
 ghost use Rattle.office_rules.specs.Facts.{moment_limit, devices_in};
@@ -17,7 +17,7 @@ use office_rules::facts_are_lawful;
 use poll_core::{LAST_MOMENT, LostCause, Outcome};
 use std::alloc::{AllocError, Global};
 
-/// The slot of a device that is not connected.
+/// Returns a slot for the device, without a session.
 fn opened(device: &Device) -> Slot
     ensures { result ≡ opening.opened device.now }
 {
@@ -27,14 +27,14 @@ fn opened(device: &Device) -> Slot
     }
 }
 
-/// The slots of a newly opened office: no device is connected.
+/// Returns the slots of a newly opened office, in which no device is connected.
 fn opened_slots(alloc: Global, devices: &[Device]) -> Result<Vec<Slot>, AllocError>
     ensures { IfOk result (λ slots. slots.items ≡ map opening.opened devices.now) }
 {
     devices.iter().map(|device| opened(device)).collect(alloc)
 }
 
-/// The outcome record of a poll that is lost because the office was opened again.
+/// Returns the record that a poll is lost because the office was opened again.
 fn lost(moment: u64, poll: &Poll) -> Fact
     ensures { result ≡ history.lost moment poll.now }
 {
@@ -45,14 +45,14 @@ fn lost(moment: u64, poll: &Poll) -> Fact
     })
 }
 
-/// The outcome records of these polls, all lost because the office was opened again.
+/// Returns one record for each given poll: the poll is lost because the office was opened again.
 fn lost_facts(alloc: Global, moment: u64, polls: &[Poll]) -> Result<Vec<Fact>, AllocError>
     ensures { IfOk result (λ facts. facts.items ≡ map (history.lost moment) polls.now) }
 {
     polls.iter().map(|poll| lost(moment, poll)).collect(alloc)
 }
 
-/// The slots of the devices in the store.
+/// Returns a slot without a session for each device in the store.
 fn slots_in<B: Books>(alloc: Global, books: &mut B) -> Result<Vec<Slot>, BooksFault>
     ensures found { Finds (B.ledger books.old) (B.ledger books.new) result
         (λ known slots. slots.items ≡ map opening.opened (reverse (devices_in known))) }
@@ -62,7 +62,7 @@ fn slots_in<B: Books>(alloc: Global, books: &mut B) -> Result<Vec<Slot>, BooksFa
     Ok(opened_slots(alloc, &devices)?)
 }
 
-/// Records each poll without an outcome as lost. If no poll is pending, nothing is written.
+/// Records each pending poll of the store as lost. If no poll is pending, writes nothing.
 fn book_lost<B: Books>(alloc: Global, books: &mut B, moment: u64) -> Result<(), BooksFault>
     ensures books { (known : List Fact) → AreLawful (with_lost moment known)
         → Moves (B.ledger books.old) (B.ledger books.new) known (with_lost moment known) result }
@@ -78,8 +78,8 @@ fn book_lost<B: Books>(alloc: Global, books: &mut B, moment: u64) -> Result<(), 
     books.book(facts)
 }
 
-/// Returns the reason to refuse an opening: its timestamp is before a recorded one, or past the
-/// limit. `None` if the opening is acceptable.
+/// Returns the reason to refuse an opening of the office, or `None` if the opening is acceptable.
+/// An opening is refused if its timestamp is before a record's timestamp, or above the limit.
 ///
 /// Timestamps are in seconds since 1970-01-01 UTC.
 pub fn opening_refusal<B: Books>(books: &mut B, moment: u64) -> Result<Option<Refusal>, BooksFault>
@@ -98,10 +98,11 @@ pub fn opening_refusal<B: Books>(books: &mut B, moment: u64) -> Result<Option<Re
     Ok(None)
 }
 
-/// Records an acceptable opening, and returns a slot for each device.
+/// Records an acceptable opening of the office, and returns a slot without a session for each
+/// device.
 ///
-/// All polls without an outcome are recorded as lost, all at once. If no poll is pending, nothing
-/// is written. The slots are in the order in which the devices were added; no device is connected.
+/// All pending polls are recorded as lost in one write. If no poll is pending, nothing is written.
+/// The slots are in the order in which the devices were added.
 pub fn book_opening<B: Books>(
     alloc: Global,
     books: &mut B,

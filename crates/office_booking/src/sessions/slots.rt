@@ -1,11 +1,11 @@
-//! The slot of a device, with its session.
+//! The slot that an office keeps for each device, with the session of a connected device.
 ghost use Rattle.std.specs.Prelude.{◌≡◌, true};
 ghost use Rattle.office_booking.specs.Sessions.Idle.{is_idle};
 
 use office_events::Device;
 use poll_core::Session;
 
-/// A device, with its session while it is connected.
+/// A device of the office, with its session while the device is connected.
 #[derive(Drop)]
 pub struct Slot {
     pub device: Device,

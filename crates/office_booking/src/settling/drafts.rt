@@ -1,4 +1,5 @@
-//! The pending write of an event: its records and its notifications.
+//! The pending write of a device event: records that are not yet in the store, and their
+//! notifications.
 ghost use Rattle.std.specs.Prelude.{◌≡◌, ◌++◌, ◌∷◌, [], OnOk, IfErr};
 ghost use Rattle.office_books.specs.declared.faults.BooksFault.TheVariants.{Memory};
 ghost use Rattle.office_booking.specs.Settling.Drafts.{HasMore};
@@ -7,8 +8,8 @@ use office_books::BooksFault;
 use office_events::{Fact, Note};
 use std::alloc::Global;
 
-/// The pending records and notifications of one event, oldest first. They are written and reported
-/// together, or not at all.
+/// The pending records and notifications of one device event, the oldest first. Either all of the
+/// records are written to the store, or none.
 #[derive(Drop)]
 pub struct Draft {
     pub facts: Vec<Fact>,
@@ -16,7 +17,7 @@ pub struct Draft {
 }
 
 impl Draft {
-    /// Creates a pending write without records. The call allocates no memory.
+    /// Creates a pending write that has no records. Allocates no memory.
     pub fn new(alloc: Global) -> Draft
         ensures facts { result.facts.items ≡ [] }
         ensures notes { result.notes.items ≡ [] }
@@ -27,7 +28,7 @@ impl Draft {
         }
     }
 
-    /// Adds a record with its notification.
+    /// Adds a record and its notification to the pending write.
     pub fn add(&mut self, fact: Fact, note: Note) -> Result<(), BooksFault>
         ensures ok { OnOk result (HasMore self.old self.new fact note) }
         ensures err { IfErr result (λ fault. fault ≡ Memory) }

@@ -1,4 +1,4 @@
-//! Settles the polls that a device event ends, and records their outcomes and readings all at once.
+//! Finds the polls that a device event ends, and records their outcomes and readings in one write.
 ghost use Rattle.std.specs.Prelude.{◌≡◌, ◌≤◌, [], List, IsOk, OnErr};
 ghost use Rattle.office_rules.specs.Facts.{moment_limit};
 ghost use Rattle.office_rules.specs.History.{History, facts_of, slots_of, next_poll};
@@ -16,7 +16,8 @@ use office_events::{Event, Fact, Note};
 use office_rules::facts_are_lawful;
 use std::alloc::Global;
 
-/// Writes the records all at once; writes nothing if there are none.
+/// Writes all of the given records to the store in one write. Does not call the store if no records
+/// are given.
 fn book_all<B: Books>(books: &mut B, facts: Vec<Fact>) -> Result<(), BooksFault>
     ensures moves { (known : List Fact) → let later = with_facts facts.items known in
         AreLawful later → Moves (B.ledger books.old) (B.ledger books.new) known later result }
@@ -31,13 +32,13 @@ fn book_all<B: Books>(books: &mut B, facts: Vec<Fact>) -> Result<(), BooksFault>
     books.book(facts)
 }
 
-/// Applies a device event to the slots, and records the outcomes and readings that it settles all
-/// at once.
+/// Applies a device event to the slots, and records its outcomes and readings in one write.
 ///
-/// Returns the notifications: each poll that ended, followed by the readings of its response. An
-/// event that settles no poll makes no query of the store and needs no memory.
+/// Returns a notification for each poll that ended, followed by notifications of the readings in
+/// the poll's response. If an event ends no poll, it makes no query of the store and needs no
+/// memory.
 ///
-/// On error some slots may have been updated: the caller must discard all sessions.
+/// If the call fails, some slots may have been updated, so the caller must discard all sessions.
 pub fn settle_event<B: Books>(
     alloc: Global,
     slots: &mut [Slot],

@@ -1,4 +1,4 @@
-//! Adds the outcomes of polls that end, and the readings in their responses, to a pending write.
+//! Adds the outcomes of ended polls, and the readings in their responses, to a pending write.
 ghost use Rattle.std.specs.Prelude.{◌≡◌, OnOk, IfErr};
 ghost use Rattle.poll_core.specs.Telling.{settled_of, LendsReply};
 ghost use Rattle.office_rules.specs.Readings as readings;
@@ -22,8 +22,8 @@ use office_events::{
 };
 use poll_core::Settled;
 
-/// The record and the notification of a judged reading: an entry if it is accepted, otherwise a
-/// rejected reading with its cause.
+/// Returns the record and the notification of a judged reading. If the reading is accepted, the
+/// record is a meter entry. Otherwise it is a rejected reading with its cause.
 fn told_of(meter: Name, poll: u64, reading: &Reading, verdict: Verdict) -> (Fact, Note)
     ensures fact { result.0 ≡ readings.as_fact meter poll reading.now verdict }
     ensures note { result.1 ≡ notes.as_note meter reading.now verdict }
@@ -64,8 +64,8 @@ fn told_of(meter: Name, poll: u64, reading: &Reading, verdict: Verdict) -> (Fact
     }
 }
 
-/// Judges a reading of an installation, and adds its record and its notification to the pending
-/// write.
+/// Judges a reading of an installed meter, and adds the record and the notification of the reading
+/// to the pending write.
 fn add_judged(
     draft: &mut Draft,
     row: &Installation,
@@ -82,10 +82,10 @@ fn add_judged(
     draft.add(fact, note)
 }
 
-/// Adds the reading of an accounting register in a poll's response.
+/// Adds the reading of an accounting register in a poll's response to the pending write.
 ///
-/// Nothing is added if the read does not span the register's counter and scale, or if no meter is
-/// open at the register.
+/// Adds nothing if the read does not cover the register's counter and scale factor, or if no meter
+/// is open at the register.
 fn add_reading<B: Books>(
     books: &mut B,
     draft: &mut Draft,
@@ -109,7 +109,8 @@ fn add_reading<B: Books>(
     add_judged(draft, &row, poll.number, &reading)
 }
 
-/// Adds the readings of several accounting registers in one response, in order.
+/// Adds the readings of several accounting registers in one response to the pending write, in the
+/// order of the registers.
 fn add_readings<B: Books>(
     books: &mut B,
     draft: &mut Draft,
@@ -129,7 +130,8 @@ fn add_readings<B: Books>(
     Ok(())
 }
 
-/// Adds the readings in the response to a poll, one for each accounting register of the device.
+/// Adds the readings in a poll's response to the pending write, one for each accounting register
+/// that the read covers.
 fn add_reply<B: Books>(
     books: &mut B,
     draft: &mut Draft,
@@ -149,7 +151,8 @@ fn add_reply<B: Books>(
     add_readings(books, draft, at, &row.poll, reply, &registers)
 }
 
-/// Adds the outcome of a poll and, if the poll was answered, the readings in its response.
+/// Adds the outcome of a poll and, if the device responded, the readings in its response to the
+/// pending write.
 pub fn add_outcome<B: Books>(
     books: &mut B,
     draft: &mut Draft,

@@ -1,4 +1,4 @@
-//! Decodes the reading of an accounting register from a response.
+//! Decodes the reading of an accounting register from a Modbus response.
 ghost use Rattle.std.specs.Prelude.{◌≡◌};
 ghost use Rattle.office_rules.specs.Readings as readings;
 ghost use Rattle.office_booking.specs.Settling.Replies.{words_of};
@@ -8,7 +8,8 @@ use mb_wire::{ReadSpan, Reply};
 use office_events::{Register, ScaleSource};
 use sun_points::{acc32, sunssf};
 
-/// The value of the Modbus register at an address in the response; 0 past the response's end.
+/// Returns the value of the Modbus register at an address in the response, or 0 past the end of the
+/// response.
 fn word_at(span: ReadSpan, reply: &Reply, address: u32) -> u16
     ensures { result ≡ readings.word_at span (words_of reply.now) address }
 {
@@ -16,7 +17,8 @@ fn word_at(span: ReadSpan, reply: &Reply, address: u32) -> u16
     reply.word(place as usize).unwrap_or(0)
 }
 
-/// The scale of an accounting register: fixed, or a Modbus register of the response.
+/// Returns the scale factor of an accounting register: fixed, or from a Modbus register of the
+/// response.
 fn scale_of(span: ReadSpan, reply: &Reply, scale: ScaleSource) -> i16
     ensures { result ≡ readings.scale_of span (words_of reply.now) scale }
 {
@@ -26,7 +28,8 @@ fn scale_of(span: ReadSpan, reply: &Reply, scale: ScaleSource) -> i16
     }
 }
 
-/// Returns the reading of an accounting register in the response: its counter and its scale.
+/// Returns the reading of an accounting register in a Modbus response: its count and its scale
+/// factor.
 pub fn reading_of(at: u64, span: ReadSpan, reply: &Reply, register: &Register) -> Reading
     ensures { result ≡ readings.reading_of at span (words_of reply.now) register.now }
 {

@@ -17,7 +17,7 @@ use office_books::{Books, BooksFault};
 use office_events::{Device, Event};
 use poll_core::Session;
 
-/// Whether the event is a new connection of this device.
+/// Returns true if the event reports a new connection of this device.
 fn connects(event: &Event, device: &Device) -> bool
     ensures { result ≡ sessions.connects event.now device.now }
 {
@@ -27,7 +27,7 @@ fn connects(event: &Event, device: &Device) -> bool
     }
 }
 
-/// Whether the event concerns the session of this device.
+/// Returns true if the event concerns the session of this device.
 fn reaches(event: &Event, device: &Device) -> bool
     ensures { (at : ℕ) → result ≡ is_some (happening_on at event.now device.now) }
 {
@@ -41,7 +41,7 @@ fn reaches(event: &Event, device: &Device) -> bool
     }
 }
 
-/// The slot of a newly connected device.
+/// Returns a slot for a newly connected device, with a new session.
 fn connected(device: &Device) -> Slot
     ensures { KeepsSlot result (record { device = device.now; ended = []; present = Some [] }) }
 {
@@ -51,7 +51,8 @@ fn connected(device: &Device) -> Slot
     }
 }
 
-/// Applies an event to a slot, if it concerns the slot. On error the slot no longer has a session.
+/// Applies an event to the slot of a device, if the event concerns this device. If the call fails,
+/// the slot has no session afterwards.
 fn settle_slot<B: Books>(
     slot: &mut Slot,
     books: &mut B,
@@ -74,7 +75,7 @@ fn settle_slot<B: Books>(
         *slot = connected(&slot.device);
         return Ok(());
     }
-    // A session is large: sessions of other devices are not moved.
+    // A session is large, so the sessions of devices that the event does not concern are not moved.
     if !reaches(event, &slot.device) {
         return Ok(());
     }
@@ -87,7 +88,7 @@ fn settle_slot<B: Books>(
     Ok(())
 }
 
-/// Applies an event to each slot that it concerns, in the order in which the devices were added.
+/// Applies an event to the slot of each device that the event concerns, in the order of the slots.
 pub fn settle_slots<B: Books>(
     slots: &mut [Slot],
     books: &mut B,

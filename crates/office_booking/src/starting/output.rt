@@ -1,7 +1,7 @@
-//! The bytes that an office sends.
+//! A buffer for the request frames that the office sends to a device.
 use std::marker::Model;
 
-/// A buffer of at most 260 bytes: the frames of 16 reads are 192.
+/// A buffer of at most 260 bytes for request frames. The frames of 16 reads need 192 bytes.
 #[derive(Drop)]
 pub struct Outgoing {
     bytes: [u8; 260],
@@ -21,7 +21,7 @@ impl Model for Outgoing {
 impl Outgoing {
     ghost use Rattle.std.specs.Prelude.{◌≡◌, ◌≤◌, ◌+◌, ◌++◌, [], length, take};
 
-    /// Creates an empty buffer.
+    /// Creates a buffer without frames.
     pub fn none() -> Outgoing
         ensures { result ≡ [] }
     {
@@ -31,7 +31,7 @@ impl Outgoing {
         }
     }
 
-    /// Appends bytes.
+    /// Appends the bytes of a frame to the buffer.
     pub(crate) fn add(&mut self, frame: &[u8])
         requires { length self.old + length frame.now ≤ 260 }
         ensures { self.new ≡ self.old ++ frame.now }
@@ -41,7 +41,7 @@ impl Outgoing {
         self.len = end;
     }
 
-    /// Returns the bytes.
+    /// Returns the bytes of all frames in the buffer.
     pub fn as_slice(&self) -> &[u8]
         ensures { result.now ≡ self.now }
     {

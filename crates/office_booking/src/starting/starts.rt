@@ -1,4 +1,4 @@
-//! Starts the reads that a device's session allows, one by one.
+//! Starts Modbus reads on a device's session one by one, as many as the session allows.
 ghost use Rattle.std.specs.Prelude.{◌≡◌, ◌+◌, ◌≤◌, None, length, IfOk};
 ghost use Rattle.std.specs.List.{flat_map};
 ghost use Rattle.office_rules.specs.Sessions as sessions;
@@ -14,7 +14,7 @@ use office_events::{Device, Fact, MAX_POLLS, Poll};
 use poll_core::{LAST_MOMENT, MAX_WINDOW, Session};
 use std::alloc::{AllocError, Global};
 
-/// The number of these reads that the session allows now, counted from the first.
+/// Returns how many of the given reads the session allows to start now.
 fn count_on(kept: &Session, device: &Device, spans: &[ReadSpan]) -> usize
     ensures few { result ≤ MAX_WINDOW }
     ensures inside { result ≤ length spans.now }
@@ -26,7 +26,8 @@ fn count_on(kept: &Session, device: &Device, spans: &[ReadSpan]) -> usize
         .min(spans.len())
 }
 
-/// The poll records of as many reads as the session allows, from the first, in order.
+/// Returns the poll records of the given reads, from the first read, for as many reads as the
+/// session allows.
 fn poll_facts(
     alloc: Global,
     kept: &Session,
@@ -54,7 +55,8 @@ fn poll_facts(
     Ok(facts)
 }
 
-/// Returns the poll records of as many reads as the session allows, from the first, in order.
+/// Returns the poll records of the given reads, from the first read, for as many reads as the
+/// session allows.
 ///
 /// `number` is the number of the first poll.
 pub fn polls_on(
@@ -74,7 +76,7 @@ pub fn polls_on(
     }
 }
 
-/// Starts as many reads as the session allows, from the first, in order.
+/// Starts the given reads on the session, from the first read, as many as the session allows.
 fn start_each(
     kept: &mut Session,
     device: &Device,
@@ -102,7 +104,8 @@ fn start_each(
     outgoing
 }
 
-/// Starts as many reads as the session allows, from the first, in order, and returns their frames.
+/// Starts the given reads, from the first read, as many as the session allows, and returns their
+/// request frames.
 ///
 /// `number` is the number of the first poll.
 pub fn start_on(slot: &mut Slot, number: u64, moment: u64, spans: &[ReadSpan]) -> Outgoing

@@ -1,4 +1,4 @@
--- Why a command is refused.
+-- Lemmas about the reasons for which the office refuses a command.
 use Rattle.std.proofs.Common.{◌≡◌, ℕ, Bool, true, false, ◌||◌, nat_lt, List, Option, Some, None, Result, Ok, Err, IfOk, is_some, refl, sym, ap, subst, ◌∙◌}
 use Rattle.std.specs.Option.{is_none}
 use Rattle.std.proofs.lemmas.Bool.{ltb-false, or_parts}
@@ -20,7 +20,7 @@ use Rattle.office_booking.specs.Sessions.Ranges.{IsInRange}
 use Rattle.office_core.specs.Refusing.Reasons.{arrival_of, request_arrival, speaks_against, refusal_under, IsWhy, IsWhyAmong, Befits}
 use Rattle.office_core.proofs.RefusingLemmas.AtMeters.{same_find, or_false}
 
--- A refusal for any devices is the refusal for the stored devices.
+-- If a refusal is correct for any devices, then it is correct for the devices of the store.
 pub among : (kept : List Slot) (arrival : Arrival) (c asked : Command) (facts : List Fact) (r : Result (Option Refusal) BooksFault) → asked ≡ c
     → IfOk r (IsWhy arrival c facts) → IfOk r (IsWhyAmong kept arrival asked facts)
 among kept arrival c asked facts (Ok r) is h = λ slots keeps. h slots ∙ ap (refusal_under slots facts arrival) (sym is)
@@ -52,7 +52,7 @@ asked_as : (past : History) (at : ℕ) (asked : Asked)
     → refusal_under (slots_of past) (facts_of past) (request_arrival (latest_of past) at asked) asked.command ≡ refusal_of past at (event.Asked asked)
 asked_as past at asked = same_find _ _ reasons (asked_for past at asked)
 
--- A request is refused as its command with the same arrival.
+-- A request with an idempotency key is refused for the same reason as its command without the key.
 pub request_refused : (past : History) (kept : List Slot) (latest at : ℕ) (asked : Asked) (arrival : Arrival) (e : Event) (r : Result (Option Refusal) BooksFault)
     → e ≡ event.Asked asked → latest ≡ latest_of past → arrival ≡ request_arrival latest at asked
     → IfOk r (λ why. why ≡ refusal_under (slots_of past) (facts_of past) arrival asked.command) → IfOk r (λ why. why ≡ refusal_of past at e)
@@ -72,7 +72,7 @@ command_fits latest at c e None is h none = subst (IsInRange latest at) (sym is)
   request = tt;
 })
 
--- A command that is not refused is in range.
+-- If a command is not refused, then its numbers are in range.
 pub command_in_range : (latest at : ℕ) (c : Command) (e : Event) (arrival : Arrival) (r : Result (Option Refusal) BooksFault) → e ≡ event.Command c
     → arrival ≡ arrival_of latest at → IfOk r (Befits arrival c) → IfOk r (λ why. why ≡ None → IsInRange latest at e)
 command_in_range latest at c e arrival (Ok why) is so h =

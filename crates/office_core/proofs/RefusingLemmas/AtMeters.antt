@@ -1,4 +1,5 @@
--- A correction is refused by its entry at the latest meter of its register.
+-- Lemmas that a correction is refused if and only if its entry is refused at the latest meter of
+-- the accounting register.
 use Rattle.std.proofs.Common.{◌≡◌, ℕ, Bool, true, false, cond, ◌||◌, List, [], ◌∷◌, Option, Some, None, is_some, nat_le, length, refl, sym, ap, ◌∙◌}
 use Rattle.std.specs.List.{find}
 use Rattle.std.specs.Option.{is_none, option_and_then}
@@ -24,7 +25,8 @@ use Rattle.office_core.specs.declared.refusing.arrivals.Arrival.{Arrival}
 use Rattle.office_core.specs.Refusing.Entries.{entry_has_fault, is_faulty, speaks_of_entry, entry_refusal}
 use Rattle.office_core.specs.Refusing.Reasons.{speaks_against, refusal_under}
 
--- Two tests that agree find the same item.
+-- If two tests are equal for all elements, then searches with these tests find the same element of
+-- a list.
 pub same_find : {X : Type 0} (p q : X → Bool) (xs : List X) → ((x : X) → p x ≡ q x) → find p xs ≡ find q xs
 same_find p q [] h = refl
 same_find p q (x ∷ xs) h =
@@ -54,8 +56,9 @@ faulty_at : (facts : List Fact) (at : ℕ) (c : Command) (row : Installation) (e
 faulty_at facts at c row e why is same =
     sym (ap (makes_fault at why c) (open_found facts (corrected_at c) ∙ ap (option_and_then if_open) (sym is)) ∙ faulty_if at c row e why row.ended same)
 
--- A command corrects the meter at its register by this entry. Besides, only its scale and its other
--- numbers matter.
+-- True if the command corrects the meter at its accounting register by the entry `e`. `off_scale`
+-- states whether the command's scale is out of range. `off_limits` states whether another number is
+-- out of range.
 pub record Corrects (slots : List Slot) (facts : List Fact) (at : ℕ) (c : Command) (row : Installation) (e : Entry)
     (off_scale off_limits : Bool) : Type 0 where
   pub unknown : asks_unknown slots facts c ≡ has_no_meter facts (corrected_at c)
@@ -96,14 +99,14 @@ corrects_for slots facts arrival c row e off_scale off_limits is h (refusal.NotP
 corrects_for slots facts arrival c row e off_scale off_limits is h (refusal.Store store.Refused) = sym (rw h.start refl)
 corrects_for slots facts arrival c row e off_scale off_limits is h _ = refl
 
--- The command is refused as its entry is.
+-- A correction is refused for the same reason as the entry that the correction adds.
 pub refused_as : (slots : List Slot) (facts : List Fact) (arrival : Arrival) (c : Command) (row : Installation) (e : Entry) (off_scale off_limits : Bool)
     → Some row ≡ option_and_then (installation_at facts) (corrected_at c) → Corrects slots facts arrival.moment c row e off_scale off_limits
     → entry_refusal arrival off_scale off_limits row e ≡ refusal_under slots facts arrival c
 refused_as slots facts arrival c row e off_scale off_limits is h =
     same_find _ _ reasons (corrects_for slots facts arrival c row e off_scale off_limits is h)
 
--- The given refusal; if there is none and `crowded` is true, the refusal `Limit`.
+-- The given refusal if any, otherwise the refusal `Limit` if `crowded` is true.
 abbrev pub or_limit : (crowded : Bool) → Option Refusal → Option Refusal
 or_limit crowded None = cond crowded (Some refusal.Limit) None
 or_limit crowded (Some why) = Some why
@@ -124,7 +127,8 @@ limited false true faulty = refl
 limited false false true = refl
 limited false false false = refl
 
--- Lack of room is checked last.
+-- If another reason to refuse applies, then the limit on the number of meters does not change the
+-- refusal.
 pub room_last : (arrival : Arrival) (off_scale limits crowded : Bool) (row : Installation) (e : Entry)
     → or_limit crowded (entry_refusal arrival off_scale limits row e) ≡ entry_refusal arrival off_scale (limits || crowded) row e
 room_last arrival off_scale limits false row e =
@@ -140,7 +144,8 @@ room_last arrival off_scale limits true row e =
     (after (is_faulty (if_open row) e fault.TotalFull) refusal.TotalFull _ _
     (after row.ended refusal.Ended _ _ (limited arrival.is_beyond limits (is_faulty (if_open row) e fault.NotBelowRange))))))))
 
--- An exchange is refused as its closing is, or else for lack of room.
+-- An exchange is refused for the same reason as its closing, or for the limit on the number of
+-- meters.
 pub exchanged : (slots : List Slot) (facts : List Fact) (arrival : Arrival) (c : Exchange) (row : Installation) (off_scale limits crowded : Bool) (r : Option Refusal)
     → Some row ≡ option_and_then (installation_at facts) c.register → false ≡ is_some (option_and_then (opening_of facts) c.meter)
     → off_scale ≡ asks_bad_scale (command.Exchange c) → limits ≡ asks_bad_field arrival.moment (command.Exchange c)

@@ -1,5 +1,5 @@
--- The next entry has the same verdict by a meter's total and by the energy before an entry, if the
--- total passes no limit.
+-- Lemmas that the verdict on the next entry is the same with the meter's total energy as with the
+-- energy before the entry. The exception is a total energy above its limit.
 use Rattle.std.proofs.Common.{◌≡◌, ◌⊎◌, ℕ, ◌+◌, ◌*◌, ◌≤◌, ◌<◌, Bool, true, false, List, [], ◌∷◌, refl, sym, ap, subst, ◌∙◌, inl, inr, Option, Some, None, is_some, arith, lt-ltb, ltb-true}
 use Rattle.std.specs.List.{find}
 use Rattle.std.specs.Option.{option_map, option_and_then}
@@ -25,8 +25,8 @@ use Rattle.office_rules.specs.Refusals.{verdict_between, verdict_at, is_held_for
 use Rattle.office_books.specs.Near.{with_energy, TellsNear}
 use Rattle.office_core.specs.Refusing.Spots.{is_full, IsJudgedAs}
 
--- A test that applies more often for one cause alone finds the same cause, unless it finds this
--- one.
+-- If two tests differ only at the cause `TotalFull`, and the first search does not find
+-- `TotalFull`, then both searches find the same cause.
 find_less : (p q : Cause → Bool) → ((c : Cause) → (p c ≡ q c) ⊎ ((c ≡ cause.TotalFull) × (q c ≡ true → p c ≡ true))) → (cs : List Cause) → (find p cs ≡ Some cause.TotalFull → ⊥) → find p cs ≡ find q cs
 find_less p q less [] none = refl
 find_less p q less (c ∷ cs) none = elim (cases_Bool (p c)) [
@@ -85,7 +85,7 @@ module _ (before : Installation) (many : ℕ) (le : before.total ≤ many) where
   following None less = refl
   following (Some next) less = between next.entry less
 
--- An entry is judged as itself.
+-- If two entries are equal, then the verdicts on their voids are equal.
 pub judged_itself : (own found : Option EntryPlace) → found ≡ own → IsJudgedAs own found
 judged_itself own found is = record { there = ap is_some is; voidable = ap is_not_voidable is; verdict = ap verdict_at is }
 
@@ -103,6 +103,7 @@ by_opening facts place None found is le less = judged_itself None found is
 by_opening facts place (Some o) found is le less =
     by_whole (option_map (place_in facts o) (row_at place (rows_of facts o))) found (installation_of facts o).total is (λ p at. le (installation_of facts o) p refl at) less
 
--- The entry by its neighbors is judged as the entry, unless it is full.
+-- Voids of the entry from `entry_near` and of the entry from `entry` get the same verdict, unless
+-- the total energy exceeds its limit.
 pub judged_near : (facts : List Fact) (meter : List ℕ) (place : ℕ) (found : Option EntryPlace) → TellsNear facts meter place found → is_full found ≡ false → IsJudgedAs (entry_at facts meter place) found
 judged_near facts meter place found told less = by_opening facts place (opening_of facts meter) found told.near told.within less

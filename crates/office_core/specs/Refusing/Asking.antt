@@ -1,5 +1,5 @@
--- The events that the office decides without a query of the store, and the reasons for which it
--- refuses device events.
+-- The events that the office decides without a query of the store, and the reasons to refuse device
+-- events.
 use Rattle.office_events.specs.declared.commands.Command.{Command}
 use Rattle.office_events.specs.declared.commands.Command.TheVariants as command
 use Rattle.office_events.specs.declared.events.Event.{Event}
@@ -9,15 +9,15 @@ use Rattle.office_events.specs.declared.refusals.Refusal.TheVariants as refusal
 use Rattle.office_events.specs.declared.refusals.StoreCause.{StoreCause}
 use Rattle.office_events.specs.declared.refusals.StoreCause.TheVariants as store
 
--- Whether such a command is refused depends only on the devices, so the office makes no query of
--- the store.
+-- True if the refusal of the command depends only on the devices, so that the office needs no query
+-- of the store.
 abbrev pub IsOfDevices : Command → Type 0
 IsOfDevices (command.AddDevice c) = Unit {0}
 IsOfDevices (command.PutList c) = Unit {0}
 IsOfDevices _ = ⊥
 
--- Whether such an event is refused depends only on the devices, so the office makes no query of the
--- store.
+-- True if the refusal of the event depends only on the devices, so that the office needs no query
+-- of the store.
 abbrev pub AsksNoBooks : Event → Type 0
 AsksNoBooks (event.Connected given) = Unit {0}
 AsksNoBooks (event.Bytes given piece) = Unit {0}
@@ -26,7 +26,7 @@ AsksNoBooks (event.Gone given closing) = Unit {0}
 AsksNoBooks (event.Command c) = IsOfDevices c
 AsksNoBooks (event.Asked asked) = IsOfDevices asked.command
 
--- The event is from a device or its connection, or is a timer event; it requests no command.
+-- True if the event is from a device or its connection, or a timer event, but not a command.
 abbrev pub IsOfDevice : Event → Type 0
 IsOfDevice (event.Connected given) = Unit {0}
 IsOfDevice (event.Bytes given piece) = Unit {0}
@@ -35,7 +35,7 @@ IsOfDevice (event.Gone given closing) = Unit {0}
 IsOfDevice (event.Command c) = ⊥
 IsOfDevice (event.Asked asked) = ⊥
 
--- The reason is one for which the office refuses device events and timer events.
+-- True if the office may refuse a device event or a timer event for this reason.
 abbrev pub IsOfSession : Refusal → Type 0
 IsOfSession refusal.NotFound = Unit {0}
 IsOfSession refusal.ClockBack = Unit {0}
@@ -43,14 +43,13 @@ IsOfSession refusal.Busy = Unit {0}
 IsOfSession refusal.Limit = Unit {0}
 IsOfSession _ = ⊥
 
--- The store's cause says that no more polls can be numbered, which is a property of the event and
--- not a failure.
+-- True if the cause states that all poll numbers are used, which is not a failure of the store.
 abbrev pub IsFull : StoreCause → Type 0
 IsFull store.Refused = Unit {0}
 IsFull _ = ⊥
 
--- The refusal is for a reason in the event, and not for a failure, a stop, or a stored request that
--- differs.
+-- True if the refusal has its reason in the event. Such a refusal is not a failure, a stop, or a
+-- reused idempotency key.
 abbrev pub IsOfEvent : Refusal → Type 0
 IsOfEvent (refusal.Store why) = IsFull why
 IsOfEvent refusal.Memory = ⊥

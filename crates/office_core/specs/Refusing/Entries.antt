@@ -1,4 +1,4 @@
--- Why the office refuses an entry that a command makes at a meter.
+-- The reasons to refuse an entry that a command adds to a meter.
 use Rattle.std.specs.Prelude.{◌≡◌, Bool, false, ◌||◌, Option, Some, None}
 use Rattle.std.specs.List.{find}
 use Rattle.energy_core.specs.declared.limits.TheConstants.{MAX_RANGE}
@@ -15,17 +15,17 @@ use Rattle.office_rules.specs.Refusals.{reasons}
 use Rattle.office_core.specs.declared.refusing.arrivals.Arrival.{Arrival}
 use Rattle.office_core.specs.Refusing.Asking.{IsOfEvent}
 
--- Whether the entry has this fault after the last entry of the installation.
+-- True if the entry has this fault after the last entry of the installation.
 abbrev pub entry_has_fault : Installation → Entry → TermFault → Bool
 entry_has_fault row e why = entering.refuses row.opening.range row.total row.last e why
 
--- Whether the entry has this fault at the installation; false if there is no installation.
+-- True if the entry has this fault at the installation. False without an installation.
 abbrev pub is_faulty : Option Installation → Entry → TermFault → Bool
 is_faulty None e why = false
 is_faulty (Some row) e why = entry_has_fault row e why
 
--- Whether this reason to refuse applies to the entry that a command makes at the latest meter of a
--- register.
+-- True if this reason to refuse applies to the entry that a command adds to the latest meter of an
+-- accounting register.
 abbrev pub speaks_of_entry : Arrival → (off_scale off_limits : Bool) → Installation → Entry
     → Refusal → Bool
 speaks_of_entry arrival off_scale off_limits row e refusal.ClockBack = arrival.is_back
@@ -43,14 +43,14 @@ speaks_of_entry arrival off_scale off_limits row e refusal.Limit =
     arrival.is_beyond || off_limits || is_faulty (if_open row) e fault.NotBelowRange
 speaks_of_entry arrival off_scale off_limits row e _ = false
 
--- The first reason to refuse the entry; `None` if none applies.
+-- The first reason to refuse the entry, or `None` if no reason applies.
 abbrev pub entry_refusal : Arrival → (off_scale off_limits : Bool) → Installation → Entry
     → Option Refusal
 entry_refusal arrival off_scale off_limits row e =
     find (speaks_of_entry arrival off_scale off_limits row e) reasons
 
--- What holds for an entry that is not refused: its timestamp and the command's numbers are in
--- range, and a 32-bit counter can show its readings.
+-- True if the timestamp and the numbers of the command are in range, and a 32-bit counter can show
+-- the counts of the entry.
 pub record IsEntryInRange (arrival : Arrival) (off_scale off_limits : Bool)
     (e : Entry) : Type 0 where
   pub not_back : arrival.is_back ≡ false
@@ -59,8 +59,8 @@ pub record IsEntryInRange (arrival : Arrival) (off_scale off_limits : Bool)
   pub field : off_limits ≡ false
   pub shown : CanBeShown MAX_RANGE e
 
--- If an entry is not refused, it is in range. If it is refused, the reason is in the entry or its
--- command.
+-- True if the result agrees with the entry. An accepted entry is in range, and a refusal has its
+-- reason in the entry or in its command.
 abbrev pub BefitsEntry : Arrival → (off_scale off_limits : Bool) → Entry → Option Refusal → Type 0
 BefitsEntry arrival off_scale off_limits e None = IsEntryInRange arrival off_scale off_limits e
 BefitsEntry arrival off_scale off_limits e (Some why) = IsOfEvent why

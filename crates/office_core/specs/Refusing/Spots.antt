@@ -1,5 +1,5 @@
--- What a meter has at an index of its journal: the opening has index 1, the entries follow from
--- index 2.
+-- The opening or the entry that a meter's journal has at a sequence number. The opening has number
+-- 1, and the entries have the numbers from 2.
 use Rattle.std.specs.Prelude.{◌≡◌, ℕ, Bool, true, false, not, List, Option, Some, None, is_some}
 use Rattle.std.specs.List.{find}
 use Rattle.std.specs.Option.{option_and_then}
@@ -17,31 +17,32 @@ use Rattle.office_core.specs.declared.refusing.voids.Spot.{Spot}
 use Rattle.office_core.specs.declared.refusing.voids.Spot.TheVariants as spot
 use Rattle.office_core.specs.Refusing.Reasons.{comes_wrongly}
 
--- Whether the meter has nothing at the index: neither its opening nor an entry.
+-- True if the journal has neither the opening nor an entry at the sequence number.
 abbrev pub is_nothing : Spot → Bool
 is_nothing spot.Nothing = true
 is_nothing spot.Opening = false
 is_nothing (spot.Entry place) = false
 
--- The entry at the index; `None` for the opening, or if the meter has nothing there.
+-- The entry at the sequence number, or `None` for the opening and for a missing entry.
 abbrev pub entry_in : Spot → Option EntryPlace
 entry_in spot.Nothing = None
 entry_in spot.Opening = None
 entry_in (spot.Entry place) = Some place
 
--- Whether the verdict on the entry after `found` is that the meter's total would pass its limit.
+-- True if the entry after `found` would be rejected because the meter's total energy would exceed
+-- its limit.
 abbrev pub is_full : Option EntryPlace → Bool
 is_full found = is_held_for cause.TotalFull (verdict_at found)
 
--- The two entries are alike for a void: both exist or neither does, both may be voided or neither
--- may, and the next entry gets the same verdict.
+-- True if voids of the two entries have the same result. Both entries exist or neither exists, both
+-- can be voided or neither, and the next entry gets the same verdict.
 pub record IsJudgedAs (own found : Option EntryPlace) : Type 0 where
   pub there : is_some found ≡ is_some own
   pub voidable : is_not_voidable found ≡ is_not_voidable own
   pub verdict : verdict_at found ≡ verdict_at own
 
--- `found` is what the meter has at the index. A void of `found` is judged as a void of the recorded
--- entry.
+-- True if `found` is the meter's opening or entry at the sequence number, or an entry whose void
+-- has the same result.
 pub record IsAt (facts : List Fact) (meter : Option (List ℕ)) (place : ℕ)
     (found : Spot) : Type 0 where
   pub there : is_nothing found
@@ -51,12 +52,13 @@ pub record IsAt (facts : List Fact) (meter : Option (List ℕ)) (place : ℕ)
   pub verdict : verdict_at (entry_in found)
       ≡ verdict_at (option_and_then (λ m. entry_at facts m place) meter)
 
--- If the index has an entry, the meter's state before the entry has all numbers in range.
+-- True if all numbers of the meter's state before the entry are in range.
 abbrev pub IsSoundSpot : Spot → Type 0
 IsSoundSpot (spot.Entry place) = IsSound place.before
 IsSoundSpot _ = Unit {0}
 
--- Whether this reason to refuse applies to a void of what the index has.
+-- True if this reason to refuse applies to a void of `found`, the journal's entry at a sequence
+-- number.
 abbrev pub speaks_of_void : Arrival → Spot → Refusal → Bool
 speaks_of_void arrival found refusal.NotFound = is_nothing found
 speaks_of_void arrival found refusal.NotVoidable = is_not_voidable (entry_in found)
@@ -64,16 +66,18 @@ speaks_of_void arrival found (refusal.NotPlausible why) =
     is_held_for why (verdict_at (entry_in found))
 speaks_of_void arrival found why = comes_wrongly arrival why
 
--- The first reason to refuse a void of what the index has; `None` if none applies.
+-- The first reason to refuse a void of `found`, the journal's entry at a sequence number, or
+-- `None`.
 abbrev pub void_refusal : Arrival → Spot → Option Refusal
 void_refusal arrival found = find (speaks_of_void arrival found) reasons
 
--- Whether this reason to refuse applies to voiding the entry, whatever its timestamp.
+-- True if this reason to refuse applies to a void of the entry, regardless of the timestamp of the
+-- void.
 abbrev pub speaks_of_strike : EntryPlace → Refusal → Bool
 speaks_of_strike place refusal.NotVoidable = is_not_voidable (Some place)
 speaks_of_strike place (refusal.NotPlausible why) = is_held_for why (verdict_at (Some place))
 speaks_of_strike place why = false
 
--- The first reason why the entry can't be voided; `None` if it can be.
+-- The first reason to refuse a void of the entry, or `None` if the entry can be voided.
 abbrev pub strike_refusal : EntryPlace → Option Refusal
 strike_refusal place = find (speaks_of_strike place) reasons

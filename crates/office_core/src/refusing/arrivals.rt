@@ -1,14 +1,15 @@
-//! The timestamp of a command, checked against the latest event and the limits.
+//! The timestamp of a command, checked against the latest event and the limit of timestamps.
 ghost use Rattle.std.specs.Prelude.{◌≡◌};
 ghost use Rattle.office_core.specs.Refusing.Reasons as reasons;
 
 use office_events::{Asked, MAX_REQUEST};
 use poll_core::LAST_MOMENT;
 
-/// The timestamp of a command, and what is wrong with it.
+/// The timestamp of a command, with the results of its checks.
 ///
-/// The timestamp is in seconds since 1970-01-01 UTC. `is_back`: it is before the latest accepted
-/// event. `is_beyond`: it is past the limit, or the request has an invalid caller or number.
+/// `moment` is in seconds since 1970-01-01 UTC. `is_back` is true if `moment` is before the latest
+/// accepted event. `is_beyond` is true if `moment` exceeds the limit, or if the idempotency key is
+/// invalid.
 #[derive(Clone, Copy, Debug, PartialEq, Eq)]
 pub struct Arrival {
     pub moment: u64,
@@ -17,8 +18,8 @@ pub struct Arrival {
 }
 
 impl Arrival {
-    /// Returns the arrival of an event at timestamp `moment`, if the latest accepted event has
-    /// timestamp `latest`.
+    /// Returns the timestamp `moment` of an event, checked against the timestamp `latest` of the
+    /// latest accepted event.
     pub fn new(latest: u64, moment: u64) -> Arrival
         ensures { result ≡ reasons.arrival_of latest moment }
     {
@@ -29,7 +30,7 @@ impl Arrival {
         }
     }
 
-    /// Returns the arrival of a request, whose caller and number are checked too.
+    /// Returns the timestamp `moment` of a request, with its idempotency key checked as well.
     pub fn of_request(latest: u64, moment: u64, asked: &Asked) -> Arrival
         ensures { result ≡ reasons.request_arrival latest moment asked.now }
     {

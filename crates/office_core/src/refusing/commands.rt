@@ -1,4 +1,4 @@
-//! Finds why a command is refused.
+//! Finds the reason to refuse a command.
 ghost use Rattle.std.specs.Prelude.{◌≡◌, None, IfOk, IsOk};
 ghost use Rattle.office_booking.specs.Sessions.Places.{StartsOnSlot};
 ghost use Rattle.office_books.specs.Ledgers.{Finds, OnlyReads};
@@ -17,7 +17,7 @@ use office_booking::Slot;
 use office_books::{Books, BooksFault};
 use office_events::{Command, Refusal};
 
-/// Returns the first reason to refuse a command; `None` if none applies.
+/// Returns the first reason to refuse a command, or `None` if no reason applies.
 pub fn refusal_of_command<B: Books>(
     books: &mut B,
     slots: &[Slot],

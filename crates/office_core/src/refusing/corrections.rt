@@ -1,4 +1,4 @@
-//! Finds why the office refuses the correction or the closing of a meter.
+//! Finds the reason to refuse a correction or the closing of a meter.
 ghost use Rattle.std.specs.Prelude.{◌≡◌, IfOk};
 ghost use Rattle.office_events.specs.declared.commands.Command.TheVariants as command;
 ghost use Rattle.office_books.specs.Ledgers.{Finds, OnlyReads};
@@ -11,7 +11,7 @@ use crate::refusing::limits::{is_bad_close, is_bad_manual, is_off_scale_rescale}
 use office_books::{Books, BooksFault, meter_at};
 use office_events::{Close, Manual, Refusal, Rescale, Reset};
 
-/// Returns the first reason to refuse the reset of a counter; `None` if none applies.
+/// Returns the first reason to refuse the reset of a counter, or `None` if no reason applies.
 pub fn reset<B: Books>(
     books: &mut B,
     arrival: &Arrival,
@@ -34,7 +34,8 @@ pub fn reset<B: Books>(
     Ok(refusal_of_entry(arrival, false, false, &row, &given))
 }
 
-/// Returns the first reason to refuse a change of a counter's scale; `None` if none applies.
+/// Returns the first reason to refuse a change of a counter's scale, or `None` if no reason
+/// applies.
 pub fn rescale<B: Books>(
     books: &mut B,
     arrival: &Arrival,
@@ -53,7 +54,7 @@ pub fn rescale<B: Books>(
     Ok(refusal_of_entry(arrival, off_scale, false, &row, &given))
 }
 
-/// Returns the first reason to refuse a reading by hand; `None` if none applies.
+/// Returns the first reason to refuse a manual reading, or `None` if no reason applies.
 pub fn manual<B: Books>(
     books: &mut B,
     arrival: &Arrival,
@@ -72,7 +73,7 @@ pub fn manual<B: Books>(
     Ok(refusal_of_entry(arrival, false, off_limits, &row, &given))
 }
 
-/// Returns the first reason to refuse the closing of a meter; `None` if none applies.
+/// Returns the first reason to refuse the closing of a meter, or `None` if no reason applies.
 pub fn close<B: Books>(
     books: &mut B,
     arrival: &Arrival,

@@ -1,4 +1,4 @@
-//! Finds why a new device, or a device's point list, is refused.
+//! Finds the reason to refuse a new device or a device's point list.
 ghost use Rattle.std.specs.Prelude.{◌≡◌, List, nat_le, length};
 ghost use Rattle.office_events.specs.declared.commands.Command.TheVariants as command;
 ghost use Rattle.office_events.specs.declared.facts.Fact.{Fact};
@@ -11,14 +11,14 @@ use crate::refusing::limits::is_bad_device;
 use office_booking::{Slot, has_device};
 use office_events::{AddDevice, MAX_DEVICES, PutList, Refusal};
 
-/// Whether the office has as many devices as it may have.
+/// Returns true if the office already has the maximum number of devices.
 fn are_all(slots: &[Slot]) -> bool
     ensures { IsOfKept slots.now result (λ stood. nat_le device_limit (length stood)) }
 {
     MAX_DEVICES <= slots.len()
 }
 
-/// Returns the first reason to refuse a new device; `None` if none applies.
+/// Returns the first reason to refuse a new device, or `None` if no reason applies.
 pub fn add_device(slots: &[Slot], arrival: &Arrival, device: &AddDevice) -> Option<Refusal>
     ensures found { (known : List Fact)
         → IsWhyAmong slots.now arrival.now (command.AddDevice device.now) known result }
@@ -36,7 +36,7 @@ pub fn add_device(slots: &[Slot], arrival: &Arrival, device: &AddDevice) -> Opti
     None
 }
 
-/// Returns the first reason to refuse a point list; `None` if none applies.
+/// Returns the first reason to refuse a point list, or `None` if no reason applies.
 pub fn put_list(slots: &[Slot], arrival: &Arrival, put: &PutList) -> Option<Refusal>
     ensures found { (known : List Fact)
         → IsWhyAmong slots.now arrival.now (command.PutList put.now) known result }

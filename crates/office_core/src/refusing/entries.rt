@@ -1,4 +1,4 @@
-//! Finds why an entry from a command is refused.
+//! Finds the reason to refuse an entry that a command adds to a meter.
 ghost use Rattle.std.specs.Prelude.{◌≡◌};
 ghost use Rattle.office_rules.specs.Ranges.{IsSound};
 ghost use Rattle.office_core.specs.Refusing.Given.{entry_of};
@@ -9,11 +9,11 @@ use crate::refusing::faults::{goes_back, is_full, is_long, is_not_later, is_not_
 use crate::refusing::given::GivenEntry;
 use office_events::{Installation, Refusal};
 
-/// Returns the first reason to refuse an entry at the latest meter of an accounting register;
-/// `None` if none applies.
+/// Returns the first reason to refuse an entry at the latest meter of a register, or `None` if no
+/// reason applies.
 ///
-/// `off_scale` says whether the command's scale is out of range, `off_limits` whether another of
-/// its numbers is.
+/// `off_scale` is true if the command's scale is out of range, and `off_limits` is true if another
+/// number of the command is out of range.
 pub fn refusal_of_entry(
     arrival: &Arrival,
     off_scale: bool,

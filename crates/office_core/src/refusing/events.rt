@@ -1,4 +1,4 @@
-//! Finds why an event is refused.
+//! Finds the reason to refuse an event.
 ghost use Rattle.std.specs.Prelude.{◌≡◌, IfOk, IfSome, IsOk, None};
 ghost use Rattle.office_books.specs.Ledgers.{OnlyReads};
 ghost use Rattle.office_core.specs.Refusing.Asking.{AsksNoBooks, IsOfDevice, IsOfEvent};
@@ -14,11 +14,11 @@ use office_booking::{Slot, has_device, is_connected};
 use office_books::{Books, BooksFault};
 use office_events::{Event, Refusal};
 
-/// Returns the first reason that applies to refuse an event; `None` if the event is acceptable.
+/// Returns the first reason to refuse an event, or `None` if no reason applies.
 ///
-/// `latest` is the timestamp of the latest accepted event; timestamps are in seconds since
-/// 1970-01-01 UTC. The call queries the store only until it finds the reason, and makes each query
-/// once. If a query fails, the event is not decided.
+/// `latest` is the timestamp of the latest accepted event, in seconds since 1970-01-01 UTC. The
+/// function makes each query of the store at most once, and stops at the first reason. If a query
+/// fails, the function returns its failure.
 pub fn refusal<B: Books>(
     books: &mut B,
     slots: &[Slot],

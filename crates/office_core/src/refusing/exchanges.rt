@@ -1,4 +1,4 @@
-//! Finds why the exchange of a meter is refused.
+//! Finds the reason to refuse an exchange of meters.
 ghost use Rattle.std.specs.Prelude.{◌≡◌, IfOk};
 ghost use Rattle.office_events.specs.declared.commands.Command.TheVariants as command;
 ghost use Rattle.office_books.specs.Ledgers.{Finds, OnlyReads};
@@ -13,7 +13,7 @@ use crate::refusing::names::has_meter;
 use office_books::{Books, BooksFault, meter_at};
 use office_events::{Exchange, Refusal};
 
-/// Returns the first reason to refuse the exchange of a meter; `None` if none applies.
+/// Returns the first reason to refuse an exchange of meters, or `None` if no reason applies.
 pub fn exchange<B: Books>(
     books: &mut B,
     arrival: &Arrival,

@@ -1,5 +1,5 @@
-//! The faults of an entry that a command makes. Its numbers are any of 64 bits, so sums and
-//! products of them use 128 bits.
+//! Finds the faults of an entry that a command adds. The command's numbers have 64 bits, so their
+//! sums and products use 128 bits.
 ghost use Rattle.std.specs.Prelude.{◌≡◌, ◌≤◌, ◌^◌};
 ghost use Rattle.energy_core.specs.Account.{moment_of, reached};
 ghost use Rattle.energy_core.specs.declared.admission.TermFault.TheVariants as fault;
@@ -11,7 +11,7 @@ use crate::refusing::given::GivenEntry;
 use energy_core::{INTERVAL_SECONDS, MAX_INTERVALS, MAX_RANGE, MAX_TOTAL, energy_up_to};
 use office_events::Installation;
 
-/// The timestamp of the entry that a command gives.
+/// Returns the timestamp of the command's entry, in seconds since 1970-01-01 UTC.
 fn moment(given: &GivenEntry) -> u64
     ensures { result ≡ moment_of (entry_of given.now) }
 {
@@ -20,7 +20,7 @@ fn moment(given: &GivenEntry) -> u64
     }
 }
 
-/// The value that the counter would show at the entry if it had neither turned over nor been set.
+/// Returns the count that the counter would have without rollovers and without being set.
 fn reach(range: u64, given: &GivenEntry) -> u128
     requires { range ≤ MAX_RANGE }
     ensures value { result ≡ reached range (entry_of given.now) }
@@ -34,7 +34,7 @@ fn reach(range: u64, given: &GivenEntry) -> u128
     }
 }
 
-/// Returns whether the counter would have decreased since the meter's last entry.
+/// Returns true if the counter would have decreased since the meter's last entry.
 pub fn goes_back(row: &Installation, given: &GivenEntry) -> bool
     requires { IsSound row.now }
     ensures { result ≡ entry_has_fault row.now (entry_of given.now) fault.NegativeStep }
@@ -42,14 +42,15 @@ pub fn goes_back(row: &Installation, given: &GivenEntry) -> bool
     reach(row.opening.range, given) < u128::from(row.last.raw)
 }
 
-/// Returns whether the entry is not later than the meter's last entry.
+/// Returns true if the entry's timestamp is not after the timestamp of the meter's last entry.
 pub fn is_not_later(row: &Installation, given: &GivenEntry) -> bool
     ensures { result ≡ entry_has_fault row.now (entry_of given.now) fault.NotLater }
 {
     moment(given) <= row.last.at
 }
 
-/// Returns whether the step would touch more quarter hours than a step may touch.
+/// Returns true if the time since the meter's last entry touches more than the maximum number of
+/// quarter hours.
 pub fn is_long(row: &Installation, given: &GivenEntry) -> bool
     ensures { result ≡ entry_has_fault row.now (entry_of given.now) fault.SpanTooLong }
 {
@@ -57,7 +58,7 @@ pub fn is_long(row: &Installation, given: &GivenEntry) -> bool
     MAX_INTERVALS < last.saturating_sub(row.last.at / INTERVAL_SECONDS) + 1
 }
 
-/// Returns whether the meter's total energy would pass its limit with the entry.
+/// Returns true if the entry would raise the meter's total energy above its limit.
 pub fn is_full(row: &Installation, given: &GivenEntry) -> bool
     requires { IsSound row.now }
     ensures { result ≡ entry_has_fault row.now (entry_of given.now) fault.TotalFull }
@@ -66,7 +67,7 @@ pub fn is_full(row: &Installation, given: &GivenEntry) -> bool
     u128::from(MAX_TOTAL) < u128::from(row.total) + energy
 }
 
-/// Returns whether an entry has a number that the counter can't show.
+/// Returns true if the counter cannot show a count of the entry.
 pub fn is_not_shown(row: &Installation, given: &GivenEntry) -> bool
     ensures { result ≡ entry_has_fault row.now (entry_of given.now) fault.NotBelowRange }
 {

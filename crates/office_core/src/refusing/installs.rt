@@ -1,4 +1,4 @@
-//! Finds why the installation of a meter is refused.
+//! Finds the reason to refuse the installation of a meter.
 ghost use Rattle.std.specs.Prelude.{◌≡◌, IfOk, length, nat_le};
 ghost use Rattle.office_events.specs.declared.commands.Command.TheVariants as command;
 ghost use Rattle.office_rules.specs.Facts.{openings_in};
@@ -13,7 +13,7 @@ use crate::refusing::names::{has_meter, has_register};
 use office_books::{Books, BooksFault};
 use office_events::{Install, MAX_INSTALLATIONS, Refusal};
 
-/// Returns whether as many meters were installed as the limit allows.
+/// Returns true if the office already has the maximum number of meters.
 pub fn are_all<B: Books>(books: &mut B) -> Result<bool, BooksFault>
     ensures found { Finds (B.ledger books.old) (B.ledger books.new) result
         (λ known b. b ≡ nat_le installation_limit (length (openings_in known))) }
@@ -22,7 +22,7 @@ pub fn are_all<B: Books>(books: &mut B) -> Result<bool, BooksFault>
     Ok(MAX_INSTALLATIONS <= books.installation_count()?)
 }
 
-/// Returns the first reason to refuse the installation of a meter; `None` if none applies.
+/// Returns the first reason to refuse the installation of a meter, or `None` if no reason applies.
 pub fn install<B: Books>(
     books: &mut B,
     arrival: &Arrival,

@@ -1,4 +1,4 @@
-//! Checks the names, scales and numbers of a command against their ranges.
+//! Checks whether the names, scales and numbers of a command are in range.
 ghost use Rattle.std.specs.Prelude.{◌≡◌, nat_lt, false};
 ghost use Rattle.office_events.specs.declared.commands.Command.TheVariants as command;
 ghost use Rattle.office_rules.specs.Refusals as refusals;
@@ -11,28 +11,28 @@ use office_events::{
 };
 use poll_core::{MAX_TIMEOUT, MAX_WINDOW};
 
-/// Returns whether a scale is out of range.
+/// Returns true if a scale factor is out of range.
 pub fn is_off_scale(sf: i64) -> bool
     ensures { result ≡ refusals.is_off_scale sf }
 {
     sf < i64::from(MIN_SCALE) || i64::from(MAX_SCALE) < sf
 }
 
-/// Returns whether the new scale of a counter is out of range.
+/// Returns true if the new scale factor of a change of scale is out of range.
 pub fn is_off_scale_rescale(rescale: &Rescale) -> bool
     ensures { result ≡ refusals.asks_bad_scale (command.Rescale rescale.now) }
 {
     is_off_scale(rescale.sf)
 }
 
-/// Returns whether the scale of a replacement meter is out of range.
+/// Returns true if the scale factor of a replacement meter is out of range.
 pub fn is_off_scale_exchange(exchange: &Exchange) -> bool
     ensures { result ≡ refusals.asks_bad_scale (command.Exchange exchange.now) }
 {
     is_off_scale(exchange.sf)
 }
 
-/// Returns whether the fixed scale of a new register is out of range.
+/// Returns true if the fixed scale of a new accounting register is out of range.
 pub fn is_bad_scale(scale: GivenScale) -> bool
     ensures { result ≡ refusals.is_bad_scale scale }
 {
@@ -42,14 +42,14 @@ pub fn is_bad_scale(scale: GivenScale) -> bool
     }
 }
 
-/// Whether a number is below `low` or above `high`.
+/// Returns true if a number is below `low` or above `high`.
 fn is_outside(low: u64, high: u64, n: u64) -> bool
     ensures { result ≡ refusals.is_outside low high n }
 {
     n < low || high < n
 }
 
-/// Returns whether a name or a number of a new device is invalid.
+/// Returns true if a name or a number of a new device is invalid.
 pub fn is_bad_device(moment: u64, device: &AddDevice) -> bool
     ensures { result ≡ refusals.asks_bad_field moment (command.AddDevice device.now) }
 {
@@ -59,7 +59,7 @@ pub fn is_bad_device(moment: u64, device: &AddDevice) -> bool
         || is_outside(1, MAX_WINDOW as u64, device.window)
 }
 
-/// Whether the address of a scale is out of range.
+/// Returns true if the Modbus address of a scale factor is out of range.
 fn is_bad_address(scale: GivenScale) -> bool
     ensures { result ≡ refusals.is_bad_address scale }
 {
@@ -69,7 +69,7 @@ fn is_bad_address(scale: GivenScale) -> bool
     }
 }
 
-/// Whether one read can't span both the counter and its scale.
+/// Returns true if a single Modbus read cannot contain both the counter and its scale factor.
 fn is_wide(address: u64, scale: GivenScale) -> bool
     requires address { nat_lt LAST_COUNTER address ≡ false }
     requires scale { refusals.is_bad_address scale ≡ false }
@@ -82,7 +82,7 @@ fn is_wide(address: u64, scale: GivenScale) -> bool
     }
 }
 
-/// Returns whether a name or a number of a new register is invalid.
+/// Returns true if a name or a number of a new accounting register is invalid.
 pub fn is_bad_register(moment: u64, register: &AddRegister) -> bool
     ensures { result ≡ refusals.asks_bad_field moment (command.AddRegister register.now) }
 {
@@ -93,8 +93,8 @@ pub fn is_bad_register(moment: u64, register: &AddRegister) -> bool
         || is_wide(register.address, register.scale)
 }
 
-/// Returns whether a meter can't be installed: its name, range or ceiling is invalid, or its
-/// counter can't show `raw`.
+/// Returns true if the meter's name, range or maximum power is invalid, or if the counter cannot
+/// show `raw`.
 pub fn is_bad_meter(meter: &Option<Name>, range: u64, raw: u64, ceiling: u64) -> bool
     ensures { result ≡ refusals.is_bad_meter meter.now range raw ceiling }
 {
@@ -104,7 +104,7 @@ pub fn is_bad_meter(meter: &Option<Name>, range: u64, raw: u64, ceiling: u64) ->
         || is_outside(1, MAX_CEILING, ceiling)
 }
 
-/// Whether the stated time of a reading is later than its command.
+/// Returns true if the given time of a manual reading is later than the time of the command.
 fn is_later(moment: u64, told: Option<u64>) -> bool
     ensures { result ≡ refusals.is_later moment told }
 {
@@ -114,21 +114,21 @@ fn is_later(moment: u64, told: Option<u64>) -> bool
     }
 }
 
-/// Returns whether a number of a reading by hand is out of range.
+/// Returns true if a number of a manual reading is out of range.
 pub fn is_bad_manual(moment: u64, manual: &Manual) -> bool
     ensures { result ≡ refusals.asks_bad_field moment (command.Manual manual.now) }
 {
     MAX_ROLLS < manual.rolls || is_later(moment, manual.at)
 }
 
-/// Returns whether a number of a closing is out of range.
+/// Returns true if a number of a closing is out of range.
 pub fn is_bad_close(moment: u64, close: &Close) -> bool
     ensures { result ≡ refusals.asks_bad_field moment (command.Close close.now) }
 {
     MAX_ROLLS < close.rolls
 }
 
-/// Returns whether a name or a number of an exchange is invalid.
+/// Returns true if a name or a number of an exchange is invalid.
 pub fn is_bad_exchange(moment: u64, exchange: &Exchange) -> bool
     ensures { result ≡ refusals.asks_bad_field moment (command.Exchange exchange.now) }
 {

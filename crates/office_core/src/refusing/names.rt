@@ -1,4 +1,4 @@
-//! Looks up in the store whether the names of a command exist.
+//! Checks whether the store has the names of a command.
 ghost use Rattle.std.specs.Prelude.{◌≡◌, is_some};
 ghost use Rattle.std.specs.Option.{option_and_then};
 ghost use Rattle.office_rules.specs.Facts.{register_of, opening_of};
@@ -7,7 +7,7 @@ ghost use Rattle.office_books.specs.Ledgers.{Finds, OnlyReads};
 use office_books::{Books, BooksFault};
 use office_events::Name;
 
-/// Returns whether an accounting register has this name.
+/// Returns true if an accounting register has this name.
 pub fn has_register<B: Books>(books: &mut B, given: &Option<Name>) -> Result<bool, BooksFault>
     ensures found { Finds (B.ledger books.old) (B.ledger books.new) result
         (λ known b. b ≡ is_some (option_and_then (register_of known) given.now)) }
@@ -19,7 +19,7 @@ pub fn has_register<B: Books>(books: &mut B, given: &Option<Name>) -> Result<boo
     }
 }
 
-/// Returns whether a meter has this name.
+/// Returns true if a meter has this name.
 pub fn has_meter<B: Books>(books: &mut B, given: &Option<Name>) -> Result<bool, BooksFault>
     ensures found { Finds (B.ledger books.old) (B.ledger books.new) result
         (λ known b. b ≡ is_some (option_and_then (opening_of known) given.now)) }

@@ -1,4 +1,4 @@
-//! Finds why a new accounting register is refused.
+//! Finds the reason to refuse a new accounting register.
 ghost use Rattle.std.specs.Prelude.{◌≡◌, IfOk};
 ghost use Rattle.office_events.specs.declared.commands.Command.TheVariants as command;
 ghost use Rattle.office_rules.specs.Refusals.{is_full_of_registers};
@@ -12,7 +12,7 @@ use office_booking::{Slot, has_device};
 use office_books::{Books, BooksFault};
 use office_events::{AddRegister, MAX_REGISTERS, Name, Refusal};
 
-/// Whether the device already has the maximum number of accounting registers.
+/// Returns true if the device already has the maximum number of accounting registers.
 fn is_full<B: Books>(books: &mut B, given: &Option<Name>) -> Result<bool, BooksFault>
     ensures found { Finds (B.ledger books.old) (B.ledger books.new) result
         (λ known b. b ≡ is_full_of_registers known given.now) }
@@ -24,7 +24,7 @@ fn is_full<B: Books>(books: &mut B, given: &Option<Name>) -> Result<bool, BooksF
     }
 }
 
-/// Returns the first reason to refuse a new accounting register; `None` if none applies.
+/// Returns the first reason to refuse a new accounting register, or `None` if no reason applies.
 pub fn add_register<B: Books>(
     books: &mut B,
     slots: &[Slot],

@@ -1,4 +1,4 @@
-//! Finds the stored response of a request that is a retry.
+//! Finds the stored answer to a request that is a retry.
 ghost use Rattle.std.specs.Prelude.{◌≡◌, IsOk, IfOk};
 ghost use Rattle.office_rules.specs.Refusals.{kept_of};
 ghost use Rattle.office_books.specs.Ledgers.{Finds, OnlyReads};
@@ -7,8 +7,7 @@ ghost use Rattle.office_core.specs.Refusing.Kept.{kept_as, IsNoRequest, IsReused
 use office_books::{Books, BooksFault, Repeat};
 use office_events::{CommandKind, Event, Refusal};
 
-/// The answer to a request, given how it compares with the stored request of the same caller and
-/// number.
+/// Returns the answer to a request whose idempotency key is known.
 fn answer_by(repeat: Repeat) -> Result<CommandKind, Refusal>
     ensures { result ≡ kept_as repeat }
 {
@@ -18,11 +17,11 @@ fn answer_by(repeat: Repeat) -> Result<CommandKind, Refusal>
     }
 }
 
-/// Returns the stored answer of a request if it is a retry, and `Reused` if the stored request
-/// differs.
+/// Returns the stored answer if the request is a retry, or `Reused` if the stored request is
+/// different.
 ///
-/// Returns `None` if nothing is stored, or if the event is not a request. The call does not copy
-/// the stored request.
+/// Returns `None` if the idempotency key is unknown, or if the event has no key. The stored request
+/// is not copied.
 pub fn kept<B: Books>(
     books: &mut B,
     event: &Event,

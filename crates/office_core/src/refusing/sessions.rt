@@ -1,4 +1,4 @@
-//! Finds why an event of a device is refused.
+//! Finds the reason to refuse a device event.
 ghost use Rattle.std.specs.Prelude.{◌≡◌, IfSome};
 ghost use Rattle.office_core.specs.Refusing.Asking.{IsOfSession};
 ghost use Rattle.office_core.specs.Refusing.Reasons.{session_refusal};
@@ -6,10 +6,9 @@ ghost use Rattle.office_core.specs.Refusing.Reasons.{session_refusal};
 use crate::refusing::arrivals::Arrival;
 use office_events::Refusal;
 
-/// Returns the first reason to refuse a device event; `None` if none applies.
+/// Returns the first reason to refuse a device event, or `None` if no reason applies.
 ///
-/// `is_busy`: the device is connected where it should not be, or is not connected where it should
-/// be.
+/// `is_busy` is true if the device is unexpectedly connected, or unexpectedly not connected.
 pub fn refusal_of_session(arrival: &Arrival, is_unknown: bool, is_busy: bool) -> Option<Refusal>
     ensures value { result ≡ session_refusal arrival.now is_unknown is_busy }
     ensures reason { IfSome result IsOfSession }

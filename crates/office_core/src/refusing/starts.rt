@@ -1,4 +1,4 @@
-//! Finds why the start of a poll or a round is refused.
+//! Finds the reason to refuse the start of a poll or of a polling round.
 ghost use Rattle.std.specs.Prelude.{◌≡◌, ◌+◌, List, Option, Some, None, IfOk, is_some, length, nat_lt};
 ghost use Rattle.poll_core.specs.Settling as session;
 ghost use Rattle.office_events.specs.declared.commands.Command.TheVariants as command;
@@ -20,7 +20,8 @@ use office_books::{Books, BooksFault, read_count_at};
 use office_events::{MAX_POLLS, Name, Refusal, StartPoll, StartRound, StoreCause};
 use poll_core::Session;
 
-/// The number of polls that the session can start in a row; 0 if the device has no session.
+/// Returns the number of polls that a session can start in a row, or 0 if the device has no
+/// session.
 fn session_room(kept: &Option<Session>) -> u64
     ensures { (device : Device) (present : Option (List session.Event))
         → KeepsPresent device kept.now present → HasRoomOn device present result }
@@ -31,7 +32,8 @@ fn session_room(kept: &Option<Session>) -> u64
     }
 }
 
-/// The number of polls that a device can start in a row; `None` if no device has the name.
+/// Returns the number of polls that the named device can start in a row, or `None` if no device has
+/// the name.
 fn room(slots: &[Slot], given: &Option<Name>) -> Option<u64>
     ensures there { is_some result ≡ has_slot slots.now given.now }
     ensures room { (kept : List sessions.Slot) → KeepsSlots slots.now kept
@@ -43,7 +45,7 @@ fn room(slots: &[Slot], given: &Option<Name>) -> Option<u64>
     }
 }
 
-/// The number of reads from index `from` on, in a plan of `count` reads; 0 past its end.
+/// Returns the number of reads from index `from` on in a plan of `count` reads.
 fn reads_left(count: usize, from: u64) -> u64
     ensures { (list : Option Planned) → Some count ≡ read_count_of list
         → result ≡ length (round_spans from list) }
@@ -51,7 +53,7 @@ fn reads_left(count: usize, from: u64) -> u64
     (count as u64).saturating_sub(from)
 }
 
-/// Whether the numbers of `more` further polls would pass the greatest poll number.
+/// Returns true if `more` further polls would need numbers above the greatest poll number.
 fn is_past_numbers<B: Books>(books: &mut B, more: u64) -> Result<bool, BooksFault>
     ensures found { Finds (B.ledger books.old) (B.ledger books.new) result
         (λ known b. b ≡ nat_lt poll_limit (length (polls_in known) + more)) }
@@ -61,7 +63,7 @@ fn is_past_numbers<B: Books>(books: &mut B, more: u64) -> Result<bool, BooksFaul
     Ok(u128::from(MAX_POLLS) < u128::from(count) + u128::from(more))
 }
 
-/// Returns the first reason to refuse the start of a poll; `None` if none applies.
+/// Returns the first reason to refuse the start of a poll, or `None` if no reason applies.
 pub fn start_poll<B: Books>(
     books: &mut B,
     slots: &[Slot],
@@ -93,7 +95,7 @@ pub fn start_poll<B: Books>(
     Ok(None)
 }
 
-/// Returns the first reason to refuse the start of a round; `None` if none applies.
+/// Returns the first reason to refuse the start of a polling round, or `None` if no reason applies.
 pub fn start_round<B: Books>(
     books: &mut B,
     slots: &[Slot],

@@ -1,4 +1,4 @@
-//! Finds why a void is refused.
+//! Finds the reason to refuse a void.
 ghost use Rattle.std.specs.Prelude.{◌≡◌, IfOk, IfSome, Some};
 ghost use Rattle.office_events.specs.declared.commands.Command.TheVariants as command;
 ghost use Rattle.office_rules.specs.Meters.{entry_at};
@@ -15,17 +15,18 @@ use meter_journal::is_voidable;
 use office_books::{Books, BooksFault, verdict_at};
 use office_events::{EntryPlace, Installation, Name, Refusal, VoidEntry};
 
-/// What a meter has at an index of its journal.
+/// The opening or the entry that a meter's journal has at a sequence number, if any.
 #[derive(Clone, Copy, Debug, PartialEq, Eq)]
 enum Spot {
     Nothing,
-    /// The opening.
+    /// The opening of the meter, which has sequence number 1.
     Opening,
-    /// An entry after the opening.
+    /// An entry after the opening, with a sequence number of at least 2.
     Entry(EntryPlace),
 }
 
-/// Whether the verdict on the entry after `found` is that the meter's total would pass its limit.
+/// Returns true if the entry after `found` would be rejected because the meter's total energy would
+/// exceed its limit.
 fn is_full(found: &Option<EntryPlace>) -> bool
     requires { IfSome found.now (λ p. IsSound p.before) }
     ensures { result ≡ spots.is_full found.now }
@@ -40,12 +41,12 @@ fn is_full(found: &Option<EntryPlace>) -> bool
     }
 }
 
-/// The entry of a meter at an index; `None` if there is none. The energy before it may be another
-/// one, if the next entry gets the same verdict.
+/// Returns the entry of a meter with sequence number `place`, or `None`. If the next entry gets the
+/// same verdict, the result may have the meter's total energy instead of the energy before the
+/// entry.
 ///
-/// `entry_near` first judges by the meter's total, which needs only the rows around the entry. The
-/// energy before the entry needs all rows. It matters only if the total is so large that the limit
-/// might be passed.
+/// The function first uses the meter's total energy from `entry_near`, which reads only the rows
+/// around the entry. It reads all rows only if the total energy might exceed its limit.
 fn entry_of<B: Books>(
     books: &mut B,
     meter: &Name,
@@ -63,8 +64,7 @@ fn entry_of<B: Books>(
     Ok(near)
 }
 
-/// What a meter has at an index of its journal. The opening has index 1, the entries follow from
-/// index 2.
+/// Returns the opening or the entry that a meter's journal has at sequence number `place`, if any.
 fn spot_at<B: Books>(books: &mut B, given: &Option<Name>, place: u64) -> Result<Spot, BooksFault>
     ensures found { Finds (B.ledger books.old) (B.ledger books.new) result
         (λ known spot. spots.IsAt known given.now place spot) }
@@ -89,8 +89,8 @@ fn spot_at<B: Books>(books: &mut B, given: &Option<Name>, place: u64) -> Result<
     }
 }
 
-/// The verdict on an entry, judged directly after the state `before`. An entry that sets the
-/// counter has no verdict.
+/// Returns the verdict on an entry that follows the state `before`, or `None` if the entry sets the
+/// counter.
 fn verdict_on(before: &Installation, entry: &Entry) -> Option<Verdict>
     requires { IsSound before.now }
     ensures { result ≡ verdict_between before.now entry.now }
@@ -108,8 +108,8 @@ fn verdict_on(before: &Installation, entry: &Entry) -> Option<Verdict>
     }
 }
 
-/// The verdict on the next valid entry if the entry at `place` did not exist; `None` if no valid
-/// entry follows.
+/// Returns the verdict on the next valid entry if the entry `place` were voided, or `None` if no
+/// valid entry follows.
 fn verdict(place: &EntryPlace) -> Option<Verdict>
     requires { IsSound place.now.before }
     ensures { result ≡ verdict_at (Some place.now) }
@@ -120,7 +120,7 @@ fn verdict(place: &EntryPlace) -> Option<Verdict>
     }
 }
 
-/// The first reason why the entry can't be voided; `None` if it can be.
+/// Returns the first reason to refuse a void of the entry, or `None` if the entry can be voided.
 fn against_entry(place: &EntryPlace) -> Option<Refusal>
     requires { IsSound place.now.before }
     ensures found { result ≡ spots.strike_refusal place.now }
@@ -136,7 +136,8 @@ fn against_entry(place: &EntryPlace) -> Option<Refusal>
     }
 }
 
-/// The first reason to refuse a void, given what is at its index; `None` if none applies.
+/// Returns the first reason to refuse a void of `spot`, the journal's entry at a sequence number,
+/// or `None`.
 fn against(arrival: &Arrival, spot: &Spot) -> Option<Refusal>
     requires { spots.IsSoundSpot spot.now }
     ensures found { result ≡ spots.void_refusal arrival.now spot.now }
@@ -158,7 +159,7 @@ fn against(arrival: &Arrival, spot: &Spot) -> Option<Refusal>
     }
 }
 
-/// Returns the first reason to refuse a void; `None` if none applies.
+/// Returns the first reason to refuse a void, or `None` if no reason applies.
 pub fn void_entry<B: Books>(
     books: &mut B,
     arrival: &Arrival,

@@ -1,4 +1,4 @@
--- Lemmas on rows that are written as lines, one after another.
+-- Lemmas on rows that are written as lines of a report, one after another.
 use Rattle.std.proofs.Common.{◌≡◌, ◌∙◌, ◌+◌, ◌<◌, ◌≤◌, ℕ, zero, suc, List, [], ◌∷◌, ◌++◌, length, refl, sym, ap, subst, arith, append_assoc}
 use Rattle.std.specs.Prelude.{flat_map, min}
 use Rattle.std.proofs.lemmas.Bool.Decides.{nat_tests}
@@ -23,7 +23,7 @@ few_counted count next is = grind (arith, nat_tests)
 counted_more : (count next more : ℕ) → next ≡ counted (count + 1) → counted (next + more) ≡ counted (count + suc more)
 counted_more count next more is = grind (arith, nat_tests)
 
--- These lines of rows were written, and the rows were counted.
+-- The lines `text` were written to the report, and the report's count of rows rose by `count`.
 pub record RowsPut (text : List ℕ) (count : ℕ) (before after : Report) : Type 0 where
   pub puts : Puts before.out after.out text
   pub counts : after.count ≡ counted (before.count + count)
@@ -34,7 +34,8 @@ none_put before after few same = record {
   counts = ap (λ (r : Report). r.count) same ∙ counted_none before.count few;
 }
 
--- Rows are written after earlier rows, without a head.
+-- If the first row of a report was already written, then later rows are written without the head of
+-- the response.
 pub later_put : {T : Type 0} (line : T → List ℕ) (before after : Report) (rows : List T) → 0 < before.count → before.count ≤ 18446744073709551615
     → TakesAll (λ old row new. PutsLine (line row) old new) before rows after → RowsPut (flat_map line rows) (length rows) before after
 later_put line before after [] begun few took = none_put before after few took
@@ -46,7 +47,7 @@ later_put line before after (row ∷ rows) begun few took =
       counts = more.counts ∙ counted_more before.count took.0.count (length rows) first.count;
     }
 
--- The first rows are written after the head of the response.
+-- If a report has no row yet, then its first row is written after the head of the response.
 pub first_put : {T : Type 0} (line : T → List ℕ) (before after : Report) (rows : List T) → before.count ≡ 0
     → TakesAll (λ old row new. PutsLine (line row) old new) before rows after → RowsPut (rows_begun line rows) (length rows) before after
 first_put line before after [] none took = none_put before after (omega arith) took

@@ -1,4 +1,4 @@
--- Lemmas on what a request wants of an office.
+-- Lemmas on the query or command of a request.
 use Rattle.std.proofs.Common.{◌≡◌, ◌∙◌, ◌≢◌, ℕ, List, Option, Result, Ok, Err, inr, refl, sym, ap, subst}
 use Rattle.http_answer.specs.Commands.Given.{Gives}
 use Rattle.http_answer.specs.declared.commands.fault.CommandFault.{CommandFault}
@@ -27,7 +27,7 @@ pub kept_same : (method target body other_method other_target other_body : List 
     → kept_request method target body ≡ kept_request other_method other_target other_body
 kept_same method target body other_method other_target other_body m t b = λ i. kept_request (m i) (t i) (b i)
 
--- The program has parsed a command's request with this result.
+-- The bytes hold a complete request for a command, whose body parses to this command or fault.
 pub record IsFoundOut (table : Table) (bytes : List ℕ) (at : Head) (found : Found) (posted : Posted) (given : Result Command CommandFault) : Type 0 where
   pub holds : IsWhole table bytes at
   pub tests : TestsHead table (start_at bytes at) (Ok (AskedCommand found posted))

@@ -1,4 +1,4 @@
--- The state of the office after connections were served.
+-- The program's state after HTTP connections were served.
 use Rattle.std.specs.Prelude.{◌≡◌, ℕ, ◌≤◌, List, [], ◌∷◌, length, Option, Some, None}
 use Rattle.socket_link.specs.Clocks.{TellsMoment}
 use Rattle.office_events.specs.declared.events.Asked.{Asked}
@@ -11,44 +11,46 @@ use Rattle.office_http.specs.Serving.{with_asked}
 use Rattle.office_http.specs.Wants.Wanting.{AsksOffice}
 use Rattle.office_http.specs.Connections.Named.{MayAsk}
 
--- The connection's bytes hold this command, and its head passes the test of the host. Without a
--- command, any bytes.
+-- The bytes of a connection hold a request with this command, and its Host header is accepted.
+-- Without a command, the bytes are arbitrary.
 abbrev pub AskedBy : (names : List (List ℕ)) → (read : List ℕ) → Option Asked → Type 0
 AskedBy names read None = Unit {0}
 AskedBy names read (Some asked) = MayAsk names read × AsksOffice routes read asked
 
--- A served connection: its time, the bytes that were read, and the command that the office was
--- asked to execute, if any.
+-- A served HTTP connection: the time when it was accepted, the bytes that were read, and the
+-- command that the program executed, if any.
 pub record Connection (names : List (List ℕ)) : Type 0 where
   pub at : ℕ
   pub read : List ℕ
   pub asked : Option Asked
   pub asks : AskedBy names read asked
 
--- The history of the office after these connections. Each command is accepted, refused or answered
--- from a stored response, as its definition says.
+-- The history of accepted events after a list of connections. Each command is accepted, refused, or
+-- answered from a stored response, by the rules for commands.
 abbrev pub history_with : {names : List (List ℕ)} → (past : History) → List (Connection names)
     → History
 history_with past [] = past
 history_with past (one ∷ earlier) = with_asked (history_with past earlier) one.at one.asked
 
--- Each connection has the time that the clock gave for it, and nothing else read the clock.
+-- The time of each connection is the clock's time when the connection was accepted. The clock was
+-- read for nothing else.
 abbrev pub AreTimed : {names : List (List ℕ)} → (begun now : Option (List ℕ))
     → List (Connection names) → Type 0
 AreTimed begun now [] = now ≡ begun
 AreTimed begun now (one ∷ earlier) =
     (between : Option (List ℕ)) × AreTimed begun between earlier × TellsMoment between now one.at
 
--- The office matches its earlier history followed by one connection at this time.
+-- The program's state matches its earlier history, extended by one connection that was accepted at
+-- this time.
 pub record ServesOne {B : Type 0} (names : List (List ℕ)) (at : ℕ) (ledger : B → Ledger)
     (past : History) (office : Office B) : Type 0 where
   pub connection : Connection names
   pub moment : connection.at ≡ at
   pub stands : Stands ledger (with_asked past connection.at connection.asked) office
 
--- The office matches what it accepted before, and at most `most` connections, each at the clock's
--- time. A connection asked for no command if its request could not be answered, because the store
--- or memory failed or the office had stopped.
+-- The program's state matches its earlier history, extended by at most `most` connections, each
+-- with the clock's time at its acceptance. A connection has no command if the store or memory
+-- failed or an earlier failure makes the program refuse all events.
 pub record ServesUpTo {B : Type 0} (names : List (List ℕ)) (most : ℕ)
     (begun now : Option (List ℕ)) (ledger : B → Ledger) (past : History)
     (office : Office B) : Type 0 where

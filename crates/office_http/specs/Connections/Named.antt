@@ -1,4 +1,5 @@
--- The effect of one call of `handle_named`: it tests the host, and then acts as `handle` does.
+-- The effect of one call of `handle_named`, which tests the Host header and then acts as `handle`
+-- does.
 use Rattle.std.specs.Prelude.{◌≡◌, ◌⊎◌, ℕ, true, false, List, ◌++◌, None, Result}
 use Rattle.std.specs.Io.KnownBytes.{Consumes}
 use Rattle.mb_wire.specs.declared.link.LinkFailed.{LinkFailed}
@@ -13,13 +14,13 @@ use Rattle.http_answer.specs.Replies.{fault, reply_bytes}
 use Rattle.office_http.specs.Exchange.{Does, DoesBare, Passage, StopsReading, ended}
 use Rattle.office_http.specs.declared.fault.HandleFault.{HandleFault}
 
--- The first bytes are a beginning of the others.
+-- The bytes `front` are a prefix of `bytes`.
 pub record IsFrontOf (front bytes : List ℕ) : Type 0 where
   pub rest : List ℕ
   pub is : bytes ≡ front ++ rest
 
--- A test of the host passed: the tested bytes hold a head that passes, or no head yet. They are a
--- beginning of the bytes that were read, or the reverse.
+-- The bytes whose Host header was tested are a prefix or an extension of the bytes in `read`. They
+-- hold a head with an accepted host, or no complete head yet.
 pub record MayAsk (names : List (List ℕ)) (read : List ℕ) : Type 0 where
   pub tested : List ℕ
   pub same : IsFrontOf tested read ⊎ IsFrontOf read tested
@@ -27,15 +28,16 @@ pub record MayAsk (names : List (List ℕ)) (read : List ℕ) : Type 0 where
   pub finds : Looks tested head_state
   pub may : may_ask_in names tested head_state ≡ true
 
--- The response is 421. All of it was written, or a beginning if a write failed.
+-- The response is 421 (Misdirected Request). If a write failed, the link received only a prefix of
+-- the response.
 pub record RepliesMisdirected (link : Passage) (result : Result (Unit {0}) HandleFault) : Type 0
   where
     pub sent : Result (Unit {0}) LinkFailed
     pub ends : result ≡ ended sent None
     pub gives : Gives sent link.given link.later_given (reply_bytes (fault Misdirected))
 
--- The call read a head that fails the host test, and nothing more. The response is 421, and the
--- office is unchanged.
+-- The call read only a head whose Host header is rejected. It wrote the response 421 and left the
+-- program's state unchanged.
 pub record TurnsAway {B : Type 0} (names : List (List ℕ)) (old new : Office B) (link : Passage)
     (read : List ℕ) (result : Result (Unit {0}) HandleFault) : Type 0 where
   pub head_state : HeadState
@@ -45,20 +47,22 @@ pub record TurnsAway {B : Type 0} (names : List (List ℕ)) (old new : Office B)
   pub replies : RepliesMisdirected link result
   pub unchanged : new ≡ old
 
--- The call read a head that passes the host test, or no head. It has the effect of `handle`.
+-- The call read a head whose Host header is accepted, or no complete head. It had the effect of
+-- `handle`.
 pub record LetsAsk {B : Type 0} (names : List (List ℕ)) (ledger : B → Ledger) (at : ℕ)
     (old new : Office B) (link : Passage) (read : List ℕ) (result : Result (Unit {0}) HandleFault)
     : Type 0 where
   pub may : MayAsk names read
   pub does : Does ledger at old new link read result
 
--- The call had no memory for a request. It tested no host, and did not ask the office.
+-- The call had no memory for a request. It did not test the host and executed nothing.
 pub record HasNoRoom {B : Type 0} (old new : Office B) (link : Passage) (read : List ℕ)
     (result : Result (Unit {0}) HandleFault) : Type 0 where
   pub does : DoesBare link read result
   pub unchanged : new ≡ old
 
--- The call read these bytes from the link, and acted on them in one of three ways.
+-- The call of `handle_named` read the bytes in `read` from the link. The call rejected the host,
+-- served the request, or had no memory for the request.
 pub record HandlesNamed {B : Type 0} (names : List (List ℕ)) (ledger : B → Ledger) (at : ℕ)
     (old new : Office B) (link : Passage) (result : Result (Unit {0}) HandleFault) : Type 0 where
   pub read : List ℕ

@@ -1,4 +1,4 @@
--- The body of a request gives one result.
+-- The body of a request parses to one command or one fault.
 use Rattle.std.specs.Prelude.{◌≡◌, ◌≢◌, ℕ, List, Option, Result, Err}
 use Rattle.http_answer.specs.Commands.Given.{Gives}
 use Rattle.http_answer.specs.declared.commands.fault.CommandFault.{CommandFault}
@@ -6,7 +6,7 @@ use Rattle.http_answer.specs.declared.commands.fault.CommandFault.TheVariants.{M
 use Rattle.http_request.specs.declared.routing.routes.Route.{Route}
 use Rattle.office_events.specs.declared.commands.Command.{Command}
 
--- Unless memory runs out, the body of a route's request gives one command, or one fault.
+-- Two results of parsing one body for one route are equal, unless memory ran out.
 abbrev pub BodiesGiveOne : Type 0
 BodiesGiveOne =
     (at : Route) (name : Option (List ℕ)) (body : List ℕ) (one other : Result Command CommandFault)

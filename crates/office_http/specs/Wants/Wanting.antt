@@ -1,4 +1,4 @@
--- What a request wants of an office: a query, a command, or nothing.
+-- The query or command of a request, or why there is none.
 use Rattle.std.specs.Prelude.{◌≡◌, ◌⊎◌, ℕ, true, List, Ok, Err}
 use Rattle.http_answer.specs.Commands.Given.{Gives}
 use Rattle.http_answer.specs.Commands.Few.{HasFewRows}
@@ -21,7 +21,7 @@ use Rattle.http_answer.specs.Whole.{IsCommand, IsReply}
 use Rattle.office_http.specs.declared.wants.kinds.Want.{Want}
 use Rattle.office_http.specs.declared.wants.kinds.Want.TheVariants as want
 
--- The bytes hold a request for this command: its head passes all tests, and its body gives the
+-- The bytes hold a request for this command: its head passes all tests, and its body contains the
 -- command.
 pub record AsksOffice (table : Table) (bytes : List ℕ) (asked : Asked) : Type 0 where
   pub start : Start
@@ -37,39 +37,39 @@ pub record AsksOffice (table : Table) (bytes : List ℕ) (asked : Asked) : Type 
 abbrev pub AsksNothing : Table → (bytes : List ℕ) → Type 0
 AsksNothing table bytes = (asked : Asked) → AsksOffice table bytes asked → ⊥
 
--- The response to these bytes does not depend on the office, and the bytes hold no request for a
--- command.
+-- `text` is the response to the bytes for any state of the program, and the bytes hold no request
+-- for a command.
 pub record IsToldOff (table : Table) (bytes text : List ℕ) : Type 0 where
   pub nothing : AsksNothing table bytes
   pub reply : (office : Office) → IsReply office table bytes text
 
--- The bytes hold a request with this query, and its response is the office's answer.
+-- The bytes hold a request with this query, and the response is the program's answer to it.
 pub record IsQuestion (table : Table) (bytes : List ℕ) (found : Found) : Type 0 where
   pub asks : is_question found.route ≡ true
   pub nothing : AsksNothing table bytes
   pub reply : (office : Office)
       → IsReply office table bytes (reply_bytes (question_reply office found.route (name_of found)))
 
--- The bytes hold a request for this command, and its response is the office's answer.
+-- The bytes hold a request for this command, and the response is the program's answer to it.
 pub record IsAskedFor (table : Table) (bytes : List ℕ) (asked : Asked) : Type 0 where
   pub asks : AsksOffice table bytes asked
   pub reply : (office : Office)
       → IsReply office table bytes (reply_bytes (row_reply done_text (office.asked asked)))
 
--- The body gives no command, for this reason. `Memory` as the reason says nothing about the
--- request.
+-- The body of the request contains no valid command, for the reason `why`. If the reason is
+-- `Memory`, then memory ran out, and the request is arbitrary.
 abbrev pub IsNoCommand : Table → (bytes : List ℕ) → CommandFault → Type 0
 IsNoCommand table bytes why = (why ≡ Memory) ⊎ IsToldOff table bytes (reply_bytes (fault_said why))
 
--- What the bytes want of the office: nothing because of a failed test or a bad body, an answer to a
--- query, or the execution of a command.
+-- The request in the bytes has this query or this command, or it has neither because of a failed
+-- test or a faulty body.
 abbrev pub Wants : Table → (bytes : List ℕ) → Want → Type 0
 Wants table bytes (want.Rejected status) = IsToldOff table bytes (reply_bytes (fault status))
 Wants table bytes (want.Answer found) = IsQuestion table bytes found
 Wants table bytes (want.Refused why) = IsNoCommand table bytes why
 Wants table bytes (want.Command asked) = IsAskedFor table bytes asked
 
--- If the result has faulty rows of a point list, their number is bounded.
+-- If the result has faulty rows of a point list, they are within the bounds of `HasFewRows`.
 abbrev pub HasFewFaults : Want → Type 0
 HasFewFaults (want.Rejected status) = Unit {0}
 HasFewFaults (want.Answer found) = Unit {0}

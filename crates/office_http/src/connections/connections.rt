@@ -1,4 +1,4 @@
-//! Connections, one after the other.
+//! Serves HTTP connections, one after the other.
 ghost use Rattle.std.specs.Prelude.{[]};
 ghost use Rattle.http_request.specs.Hosts.{texts};
 ghost use Rattle.office_core.specs.Standing.{After};
@@ -14,10 +14,10 @@ use std::alloc::Global;
 use std::io::{self, ErrorKind, Read, Write};
 use std::net::{OpenListener, OpenStream};
 
-/// The most seconds from accepting a connection to its response.
+/// The most seconds from accepting a connection to the end of its response.
 pub const MOST_SECONDS: u64 = 10;
 
-// Serves the one request of a connection that was accepted at `moment`. A failure ends only this
+// Serves the only request of a connection that was accepted at `moment`. A failure ends only this
 // connection.
 fn serve_connection<R: std::rt::Clock, S: Read + Write + OpenStream + Drop, B: Books>(
     rt: &R,
@@ -42,18 +42,18 @@ fn serve_connection<R: std::rt::Clock, S: Read + Write + OpenStream + Drop, B: B
     }
 }
 
-// Returns whether a failure to accept a connection concerns only that connection.
+// Returns whether an error of `accept` concerns only the new connection, and not the listener.
 fn is_of_connection(kind: ErrorKind) -> bool {
     matches!(kind, ErrorKind::ConnectionAborted | ErrorKind::Interrupted)
 }
 
 /// Serves HTTP/1.1 requests on `connections` connections, one after the other.
 ///
-/// Each connection has one request. The office gets it with the clock's time when the connection
-/// was accepted, if [`handle_named`] lets its host ask. A failure on a connection ends only that
-/// connection, and the connection counts. A connection without a response 10 seconds after it was
-/// accepted is dropped. These seconds are those of the monotonic clock; each call of a socket waits
-/// for at most a second. An error of the listener ends the serving.
+/// Each connection has one request. The request's timestamp is the clock's time when the connection
+/// was accepted. [`handle_named`] tests the host. A connection that fails also counts, and ends
+/// alone. A connection without a response 10 seconds after it was accepted is dropped, by the
+/// monotonic clock. Each socket call waits for at most a second. An error of the listener ends the
+/// call.
 pub fn serve_named_on<R: std::rt::Clock, L: OpenListener, B: Books, C: Clock>(
     rt: &R,
     alloc: Global,
@@ -87,8 +87,8 @@ where
 
 /// Serves requests as [`serve_named_on`] does, under the names of this machine only.
 ///
-/// It uses no clock but that of the timestamps. So a connection has no deadline, except that
-/// each call of its socket waits for at most a second.
+/// The call uses the clock for timestamps only. Connections have no deadline, but each socket call
+/// waits for at most a second.
 pub fn serve_on<L: OpenListener, B: Books, C: Clock>(
     alloc: Global,
     listener: &L,

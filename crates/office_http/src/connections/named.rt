@@ -1,4 +1,4 @@
-//! Serves one request of an accepted host.
+//! Serves one HTTP request if its `Host` header names an accepted host.
 ghost use Rattle.std.specs.Prelude.{◌≡◌, ◌≤◌, false, length};
 ghost use Rattle.std.specs.Io.KnownBytes.{Keeps};
 ghost use Rattle.mb_wire.specs.Links.{risen};
@@ -19,7 +19,7 @@ use office_books::Books;
 use office_core::Office;
 use std::alloc::Global;
 
-/// Writes the response 421 to a request whose host may not ask.
+/// Writes the response 421 (Misdirected Request) to a request whose `Host` header is rejected.
 pub fn turn_away<L: Link>(link: &mut L) -> Result<(), HandleFault>
     ensures replies { RepliesMisdirected (passage (L.remaining link.old) (L.remaining link.new)
         (L.given link.old) (L.given link.new) (L.last link.new)) result }
@@ -36,8 +36,8 @@ pub fn turn_away<L: Link>(link: &mut L) -> Result<(), HandleFault>
     ended(sent, None)
 }
 
-// Reads a head. If its host passes the test, reads the body and serves the request; otherwise
-// writes 421.
+// Reads a request head. If the head's `Host` header is accepted, reads the body and serves the
+// request. Otherwise writes the response 421.
 fn serve_named<L: Link, B: Books>(
     alloc: Global,
     router: &Router<Route>,
@@ -66,11 +66,12 @@ fn serve_named<L: Link, B: Books>(
     reply(inbox.bytes(), want, link, office, moment)
 }
 
-/// Serves one request as [`handle`](crate::exchange::handle) does, if its host may ask.
+/// Serves one request as [`handle`](crate::exchange::handle) does, if its `Host` header is
+/// accepted.
 ///
-/// A head may ask if it names this machine, one of `names`, or no host. Any other head gets 421 as
-/// soon as it has arrived, and no other test. If there is no memory for a request, the response
-/// reports that without a test of the host.
+/// The header is accepted if it names this machine or one of `names`, or is missing. Any other head
+/// gets status 421 as soon as the head has arrived, before all other tests. If memory runs out for
+/// a request, the response reports that, and the host is not tested.
 pub fn handle_named<L: Link, B: Books>(
     alloc: Global,
     names: &[&str],

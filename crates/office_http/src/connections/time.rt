@@ -1,4 +1,4 @@
-//! The monotonic clock, for deadlines.
+//! The monotonic clock, which measures the deadlines of connections.
 use socket_link::Clock;
 use std::io::{self, ErrorKind};
 use std::time::Duration;
@@ -24,7 +24,7 @@ impl<R: std::rt::Clock> Clock for Even<'_, R> {
     }
 }
 
-/// A clock on which no time passes.
+/// A clock on which no time passes, for connections without a deadline.
 #[derive(Clone, Copy)]
 pub(crate) struct Untimed;
 

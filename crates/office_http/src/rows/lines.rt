@@ -1,4 +1,4 @@
-//! A row sink that writes rows as lines.
+//! Writes the rows of a report as lines of a response.
 ghost use Rattle.std.specs.Prelude.{◌≡◌};
 ghost use Rattle.http_answer.specs.Sending.Sending.{Puts};
 ghost use Rattle.interval_core.specs.Lines.{share_line};
@@ -12,7 +12,8 @@ use office_books::RowSink;
 use office_events::Refusal;
 use std::marker::Model;
 
-/// A row sink that writes each row as a line, and the head of the response before the first.
+/// A row visitor that writes each row as a line. Before the first row it writes the head of the
+/// response.
 #[derive(Drop)]
 pub struct RowLines<'l, L: Link> {
     writer: ReplyWriter<'l, L>,
@@ -25,15 +26,15 @@ impl<'l, L: Link> Model for RowLines<'l, L> {
     ghost view = { λ lines. record { out = lines.writer; count = lines.count } };
 }
 
-/// A response that was written, or was cut off.
+/// A response that was written completely or was cut off.
 #[derive(Drop)]
 pub struct Replied<'l, L: Link> {
     pub writer: ReplyWriter<'l, L>,
-    /// Why the response is cut off, if it is.
+    /// The reason why the response was cut off, or `None` if it is complete.
     pub cut: Option<Refusal>,
 }
 
-// Writes the head of the response before the first line.
+// Writes the head of the response if no row was written yet.
 fn put_head<L: Link>(count: u64, writer: &mut ReplyWriter<'_, L>)
     ensures { Puts writer.old writer.new (head_before count) }
 {
@@ -43,7 +44,7 @@ fn put_head<L: Link>(count: u64, writer: &mut ReplyWriter<'_, L>)
 }
 
 impl<'l, L: Link> RowLines<'l, L> {
-    /// Makes a sink that has written no row.
+    /// Makes a row visitor that has written no row.
     pub fn new(writer: ReplyWriter<'l, L>) -> RowLines<'l, L>
         ensures { result ≡ record { out = writer.entry; count = 0 } }
     {
@@ -52,8 +53,8 @@ impl<'l, L: Link> RowLines<'l, L> {
 
     /// Ends the report with the number of its rows, or with a refusal.
     ///
-    /// A refusal before the first row is the response. After a row it cuts the response off, and
-    /// nothing more is written.
+    /// A refusal before the first row becomes the response. A refusal after a row cuts the response
+    /// off, and nothing more is written.
     pub fn end(self, answer: Result<(), Refusal>) -> Replied<'l, L>
         ensures { EndsReport self.entry answer result.writer result.cut }
     {

@@ -1,17 +1,17 @@
-//! What a request wants.
+//! The query or command of a request, or why there is none.
 use http_answer::CommandFault;
 use http_request::{Found, Status};
 use office_events::Asked;
 
-/// What a request wants.
+/// The query or command of a request, or why there is none.
 #[derive(Drop)]
 pub enum Want<'b> {
-    /// Nothing: its head fails a test.
+    /// No query or command: the head of the request fails a test.
     Rejected(Status),
-    /// The answer to a query.
+    /// A query to execute.
     Answer(Found<'b>),
-    /// Nothing: it asks for a command, but its body gives none, or memory ran out.
+    /// No command: the body of the request has a fault, or memory ran out.
     Refused(CommandFault),
-    /// The execution of a command.
+    /// A command to execute.
     Command(Asked),
 }

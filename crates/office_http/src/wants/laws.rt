@@ -1,10 +1,10 @@
-//! Theorems: what the body of a request gives.
+//! Theorems: the body of a request parses to one command or one fault.
 ghost use Rattle.office_http.specs.Wants.Bodies.{BodiesGiveOne};
 
 use point_list::texts_spell_one_list;
 use read_plan::lists_are_planned_once;
 
-/// Theorem: a body gives one command or one fault, unless memory runs out.
+/// Theorem: a body always parses to the same command or fault, unless memory runs out.
 pub fn bodies_give_one_command()
     ensures { BodiesGiveOne }
 {

@@ -1,4 +1,4 @@
-//! What a complete request wants of an office.
+//! Parses a complete request into a query or command.
 ghost use Rattle.std.specs.Prelude.{◌≡◌, ◌⊎◌, Ok, Err};
 ghost use Rattle.http_request.specs.Asking.{TestsHead};
 ghost use Rattle.http_request.specs.HeadTests.{start_at};
@@ -18,7 +18,7 @@ use http_request::{
 use matchit::Router;
 use std::alloc::Global;
 
-// Parses the command of a request, and copies the bytes that are stored of the request.
+// Parses the command of a request, and copies the bytes of the request that the store records.
 fn wanted_command<'b>(
     alloc: Global,
     router: &Router<Route>,
@@ -52,7 +52,8 @@ fn wanted_command<'b>(
     }
 }
 
-/// Returns what a complete request wants of an office. If memory runs out, the office is not asked.
+/// Parses a complete request into a query or command. If memory runs out, the result is an error
+/// and nothing is executed.
 pub fn wanted<'b>(
     alloc: Global,
     router: &Router<Route>,

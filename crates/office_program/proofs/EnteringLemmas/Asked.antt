@@ -1,4 +1,5 @@
--- One line that is requested from an office.
+-- Properties of the effect of one input line on an office. The line's request is fed and answered,
+-- or the reason for making no request is printed.
 use Rattle.std.proofs.Common.{ℤ, pos, sym, ◌≡◌, inl, inr, ℕ, ◌||◌, max, Bool, true, List, Option, Some, None, Result, Ok, Err, refl, ap, subst, ◌∙◌}
 use Rattle.std.specs.Prelude.{IfOk, is_err}
 use Rattle.std.specs.declared.io.Error.{Error}
@@ -40,7 +41,7 @@ use Rattle.office_program.specs.declared.entering.files.Shown.{Shown}
 use Rattle.office_program.specs.declared.entering.read_line.ReadRequest.{ReadRequest}
 use Rattle.office_program.specs.Entering.Lines.{IsEntry, ReadsEntry, Telling}
 
--- The office's reports are printed as a script prints them.
+-- The text of the office's answers equals the text that a script prints for them.
 told_is : {B : Type 0} (office : Office B) (past : History) (at : ℕ) (e : Event) (reply : Result Answer Refusal) → IsTold past at e reply office
     → told_text office reply ≡ reply_text past at e reply
 told_is office past at e (Ok given) told =
@@ -51,13 +52,14 @@ told_is office past at e (Err why) told = refl
 abbrev pub one : (at : ℕ) → Event → Result Answer Refusal → Answered
 one at e reply = record { at = at; event = e; result = reply }
 
--- The progress of the lines then.
+-- After an input line, the progress has the line's timestamp, and records whether a line was
+-- refused.
 pub next_is : (progress next : Progress) (at : ℕ) (e : Event) (reply : Result Answer Refusal) (failed : Bool)
     → next ≡ record { latest = at; refused = progress.refused || failed } → failed ≡ is_err reply → next ≡ progress_after progress (Asked (one at e reply))
 next_is progress next at e reply failed is same =
     is ∙ ap (λ (b : Bool). let p : Progress = record { latest = at; refused = progress.refused || b } in p) same
 
--- An event was fed, and the answer was printed.
+-- If an event was fed to the office and its answer was printed, then `IsAsked` holds.
 pub asked : {B : Type 0} (ledger : B → Ledger) (past : History) (progress : Progress) (before after : Failures) (had holds : Option (List ℕ)) (office : Office B)
     (at : ℕ) (e : Event) (reply : Result Answer Refusal) (result : Result Progress Error) (text : List ℕ) → Stands ledger (with_answer past at e reply) office
     → IsAnswer past at e before after reply → IsTold past at e reply office → text ≡ told_text office reply → GotText result text had holds
@@ -75,7 +77,7 @@ asked ledger past progress before after had holds office at e reply result text 
       next = next;
     }
 
--- A request was fed that is not doubted.
+-- If a request is not doubted, then it was fed to the office.
 pub undoubted : {B : Type 0} (ledger : B → Ledger) (past : History) (progress : Progress) (begun now : RoundState) (office : Office B) (at : ℕ) (request : Request)
     (between : Failures) (result : Result Progress Error) → IsAskedAt progress.latest begun.moments now.moments at
     → doubt_of (facts_of past) at request ≡ None → between ≡ begun.failures
@@ -100,7 +102,7 @@ undoubted ledger past progress begun now office at request between result timed 
       };
     }
 
--- The request was not fed, since it is doubted.
+-- If a request is doubted, then it was not fed to the office.
 pub doubted : {B : Type 0} (ledger : B → Ledger) (past : History) (progress : Progress) (begun now : RoundState) (office : Office B) (at mwh : ℕ) (request : Request)
     (result : Result Progress Error) → IsAskedAt progress.latest begun.moments now.moments at → Stands ledger past office
     → doubt_of (facts_of past) at request ≡ Some mwh → now.failures ≡ begun.failures → TellsWhyNot (doubted_line mwh) at begun.printed now.printed result
@@ -115,7 +117,8 @@ doubted ledger past progress begun now office at mwh request result timed stands
   };
 }
 
--- The request was not fed, since the office refused to answer whether it is doubted.
+-- If the office refused the query whether a request is doubted, then the request was not fed to the
+-- office.
 pub undecided : {B : Type 0} (ledger : B → Ledger) (past : History) (progress : Progress) (begun now : RoundState) (office : Office B) (at : ℕ) (request : Request)
     (reason : Refusal) (result : Result Progress Error) → IsAskedAt progress.latest begun.moments now.moments at → Stands ledger past office
     → IsOutside ⊥ begun.failures now.failures reason → TellsWhyNot (refused_line reason) at begun.printed now.printed result
@@ -130,14 +133,15 @@ undecided ledger past progress begun now office at request reason result timed s
   };
 }
 
--- ---- The entry of a line
+-- ---- The effect of an input line by its parsed form
 
 pub asked_come : {B : Type 0} (ledger : B → Ledger) (tells : Telling) (request : Request) (past : History) (progress : Progress) (begun now : RoundState)
     (office : Office B) (result : Result Progress Error) → HasAsked ledger request past progress begun now office result
     → HasCome ledger tells (entry.Ask request) past progress begun now office result
 asked_come ledger tells request past progress begun now office result done = record { came = done.came; comes = done.comes; shown = tt; takes = done.takes }
 
--- The entry of a line whose counter is read.
+-- After the counter was read for a line with `@read`, the outcome of the line is the outcome of its
+-- request.
 read_comes : (tells : Telling) (facts : List Fact) (read : ReadRequest) (raw : ℕ) (sf : ℤ) (came : Came) → IsCameOf (entry.Ask (asked_at read raw sf)) came
     → AsksShown tells facts read (asked_at read raw sf) → IsCameOf (entry.Read read) came × IsShown tells facts (entry.Read read) came
 read_comes tells facts read raw sf (Asked one) is shown =
@@ -159,7 +163,7 @@ read_come ledger tells read shown request past progress begun now office result 
     let both = read_comes tells (facts_of past) read shown.raw shown.sf done.came (subst P same done.comes) (shown, is, refl) in
     record { came = done.came; comes = both.0; shown = both.1; takes = done.takes }
 
--- The counter can't be read.
+-- If the counter for a line with `@read` can't be read, then the line makes no request.
 pub unread : {B : Type 0} (ledger : B → Ledger) (tells : Telling) (read : ReadRequest) (past : History) (progress : Progress) (begun now : RoundState) (office : Office B)
     (at : ℕ) (result : Result Progress Error) → IsAskedAt progress.latest begun.moments now.moments at → Stands ledger past office
     → IsShownFor tells (facts_of past) read None → now.failures ≡ begun.failures → TellsWhyNot unread_line at begun.printed now.printed result
@@ -175,7 +179,8 @@ unread ledger tells read past progress begun now office at result timed stands n
   };
 }
 
--- The office refused to answer which counter to read.
+-- If the office refused the query for the counter of a line with `@read`, then the line makes no
+-- request.
 pub unknown : {B : Type 0} (ledger : B → Ledger) (tells : Telling) (read : ReadRequest) (past : History) (progress : Progress) (begun now : RoundState) (office : Office B)
     (at : ℕ) (reason : Refusal) (result : Result Progress Error) → IsAskedAt progress.latest begun.moments now.moments at → Stands ledger past office
     → IsOutside ⊥ begun.failures now.failures reason → TellsWhyNot (refused_line reason) at begun.printed now.printed result
@@ -191,7 +196,8 @@ unknown ledger tells read past progress begun now office at reason result timed 
   };
 }
 
--- The faults of a list were printed, and nothing was requested.
+-- If the point list of a line has faulty rows, then the line makes no request, and the rows are
+-- printed.
 pub faulty : {B : Type 0} (ledger : B → Ledger) (tells : Telling) (past : History) (progress : Progress) (begun now : RoundState) (office : Office B) (rows told : List FaultyRow)
     (result : Result Progress Error) → Stands ledger past office → now.moments ≡ begun.moments → now.failures ≡ begun.failures → told ≡ rows
     → GotText result (faults_text told) begun.printed now.printed
@@ -210,7 +216,7 @@ faulty ledger tells past progress begun now office rows told result stands momen
       };
     }
 
--- The entry of a line was processed and printed, or a part of it.
+-- After an input line was processed, its outcome was printed completely or in part.
 pub line_taken : {B : Type 0} (ledger : B → Ledger) (tells : Telling) (caller : Option (List ℕ)) (line : Line) (past : History) (progress next : Progress)
     (begun now : RoundState) (old new : Office B) (e : Entry) → IsEntry tells caller line.text e
     → HasCome ledger tells e past progress begun now new (Ok next)
@@ -231,7 +237,7 @@ line_cut ledger tells caller line past progress begun now old new e error is don
   record { takes = done.takes.takes; text = done.takes.text; next = tt },
 )
 
--- The line is bad, or memory was missing.
+-- If an input line is bad or memory ran out, then the line makes no request.
 pub line_faulty : {B : Type 0} (ledger : B → Ledger) (tells : Telling) (caller : Option (List ℕ)) (line : Line) (past : History) (progress : Progress)
     (begun now : RoundState) (old new : Office B) (fault : LineFault) (status : ExitStatus) → IsUntouched begun now old new
     → ReadsEntry tells caller line.text (Err fault) → TellsFault fault line.number status begun.printed now.printed

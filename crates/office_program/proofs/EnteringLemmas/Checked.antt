@@ -1,4 +1,4 @@
--- Checking an input.
+-- Properties of the results of checking the lines of an input.
 use Rattle.std.proofs.Common.{◌≡◌, inl, inr, ℕ, ◌||◌, Bool, false, List, [], ◌∷◌, ◌++◌, Option, Result, Ok, Err, refl, sym, ap, subst, ◌∙◌, append-nil}
 use Rattle.std.specs.Prelude.{if◌then◌else◌}
 use Rattle.std.specs.Io.KnownBytes.{Appends}
@@ -20,13 +20,14 @@ use Rattle.office_program.specs.declared.entering.checking.Look.{Look}
 use Rattle.office_program.specs.Entering.Checked.{AreLooks, Checks, IsChecked, IsKnown, IsKnownOf, IsLook, IsShown, Looked, LooksOver, OnlyLooks, any_refused, lines_with, look_text, looks_text}
 use Rattle.office_program.specs.Entering.Lines.{Telling}
 
--- What is known of the request of a caller.
+-- The result of checking a request is equal whether its caller is given separately or in the
+-- request.
 pub known_of : (facts : List Fact) (asked : Asked) (caller : Option (List ℕ)) (what : Known) → asked.caller ≡ caller → IsKnownOf facts asked caller what
     → IsKnown facts asked what
 known_of facts asked caller what who is =
     subst (λ (o : Option (List ℕ)). IsKnownOf facts asked o what) (sym who) is
 
--- A store that was queried twice.
+-- If a store is only queried by two calls in a row, then it is only queried by both calls together.
 pub looks_both : (old between new : Ledger) → OnlyLooks old between → OnlyLooks between new → OnlyLooks old new
 looks_both old between new first second = record {
   clean = λ clean. first.clean (second.clean clean);
@@ -44,7 +45,7 @@ looks_none ledger = record {
   keeps = record { facts = λ known holds. holds; left = λ left may. may };
 }
 
--- A store that was only queried stays in its state.
+-- If a store is only queried, then it still records its history.
 pub still_stand : (old new : Ledger) (past : History) → OnlyLooks old new → BooksStand old past → BooksStand new past
 still_stand old new past looks stand = record {
   is_past = stand.is_past;
@@ -52,13 +53,13 @@ still_stand old new past looks stand = record {
   leaves = record { left = stand.leaves.left; may = looks.keeps.left stand.leaves.left stand.leaves.may; each = stand.leaves.each };
 }
 
--- What was found of a line was printed, or a part of it.
+-- After an input line was checked, the result was printed completely or in part.
 pub line_shown : (tells : Telling) (caller : Option (List ℕ)) (line : Line) (facts : List Fact) (had holds : Option (List ℕ)) (found : Look) (result : Result Bool ExitStatus)
     → IsLook tells caller line.text facts found → IsShown line.number found had holds result → IsChecked tells caller line facts had holds result
 line_shown tells caller line facts had holds found (Ok refused) is shown = (found, is, shown.0, shown.1)
 line_shown tells caller line facts had holds found (Err status) is part = inl (record { found = found; is = is; part = part })
 
--- The progress of the lines; these remain.
+-- The progress of checking an input, when the lines `rest` remain to be checked.
 pub record Underway (tells : Telling) (caller : Option (List ℕ)) (lines rest : List Line) (facts : List Fact) (had holds : Option (List ℕ)) (refused : Bool) : Type 0 where
   pub looked : List Looked
   pub each : AreLooks tells caller facts looked
@@ -127,7 +128,7 @@ ends_early tells caller lines rest left facts had was holds refused line told st
   });
 }
 
--- A store that was looked up stays in its state.
+-- After an input was checked over a store, the store still records its history.
 pub checked_over : (tells : Telling) (caller text : List ℕ) (name : Option (List ℕ)) (old new : Ledger) (had holds : Option (List ℕ)) (status : ExitStatus) (past : History)
     → name ≡ named caller → BooksStand old past → OnlyLooks old new → Checks tells name (speaking_lines text) (facts_of past) status had holds
     → LooksOver tells caller text new had holds status past

@@ -1,4 +1,4 @@
--- One more line, and the end of an input.
+-- Properties of the progress of an input after one more line, and at the end of the input.
 use Rattle.std.proofs.Common.{◌≡◌, inl, inr, ℕ, List, [], ◌∷◌, ◌++◌, Option, Result, Ok, Err, refl, sym, ap, subst, ◌∙◌, append-nil}
 use Rattle.std.specs.Io.KnownBytes.{Appends}
 use Rattle.std.proofs.KnownBytes.{Appends-nil, Appends-trans}
@@ -19,7 +19,7 @@ use Rattle.office_program.specs.Entering.Course.{AreAnswered, AreTaken, AreTimed
 use Rattle.office_program.specs.Entering.Entered.{EntersLines, IsStopped, status_of}
 use Rattle.office_program.specs.Entering.Lines.{Telling}
 
--- The progress of the lines; these remain.
+-- The progress of entering an input, when the lines `rest` remain to be entered.
 pub record Underway {B : Type 0} (ledger : B → Ledger) (tells : Telling) (caller : Option (List ℕ)) (lines rest : List Line) (past : History) (first : ℕ)
     (begun now : RoundState) (progress : Progress) (office : Office B) : Type 0 where
   pub taken : List Taken
@@ -28,7 +28,7 @@ pub record Underway {B : Type 0} (ledger : B → Ledger) (tells : Telling) (call
   pub printed : Appends begun.printed now.printed (text_after past taken)
   pub come : progress ≡ progress_of first taken
 
--- No line was processed.
+-- The progress before the first line of an input.
 pub begins : {B : Type 0} (ledger : B → Ledger) (tells : Telling) (caller : Option (List ℕ)) (lines rest : List Line) (past : History) (first : ℕ)
     (begun : RoundState) (progress : Progress) (office : Office B) → Stands ledger past office → rest ≡ lines → progress ≡ progress_of first []
     → Underway ledger tells caller lines rest past first begun begun progress office
@@ -40,7 +40,7 @@ begins ledger tells caller lines rest past first begun progress office stands is
   come = come;
 }
 
--- One more line was processed.
+-- The progress after one more processed line of an input.
 adds : {B : Type 0} (ledger : B → Ledger) (tells : Telling) (caller : Option (List ℕ)) (past : History) (first : ℕ) (begun was now : RoundState)
     (old new : Office B) (taken : List Taken) (line : Line) (came : Came) → AreTaken ledger tells caller past first begun was old taken → Comes tells caller (history_with past taken) line.text came
     → Takes ledger (history_with past taken) (progress_of first taken).latest was now new came
@@ -70,7 +70,7 @@ one_more {B = B} ledger tells caller lines rest left past first begun was now pr
       come = done.2.next;
     }
 
--- Nothing was requested.
+-- After an input line that made no request, the progress of the input is unchanged.
 untouched : {B : Type 0} (ledger : B → Ledger) (tells : Telling) (caller : Option (List ℕ)) (past : History) (first : ℕ) (begun was now : RoundState)
     (old new : Office B) (taken : List Taken) → AreTaken ledger tells caller past first begun was old taken → IsUntouched was now old new
     → AreTaken ledger tells caller past first begun now new taken
@@ -85,7 +85,8 @@ untouched {B = B} ledger tells caller past first begun was now old new taken are
       timed = subst R (sym stays.moments) are.timed;
     }
 
--- A text was printed completely, followed by a part of another or by nothing.
+-- If one text was printed completely and a second text in part, then the two texts together were
+-- printed in part.
 then_part : (a b c : Option (List ℕ)) (x y : List ℕ) → Appends a b x → GotPart y b c → GotPart (x ++ y) a c
 then_part a b c x y whole part =
     let r : Result (Unit {0}) (Unit {0}) = Err tt in got_both r a b c x y (x ++ y) whole part refl
@@ -94,7 +95,7 @@ then_nothing : (a b c : Option (List ℕ)) (x : List ℕ) → Appends a b x → 
 then_nothing a b c x whole none =
     (x ++ [], [], sym (append-nil x) ∙ sym (append-nil (x ++ [])), Appends-trans a b c x [] whole none)
 
--- The command ends with a bad line, or was broken off.
+-- If a line is bad or the command is broken off, then entering the input ends early.
 pub ends_early : {B : Type 0} (ledger : B → Ledger) (tells : Telling) (caller : Option (List ℕ)) (lines rest left : List Line) (past : History) (first : ℕ)
     (begun was now : RoundState) (progress : Progress) (old new : Office B) (line : Line) (status : ExitStatus)
     → (under : Underway ledger tells caller lines rest past first begun was progress old) → rest ≡ line ∷ left
@@ -156,7 +157,7 @@ ends_early ledger tells caller lines rest left past first begun was now progress
       }));
     }
 
--- All lines were processed.
+-- After the last line was processed, entering the input ends.
 pub ends_whole : {B : Type 0} (ledger : B → Ledger) (tells : Telling) (caller : Option (List ℕ)) (lines rest : List Line) (past : History) (first : ℕ)
     (begun now : RoundState) (progress : Progress) (office : Office B) (status : ExitStatus)
     → Underway ledger tells caller lines rest past first begun now progress office → rest ≡ [] → status ≡ status_of progress

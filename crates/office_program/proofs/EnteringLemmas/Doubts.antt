@@ -1,4 +1,4 @@
--- The doubt about an entry by hand.
+-- Proof that the definition of a doubted entry by hand agrees with its computation.
 use Rattle.std.proofs.Common.{◌≡◌, inl, inr, ℕ, ◌-◌, ◌*◌, nat_le, Bool, true, false, List, Option, Some, None, Result, Ok, Err, refl, sym, ap, subst, ◌∙◌, arith}
 use Rattle.std.specs.Prelude.{if◌then◌else◌, is_some}
 use Rattle.std.specs.Option.{option_and_then}
@@ -23,14 +23,15 @@ use Rattle.office_core.specs.declared.office.Office.{Office}
 use Rattle.office_program.specs.Entering.Doubts.{IsDoubtTold, doubt_of, doubted_at, doubted_in, repeat_in}
 use Rattle.office_program.specs.Entering.Marks.{is_marked}
 
--- The value of one count less.
+-- The energy from count `raw` to count `up_to - 1` equals the energy of `up_to - raw - 1` counts.
 pub less_one : (up_to raw unit : ℕ) → (up_to - 1) * unit - raw * unit ≡ (up_to - raw - 1) * unit
 less_one up_to raw unit =
     let order : (up_to - 1) - raw ≡ up_to - raw - 1 = omega arith in
     sym (ap (λ (n : ℕ). n * unit) (sym order) ∙ mul_comm ((up_to - 1) - raw) unit ∙ mul-sub unit (up_to - 1) raw
     ∙ ap (λ (n : ℕ). n - unit * raw) (mul_comm unit (up_to - 1)) ∙ ap (λ (n : ℕ). (up_to - 1) * unit - n) (mul_comm unit raw))
 
--- A load can make a meter count so far, by its energy.
+-- The comparison of an entry's energy with the load and the time equals the rule `can_count`. This
+-- rule says how far a load at the ceiling can advance a meter's counter.
 pub within_is : (energy seconds load ceiling up_to less raw unit moment at : ℕ) → energy ≡ less * unit - raw * unit → less ≡ up_to - 1 → load ≡ ceiling
     → seconds ≡ moment - at → nat_le (energy * 18) (load * seconds * 5) ≡ can_count ceiling unit (moment - at) (up_to - raw)
 within_is energy seconds load ceiling up_to less raw unit moment at energy_is less_is load_is seconds_is =
@@ -38,7 +39,7 @@ within_is energy seconds load ceiling up_to less raw unit moment at energy_is le
     ap (λ (n : ℕ). nat_le (n * 18) (load * seconds * 5)) same ∙ ap (λ (n : ℕ). nat_le ((up_to - raw - 1) * unit * 18) (n * seconds * 5)) load_is
     ∙ ap (λ (n : ℕ). nat_le ((up_to - raw - 1) * unit * 18) (ceiling * n * 5)) seconds_is
 
--- ---- The answer to a query
+-- ---- The office's answer to the query for a meter with a doubted entry
 
 pub row_found : {T : Type 0} (found : Option T) (before after : Failures) (x : T) → IsRowFound found before after (Ok x) → (found ≡ Some x) × (after ≡ before)
 row_found None before after x (inl told) = let never = told.0 in absurd (cc never)
@@ -57,14 +58,15 @@ row_failed None before after why other (inl told) = let same = told.0 in absurd 
 row_failed (Some y) before after why other (inl told) = let never = told.0 in absurd (cc never)
 row_failed found before after why other (inr fails) = fails
 
--- ---- The meter at a register
+-- ---- The open meter at an accounting register
 
 pub sound_there : (facts : List Fact) (register : Option (List ℕ)) (row : Installation) → AreInRange facts
     → option_and_then (installation_at facts) register ≡ Some row → IsSound row
 sound_there facts None row ranges found = absurd (cc found)
 sound_there facts (Some name) row ranges found = ranges.at_register name row found
 
--- The doubt at the meter that was found, and the case without a meter.
+-- The doubt about an entry by hand is decided for the meter that was found. If no meter was found,
+-- the entry is not doubted.
 pub found_doubt : (facts : List Fact) (at : ℕ) (c : Command) (register : Option (List ℕ)) (row : Installation)
     → option_and_then (installation_at facts) register ≡ Some row → doubted_in facts at c register ≡ option_and_then (doubted_at at c) (if_open row)
 found_doubt facts at c None row found = cc found
@@ -75,13 +77,14 @@ pub no_doubt_there : (facts : List Fact) (at : ℕ) (c : Command) (register : Op
 no_doubt_there facts at c None found = refl
 no_doubt_there facts at c (Some name) found = ap (λ (o : Option Installation). option_and_then (doubted_at at c) (option_and_then if_open o)) found
 
--- ---- A request
+-- ---- The doubt about the entry in a request
 
 none_either : (b : Bool) (o : Option ℕ) → o ≡ None → (if b then None else o) ≡ None
 none_either true o none = refl
 none_either false o none = none
 
--- A request is not doubted if it is stored, if its line has a mark, or if it makes no entry.
+-- If a request is stored, its line has the mark ` !`, or it makes no entry by hand, then it is not
+-- doubted.
 pub kept_undoubted : (facts : List Fact) (at : ℕ) (asked : Asked) (repeat : Repeat) → repeat_in facts asked ≡ Some repeat → doubt_of facts at asked ≡ None
 kept_undoubted facts at asked repeat kept = cond-true (is_some (repeat_in facts asked)) None _ (ap is_some kept)
 
@@ -98,15 +101,16 @@ entryless_undoubted facts at asked none =
     none_either (is_some (repeat_in facts asked)) _
     (none_either (is_marked asked.request) _ (entryless facts at asked.command (corrected_at asked.command) none))
 
--- Otherwise the request is doubted as its entry is.
+-- If a request is not stored and has no mark ` !`, then it is doubted exactly when its entry by
+-- hand is doubted.
 pub doubt_is : (facts : List Fact) (at : ℕ) (asked : Asked) → repeat_in facts asked ≡ None → is_marked asked.request ≡ false
     → doubt_of facts at asked ≡ doubted_in facts at asked.command (corrected_at asked.command)
 doubt_is facts at asked new unmarked =
     cond-false (is_some (repeat_in facts asked)) None _ (ap is_some new) ∙ cond-false (is_marked asked.request) None _ unmarked
 
--- ---- The office's answer
+-- ---- The office's answer to the query whether an entry is doubted
 
--- The answer after a query without a failure, with equal values.
+-- If the query has no failure, then the office answers whether an entry is doubted.
 pub told_on : {B : Type 0} (ledger : B → Ledger) (past : History) (before between after : Failures) (office : Office B) (doubt other : Option ℕ)
     (result : Result (Option ℕ) Refusal) → between ≡ before → doubt ≡ other → IsDoubtTold ledger past between after office doubt result
     → IsDoubtTold ledger past before after office other result

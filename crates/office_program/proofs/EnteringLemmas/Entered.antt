@@ -1,4 +1,4 @@
--- An office that was opened and entered into.
+-- Properties of the result of a command that opens an office and enters an input.
 use Rattle.std.proofs.Common.{◌≡◌, inl, inr, ℕ, List, [], ◌∷◌, Option, Some, sym, ap, subst, ◌∙◌}
 use Rattle.command_io.specs.Lines.{speaking_lines}
 use Rattle.command_io.specs.declared.status.ExitStatus.{ExitStatus}
@@ -14,12 +14,12 @@ use Rattle.office_program.specs.Texts.OpenedOffice.{Opens, TellsUnopened}
 use Rattle.office_program.specs.Entering.Entered.{EntersLines, TellsEntering}
 use Rattle.office_program.specs.Entering.Lines.{Telling}
 
--- The timestamp of the opening is the clock's time.
+-- The first timestamp of an input's lines equals the clock's time when the office was opened.
 told_at : (moments then : Option (List ℕ)) (listed : List ℕ) (following : Option (List ℕ)) (first at : ℕ) → TellsMoment moments then first
     → listed ≡ first ∷ [] → TellsMoment (Some listed) following at → at ≡ first
 told_at moments then listed following first at told is opens = opens.0 ∙ ap next_moment is
 
--- The opening was refused.
+-- If the opening of the office was refused, then entering an input prints only the refusal.
 pub unopened : {B : Type 0} (ledger : B → Ledger) (tells : Telling) (past : History) (caller text : List ℕ) (moments then : Option (List ℕ)) (listed : List ℕ)
     (following : Option (List ℕ)) (first : ℕ) (books back : B) (had holds : Option (List ℕ)) (status : ExitStatus) → TellsMoment moments then first → listed ≡ first ∷ []
     → TellsUnopened past (Some listed) following (ledger books) (ledger back) status had holds
@@ -39,7 +39,8 @@ kept : {B : Type 0} (ledger : B → Ledger) (left : Office B) (back : B) → bac
     → (ledger (books_in left)).is_clean
 kept {B = B} ledger left back is clean = let P : B → Type 0 = λ b. (ledger b).is_clean in subst P is clean
 
--- The office was opened, and the input was entered.
+-- After an input was entered into the opened office, the office is in the state after the input's
+-- lines.
 pub entered : {B W : Type 0} (ledger : B → Ledger) (contents : W → Option (List ℕ)) (tells : Telling) (past : History) (caller text : List ℕ) (name : Option (List ℕ))
     (moments then later : Option (List ℕ)) (listed : List ℕ) (following : Option (List ℕ)) (first : ℕ) (books back : B) (opened left : Office B) (before silent : W)
     (holds : Option (List ℕ)) (status : ExitStatus) → name ≡ named caller → TellsMoment moments then first → listed ≡ first ∷ []

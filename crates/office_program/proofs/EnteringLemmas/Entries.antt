@@ -1,4 +1,4 @@
--- The result of parsing a line.
+-- Properties of the result of parsing an input line into a request.
 use Rattle.std.proofs.Common.{◌≡◌, inl, inr, ℕ, List, Option, Some, Result, Ok, Err, refl, sym, ap, subst, ◌∙◌}
 use Rattle.point_list.specs.Lists.{AreFaults, ExplainsList, SpellsList, list_faults, rows_read}
 use Rattle.point_list.specs.declared.fault.FaultyRow.{FaultyRow}
@@ -23,7 +23,7 @@ use Rattle.office_program.specs.declared.entering.read_line.ReadLine.{ReadLine}
 use Rattle.office_program.specs.Entering.ReadLines.{IsNoRead, IsRead}
 use Rattle.office_program.specs.Entering.Lines.{IsWantedEntry, ReadsCounter, ReadsEntry, ReadsFile, ReadsList, ReadsScript, ReadsUnnamed, ReadsWanted, Telling, asked_by, file_request, put_by, wanted_in}
 
--- A command, with the bytes of the line as its stored bytes.
+-- If a line has a command, then its request has the command, and the line's bytes as stored bytes.
 pub command_wanted : (caller : Option (List ℕ)) (text kept : List ℕ) (number : ℕ) (c : Command) (want : Wanted) → want ≡ wanted.Command number c → kept ≡ text
     → ReadsWanted caller text want (Ok (Ask (asked_by caller number kept c)))
 command_wanted caller text kept number c want is same = rw is (ap (λ bytes. Ask (asked_by caller number bytes c)) same)
@@ -34,7 +34,7 @@ list_reads caller text number list (Ok entry) reads = reads
 list_reads caller text number list (Err Bad) reads = absurd reads
 list_reads caller text number list (Err Memory) reads = tt
 
--- A list whose bytes are those of the line.
+-- If a line has a point list, then its request has the list, and the line's bytes as stored bytes.
 pub list_wanted : (caller : Option (List ℕ)) (text kept bytes : List ℕ) (number : ℕ) (list : GivenList) (want : Wanted) (result : Result Entry LineFault)
     → want ≡ wanted.List number list → kept ≡ text → bytes ≡ list.text → ReadsList caller number list.device bytes kept result
     → ReadsWanted caller text want result
@@ -43,7 +43,7 @@ list_wanted caller text kept bytes number list want result is same its reads =
     let Q : List ℕ → Type 0 = λ b. ReadsList caller number list.device b text result in
     rw is (list_reads caller text number list result (subst Q its (subst P same reads)))
 
--- The entry of a script's line is its request.
+-- If a line is a line of a script, then its parsed form is the request in the line.
 pub script_reads : (caller : Option (List ℕ)) (text : List ℕ) (said : ScriptLine) (want : Wanted) (result : Result Entry LineFault)
     → want ≡ wanted_in (is_marked text) said → IsOnly (words_of (unmarked text)) said → ReadsWanted caller text want result → ReadsScript caller text result
 script_reads caller text said want (Ok entry) is only reads = record {
@@ -55,13 +55,13 @@ script_reads caller text said want (Err Bad) is only reads =
     λ other line. ap (wanted_in (is_marked text)) (only.only other line) ∙ sym is ∙ reads
 script_reads caller text said want (Err Memory) is only reads = tt
 
--- A line that can't be parsed is no request.
+-- If a line can't be parsed as a script's line, then it makes no request.
 pub no_script : (caller : Option (List ℕ)) (text : List ℕ) (fault : LineFault) → (let r : Result ScriptLine LineFault = Err fault in Reads (words_of (unmarked text)) r)
     → ReadsScript caller text (Err fault)
 no_script caller text Bad reads = λ said line. absurd (reads said line)
 no_script caller text Memory reads = tt
 
--- A list from a file.
+-- If a line names a file, then its parsed form has the point list in the file.
 pub file_reads : (tells : Telling) (caller : Option (List ℕ)) (text bytes : List ℕ) (named : FileLine) (result : Result Entry LineFault)
     → tells.files named.name (Some bytes) → ReadsList caller named.number named.device bytes (file_request text bytes) result
     → ReadsFile tells caller text named result
@@ -69,7 +69,8 @@ file_reads tells caller text bytes named (Ok entry) told reads = (bytes, told, r
 file_reads tells caller text bytes named (Err Bad) told reads = absurd reads
 file_reads tells caller text bytes named (Err Memory) told reads = tt
 
--- The entries of a line that names a file, and of a line that names none.
+-- If a line names a file, then the parser returns the request with the file's point list. Otherwise
+-- it returns the parsed form of a line without a file.
 pub named_reads : (tells : Telling) (caller : Option (List ℕ)) (text : List ℕ) (named : FileLine) (result : Result Entry LineFault)
     → IsFileLine (words_of text) named → ReadsFile tells caller text named result → ReadsEntry tells caller text result
 named_reads tells caller text named (Ok entry) is reads =
@@ -83,7 +84,8 @@ unnamed_reads tells caller text (Ok entry) none reads = inr (none, reads)
 unnamed_reads tells caller text (Err Bad) none reads = inr (none, reads.0, reads.1)
 unnamed_reads tells caller text (Err Memory) none reads = tt
 
--- The entries of a line whose counter is read, and of a script's line.
+-- If a line has `@read`, then the parser returns its parsed form. Any other line without a file is
+-- parsed as a script's line.
 pub counter_reads : (caller : Option (List ℕ)) (text : List ℕ) (line : ReadLine) (result : Result Entry LineFault) → IsRead text line
     → ReadsCounter caller text line result → ReadsUnnamed caller text result
 counter_reads caller text line (Ok entry) is reads = inl (record { line = line; is = is; comes = reads })
@@ -96,14 +98,14 @@ script_reads_on caller text (Ok entry) none reads = inr (none, reads)
 script_reads_on caller text (Err Bad) none reads = (none, reads)
 script_reads_on caller text (Err Memory) none reads = tt
 
--- A list that was parsed and planned.
+-- If a point list was parsed and planned, then it is the request of its line.
 pub list_read : (caller : Option (List ℕ)) (number : ℕ) (device : Option (List ℕ)) (text request : List ℕ) (points : List ListedPoint) (planned : Planned)
     → SpellsList text points → planned.points ≡ points → IsPlanned planned
     → ReadsList caller number device text request (Ok (Ask (asked_by caller number request (put_by device planned))))
 list_read caller number device text request points planned spells same is =
     (planned, record { points = subst (SpellsList text) (sym same) spells; planned = is }, refl)
 
--- The faulty rows of a list that was not.
+-- If a point list could not be parsed, then its line has faulty rows.
 pub list_faulty : (caller : Option (List ℕ)) (number : ℕ) (device : Option (List ℕ)) (text request : List ℕ) (fault : ListFault) (told : List FaultyRow)
     → fault ≡ Faults told → ExplainsList (list_faults (rows_read text)) fault → ReadsList caller number device text request (Ok (Faulty told))
 list_faulty caller number device text request fault told is explains =

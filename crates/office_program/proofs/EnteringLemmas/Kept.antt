@@ -1,4 +1,4 @@
--- The stored answer of a request stays after all later events.
+-- Proof that the stored answer of a request remains in the store after all later events.
 use Rattle.std.proofs.Common.{◌≡◌, inl, inr, ℕ, ◌==◌, nat_lt, Bool, true, false, ◌&&◌, List, [], ◌∷◌, ◌++◌, map, reverse, refl, sym, ap, subst, ◌∙◌, Option, Some, None, Result, Ok, Err, eq-eqb}
 use Rattle.std.specs.Prelude.{if◌then◌else◌}
 use Rattle.std.specs.Str.{bytes_eq}
@@ -26,7 +26,8 @@ use Rattle.office_rules.proofs.Lookups.{same_itself, same_text}
 use Rattle.office_rules.proofs.LostPolls.{left_in, with_lost_is}
 use Rattle.office_rules.proofs.QuietFacts.{HoldsOfBooks, added_each, later_part_first, unseen}
 
--- Commands, outcomes, readings and openings store no answer by themselves.
+-- If a record is a point list, register, opening, entry or void, then it has no stored answer to a
+-- request.
 no_reply : HoldsOfBooks (λ f. as_reply f ≡ None)
 no_reply = record { list = λ l. refl; register = λ r. refl; opening = λ o. refl; entry = λ b. refl; void = λ v. refl }
 
@@ -47,7 +48,7 @@ lost_unseen at (poll ∷ polls) facts = lost_unseen at polls facts
 none_lost : (at : ℕ) (facts : List Fact) → replies_in (with_lost at facts) ≡ replies_in facts
 none_lost at facts = ap replies_in (with_lost_is at facts) ∙ lost_unseen at (left_in facts) facts
 
--- The stored answer of a request.
+-- The stored answer of a request, with its caller, number and bytes.
 abbrev kept_reply : (at : ℕ) → Asked → (caller : List ℕ) → Reply
 kept_reply at asked caller =
     record { caller = caller; number = asked.number; request = asked.request; kind = kind_of asked.command; at = at }
@@ -65,7 +66,7 @@ reply_none : (at : ℕ) (asked : Asked) (known : List Fact) (o : Option (List �
 reply_none at asked known None is = refl
 reply_none at asked known (Some c) is = cc is
 
--- The stored answers after a request.
+-- After a request, the stored answers are the earlier answers and one new answer.
 asked_first : (number at : ℕ) (slots : List Slot) (facts : List Fact) (asked : Asked) (caller : List ℕ) → asked.caller ≡ Some caller
     → replies_in (reverse (added_by number at slots facts asked.command ++ reply_by at asked) ++ facts) ≡ kept_reply at asked caller ∷ replies_in facts
 asked_first number at slots facts asked caller is =
@@ -80,11 +81,11 @@ asked_none number at slots facts asked is =
     ap replies_in (later_part_first added (reply_by at asked) facts) ∙ reply_none at asked (reverse added ++ facts) asked.caller is
     ∙ none_added number at slots facts asked.command
 
--- The stored answer with a caller and a number.
+-- The stored answer to the request with the given caller and number.
 abbrev answer_in : List Reply → (caller : List ℕ) → (number : ℕ) → Option Reply
 answer_in replies caller number = find (λ reply. same reply.caller caller && (reply.number == number)) replies
 
--- A new answer has another caller or number.
+-- After an answer with another key (caller and number) is stored, an earlier answer is still found.
 answer_stays : (new : Reply) (replies : List Reply) (caller : List ℕ) (number : ℕ) (reply : Reply) → answer_in replies new.caller new.number ≡ None
     → answer_in replies caller number ≡ Some reply → answer_in (new ∷ replies) caller number ≡ Some reply
 answer_stays new replies caller number reply none found =
@@ -101,13 +102,13 @@ answer_stays new replies caller number reply none found =
       | inr other ↦ cond-false test (Some new) (answer_in replies caller number) other ∙ found
     ]
 
--- The new answer is found first.
+-- After an answer is stored, it is found by its key (caller and number).
 answer_new : (new : Reply) (replies : List Reply) → answer_in (new ∷ replies) new.caller new.number ≡ Some new
 answer_new new replies =
     let own : (same new.caller new.caller && (new.number == new.number)) ≡ true = rw (same_itself new.caller, eq-eqb new.number new.number refl) refl in
     cond-true (same new.caller new.caller && (new.number == new.number)) (Some new) (answer_in replies new.caller new.number) own
 
--- An answer of this kind is stored for a request, with the request's bytes.
+-- True if the store has an answer of this kind to a request, with the request's bytes.
 pub record Keeps (facts : List Fact) (asked : Asked) (kind : CommandKind) : Type 0 where
   pub caller : List ℕ
   pub named : asked.caller ≡ Some caller
@@ -148,7 +149,7 @@ keeps_beside number at slots facts new asked kind (Some caller) who fresh kept =
       done = kept.done;
     }
 
--- The stored answer stays after the next accepted event.
+-- After the next accepted event, the stored answer of a request is still in the store.
 keeps_next : (past : History) (at : ℕ) (e : Event) (asked : Asked) (kind : CommandKind) → AreAccepted (Fed at e ∷ past) → Keeps (facts_of past) asked kind
     → Keeps (facts_of (Fed at e ∷ past)) asked kind
 keeps_next past at (event.Connected given) asked kind accepted kept = kept
@@ -163,7 +164,7 @@ keeps_next past at (event.Command c) asked kind accepted kept =
 keeps_next past at (event.Asked new) asked kind accepted kept =
     keeps_beside (next_poll (facts_of past)) at (slots_of past) (facts_of past) new asked kind new.caller refl accepted.0.new kept
 
--- The stored answer stays after all accepted events.
+-- After all later accepted events, the stored answer of a request is still in the store.
 pub keeps_on : (more past : History) (asked : Asked) (kind : CommandKind) → AreAccepted (more ++ past) → Keeps (facts_of past) asked kind
     → Keeps (facts_of (more ++ past)) asked kind
 keeps_on [] past asked kind accepted kept = kept
@@ -172,13 +173,13 @@ keeps_on (Opened at ∷ more) past asked kind accepted kept =
 keeps_on (Fed at e ∷ more) past asked kind accepted kept =
     keeps_next (more ++ past) at e asked kind accepted (keeps_on more past asked kind accepted.1 kept)
 
--- The events before an accepted history were accepted.
+-- If all events of a history were accepted, then all events of its earlier part were accepted.
 pub accepted_before : (more past : History) → AreAccepted (more ++ past) → AreAccepted past
 accepted_before [] past accepted = accepted
 accepted_before (Opened at ∷ more) past accepted = accepted_before more past accepted.1
 accepted_before (Fed at e ∷ more) past accepted = accepted_before more past accepted.1
 
--- The caller of an accepted request has a name.
+-- If a request was accepted, then its caller has a valid name.
 some_caller : (o : Option (List ℕ)) → is_none o ≡ false → (caller : List ℕ) × (o ≡ Some caller)
 some_caller None h = cc h
 some_caller (Some caller) h = (caller, refl)
@@ -190,7 +191,7 @@ caller_of past at asked right =
     let bad = or_parts _ _ limit.1 in
     some_caller asked.caller (or_parts (is_none asked.caller) _ bad.1).0
 
--- The answer of an accepted request is stored.
+-- If a request was accepted, then its answer is stored.
 pub keeps_first : (past : History) (at : ℕ) (asked : Asked) → AreAccepted (Fed at (event.Asked asked) ∷ past)
     → Keeps (facts_of (Fed at (event.Asked asked) ∷ past)) asked (kind_of asked.command)
 keeps_first past at asked accepted =
@@ -205,14 +206,14 @@ keeps_first past at asked accepted =
       done = refl;
     }
 
--- The stored answer answers a retry.
+-- If the answer of a request is stored, then it answers a retry of the request.
 pub answers : (facts : List Fact) (asked again : Asked) (kind : CommandKind) → again.caller ≡ asked.caller → again.number ≡ asked.number → again.request ≡ asked.request
     → Keeps facts asked kind → kept_of facts (event.Asked again) ≡ Some (Ok kind)
 answers facts asked again kind who which what kept =
     let bytes : bytes_eq kept.reply.request again.request ≡ true = rw (kept.bytes ∙ sym what) (same_itself again.request) in
     rw (who ∙ kept.named, which, kept.found, bytes) (ap (λ (k : CommandKind). let r : Result CommandKind Refusal = Ok k in Some r) kept.done)
 
--- A request that the stored answer answers has the stored bytes.
+-- If a stored answer answers a request, then the request has the stored bytes.
 by_bytes : (asked : Asked) (reply : Reply) (kind : CommandKind) (b : Bool) → bytes_eq reply.request asked.request ≡ b
     → (let r : Result CommandKind Refusal = Ok kind in (if b then Ok reply.kind else Err refusal.Reused) ≡ r) → (reply.request ≡ asked.request) × (reply.kind ≡ kind)
 by_bytes asked reply kind true same_bytes h = (same_text reply.request asked.request same_bytes, cc h)

@@ -1,4 +1,4 @@
--- The words of a line with `@read`, one by one.
+-- Properties of the words of an input line with `@read`.
 use Rattle.std.proofs.Common.{◌≡◌, ◌⊎◌, inl, inr, ℕ, Bool, true, false, List, [], ◌∷◌, Option, Some, None, refl, sym, ap, ◌∙◌, subst}
 use Rattle.std.specs.Prelude.{codes, if◌then◌else◌, option_map}
 use Rattle.std.specs.Str.{bytes_eq}
@@ -11,9 +11,10 @@ use Rattle.script_lines.specs.LineWords.Words.{words_of}
 use Rattle.office_program.specs.Entering.Marks.{is_marked, unmarked}
 use Rattle.office_program.specs.Entering.ReadLines.{IsNoRead, IsNoReadLine, IsRead, IsReadLine, exchange_said, install_said, line_said, may_end, read_said, read_word, verb_said}
 
--- ---- The contents of such a line
+-- ---- Proof that the parser returns each line with `@read` that the words form
 
--- A field that the first word spells, or that may be missing.
+-- If words form a line that begins with a field, then the parser reads this field from the first
+-- word. A field that may be missing is also read from no words.
 first_read : (kind : Kind) (value : Value kind) (words : List (List ℕ)) (more : List Field) → Spell words (Of kind value ∷ more)
     → (rest : List (List ℕ)) × (first_value kind words ≡ Some (value, rest)) × Spell rest more
 first_read kind value [] more h = ([], ap (option_map (λ v. (v, []))) h.0, h.1)
@@ -50,7 +51,7 @@ said_of words (read.Exchange number register last rolls meter ceiling range) h =
     let j = first_read Range range i.0 _ i.2 in
     rw (a.1, b.1, c.1, d.1, e.1, f.1, g.1, i.1, j.1, ends_read j.0 j.2) refl
 
--- ---- The contents are spelled by the words
+-- ---- Proof that the words form the line with `@read` that the parser returns
 
 read_spelled : (words rest : List (List ℕ)) (more : List Field) → read_word words ≡ Some rest → Spell rest more → Spell words (Word (codes "@read") ∷ more)
 read_spelled [] rest more h spelled = cc h
@@ -137,15 +138,15 @@ spelled_of words line h =
     let number = bound (first_value Number words) _ line h in
     after_spelled number.0.0 number.0.1 words line number.1 number.2
 
--- If there are no contents, the words are no such line.
+-- If the parser returns `None`, the words form no line with `@read`.
 pub none_of : (words : List (List ℕ)) → (let o : Option ReadLine = None in o) ≡ read_said words → IsNoReadLine words
 none_of words h = λ line is. let both : (let o : Option ReadLine = None in o) ≡ Some line = h ∙ said_of words line is in cc both
 
--- The words are at most one such line.
+-- The words form at most one line with `@read`.
 pub one_line : (words : List (List ℕ)) (a b : ReadLine) → IsReadLine words a → IsReadLine words b → a ≡ b
 one_line words a b first second = same a b (sym (said_of words a first) ∙ said_of words b second)
 
--- ---- A text that is such a line, with its mark
+-- ---- The text of a line with `@read`, with or without the mark ` !`
 
 pub read_so : (text : List ℕ) (line : ReadLine) → Some line ≡ read_said (words_of (unmarked text)) → may_end (is_marked text) line ≡ true → IsRead text line
 read_so text line said may = record { is = spelled_of (words_of (unmarked text)) line (sym said); may = may }

@@ -1,4 +1,4 @@
--- The reading of a counter.
+-- Properties of the reading of a meter's counter for an input line with `@read`.
 use Rattle.std.proofs.Common.{◌≡◌, inl, inr, ℕ, pos, List, Option, Some, None, Result, Ok, Err, refl, sym, ap, subst, ◌∙◌}
 use Rattle.std.specs.Prelude.{is_some}
 use Rattle.std.specs.Option.{option_and_then}
@@ -31,7 +31,7 @@ counter_told tells facts register counter device None found there told =
 counter_told tells facts register counter device (Some shown) found there told =
     record { counter = counter; device = device; register_is = found; device_is = there; told = told }
 
--- The reading after a query without a failure.
+-- If the query has no failure, then the office finds the counter's reading.
 pub read_on : {B : Type 0} (ledger : B → Ledger) (tells : Telling) (register : Option (List ℕ)) (past : History) (before between after : Failures) (office : Office B)
     (result : Result (Option Shown) Refusal) → between ≡ before → IsReadThere ledger tells register past between after office result
     → IsReadThere ledger tells register past before after office result
@@ -39,7 +39,7 @@ read_on ledger tells register past before between after office result same done 
     let P : Failures → Type 0 = λ n. IsReadThere ledger tells register past n after office result in
     subst P same done
 
--- The reading for a request that is not stored.
+-- If the store does not have a request with `@read`, then the counter is read for the request.
 pub filled : {B : Type 0} (ledger : B → Ledger) (tells : Telling) (read : ReadRequest) (register : Option (List ℕ)) (past : History) (before between after : Failures)
     (office : Office B) (result : Result (Option Shown) Refusal) → repeat_of_read (facts_of past) read ≡ None → register ≡ line.register_of read.line
     → between ≡ before → IsReadThere ledger tells register past between after office result → IsFilled ledger tells read past before after office result
@@ -53,7 +53,7 @@ filled ledger tells read register past before between after office (Err why) new
     let on = read_on ledger tells register past before between after office (Err why) none done in
     record { stands = on.stands; told = on.told }
 
--- A stored request.
+-- If the request of a line with `@read` is stored, then the comparison finds the stored request.
 pub kept_read : (facts : List Fact) (read : ReadRequest) (repeat : Repeat) → repeat_of_read facts read ≡ Some repeat → is_some (repeat_of_read facts read) ≡ is_some (Some repeat)
 kept_read facts read repeat kept = ap is_some kept
 
@@ -63,7 +63,8 @@ found_as tells past read found shown before after same told =
     let P : Option Shown → Type 0 = λ s. IsShownFor tells (facts_of past) read s in
     (subst P same told.0, told.1)
 
--- A request after a query without a failure.
+-- If a query has no failure, then a request after the query has the same effect as without the
+-- query.
 pub asked_on : {B : Type 0} (ledger : B → Ledger) (request : Request) (past : History) (progress : Progress) (printed moments : Option (List ℕ)) (before between : Failures)
     (now : RoundState) (office : Office B) (result : Result Progress Error) → between ≡ before
     → HasAsked ledger request past progress (round_state printed moments between) now office result

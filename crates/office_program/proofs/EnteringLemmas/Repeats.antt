@@ -1,4 +1,4 @@
--- An input that is entered again.
+-- Proof that an input that is entered again does not act. Each of its lines is answered as a retry.
 use Rattle.std.proofs.Common.{◌≡◌, ℤ, pos, ◌⊎◌, inl, inr, ℕ, Bool, true, false, List, [], ◌∷◌, ◌++◌, Option, Some, None, Result, Ok, Err, refl, sym, ap, subst, ◌∙◌, append_assoc}
 use Rattle.std.specs.Prelude.{IsOk, if◌then◌else◌}
 use Rattle.command_io.specs.Lines.{Line}
@@ -40,7 +40,7 @@ use Rattle.office_program.proofs.EnteringLemmas.FileWords.{one_line}
 use Rattle.office_program.proofs.EnteringLemmas.ReadWords.{one_line as one_read}
 use Rattle.office_program.proofs.EnteringLemmas.Kept.{Keeps, accepted_before, answers, keeps_first, keeps_on, kept_again}
 
--- ---- One request
+-- ---- The answer to a retry of one request
 
 decided : (history : History) (at : ℕ) (e : Event) (kind : CommandKind) → kept_of (facts_of history) e ≡ Some (Ok kind)
     → decision_of history at e ≡ Ok (answer.Again kind)
@@ -55,9 +55,10 @@ requests_are_repeated past more at again_at asked again accepted same =
     decided history again_at (event.Asked again) (kind_of asked.command)
     (answers (facts_of history) asked again (kind_of asked.command) same.caller same.number same.request kept)
 
--- ---- One line is one request
+-- ---- Proof that an input line makes one request
 
--- What the requests of a line with `@read` have in common.
+-- The request of a line with `@read` for an arbitrary reading. Its caller, number and bytes do not
+-- depend on the counter's reading.
 abbrev asked_like : ReadRequest → Asked
 asked_like read = asked_at read 0 (pos 0)
 
@@ -132,15 +133,15 @@ same_entry tells caller text a b steady (inl first) (inr second) = absurd (secon
 same_entry tells caller text a b steady (inr first) (inl second) = absurd (first.0 second.line second.is)
 same_entry tells caller text a b steady (inr first) (inr second) = same_unnamed caller text a b first.1 second.1
 
--- ---- The request is stored
+-- ---- Proof that the request of an accepted line is stored
 
--- The request of a line is stored.
+-- True if the store has the request of an input line, with its answer.
 abbrev KeepsEntry : History → Entry → Type 0
 KeepsEntry later (entry.Ask asked) = (kind : CommandKind) × Keeps (facts_of later) asked kind
 KeepsEntry later (entry.Read read) = (kind : CommandKind) × Keeps (facts_of later) (asked_like read) kind
 KeepsEntry later (entry.Faulty rows) = ⊥
 
--- The answer to a request that is a retry, or was accepted.
+-- True if an accepted request was answered as a retry, or with the answer to a new request.
 abbrev Acted : (history : History) (at : ℕ) (asked : Asked) → Result Answer Refusal → (kept : Option (Result CommandKind Refusal)) → (why : Option Refusal) → Type 0
 Acted history at asked result kept why =
     ((kind : CommandKind) × (result ≡ Ok (answer.Again kind)) × (kept ≡ Some (Ok kind)))
@@ -158,7 +159,8 @@ not_outside : (takes_memory : Type 0) (result : Result Answer Refusal) (before a
 not_outside takes_memory (Ok given) before after ok fails = fails
 not_outside takes_memory (Err why) before after ok fails = cc ok
 
--- The answer to an accepted command is not that of a retry.
+-- If a command is newly accepted, then the history is longer by its event, because its answer is
+-- not the answer to a retry.
 fed_by : (history : History) (at : ℕ) (e : Event) (b : Bool) (first count of : ℕ) (kind : CommandKind)
     → with_answer history at e (Ok (if b then answer.Started first count of else answer.Done kind)) ≡ Fed at e ∷ history
 fed_by history at e true first count of kind = refl
@@ -171,7 +173,7 @@ fed history at asked =
     fed_by history at (event.Asked asked) (is_start c) (next_poll (facts_of history)) (sent_count (slots_of history) (facts_of history) at c)
     (reads_in_all (facts_of history) c) (kind_of c)
 
--- The later history extends this one.
+-- True if the later history extends the earlier history.
 abbrev GrowsTo : History → History → Type 0
 GrowsTo later history = (more : History) × (later ≡ more ++ history)
 
@@ -217,7 +219,7 @@ keeps_same facts asked again kind same kept = record {
   done = kept.done;
 }
 
--- For any reading of the counter.
+-- The requests of a line with `@read` have equal keys and bytes for any reading of the counter.
 like : (read : ReadRequest) (raw : ℕ) (sf : ℤ) → IsSameRequest (asked_at read raw sf) (asked_like read)
 like read raw sf = record { caller = refl; number = refl; request = refl }
 
@@ -238,7 +240,7 @@ keeps_entry later more history e (Doubted at request mwh) before after is goes a
 keeps_entry later more history e (Undecided at request why) before after is goes accepted answered ok = absurd ok
 keeps_entry later more history e (Unread at read) before after is goes accepted answered ok = absurd ok
 
--- ---- The request of the same line is stored
+-- ---- Proof that the request of a line that is entered again is stored
 
 repeats_by : (later : History) (a b : Entry) → SameEntry a b → KeepsEntry later a → KeepsEntry later b
 repeats_by later (entry.Ask x) (entry.Ask y) same kept = (kept.0, keeps_same (facts_of later) x y kept.0 same kept.1)
@@ -285,14 +287,14 @@ each_kept tells caller (one ∷ earlier) past later more before after steady goe
       each_kept tells caller earlier past later here.1.0 before answered.0 steady here.1.1 accepted are.1 answered.1 acted.1,
     )
 
--- ---- Nothing acts again
+-- ---- Proof that a line that is entered again does not act
 
 outside_same : (takes_memory : Type 0) (history : History) (at : ℕ) (e : Event) (result : Result Answer Refusal) (before after : Failures)
     → FailsOutside takes_memory before after result → with_answer history at e result ≡ history
 outside_same takes_memory history at e (Ok given) before after fails = absurd fails
 outside_same takes_memory history at e (Err why) before after fails = refl
 
--- A stored request is not accepted again.
+-- If a request is stored, then it is not accepted again.
 not_accepted : (later : History) (at : ℕ) (e : Event) (asked : Asked) (kind : CommandKind) → e ≡ event.Asked asked → Keeps (facts_of later) asked kind
     → IsAccepted later at e → ⊥
 not_accepted later at e asked kind is keeps accepted =
@@ -318,7 +320,7 @@ stays_asked later one asked kind before after is keeps (inr fails) =
     let takes : Type 0 = IsAccepted later one.at one.event in
     (outside_same takes later one.at one.event one.result before after fails, inr (before, after, without_memory takes before after one.result none fails))
 
--- A stored request is not doubted.
+-- If a request is stored, then its entry is not doubted.
 not_doubted : (facts : List Fact) (at : ℕ) (asked request : Asked) (kind : CommandKind) (mwh : ℕ) → request ≡ asked → Keeps facts asked kind
     → doubt_of facts at request ≡ Some mwh → ⊥
 not_doubted facts at asked request kind mwh is keeps doubt =

@@ -1,4 +1,4 @@
--- The days that a report in a form took, and the printed text.
+-- Properties of the days in a register's report on a range, and of the printed text.
 use Rattle.std.proofs.Common.{◌≡◌, inl, inr, ℕ, Bool, true, false, Option, List, [], ◌∷◌, ◌++◌, refl, sym, subst, ap, ◌∙◌, append-nil, append_assoc}
 use Rattle.std.specs.Prelude.{Result, Ok, Err, if◌then◌else◌}
 use Rattle.command_io.specs.declared.status.ExitStatus.{ExitStatus}
@@ -20,9 +20,10 @@ use Rattle.office_program.specs.Texts.EndTexts.{IsTold}
 use Rattle.office_program.specs.Texts.RangedReports.{IsRangedReport, PrintsRest}
 use Rattle.office_program.specs.Texts.Reports.{meant_by}
 
--- ---- the printed text
+-- ---- The printed text of a register's report on a range
 
--- Days that were taken one by one were all taken.
+-- If the writer of a report received the first days and then more days one by one, then it has
+-- received all days.
 pub taken_all : {W : Type 0} (contents : W → Option (List ℕ)) (days more : List DayTotal) (from at to : ReportRows W)
     → HasTaken contents days from at → TakesAll (TakesDay contents) at more to → HasTaken contents (days ++ more) from to
 taken_all {W} contents days [] from at to has took =
@@ -39,7 +40,8 @@ told_by : (failed : Bool) (status : ExitStatus) (text : List ℕ) (old new : Opt
 told_by false status text old new is got = inl (is, got)
 told_by true status text old new is got = inr (is, got)
 
--- The report, with its printed text.
+-- If the office passed the days of a range to the writer of a report, then the report's text was
+-- printed. If the report was refused, the refusal was printed.
 pub printed : {W : Type 0} (contents : W → Option (List ℕ)) (zone : Zone) (past : History) (register : Option (List ℕ)) (form : ReportForm)
     (before after : Failures) (from to left : ReportRows W) (output : W) (status : ExitStatus) (reply : Result (Unit {0}) Refusal)
     → IsFresh contents form output from
@@ -58,7 +60,7 @@ printed {W} contents zone past register form before after from to left output st
     let P : W → Type 0 = λ w. IsTold (refused_line why) Refused status (contents w) (contents left.output.now) in
     (refused_line why, refl, subst P same rest.told)
 
--- The writer stays the same.
+-- While the days of a report are written, the writer of the report remains the same writer.
 taken_by : {W : Type 0} (contents : W → Option (List ℕ)) (days : List DayTotal) (from to : ReportRows W)
     → TakesAll (TakesDay contents) from days to → to.output.ghost_name ≡ from.output.ghost_name
 taken_by {W} contents [] from to took = ap (λ (rows : ReportRows W). rows.output.ghost_name) took

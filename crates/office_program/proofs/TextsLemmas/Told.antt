@@ -1,4 +1,4 @@
--- Days that were passed on, and the printed text.
+-- Properties of the days that the office passes to the writer of a report, and of the printed text.
 use Rattle.std.proofs.Common.{◌≡◌, ◌≤◌, ◌<◌, ◌^◌, ℕ, Option, List, [], ◌++◌, length, refl, ap, arith}
 use Rattle.std.specs.List.{flat_map}
 use Rattle.std.specs.Prelude.{Result, Ok, Err}
@@ -14,11 +14,11 @@ use Rattle.energy_report.specs.RowLines.{counted}
 use Rattle.office_program.specs.Texts.Reports.{IsReport, last_line}
 use Rattle.interval_core.specs.Lines.{day_line, end_line}
 
--- The number of days fits 64 bits.
+-- If the number of days of a report is below 2^64, then it is counted exactly.
 counts : (n : ℕ) → n < 2 ^ 64 → counted n ≡ n
 counts n few = min-eq_left (let fits : n ≤ 18446744073709551615 = omega (arith, few) in fits)
 
--- The days that a sink took are a report, with its last line.
+-- The days that the writer of a report received, with the last line, equal the report.
 pub reported : {S : Type 0} (takes : S → DayTotal → S → Type 0) (zone : Zone) (past : History) (register : Option (List ℕ))
     (before after : Failures) (from to : S) (reply : Result (Unit {0}) Refusal)
     → HandsDays takes zone (facts_of past) register before after from to reply

@@ -1,4 +1,4 @@
--- Days that a sink wrote, and the text after them.
+-- Properties of the days that the writer of a report has written, and of the text after the days.
 use Rattle.std.proofs.Common.{◌≡◌, ◌+◌, inl, inr, ℕ, true, false, Option, List, ◌++◌, length, refl, sym, ap, subst, ◌∙◌, arith}
 use Rattle.std.specs.List.{flat_map}
 use Rattle.std.specs.Io.KnownBytes.{Appends}
@@ -12,7 +12,7 @@ use Rattle.command_io.specs.declared.status.ExitStatus.TheVariants.{Failed}
 use Rattle.office_program.specs.Texts.EndTexts.{IsTold}
 use Rattle.sun_points.specs.Writing.{GotPart}
 
--- The lines of rows, and the text after them.
+-- If a write of the rows of a report failed, then the rows and the last text were printed in part.
 pub told_part : {W T : Type 0} (contents : W → Option (List ℕ)) (line : T → List ℕ) (rows : List T) (last : List ℕ)
     (from to : RowLines W) (meant : ExitStatus) (o o' : W) → from.failed ≡ false → from.count ≡ 0 → TakesAll (TakesLine contents line) from rows to
     → to.failed ≡ true → from.output.now ≡ o → o' ≡ to.output.now
@@ -29,7 +29,8 @@ told_after : (x y : List ℕ) (meant status : ExitStatus) (a b c : Option (List 
 told_after x y meant status a b c first (inl told) = inl (told.0, Appends-trans a b c x y first told.1)
 told_after x y meant status a b c first (inr part) = inr (part.0, following x y a b c first part.1)
 
--- The lines of all days, and a last text after them.
+-- If no write of the rows of a report failed, then all rows were printed, followed by the last
+-- text.
 pub told_all : {W T : Type 0} (contents : W → Option (List ℕ)) (line : T → List ℕ) (rows : List T) (last : ℕ → List ℕ)
     (from to : RowLines W) (meant status : ExitStatus) (o o' : W) → from.failed ≡ false → from.count ≡ 0
     → TakesAll (TakesLine contents line) from rows to → to.failed ≡ false → from.output.now ≡ o

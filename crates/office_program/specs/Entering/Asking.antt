@@ -1,5 +1,5 @@
--- What processing one line of an input does to an office, the clock and the writer. The names
--- `old`, `before` and `had` are of the state before the line.
+-- The effect of one input line on an office, the clock and the writer. The names `old`, `before`
+-- and `had` denote the state before the line.
 use Rattle.std.specs.Prelude.{◌≡◌, ℕ, true, List, [], Option, Result, Ok, Err, IfOk}
 use Rattle.std.specs.Io.KnownBytes.{Appends}
 use Rattle.std.specs.declared.io.Error.{Error}
@@ -33,22 +33,22 @@ use Rattle.office_program.specs.declared.entering.progress.Progress.{Progress}
 use Rattle.office_program.specs.Entering.Course.{Asked, Came, EntersLine, IsAskedAt, IsCameOf, IsShown, TakesLine, progress_after, reply_text}
 use Rattle.office_program.specs.Entering.Lines.{Telling}
 
--- The text that reports the office's answer to the last event: notifications and answer, or the
--- number of the refusal.
+-- The text that reports the office's answer to the last event. It has the notifications and the
+-- answer, or the number of the refusal.
 abbrev pub told_text : {B : Type 0} → Office B → Result Answer Refusal → List ℕ
 told_text office (Ok given) = accepted_text given (notes_in office) (outgoing_in office)
 told_text office (Err why) = refused_line why
 
--- The message for a bad line was printed, or a part of it if the write failed. If memory ran out,
--- nothing was printed.
+-- True if the message for a bad input line was printed, or a part of the message if the write
+-- failed. If memory ran out, nothing was printed.
 abbrev pub TellsFault : LineFault → (number : ℕ) → ExitStatus → (old new : Option (List ℕ)) → Type 0
 TellsFault Bad number Refused old new = Appends old new (bad_line number)
 TellsFault Bad number Failed old new = GotPart (bad_line number) old new
 TellsFault Memory number Failed old new = Appends old new []
 TellsFault _ number _ old new = ⊥
 
--- The event was fed to the office at timestamp `at`, and its answer was printed, or a part of it if
--- the write failed.
+-- True if the event was fed to the office at timestamp `at` and the answer was printed. If the
+-- write failed, a part of the answer was printed.
 pub record IsAsked {B : Type 0} (ledger : B → Ledger) (past : History) (at : ℕ) (e : Event)
     (progress : Progress) (before after : Failures) (had holds : Option (List ℕ))
     (office : Office B) (result : Result Progress Error) : Type 0 where
@@ -60,21 +60,22 @@ pub record IsAsked {B : Type 0} (ledger : B → Ledger) (past : History) (at : �
   pub text : GotText result (reply_text past one.at one.event one.result) had holds
   pub next : IfOk result (λ next. next ≡ progress_after progress (Asked one))
 
--- `IsAsked` holds for every past in whose state the office was before the event.
+-- True if `IsAsked` holds for every history of the office before the event.
 abbrev pub AsksAt : {B W : Type 0} → stores.Ghosts B → writers.Ghosts W → (at : ℕ) → Event
     → Progress → (old new : Office B) → (had holds : W) → Result Progress Error → Type 0
 AsksAt b w at e progress old new had holds result = After b.ledger old new (λ past.
     IsAsked b.ledger past at e progress (failures_of b.ledger old) (failures_of b.ledger new)
     (w.contents had) (w.contents holds) new result)
 
--- The reason why a line makes no request was printed, or a part of it if the write failed.
+-- True if the reason why an input line makes no request was printed, or a part of the reason if the
+-- write failed.
 pub record TellsWhyNot (line : List ℕ) (at : ℕ) (had holds : Option (List ℕ))
     (result : Result Progress Error) : Type 0 where
   pub text : GotText result line had holds
   pub next : IfOk result (λ next. next ≡ record { latest = at; refused = true })
 
--- The line was processed: it made a request or not, and its outcome was printed, or a part of it if
--- the write failed.
+-- True if the input line was processed and its outcome was printed, whether or not it made a
+-- request. If the write failed, a part of the outcome was printed.
 pub record HasCome {B : Type 0} (ledger : B → Ledger) (tells : Telling) (entry : Entry)
     (past : History) (progress : Progress) (begun now : RoundState) (office : Office B)
     (result : Result Progress Error) : Type 0 where
@@ -83,8 +84,8 @@ pub record HasCome {B : Type 0} (ledger : B → Ledger) (tells : Telling) (entry
   pub shown : IsShown tells (facts_of past) entry came
   pub takes : TakesLine {E = Error} ledger past progress begun now office result came
 
--- `HasCome` holds for every past of the office and every reading of the clock, if `at` is the
--- line's timestamp.
+-- True if `HasCome` holds for every history of the office and every reading of the clock, if `at`
+-- is the line's timestamp.
 abbrev pub EntersAt : {B W : Type 0} → stores.Ghosts B → writers.Ghosts W → Telling → Entry
     → Progress → (at : ℕ) → (old new : Office B) → (had holds : W) → Result Progress Error → Type 0
 EntersAt b w tells entry progress at old new had holds result = (moments later : Option (List ℕ))
@@ -93,7 +94,7 @@ EntersAt b w tells entry progress at old new had holds result = (moments later :
     (round_state (w.contents had) moments (failures_of b.ledger old))
     (round_state (w.contents holds) later (failures_of b.ledger new)) new result)
 
--- The request was fed to the office, or the reason why it was not fed was printed.
+-- True if the request was fed to the office, or the reason why it was not fed was printed.
 pub record HasAsked {B : Type 0} (ledger : B → Ledger) (request : Request) (past : History)
     (progress : Progress) (begun now : RoundState) (office : Office B)
     (result : Result Progress Error) : Type 0 where
@@ -101,8 +102,8 @@ pub record HasAsked {B : Type 0} (ledger : B → Ledger) (request : Request) (pa
   pub comes : IsCameOf (entry.Ask request) came
   pub takes : TakesLine {E = Error} ledger past progress begun now office result came
 
--- `HasAsked` holds for every past of the office and every reading of the clock, if `at` is the
--- line's timestamp.
+-- True if `HasAsked` holds for every history of the office and every reading of the clock, if `at`
+-- is the line's timestamp.
 abbrev pub AsksTimed : {B W : Type 0} → stores.Ghosts B → writers.Ghosts W → Request → Progress
     → (at : ℕ) → (old new : Office B) → (had holds : W) → Result Progress Error → Type 0
 AsksTimed b w request progress at old new had holds result = (moments later : Option (List ℕ))
@@ -112,14 +113,15 @@ AsksTimed b w request progress at old new had holds result = (moments later : Op
     (round_state (w.contents holds) later (failures_of b.ledger new)) new result)
 
 module _ {B C W : Type 0} (b : stores.Ghosts B) (c : clocks.Ghosts C) (w : writers.Ghosts W) where
-  -- The line with this entry was processed: it made a request or not, and its outcome was printed.
+  -- True if the input line with the parsed form `entry` was processed and its outcome was printed.
+  -- The line may have made a request or not.
   abbrev pub EntersEntry : Telling → Entry → Progress → (old new : Office B) → (before after : C)
       → (had holds : W) → Result Progress Error → Type 0
   EntersEntry tells entry progress old new before after had holds result = After b.ledger old new
       (λ past. HasCome b.ledger tells entry past progress
       (desk_of b c w old before had) (desk_of b c w new after holds) new result)
 
-  -- The next line of the input was processed; or it is bad, and the command ends.
+  -- True if the next line of the input was processed, or the next line is bad and the command ends.
   abbrev pub EntersNext : Telling → (caller : Option (List ℕ)) → Line → Progress
       → (old new : Office B) → (before after : C) → (had holds : W) → Result Progress ExitStatus
       → Type 0

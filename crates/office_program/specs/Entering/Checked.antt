@@ -1,4 +1,4 @@
--- What `--check` finds in an input, line by line, without making a request.
+-- The results of checking an input with `--check`, line by line, without making a request.
 use Rattle.std.specs.Prelude.{◌≡◌, ◌⊎◌, ◌||◌, ℕ, Bool, true, false, List, [], ◌∷◌, ◌++◌, Option, Some, None, Result, Ok, Err, codes, if◌then◌else◌}
 use Rattle.std.specs.Io.KnownBytes.{Appends}
 use Rattle.std.specs.declared.alloc.AllocError.{AllocError}
@@ -28,48 +28,53 @@ use Rattle.office_program.specs.declared.entering.entries.Entry.TheVariants as e
 use Rattle.office_program.specs.Entering.Course as course
 use Rattle.office_program.specs.Entering.Lines.{IsBad, IsEntry, MayAsk, Telling}
 
--- ---- What the store knows of a request
+-- ---- The result of looking up a request in the store
 
--- The store was only queried: its records and what a crash may leave are unchanged. A store that is
--- clean after it was clean before, and the zone stays.
+-- True if the store was only queried. Its records, and the records that a crash may leave, are
+-- unchanged.
+--
+-- The time zone of the store is unchanged. If the store is clean after the queries (no wrong result
+-- of it was used), then it was clean before them.
 pub record OnlyLooks (old new : Ledger) : Type 0 where
   pub clean : new.is_clean → old.is_clean
   pub zone : new.zone ≡ old.zone
   pub keeps : KeepsFacts old new
 
--- What a stored request with the same key says of a request: it was accepted earlier, or would be
--- refused because the stored request differs.
+-- The result of checking a request whose key (caller and number) is stored. The same request was
+-- accepted earlier, or the request would be refused because the stored request differs from it.
 abbrev pub known_as : Repeat → Known
 known_as (Same kind) = known.Again
 known_as Other = known.Refused refusal.Reused
 
--- What the store says of a request: `New` if no request with its key is stored.
+-- The result of checking a request by its key (caller and number). If the store has no request with
+-- this key, the result is `New`.
 abbrev pub known_by : Option Repeat → Known
 known_by None = known.New
 known_by (Some repeat) = known_as repeat
 
--- What checking says of a request: what the store knows by its key, or a refusal for a failure of
--- the store. An invalid caller's name is refused.
+-- True if `what` is a possible result of checking a request with this caller. If the store failed
+-- or the caller's name is invalid, the result is a refusal.
 abbrev pub IsKnownOf : List Fact → Asked → (caller : Option (List ℕ)) → Known → Type 0
 IsKnownOf facts asked None what = what ≡ known.Refused refusal.Limit
 IsKnownOf facts asked (Some caller) what =
     (what ≡ known_by (repeat_of facts caller asked.number asked.request))
     ⊎ ((fault : BooksFault) × (what ≡ known.Refused (as_refusal fault)))
 
--- What checking says of a request, whose caller is in the request itself.
+-- True if `what` is a possible result of checking a request, with the caller that the request
+-- names.
 abbrev pub IsKnown : List Fact → Asked → Known → Type 0
 IsKnown facts asked what = IsKnownOf facts asked asked.caller what
 
--- `what` is what checking says of the request, given the store's records. No wrong result of the
--- store was taken as true.
+-- True if `what` is the result of checking the request against the store's records, provided that
+-- no wrong result of the store was used.
 abbrev pub KnowsRequest : (old new : Ledger) → Asked → Known → Type 0
 KnowsRequest old new asked what =
     (facts : List Fact) → old.holds facts → new.is_clean → IsKnown facts asked what
 
--- ---- What is found of a line
+-- ---- The result of checking an input line
 
--- What checking finds for a line: what is known of its request, the faulty rows of its point list,
--- or that the line is bad.
+-- True for the result of checking an input line. The result is the stored state of its request, the
+-- faulty rows of its point list, or that the line is bad.
 abbrev pub IsLook : Telling → (caller : Option (List ℕ)) → (text : List ℕ) → List Fact → Look
     → Type 0
 IsLook tells caller text facts (look.Known what) =
@@ -78,62 +83,63 @@ IsLook tells caller text facts (look.Known what) =
 IsLook tells caller text facts (look.Faulty rows) = IsEntry tells caller text (entry.Faulty rows)
 IsLook tells caller text facts look.Bad = IsBad tells text
 
--- On `Ok`, this is what checking finds for the line. If memory ran out, the line is not judged.
+-- True if on `Ok` the result is the result of checking the line. If memory ran out, nothing is
+-- known of the line.
 abbrev pub FindsLook : Telling → (caller : Option (List ℕ)) → (text : List ℕ) → List Fact
     → Result Look AllocError → Type 0
 FindsLook tells caller text facts (Ok found) = IsLook tells caller text facts found
 FindsLook tells caller text facts (Err e) = Unit {0}
 
--- The result is what checking finds for the line, given the store's records. No wrong result of the
--- store was taken as true.
+-- True if the result is that of checking the line against the store's records, provided that no
+-- wrong result of the store was used.
 abbrev pub LooksAt : Telling → (caller : Option (List ℕ)) → (text : List ℕ) → (old new : Ledger)
     → Result Look AllocError → Type 0
 LooksAt tells caller text old new result = (facts : List Fact) → old.holds facts → new.is_clean
     → FindsLook tells caller text facts result
 
--- The text that reports what is known of a request: `new`, `again`, or the number of the refusal.
+-- The text that is printed for a checked request: `new`, `again`, or the number of the refusal.
 abbrev pub known_text : Known → List ℕ
 known_text known.New = codes "new\n"
 known_text known.Again = codes "again\n"
 known_text (known.Refused why) = refused_line why
 
--- The text that reports what was found for a line: what is known of its request, its faulty rows,
--- or that it is bad.
+-- The text that is printed for a checked input line. It reports the line's request, the faulty rows
+-- of its point list, or that the line is bad.
 abbrev pub look_text : (number : ℕ) → Look → List ℕ
 look_text number (look.Known what) = known_text what
 look_text number (look.Faulty rows) = course.faults_text rows
 look_text number look.Bad = bad_line number
 
--- Whether the request would be refused.
+-- True if the request would be refused.
 abbrev pub is_refusal : Known → Bool
 is_refusal known.New = false
 is_refusal known.Again = false
 is_refusal (known.Refused why) = true
 
--- Whether the line counts as refused: it is bad, its point list has faulty rows, or its request
--- would be refused.
+-- True if the input line counts as refused, because it is bad, its point list has faulty rows, or
+-- its request would be refused.
 abbrev pub is_refused : Look → Bool
 is_refused (look.Known what) = is_refusal what
 is_refused (look.Faulty rows) = true
 is_refused look.Bad = true
 
--- The text for a checked line was printed, or a part of it if the write failed. The result says
--- whether the line counts as refused.
+-- True if the text for a checked line was printed, or a part of the text if the write failed. The
+-- result is true if the line counts as refused.
 abbrev pub IsShown : (number : ℕ) → Look → (had holds : Option (List ℕ)) → Result Bool ExitStatus
     → Type 0
 IsShown number found had holds (Ok refused) =
     Appends had holds (look_text number found) × (refused ≡ is_refused found)
 IsShown number found had holds (Err status) = GotPart (look_text number found) had holds
 
--- The line was checked, but only a part of its text was printed, because a write failed.
+-- True if the line was checked, but a write failed, so that only a part of its text was printed.
 pub record IsCut (tells : Telling) (caller : Option (List ℕ)) (line : Line) (facts : List Fact)
     (had holds : Option (List ℕ)) : Type 0 where
   pub found : Look
   pub is : IsLook tells caller line.text facts found
   pub part : GotPart (look_text line.number found) had holds
 
--- The line was checked and its text printed. On an error a write failed, or memory ran out and
--- nothing was printed.
+-- True if the line was checked and its text was printed. On an error a write failed, or memory ran
+-- out and nothing was printed.
 abbrev pub IsChecked : Telling → (caller : Option (List ℕ)) → Line → List Fact
     → (had holds : Option (List ℕ)) → Result Bool ExitStatus → Type 0
 IsChecked tells caller line facts had holds (Ok refused) =
@@ -142,25 +148,26 @@ IsChecked tells caller line facts had holds (Ok refused) =
 IsChecked tells caller line facts had holds (Err status) =
     IsCut tells caller line facts had holds ⊎ Appends had holds []
 
--- The line was checked against the store's records. No wrong result of the store was taken as true.
+-- True if the line was checked against the store's records, provided that no wrong result of the
+-- store was used.
 abbrev pub ChecksLine : Telling → (caller : Option (List ℕ)) → Line → (old new : Ledger)
     → (had holds : Option (List ℕ)) → Result Bool ExitStatus → Type 0
 ChecksLine tells caller line old new had holds result = (facts : List Fact) → old.holds facts
     → new.is_clean → IsChecked tells caller line facts had holds result
 
--- ---- All lines, the latest first
+-- ---- The results of checking all lines of an input, with the latest line first
 
--- A checked line, with what was found for it.
+-- A checked input line, with its result.
 pub record Looked : Type 0 where
   pub line : Line
   pub found : Look
 
--- The lines of an input: those that were checked, the latest first, followed by `rest`.
+-- The lines of an input: the checked lines, the latest first, followed by the lines `rest`.
 abbrev pub lines_with : List Looked → (rest : List Line) → List Line
 lines_with [] rest = rest
 lines_with (one ∷ earlier) rest = lines_with earlier (one.line ∷ rest)
 
--- What was found for each of these lines is what checking finds, given the records.
+-- True if each checked line has the result of checking the line against the records.
 abbrev pub AreLooks : Telling → (caller : Option (List ℕ)) → List Fact → List Looked → Type 0
 AreLooks tells caller facts [] = Unit {0}
 AreLooks tells caller facts (one ∷ earlier) =
@@ -171,21 +178,21 @@ abbrev pub looks_text : List Looked → List ℕ
 looks_text [] = []
 looks_text (one ∷ earlier) = looks_text earlier ++ look_text one.line.number one.found
 
--- Whether any checked line counts as refused.
+-- True if any checked line counts as refused.
 abbrev pub any_refused : List Looked → Bool
 any_refused [] = false
 any_refused (one ∷ earlier) = any_refused earlier || is_refused one.found
 
--- All lines were checked and their texts printed. The exit status says whether any line counts as
--- refused.
+-- True if all lines were checked and their texts were printed. The exit status reports whether any
+-- line counts as refused.
 pub record IsWhole (lines : List Line) (looked : List Looked) (status : ExitStatus)
     (had holds : Option (List ℕ)) : Type 0 where
   pub follow : lines ≡ lines_with looked []
   pub printed : Appends had holds (looks_text looked)
   pub means : status ≡ if any_refused looked then Refused else Fine
 
--- The check ended early, because a write failed or memory ran out: the text is printed in part, and
--- the exit status is `Failed`.
+-- True if the check ended early, because a write failed or memory ran out. A part of the text was
+-- printed, and the exit status is `Failed`.
 pub record IsBrokenOff (lines : List Line) (looked : List Looked) (status : ExitStatus)
     (had holds : Option (List ℕ)) : Type 0 where
   pub rest : List Line
@@ -193,28 +200,30 @@ pub record IsBrokenOff (lines : List Line) (looked : List Looked) (status : Exit
   pub printed : GotPart (looks_text looked) had holds
   pub means : status ≡ Failed
 
--- The lines were checked in order, to the end of the input or until the command was broken off.
+-- True if the lines were checked in order, to the end of the input or until the command was broken
+-- off.
 pub record Checks (tells : Telling) (caller : Option (List ℕ)) (lines : List Line)
     (facts : List Fact) (status : ExitStatus) (had holds : Option (List ℕ)) : Type 0 where
   pub looked : List Looked
   pub each : AreLooks tells caller facts looked
   pub ends : IsWhole lines looked status had holds ⊎ IsBrokenOff lines looked status had holds
 
--- The input was checked against the store's records. No wrong result of the store was taken as
--- true.
+-- True if the input was checked against the store's records, provided that no wrong result of the
+-- store was used.
 abbrev pub ChecksText : Telling → (caller : Option (List ℕ)) → (text : List ℕ) → (old new : Ledger)
     → (had holds : Option (List ℕ)) → ExitStatus → Type 0
 ChecksText tells caller text old new had holds status = (facts : List Fact) → old.holds facts
     → new.is_clean → Checks tells caller (speaking_lines text) facts status had holds
 
--- The input was checked over a store in the state of a past, and the store is still in that state.
+-- True if the input was checked over a store that records the history `past`, and the store still
+-- records `past` afterwards.
 pub record LooksOver (tells : Telling) (caller text : List ℕ) (new : Ledger)
     (had holds : Option (List ℕ)) (status : ExitStatus) (past : History) : Type 0 where
   pub checks : Checks tells (named caller) (speaking_lines text) (facts_of past) status had holds
   pub stand : BooksStand new past
 
--- `LooksOver` holds for every past in whose state the store was. No wrong result of the store was
--- taken as true.
+-- True if `LooksOver` holds for every history that the store records, provided that no wrong result
+-- of the store was used.
 abbrev pub ChecksOver : {B : Type 0} → (B → Ledger) → Telling → (caller text : List ℕ)
     → (books back : B) → (had holds : Option (List ℕ)) → ExitStatus → Type 0
 ChecksOver ledger tells caller text books back had holds status =

@@ -38,15 +38,15 @@ use Rattle.office_program.specs.Entering.Doubts.{doubt_in, doubt_of}
 use Rattle.office_program.specs.Entering.Lines.{IsBad, IsEntry, MayAsk, Telling}
 use Rattle.office_program.specs.Entering.Reading.{AsksShown, IsShownFor}
 
--- ---- One line
+-- ---- The outcome of one input line, with its text and its timestamp
 
--- The outcome of a line that is not bad. `Asked`: its request was fed to the office and answered.
--- Otherwise no request was fed:
+-- The outcome of an input line that is not bad. `Asked`: its request was fed to the office and
+-- answered. Otherwise no request was fed:
 --
--- - `Faulty`: its point list has faulty rows;
--- - `Doubted`: its entry by hand would pass the meter's ceiling; it would record `mwh`;
+-- - `Faulty`: the line's point list has faulty rows;
+-- - `Doubted`: the line's entry by hand would pass the meter's ceiling; it would record `mwh`;
 -- - `Undecided`: the office refused a query for a failure, about the doubt or the counter to read;
--- - `Unread`: its counter can't be read.
+-- - `Unread`: the meter's counter can't be read.
 pub data Came : Type 0 where
   Asked : Answered → Came
   Faulty : List FaultyRow → Came
@@ -54,7 +54,7 @@ pub data Came : Type 0 where
   Undecided : (at : ℕ) → Request → Refusal → Came
   Unread : (at : ℕ) → ReadRequest → Came
 
--- The outcome may occur for a line with this entry.
+-- True if the outcome may occur for an input line with the parsed form `e`.
 abbrev pub IsCameOf : Entry → Came → Type 0
 IsCameOf e (Asked one) =
     (request : Request) × MayAsk e request × (one.event ≡ event.Asked request)
@@ -64,8 +64,10 @@ IsCameOf (entry.Faulty rows) (Faulty told) = told ≡ rows
 IsCameOf (entry.Read read) (Unread at tried) = tried ≡ read
 IsCameOf _ _ = ⊥
 
--- If the line installs a meter at its counter's present reading, the request has that reading. The
--- register and the device are those in these records.
+-- True if the request has the present reading of the meter's counter, provided that the line
+-- installs the meter at this reading.
+--
+-- The accounting register and its device are those in the store's records.
 abbrev pub IsShown : Telling → List Fact → Entry → Came → Type 0
 IsShown tells facts (entry.Read read) (Asked one) =
     (request : Request) × AsksShown tells facts read request × (one.event ≡ event.Asked request)
@@ -74,7 +76,8 @@ IsShown tells facts (entry.Read read) (Doubted at request mwh) =
 IsShown tells facts (entry.Read read) (Unread at tried) = IsShownFor tells facts read None
 IsShown tells facts _ _ = Unit {0}
 
--- The line's text has an entry, and the outcome may occur for it after this past.
+-- True if the input line has a parsed form that may have the outcome `came`, when the history of
+-- the office is `past`.
 pub record Comes (tells : Telling) (caller : Option (List ℕ)) (past : History) (text : List ℕ)
     (came : Came) : Type 0 where
   pub entry : Entry
@@ -82,21 +85,22 @@ pub record Comes (tells : Telling) (caller : Option (List ℕ)) (past : History)
   pub comes : IsCameOf entry came
   pub shown : IsShown tells (facts_of past) entry came
 
--- What the office has accepted after a line with this outcome.
+-- The history of the office after an input line with this outcome.
 abbrev pub with_came : History → Came → History
 with_came past (Asked one) = with_answer past one.at one.event one.result
 with_came past _ = past
 
--- The requested entry is not doubted, and the office gave its answer.
+-- True if the requested entry is not doubted (above the meter's ceiling), and the office gave its
+-- answer.
 pub record IsAskedAndAnswered (past : History) (before after : Failures) (one : Answered) : Type 0
   where
     pub undoubted : doubt_in (facts_of past) one.at one.event ≡ None
     pub answer : IsAnswer past one.at one.event before after one.result
 
--- The outcome is right after this past. A request has the defined answer or was refused for a
--- failure. A doubted entry is doubted by its definition, and an undecided line had a failure.
+-- True if an input line had the outcome that the definitions give for the records before the line.
 --
--- The failure counts change accordingly.
+-- A request has the defined answer or was refused for a failure. A doubted entry is doubted by its
+-- definition, and an undecided line had a failure. The failure counts change accordingly.
 abbrev pub IsCameAnswered : History → (before after : Failures) → Came → Type 0
 IsCameAnswered past before after (Asked one) = IsAskedAndAnswered past before after one
 IsCameAnswered past before after (Faulty rows) = after ≡ before
@@ -105,26 +109,27 @@ IsCameAnswered past before after (Doubted at request mwh) =
 IsCameAnswered past before after (Undecided at request why) = IsOutside ⊥ before after why
 IsCameAnswered past before after (Unread at read) = after ≡ before
 
--- The text that reports the office's answer to an event, as in a script: notifications and `ok`, or
--- the number of the refusal.
+-- The text that reports the office's answer to an event, as in a script. It has the notifications
+-- and `ok`, or the number of the refusal.
 abbrev pub reply_text : History → (at : ℕ) → Event → Result Answer Refusal → List ℕ
 reply_text past at e (Ok given) =
     accepted_text given (notes_after past at e (Ok given)) (outgoing_after past at e (Ok given))
 reply_text past at e (Err why) = refused_line why
 
--- The text that reports a faulty point list: one line for each faulty row, and a refusal.
+-- The text that reports a faulty point list. It has one line for each faulty row, and a refusal.
 abbrev pub faults_text : List FaultyRow → List ℕ
 faults_text rows = flat_map fault_line rows ++ refused_line Limit
 
--- The text that reports a doubted entry, with the energy in mWh that it would record.
+-- The text that reports a doubted entry by hand, with the energy in mWh that the entry would
+-- record.
 abbrev pub doubted_line : (mwh : ℕ) → List ℕ
 doubted_line mwh = codes "doubted " ++ decimal mwh ++ codes "\n"
 
--- The text that reports a counter that can't be read.
+-- The text that reports that a meter's counter can't be read.
 abbrev pub unread_line : List ℕ
 unread_line = codes "unread\n"
 
--- The text that reports the outcome of a line.
+-- The text that reports the outcome of an input line.
 abbrev pub came_text : History → Came → List ℕ
 came_text past (Asked one) = reply_text past one.at one.event one.result
 came_text past (Faulty rows) = faults_text rows
@@ -132,13 +137,14 @@ came_text past (Doubted at request mwh) = doubted_line mwh
 came_text past (Undecided at request why) = refused_line why
 came_text past (Unread at read) = unread_line
 
--- The timestamp of a line is the clock's time, or that of the line before it if that is later.
+-- True if the timestamp of an input line is the clock's time, or the timestamp of the previous line
+-- if that timestamp is later.
 pub record IsAskedAt (latest : ℕ) (begun now : Option (List ℕ)) (at : ℕ) : Type 0 where
   pub told : ℕ
   pub tells : TellsMoment begun now told
   pub is : at ≡ max latest told
 
--- The outcome has the timestamp of its line. For faulty rows the clock is not read.
+-- True if the outcome has the timestamp of its input line. For faulty rows the clock is not read.
 abbrev pub IsTimed : (latest : ℕ) → (begun now : Option (List ℕ)) → Came → Type 0
 IsTimed latest begun now (Asked one) = IsAskedAt latest begun now one.at
 IsTimed latest begun now (Faulty rows) = now ≡ begun
@@ -146,8 +152,8 @@ IsTimed latest begun now (Doubted at request mwh) = IsAskedAt latest begun now a
 IsTimed latest begun now (Undecided at request why) = IsAskedAt latest begun now at
 IsTimed latest begun now (Unread at read) = IsAskedAt latest begun now at
 
--- The progress after one more line: the latest timestamp, and whether any line was refused or made
--- no request.
+-- The progress after one more input line: the latest timestamp, and whether any line was refused or
+-- made no request.
 abbrev pub progress_after : Progress → Came → Progress
 progress_after progress (Asked one) =
     record { latest = one.at; refused = progress.refused || is_err one.result }
@@ -156,15 +162,16 @@ progress_after progress (Doubted at request mwh) = record { latest = at; refused
 progress_after progress (Undecided at request why) = record { latest = at; refused = true }
 progress_after progress (Unread at read) = record { latest = at; refused = true }
 
--- The office processed the line: its state, the answer, the failure counts and the timestamp follow
--- from the outcome.
+-- True if the office processed the input line. Its state, the answer, the failure counts and the
+-- timestamp follow from the outcome.
 pub record Takes {B : Type 0} (ledger : B → Ledger) (past : History) (latest : ℕ)
     (begun now : RoundState) (office : Office B) (came : Came) : Type 0 where
   pub stands : Stands ledger (with_came past came) office
   pub answered : IsCameAnswered past begun.failures now.failures came
   pub timed : IsTimed latest begun.moments now.moments came
 
--- The line was processed and its text printed, or a part of it if the write failed.
+-- True if the input line was processed and its text was printed, or a part of the text if the write
+-- failed.
 pub record TakesLine {B E : Type 0} (ledger : B → Ledger) (past : History) (progress : Progress)
     (begun now : RoundState) (office : Office B) (result : Result Progress E) (came : Came) : Type 0
   where
@@ -172,14 +179,15 @@ pub record TakesLine {B E : Type 0} (ledger : B → Ledger) (past : History) (pr
     pub text : GotText result (came_text past came) begun.printed now.printed
     pub next : IfOk result (λ next. next ≡ progress_after progress came)
 
--- The line made no request: the office, the clock and the failure counts are unchanged.
+-- True if the input line made no request. Then the office, the clock and the failure counts are
+-- unchanged.
 pub record IsUntouched {B : Type 0} (begun now : RoundState) (old new : Office B) : Type 0 where
   pub office : new ≡ old
   pub moments : now.moments ≡ begun.moments
   pub failures : now.failures ≡ begun.failures
 
--- What the next line of an input does. On `Ok` it was processed. `Refused`: it is bad, and that was
--- printed. `Failed`: a write failed, or memory ran out.
+-- The effect of the next input line. On `Ok` the line was processed. On `Refused` the line is bad,
+-- and the message was printed. On `Failed` a write failed, or memory ran out.
 abbrev pub EntersLine : {B : Type 0} → (B → Ledger) → Telling → (caller : Option (List ℕ)) → Line
     → (past : History) → Progress → (begun now : RoundState) → (old new : Office B)
     → Result Progress ExitStatus → Type 0
@@ -197,57 +205,61 @@ EntersLine ledger tells caller line past progress begun now old new (Err Failed)
     × GotPart (bad_line line.number) begun.printed now.printed)
     ⊎ (IsUntouched begun now old new × Appends begun.printed now.printed [])
 
--- ---- Several lines
+-- ---- The outcomes of several input lines, with the latest line first
 
--- A processed line with its outcome.
+-- A processed input line with its outcome.
 pub record Taken : Type 0 where
   pub line : Line
   pub came : Came
 
--- The lines of an input: those that were processed, the latest first, followed by `rest`.
+-- The lines of an input: the processed lines, the latest first, followed by the lines `rest`.
 abbrev pub lines_with : List Taken → (rest : List Line) → List Line
 lines_with [] rest = rest
 lines_with (one ∷ earlier) rest = lines_with earlier (one.line ∷ rest)
 
--- What the office has accepted after these lines.
+-- The history of the office after a list of input lines.
 abbrev pub history_with : History → List Taken → History
 history_with past [] = past
 history_with past (one ∷ earlier) = with_came (history_with past earlier) one.came
 
--- Each of these lines has an outcome that may occur for its entry, after the lines before it.
+-- True if each input line in the list has an outcome that may occur for its parsed form, after the
+-- earlier lines.
 abbrev pub AreComing : Telling → (caller : Option (List ℕ)) → History → List Taken → Type 0
 AreComing tells caller past [] = Unit {0}
 AreComing tells caller past (one ∷ earlier) =
     Comes tells caller (history_with past earlier) one.line.text one.came
     × AreComing tells caller past earlier
 
--- The outcome of each of these lines is right after the lines before it.
+-- True if each input line in the list has the defined outcome after the earlier lines.
 abbrev pub AreAnswered : History → (before after : Failures) → List Taken → Type 0
 AreAnswered past before after [] = after ≡ before
 AreAnswered past before after (one ∷ earlier) =
     (between : Failures) × AreAnswered past before between earlier
     × IsCameAnswered (history_with past earlier) between after one.came
 
--- The progress after these lines, if the first timestamp was `first`.
+-- The progress after a list of input lines, if the first timestamp was `first`.
 abbrev pub progress_of : (first : ℕ) → List Taken → Progress
 progress_of first [] = record { latest = first; refused = false }
 progress_of first (one ∷ earlier) = progress_after (progress_of first earlier) one.came
 
--- Each outcome has the timestamp of its line, and the clock advanced from `begun` to `now`.
+-- True if each outcome has the timestamp of its input line, and the clock advanced from `begun` to
+-- `now`.
 abbrev pub AreTimed : (first : ℕ) → (begun now : Option (List ℕ)) → List Taken → Type 0
 AreTimed first begun now [] = now ≡ begun
 AreTimed first begun now (one ∷ earlier) =
     (between : Option (List ℕ)) × AreTimed first begun between earlier
     × IsTimed (progress_of first earlier).latest between now one.came
 
--- The text that is printed for the processed lines, in order.
+-- The text that is printed for the processed lines, in the order of the lines.
 abbrev pub text_after : History → List Taken → List ℕ
 text_after past [] = []
 text_after past (one ∷ earlier) =
     text_after past earlier ++ came_text (history_with past earlier) one.came
 
--- These lines were processed in order. Each has the right outcome after the lines before it, at its
--- timestamp, and the office is in the state after all of them.
+-- True if the input lines in `taken` were processed in order.
+--
+-- Each line has the defined outcome after the earlier lines, at its timestamp. The office is in the
+-- state after all lines.
 pub record AreTaken {B : Type 0} (ledger : B → Ledger) (tells : Telling)
     (caller : Option (List ℕ)) (past : History) (first : ℕ) (begun now : RoundState)
     (office : Office B) (taken : List Taken) : Type 0 where

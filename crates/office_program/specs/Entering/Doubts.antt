@@ -1,8 +1,8 @@
--- The entries by hand that need a confirmation, because their energy is more than the meter's
--- ceiling allows since its last entry.
+-- The entries by hand that need a confirmation. Their energy is more than the meter's ceiling
+-- allows since the meter's last entry.
 --
--- An entry by hand can't be voided. So such a doubted entry is requested only if its line ends with
--- a mark.
+-- An entry by hand can't be voided. So a doubted entry is requested only if its line ends with the
+-- mark ` !`.
 use Rattle.std.specs.Prelude.{◌≡◌, ◌⊎◌, ℕ, ◌-◌, ◌*◌, nat_lt, nat_le, Bool, not, ◌&&◌, List, Option, Some, None, is_some, Result, Ok, if◌then◌else◌}
 use Rattle.std.specs.Option.{option_and_then}
 use Rattle.energy_core.specs.Account.{moment_of, reached}
@@ -28,79 +28,84 @@ use Rattle.office_core.specs.Taking.{failures_of}
 use Rattle.office_core.specs.declared.office.Office.{Office}
 use Rattle.office_program.specs.Entering.Marks.{is_marked}
 
--- ---- An entry at a meter. At the entry's time the counter would show `up_to` without turns and
--- without being set.
+-- ---- A doubted entry at one meter. `up_to` is the value that a counter without rollovers would
+-- have at the time of the entry.
 
--- The entry is later than the meter's last entry, and does not decrease the counter.
+-- True if the entry is later than the meter's last entry, and does not decrease the counter.
 abbrev pub goes_on : Installation → (moment up_to : ℕ) → Bool
 goes_on row moment up_to = nat_lt row.last.at moment && nat_le row.last.raw up_to
 
--- Whether a load at the meter's ceiling can make the counter advance to `up_to` since the last
--- entry. The same rule rejects a reading as too fast.
+-- True if a load at the meter's ceiling can advance the counter to `up_to` since the last entry.
+-- The same rule rejects a meter's reading as too fast.
 abbrev pub is_within_ceiling : Installation → (moment up_to : ℕ) → Bool
 is_within_ceiling row moment up_to =
     can_count row.opening.ceiling (unit_of row.last.sf) (moment - row.last.at)
     (up_to - row.last.raw)
 
--- The energy that an entry would record, in mWh, as `energy_of` of energy_core computes it.
+-- The energy that a meter entry would record, in mWh, as `energy_of` of energy_core computes it.
 abbrev pub energy_by : Installation → (up_to : ℕ) → ℕ
 energy_by row up_to = up_to * unit_of row.last.sf - value_of row.last
 
--- The energy that a doubted entry would record; `None` if the entry is within the ceiling, or the
--- office refuses it anyway as not later or decreasing.
+-- The energy that a doubted entry would record, in mWh.
+--
+-- `None` if the entry is within the meter's ceiling. Also `None` if the office refuses the entry
+-- anyway as not later or as decreasing.
 abbrev pub doubted_up_to : Installation → (moment up_to : ℕ) → Option ℕ
 doubted_up_to row moment up_to =
     if goes_on row moment up_to && not (is_within_ceiling row moment up_to)
     then Some (energy_by row up_to)
     else None
 
--- The energy that a doubted entry would record at this meter; `None` if the entry is not doubted.
+-- The energy that a doubted entry would record at the meter `row`, in mWh, or `None` if the entry
+-- is not doubted.
 abbrev pub doubted_by : Installation → Entry → Option ℕ
 doubted_by row e = doubted_up_to row (moment_of e) (reached row.opening.range e)
 
--- ---- A request
+-- ---- The doubted entry in a request
 
--- The energy that the command's entry would record at this meter if it is doubted; `None` if it is
--- not, or the command makes no entry.
+-- The energy in mWh that the command's entry would record at the meter, if the entry is doubted.
+-- `None` if the entry is not doubted, or the command makes no entry.
 abbrev pub doubted_at : (at : ℕ) → Command → Installation → Option ℕ
 doubted_at at c row = option_and_then (λ made. doubted_by row made.entry) (made_by at row.last c)
 
--- The energy that the command's entry would record at the open meter of the register if it is
--- doubted; otherwise `None`.
+-- The energy in mWh that the command's entry would record at the open meter of the register, if the
+-- entry is doubted. Otherwise `None`.
 abbrev pub doubted_in : List Fact → (at : ℕ) → Command → (register : Option (List ℕ)) → Option ℕ
 doubted_in facts at c register =
     option_and_then (doubted_at at c) (option_and_then (open_at facts) register)
 
--- Compares a request with the stored request of the same idempotency key; `None` if none is stored.
+-- The comparison of a request with the stored request of the same key (caller and number). `None`
+-- if no request with this key is stored.
 abbrev pub repeat_in : List Fact → Asked → Option Repeat
 repeat_in facts asked =
     option_and_then (λ caller. repeat_of facts caller asked.number asked.request) asked.caller
 
--- The energy that a request would record if its entry is doubted. `None` if its key is stored, its
--- line has a mark, or its entry is within the ceiling.
+-- The energy in mWh that a request would record, if its entry is doubted.
 --
--- The mark is in the stored bytes of the request.
+-- `None` if the request's key is stored, its line has the mark ` !`, or its entry is within the
+-- meter's ceiling. The stored bytes of the request include the mark.
 abbrev pub doubt_of : List Fact → (at : ℕ) → Asked → Option ℕ
 doubt_of facts at asked =
     if is_some (repeat_in facts asked) then None
     else if is_marked asked.request then None
     else doubted_in facts at asked.command (corrected_at asked.command)
 
--- The energy that an event would record if it is a request with a doubted entry; otherwise `None`.
+-- The energy in mWh that an event would record, if the event is a request with a doubted entry.
+-- Otherwise `None`.
 abbrev pub doubt_in : List Fact → (at : ℕ) → Event → Option ℕ
 doubt_in facts at (event.Asked asked) = doubt_of facts at asked
 doubt_in facts at _ = None
 
--- ---- The office's answer
+-- ---- The office's answer to the query whether an entry is doubted
 
--- The office is still in the state after this past. It answered whether an entry is doubted, or
--- refused the query for a failure.
+-- True if the history of the office is still `past`, and the office answered whether an entry is
+-- doubted or refused the query for a failure.
 pub record IsDoubtTold {B : Type 0} (ledger : B → Ledger) (past : History) (before after : Failures)
     (office : Office B) (doubt : Option ℕ) (result : Result (Option ℕ) Refusal) : Type 0 where
   pub stands : Stands ledger past office
   pub told : ((result ≡ Ok doubt) × (after ≡ before)) ⊎ FailsOutside ⊥ before after result
 
--- The office answered whether an entry is doubted, from the records of all accepted events.
+-- True if the office answered whether an entry is doubted, from the records of all accepted events.
 abbrev pub TellsDoubt : {B : Type 0} → (B → Ledger) → (old new : Office B)
     → Result (Option ℕ) Refusal → (List Fact → Option ℕ) → Type 0
 TellsDoubt ledger old new result doubt = After ledger old new (λ past.

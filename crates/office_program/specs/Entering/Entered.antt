@@ -1,4 +1,5 @@
--- What entering an input does: its lines are requested in order, up to the first bad line.
+-- The result of entering an input. The lines of the input are requested in order, up to the first
+-- bad line.
 use Rattle.std.specs.Prelude.{◌≡◌, ◌⊎◌, ℕ, List, [], ◌∷◌, ◌++◌, Option, if◌then◌else◌}
 use Rattle.std.specs.Io.KnownBytes.{Appends}
 use Rattle.std.specs.declared.io.Write as writers
@@ -23,42 +24,45 @@ use Rattle.office_program.specs.declared.entering.progress.Progress.{Progress}
 use Rattle.office_program.specs.Entering.Course.{AreTaken, Taken, lines_with, progress_of, text_after}
 use Rattle.office_program.specs.Entering.Lines.{IsBad, Telling}
 
--- The exit status if no line is bad: `Refused` if a line was refused or made no request, otherwise
--- `Fine`.
+-- The exit status if no line of an input is bad. If a line was refused or made no request, the
+-- status is `Refused`, otherwise `Fine`.
 abbrev pub status_of : Progress → ExitStatus
 status_of progress = if progress.refused then Refused else Fine
 
--- A bad line followed the processed ones, and the lines after it were not processed.
+-- True if a bad line followed the processed lines, and the lines after the bad line were not
+-- processed.
 pub record IsStopped (tells : Telling) (lines : List Line) (taken : List Taken) : Type 0 where
   pub line : Line
   pub rest : List Line
   pub follow : lines ≡ lines_with taken (line ∷ rest)
   pub bad : IsBad tells line.text
 
--- The text that is printed if a bad line ends the command: that of the processed lines, and the
--- message for the bad line.
+-- The text that is printed if a bad line ends the command. It is the text of the processed lines,
+-- followed by the message for the bad line.
 abbrev pub stopped_text : {tells : Telling} {lines : List Line} {taken : List Taken} → History
     → IsStopped tells lines taken → List ℕ
 stopped_text {taken = taken} past stopped = text_after past taken ++ bad_line stopped.line.number
 
--- The command ended after the last line: the text of all lines is printed, and the exit status
--- follows from their outcomes.
+-- True if the command ended after the last line. The text of all lines was printed, and the exit
+-- status follows from their outcomes.
 pub record IsWhole (lines : List Line) (past : History) (first : ℕ) (taken : List Taken)
     (status : ExitStatus) (had holds : Option (List ℕ)) : Type 0 where
   pub follow : lines ≡ lines_with taken []
   pub printed : Appends had holds (text_after past taken)
   pub means : status ≡ status_of (progress_of first taken)
 
--- The command ended at a bad line: the text up to the message for the bad line is printed, and the
--- exit status is `Refused`.
+-- True if the command ended at a bad line. The text up to the message for the bad line was printed,
+-- and the exit status is `Refused`.
 pub record IsStoppedTold (tells : Telling) (lines : List Line) (past : History) (taken : List Taken)
     (status : ExitStatus) (had holds : Option (List ℕ)) : Type 0 where
   pub stopped : IsStopped tells lines taken
   pub printed : Appends had holds (stopped_text past stopped)
   pub means : status ≡ Refused
 
--- The command was broken off with status `Failed`: a part of the text of the processed lines is
--- printed, or all of it and a part of the message for a bad line.
+-- True if the command was broken off with the exit status `Failed`.
+--
+-- A part of the text of the processed lines was printed, or the complete text and a part of the
+-- message for a bad line.
 pub record IsBrokenOff (tells : Telling) (lines : List Line) (past : History) (taken : List Taken)
     (status : ExitStatus) (had holds : Option (List ℕ)) : Type 0 where
   pub rest : List Line
@@ -67,7 +71,8 @@ pub record IsBrokenOff (tells : Telling) (lines : List Line) (past : History) (t
       ⊎ ((stopped : IsStopped tells lines taken) × GotPart (stopped_text past stopped) had holds)
   pub means : status ≡ Failed
 
--- The three ways in which the command ends: after the last line, at a bad line, or broken off.
+-- True if entering an input ended in one of three ways: after the last line, at a bad line, or
+-- broken off.
 abbrev pub IsEnd : Telling → List Line → History → (first : ℕ) → List Taken → ExitStatus
     → (had holds : Option (List ℕ)) → Type 0
 IsEnd tells lines past first taken status had holds =
@@ -75,7 +80,8 @@ IsEnd tells lines past first taken status had holds =
     ⊎ IsStoppedTold tells lines past taken status had holds
     ⊎ IsBrokenOff tells lines past taken status had holds
 
--- What entering the lines leaves of an office in the state of a past, from timestamp `first` on.
+-- The state after the lines were entered into an office with the history `past`. No line has a
+-- timestamp before `first`.
 pub record EntersLines {B : Type 0} (ledger : B → Ledger) (tells : Telling)
     (caller : Option (List ℕ)) (lines : List Line) (first : ℕ) (begun now : RoundState)
     (office : Office B) (status : ExitStatus) (past : History) : Type 0 where
@@ -83,8 +89,8 @@ pub record EntersLines {B : Type 0} (ledger : B → Ledger) (tells : Telling)
   pub are : AreTaken ledger tells caller past first begun now office taken
   pub ends : IsEnd tells lines past first taken status begun.printed now.printed
 
--- `EntersLines` holds for every past of the office, with the clock and the writer before and after
--- the input.
+-- True if `EntersLines` holds for every history of the office, with the clock and the writer before
+-- and after the input.
 abbrev pub EntersTextOf : {B C W : Type 0} → stores.Ghosts B → clocks.Ghosts C → writers.Ghosts W
     → Telling → (caller : Option (List ℕ)) → (text : List ℕ) → (first : ℕ) → (old new : Office B)
     → (before after : C) → (had holds : W) → ExitStatus → Type 0
@@ -92,8 +98,8 @@ EntersTextOf b c w tells caller text first old new before after had holds status
     After b.ledger old new (EntersLines b.ledger tells caller (speaking_lines text) first
     (desk_of b c w old before had) (desk_of b c w new after holds) new status)
 
--- The input was entered into an office that was opened for it. The lines' timestamps begin at that
--- of the opening.
+-- True if the input was entered into an office that was opened for the input. The timestamp of each
+-- line is at least the timestamp of the opening.
 abbrev pub Enters : {B : Type 0} → (B → Ledger) → Telling → (caller : Option (List ℕ))
     → (text : List ℕ) → (later had holds : Option (List ℕ)) → ExitStatus
     → (following : History) → (since : Option (List ℕ)) → (opened left : Office B) → Type 0
@@ -102,8 +108,8 @@ Enters ledger tells caller text later had holds status following since opened le
     (round_state had since (failures_of ledger opened))
     (round_state holds later (failures_of ledger left)) left status following
 
--- The opening was refused and only the refusal was printed, or the office was opened and the input
--- entered.
+-- True if the office was opened and the input was entered. If the opening was refused, only the
+-- refusal was printed.
 abbrev pub TellsEntering : {B : Type 0} → (B → Ledger) → (past : History) → Telling
     → (caller text : List ℕ) → (moments later : Option (List ℕ)) → (books back : B)
     → (had holds : Option (List ℕ)) → ExitStatus → Type 0
@@ -112,8 +118,8 @@ TellsEntering ledger past tells caller text moments later books back had holds s
     ⊎ WithOffice ledger past moments back
     (Enters ledger tells (named caller) text later had holds status)
 
--- `TellsEntering` holds for every past in whose state the store was, with the clock and the writer
--- before and after.
+-- True if `TellsEntering` holds for every history that the store records, with the clock and the
+-- writer before and after the command.
 abbrev pub EntersOver : {B C W : Type 0} → stores.Ghosts B → clocks.Ghosts C → writers.Ghosts W
     → Telling → (caller text : List ℕ) → (books back : B) → (before after : C) → (had holds : W)
     → ExitStatus → Type 0

@@ -1,5 +1,7 @@
--- The request in a line of an input. The line is a line of a script whose first word is the
--- request's number. It may end with a mark, or name the file of a point list.
+-- The request that an input line makes.
+--
+-- An input line is a line of a script whose first word is the request's number. The line may end
+-- with the mark ` !`, or name the file of a point list.
 use Rattle.std.specs.Prelude.{◌≡◌, ◌≢◌, ◌⊎◌, ℕ, ℤ, Bool, true, false, List, [], ◌∷◌, ◌++◌, Option, Some, None, Result, Ok, Err, if◌then◌else◌}
 use Rattle.point_list.specs.Lists.{SpellsList, list_faults, rows_read}
 use Rattle.read_plan.specs.PlannedLists.{IsPlanned, Planned}
@@ -30,25 +32,25 @@ use Rattle.office_program.specs.Entering.FileLines.{FileLine, IsFileLine, IsNoFi
 use Rattle.office_program.specs.Entering.Marks.{is_marked, unmarked}
 use Rattle.office_program.specs.Entering.ReadLines.{IsNoRead, IsRead, asked_at}
 
--- What the surroundings of the command may return: for the name of a file its bytes or `None`, and
--- for a register's counter its reading or `None`.
+-- The possible results of reading files and counters. A file gives its bytes or `None`, and a
+-- register's counter gives its reading or `None`.
 pub record Telling : Type 1 where
   pub files : List ℕ → Option (List ℕ) → Type 0
   pub counters : Device → Register → Option Shown → Type 0
 
--- The two relations of an implementation of `Surroundings`.
+-- The possible results of reading files and counters by an implementation of `Surroundings`.
 abbrev pub telling_of : {F : Type 0} → surroundings.Ghosts F → F → Telling
 telling_of f files = record { files = f.tells files; counters = f.shows files }
 
--- ---- A line of a script
+-- ---- The request in a line of a script
 
--- Whether the command can be requested by a line: all commands but the starts of polls.
+-- True if an input line can request the command. Only commands that start polls can't be requested.
 abbrev pub is_request : Command → Bool
 is_request (command.StartPoll c) = false
 is_request (command.StartRound c) = false
 is_request _ = true
 
--- Whether the command makes an entry by hand.
+-- True if the command makes an entry by hand.
 abbrev pub is_by_hand : Command → Bool
 is_by_hand (command.Exchange c) = true
 is_by_hand (command.Reset c) = true
@@ -57,40 +59,43 @@ is_by_hand (command.Manual c) = true
 is_by_hand (command.Close c) = true
 is_by_hand _ = false
 
--- Whether a line can request the command. With a mark only an entry by hand can be requested.
+-- True if an input line can request the command. A line with the mark ` !` can request only an
+-- entry by hand.
 abbrev pub can_be_asked : (marked : Bool) → Command → Bool
 can_be_asked marked c = if marked then is_by_hand c else is_request c
 
--- What a line with this command requests: the command with the request's number, or nothing.
+-- The request in a line with this command. It is the command with the request's number, or nothing
+-- if the command can't be requested.
 abbrev pub wanted_by : (marked : Bool) → (number : ℕ) → Command → Wanted
 wanted_by marked number c =
     if can_be_asked marked c then wanted.Command number c else wanted.Nothing
 
--- What a line with this event requests: its command, or nothing for an event of a device.
+-- The request in a line with this event. It is the event's command, or nothing for an event of a
+-- device.
 abbrev pub wanted_of : (marked : Bool) → (number : ℕ) → Event → Wanted
 wanted_of marked number (event.Command c) = wanted_by marked number c
 wanted_of marked number _ = wanted.Nothing
 
--- What a line with a point list requests: the list, or nothing if the line has a mark.
+-- The request in a line with a point list. It is the list, or nothing if the line has the mark `
+-- !`.
 abbrev pub wanted_list : (marked : Bool) → (number : ℕ) → GivenList → Wanted
 wanted_list marked number list = if marked then wanted.Nothing else wanted.List number list
 
--- What a line of a script requests. The request's number is in the line at the place of a
--- timestamp.
+-- The request in a line of a script. The line has the request's number instead of a timestamp.
 abbrev pub wanted_in : (marked : Bool) → ScriptLine → Wanted
 wanted_in marked (line.Event number e) = wanted_of marked number e
 wanted_in marked (line.List number list) = wanted_list marked number list
 wanted_in marked _ = wanted.Nothing
 
--- ---- The entry of a line
+-- ---- The parsed form of an input line
 
--- The request for this command, with the bytes that the store keeps of it.
+-- The request for this command, with the bytes of the request that the store keeps.
 abbrev pub asked_by : (caller : Option (List ℕ)) → (number : ℕ) → (request : List ℕ) → Command
     → Asked
 asked_by caller number request c =
     record { caller = caller; number = number; request = request; command = c }
 
--- The text spells this point list, whose reads are those of its plan.
+-- True if the text is parsed as this point list, and the plan has the reads for its points.
 pub record IsListOf (text : List ℕ) (list : Planned) : Type 0 where
   pub points : SpellsList text list.points
   pub planned : IsPlanned list
@@ -99,8 +104,8 @@ pub record IsListOf (text : List ℕ) (list : Planned) : Type 0 where
 abbrev pub put_by : (device : Option (List ℕ)) → Planned → Command
 put_by device list = command.PutList (record { device = device; list = list })
 
--- The entry of a line with a point list: the request for the list that the text spells, or the
--- text's faulty rows.
+-- True for the parsed form of a line with a point list. It is the request for the list in the text,
+-- or the text's faulty rows.
 abbrev pub IsListEntry : (caller : Option (List ℕ)) → (number : ℕ) → (device : Option (List ℕ))
     → (text request : List ℕ) → Entry → Type 0
 IsListEntry caller number device text request (Ask asked) =
@@ -110,7 +115,8 @@ IsListEntry caller number device text request (Faulty rows) =
     (list_faults (rows_read text) ≢ []) × (rows ≡ list_faults (rows_read text))
 IsListEntry caller number device text request (Read read) = ⊥
 
--- The entry of a script's line by what it requests. The store keeps the line's bytes with its mark.
+-- True for the parsed form of a script's line by the line's request. The store keeps the line's
+-- bytes with the mark ` !`.
 abbrev pub IsWantedEntry : (caller : Option (List ℕ)) → (text : List ℕ) → Wanted → Entry → Type 0
 IsWantedEntry caller text (wanted.Command number c) entry =
     entry ≡ Ask (asked_by caller number text c)
@@ -118,18 +124,18 @@ IsWantedEntry caller text (wanted.List number list) entry =
     IsListEntry caller number list.device list.text text entry
 IsWantedEntry caller text wanted.Nothing entry = ⊥
 
--- The entry of a line that is one of a script.
+-- True for the parsed form of an input line that is a line of a script.
 pub record IsScriptEntry (caller : Option (List ℕ)) (text : List ℕ) (entry : Entry) : Type 0 where
   pub said : ScriptLine
   pub is : IsOnly (words_of (unmarked text)) said
   pub comes : IsWantedEntry caller text (wanted_in (is_marked text) said) entry
 
--- The bytes that the store keeps of a line that names a file: the line, a line feed (10), and the
--- bytes of the file.
+-- The bytes that the store keeps for an input line that names a file. They are the line, a line
+-- feed (10), and the bytes of the file.
 abbrev pub file_request : (text bytes : List ℕ) → List ℕ
 file_request text bytes = text ++ 10 ∷ bytes
 
--- The entry of a line that names the file of a point list. The file exists.
+-- True for the parsed form of a line that names the file of a point list. The file exists.
 pub record IsFileEntry (tells : Telling) (caller : Option (List ℕ)) (text : List ℕ) (entry : Entry)
     : Type 0 where
   pub line : FileLine
@@ -138,52 +144,56 @@ pub record IsFileEntry (tells : Telling) (caller : Option (List ℕ)) (text : Li
   pub told : tells.files line.name (Some bytes)
   pub comes : IsListEntry caller line.number line.device bytes (file_request text bytes) entry
 
--- The entry of a line with `@read`. The store keeps the line's bytes, whatever the reading is.
+-- True for the parsed form of a line with `@read`. The store keeps the line's bytes, whatever the
+-- counter's reading is.
 pub record IsReadEntry (caller : Option (List ℕ)) (text : List ℕ) (entry : Entry) : Type 0 where
   pub line : ReadLine
   pub is : IsRead text line
   pub comes : entry ≡ Read (record { caller = caller; request = text; line = line })
 
--- The entry of a line of any of the three forms, before a request is fed to the office.
+-- True for the parsed form of an input line. The line names a file, has `@read`, or is a line of a
+-- script.
 abbrev pub IsEntry : Telling → (caller : Option (List ℕ)) → (text : List ℕ) → Entry → Type 0
 IsEntry tells caller text entry =
     IsFileEntry tells caller text entry
     ⊎ (IsNoFileLine (words_of text)
     × (IsReadEntry caller text entry ⊎ (IsNoRead text × IsScriptEntry caller text entry)))
 
--- The request that an entry may make. An entry with `@read` may make one request for each possible
--- reading.
+-- True if a parsed line may make this request. A line with `@read` may make one request for each
+-- possible reading of the counter.
 abbrev pub MayAsk : Entry → Asked → Type 0
 MayAsk (Ask asked) request = request ≡ asked
 MayAsk (Read read) request = (raw : ℕ) × (sf : ℤ) × (request ≡ asked_at read raw sf)
 MayAsk (Faulty rows) request = ⊥
 
--- The line names a file that does not exist.
+-- True if the line names a file that does not exist.
 abbrev pub LacksFile : Telling → (text : List ℕ) → Type 0
 LacksFile tells text =
     (named : FileLine) × IsFileLine (words_of text) named × tells.files named.name None
 
--- The text spells no line of a script that requests anything.
+-- True if the text is no line of a script that makes a request.
 abbrev pub IsNoRequest : (text : List ℕ) → Type 0
 IsNoRequest text = (said : ScriptLine) → IsLine (words_of (unmarked text)) said
     → wanted_in (is_marked text) said ≡ wanted.Nothing
 
--- The line is bad: it names a file that does not exist, or it has none of the three forms.
+-- True if the line is bad. A bad line names a file that does not exist, or is of none of the three
+-- kinds of input line.
 abbrev pub IsBad : Telling → (text : List ℕ) → Type 0
 IsBad tells text =
     LacksFile tells text ⊎ (IsNoFileLine (words_of text) × IsNoRead text × IsNoRequest text)
 
--- ---- The result of parsing a line. Out of memory says nothing of the line.
+-- ---- The result of parsing an input line. If memory runs out, nothing is known of the line.
 
--- On `Ok` this is the entry of the script's line; `Bad` if it requests nothing. If memory ran out,
--- the line is not judged.
+-- True if on `Ok` the result is the parsed form of the script's line, or `Bad` if the line requests
+-- nothing. If memory ran out, nothing is known of the line.
 abbrev pub ReadsWanted : (caller : Option (List ℕ)) → (text : List ℕ) → Wanted
     → Result Entry LineFault → Type 0
 ReadsWanted caller text want (Ok entry) = IsWantedEntry caller text want entry
 ReadsWanted caller text want (Err Bad) = want ≡ wanted.Nothing
 ReadsWanted caller text want (Err Memory) = Unit {0}
 
--- On `Ok` this is the entry of the line with this point list, which is never `Bad`.
+-- True if on `Ok` the result is the parsed form of the line with the point list `text`. The result
+-- is never `Bad`.
 abbrev pub ReadsList : (caller : Option (List ℕ)) → (number : ℕ) → (device : Option (List ℕ))
     → (text request : List ℕ) → Result Entry LineFault → Type 0
 ReadsList caller number device text request (Ok entry) =
@@ -191,14 +201,16 @@ ReadsList caller number device text request (Ok entry) =
 ReadsList caller number device text request (Err Bad) = ⊥
 ReadsList caller number device text request (Err Memory) = Unit {0}
 
--- On `Ok` this is the entry of the script's line; `Bad` if it makes no request.
+-- True if on `Ok` the result is the parsed form of the script's line, or `Bad` if the line makes no
+-- request.
 abbrev pub ReadsScript : (caller : Option (List ℕ)) → (text : List ℕ) → Result Entry LineFault
     → Type 0
 ReadsScript caller text (Ok entry) = IsScriptEntry caller text entry
 ReadsScript caller text (Err Bad) = IsNoRequest text
 ReadsScript caller text (Err Memory) = Unit {0}
 
--- On `Ok` this is the entry of the line with `@read`, which is never `Bad`.
+-- True if on `Ok` the result is the parsed form of the line with `@read`. The result is never
+-- `Bad`.
 abbrev pub ReadsCounter : (caller : Option (List ℕ)) → (text : List ℕ) → ReadLine
     → Result Entry LineFault → Type 0
 ReadsCounter caller text line (Ok entry) =
@@ -206,8 +218,8 @@ ReadsCounter caller text line (Ok entry) =
 ReadsCounter caller text line (Err Bad) = ⊥
 ReadsCounter caller text line (Err Memory) = Unit {0}
 
--- On `Ok` this is the entry of a line that names no file; `Bad` if the line has none of the other
--- forms.
+-- True if on `Ok` the result is the parsed form of a line that names no file. The result is `Bad`
+-- if the line has no `@read` and is no request of a script.
 abbrev pub ReadsUnnamed : (caller : Option (List ℕ)) → (text : List ℕ) → Result Entry LineFault
     → Type 0
 ReadsUnnamed caller text (Ok entry) =
@@ -215,7 +227,8 @@ ReadsUnnamed caller text (Ok entry) =
 ReadsUnnamed caller text (Err Bad) = IsNoRead text × IsNoRequest text
 ReadsUnnamed caller text (Err Memory) = Unit {0}
 
--- On `Ok` this is the entry of a line that names a file; `Bad` if the file does not exist.
+-- True if on `Ok` the result is the parsed form of a line that names a file, or `Bad` if the file
+-- does not exist.
 abbrev pub ReadsFile : Telling → (caller : Option (List ℕ)) → (text : List ℕ) → FileLine
     → Result Entry LineFault → Type 0
 ReadsFile tells caller text named (Ok entry) =
@@ -224,8 +237,8 @@ ReadsFile tells caller text named (Ok entry) =
 ReadsFile tells caller text named (Err Bad) = tells.files named.name None
 ReadsFile tells caller text named (Err Memory) = Unit {0}
 
--- On `Ok` this is the entry of the line; `Bad` if the line is bad. If memory ran out, the line is
--- not judged.
+-- True if on `Ok` the result is the parsed form of the line, or `Bad` if the line is bad. If memory
+-- ran out, nothing is known of the line.
 abbrev pub ReadsEntry : Telling → (caller : Option (List ℕ)) → (text : List ℕ)
     → Result Entry LineFault → Type 0
 ReadsEntry tells caller text (Ok entry) = IsEntry tells caller text entry

@@ -1,12 +1,12 @@
--- The mark at the end of a line, which confirms an entry.
+-- The mark ` !` at the end of an input line, which confirms an entry by hand.
 use Rattle.std.specs.Prelude.{ℕ, ◌-◌, nat_eq, Bool, List, length, take, codes, if◌then◌else◌}
 use Rattle.std.specs.List.{ends_with}
 
--- Whether the line ends with the mark ` !`: its entry by hand is meant as it is, whatever energy it
--- records.
+-- True if the line ends with the mark ` !`. The mark confirms the line's entry by hand, whatever
+-- energy the entry records.
 abbrev pub is_marked : (text : List ℕ) → Bool
 is_marked text = ends_with nat_eq text (codes " !")
 
--- The line without its mark.
+-- The input line without its mark ` !`, or the complete line if it has no mark.
 abbrev pub unmarked : (text : List ℕ) → List ℕ
 unmarked text = if is_marked text then take (length text - 2) text else text

@@ -1,4 +1,5 @@
--- A line that installs a meter at the reading of its counter: it has `@read` instead of RAW and SF.
+-- An input line that installs a meter at the present reading of its counter. The line has `@read`
+-- in place of RAW and SF.
 use Rattle.std.specs.Prelude.{◌≡◌, ℕ, ℤ, Bool, true, not, List, [], ◌∷◌, Option, Some, None, codes, if◌then◌else◌}
 use Rattle.std.specs.Str.{bytes_eq}
 use Rattle.office_events.specs.declared.commands.Command.{Command}
@@ -11,7 +12,7 @@ use Rattle.office_program.specs.declared.entering.read_line.ReadLine.TheVariants
 use Rattle.office_program.specs.declared.entering.read_line.ReadRequest.{ReadRequest}
 use Rattle.office_program.specs.Entering.Marks.{is_marked, unmarked}
 
--- The words of a line with `@read`: an installation, or an exchange.
+-- The words of an input line with `@read`, which is an installation or an exchange.
 abbrev pub read_form : ReadLine → List Field
 read_form (read.Install number register meter ceiling range) =
     Of Number number ∷ Word (codes "install") ∷ Of AnyName register ∷ Of AnyName meter
@@ -21,27 +22,27 @@ read_form (read.Exchange number register last rolls meter ceiling range) =
     ∷ Of Number rolls ∷ Of AnyName meter ∷ Word (codes "@read") ∷ Of Number ceiling
     ∷ Of Range range ∷ []
 
--- The words spell exactly this line.
+-- True if the words form exactly this line with `@read`.
 abbrev pub IsReadLine : (words : List (List ℕ)) → ReadLine → Type 0
 IsReadLine words line = Spell words (read_form line)
 
--- The words spell no line with `@read`.
+-- True if the words form no line with `@read`.
 abbrev pub IsNoReadLine : (words : List (List ℕ)) → Type 0
 IsNoReadLine words = (line : ReadLine) → IsReadLine words line → ⊥
 
--- ---- The contents of the line
+-- ---- The number, register and command of a line with `@read`
 
 -- The number of the request in the line.
 abbrev pub number_of : ReadLine → ℕ
 number_of (read.Install number register meter ceiling range) = number
 number_of (read.Exchange number register last rolls meter ceiling range) = number
 
--- The accounting register whose counter is to be read; `None` if its name is invalid.
+-- The accounting register whose counter is to be read, or `None` if the register's name is invalid.
 abbrev pub register_of : ReadLine → Option (List ℕ)
 register_of (read.Install number register meter ceiling range) = register
 register_of (read.Exchange number register last rolls meter ceiling range) = register
 
--- The command of the line, once the counter's reading is known.
+-- The command of the line with `@read`, for the given reading of the counter.
 abbrev pub command_at : ReadLine → (raw : ℕ) → (sf : ℤ) → Command
 command_at (read.Install number register meter ceiling range) raw sf =
     command.Install (record {
@@ -64,7 +65,7 @@ command_at (read.Exchange number register last rolls meter ceiling range) raw sf
       range = range;
     })
 
--- The request of the line, once the counter's reading is known.
+-- The request of the line with `@read`, for the given reading of the counter.
 abbrev pub asked_at : ReadRequest → (raw : ℕ) → (sf : ℤ) → Asked
 asked_at read raw sf = record {
   caller = read.caller;
@@ -73,30 +74,31 @@ asked_at read raw sf = record {
   command = command_at read.line raw sf;
 }
 
--- ---- A text that is such a line, which may have a mark if it makes an entry by hand
+-- ---- The text of an input line with `@read`. An entry by hand may end with the mark ` !`.
 
--- Whether the line may end as it does: an installation has no mark, an exchange may have one.
+-- True if the line may end with or without the mark ` !`, as `marked` says. An installation has no
+-- mark, but an exchange may have the mark.
 abbrev pub may_end : (marked : Bool) → ReadLine → Bool
 may_end marked (read.Install number register meter ceiling range) = not marked
 may_end marked (read.Exchange number register last rolls meter ceiling range) = true
 
--- The text is this line, with or without a mark.
+-- True if the text is this line with `@read`, with or without the mark ` !`.
 pub record IsRead (text : List ℕ) (line : ReadLine) : Type 0 where
   pub is : IsReadLine (words_of (unmarked text)) line
   pub may : may_end (is_marked text) line ≡ true
 
--- The text is no line with `@read`.
+-- True if the text is no line with `@read`.
 abbrev pub IsNoRead : (text : List ℕ) → Type 0
 IsNoRead text = (line : ReadLine) → IsRead text line → ⊥
 
--- ---- The definition as a function that reads the words from the left
+-- ---- The parser of a line with `@read` as a function of the words, from left to right
 
--- The words after the first word if that is `@read`; otherwise `None`.
+-- The words after the first word, if the first word is `@read`. Otherwise `None`.
 abbrev pub read_word : List (List ℕ) → Option (List (List ℕ))
 read_word [] = None
 read_word (word ∷ words) = if bytes_eq word (codes "@read") then Some words else None
 
--- The installation that the words after `install` spell; `None` if they spell none.
+-- The installation that the words after `install` form, or `None` if they form no installation.
 abbrev pub install_said : (number : ℕ) → List (List ℕ) → Option ReadLine
 install_said number words =
     first_value AnyName words >>= λ register.
@@ -107,7 +109,7 @@ install_said number words =
     nothing_more range.1 >>= λ none.
     Some (read.Install number register.0 meter.0 ceiling.0 range.0)
 
--- The exchange that the words after `exchange` spell; `None` if they spell none.
+-- The exchange that the words after `exchange` form, or `None` if they form no exchange.
 abbrev pub exchange_said : (number : ℕ) → List (List ℕ) → Option ReadLine
 exchange_said number words =
     first_value AnyName words >>= λ register.
@@ -120,18 +122,20 @@ exchange_said number words =
     nothing_more range.1 >>= λ none.
     Some (read.Exchange number register.0 last.0 rolls.0 meter.0 ceiling.0 range.0)
 
--- The line with this verb that the words after it spell; `None` if they spell none.
+-- The line with `@read` that the words after the given verb form, or `None` if they form no such
+-- line.
 abbrev pub line_said : (number : ℕ) → (verb : List ℕ) → List (List ℕ) → Option ReadLine
 line_said number verb words =
     if bytes_eq verb (codes "install") then install_said number words
     else if bytes_eq verb (codes "exchange") then exchange_said number words
     else None
 
--- The line that the words after its number spell; `None` if they spell none.
+-- Parses a line with `@read` from its number and the words after the number. `None` if these words
+-- are no such line.
 abbrev pub verb_said : (number : ℕ) → List (List ℕ) → Option ReadLine
 verb_said number [] = None
 verb_said number (verb ∷ words) = line_said number verb words
 
--- The line with `@read` that the words spell; `None` if they spell none.
+-- Parses a line with `@read` from all its words. `None` if they are no such line.
 abbrev pub read_said : List (List ℕ) → Option ReadLine
 read_said words = first_value Number words >>= λ number. verb_said number.0 number.1

@@ -1,4 +1,5 @@
--- Reading a counter, so that a meter is installed at its present reading.
+-- The reading of a meter's counter for an input line, so that the meter is installed at the
+-- counter's present reading.
 use Rattle.std.specs.Prelude.{◌≡◌, ◌⊎◌, ℕ, pos, List, true, Option, Some, None, is_some, Result, Ok, Err}
 use Rattle.std.specs.Option.{option_and_then}
 use Rattle.office_events.specs.declared.events.Asked.{Asked}
@@ -22,13 +23,13 @@ use Rattle.office_program.specs.Entering.Lines.{Telling}
 use Rattle.office_program.specs.Entering.ReadLines as line
 use Rattle.office_program.specs.Entering.ReadLines.{asked_at}
 
--- Compares a request with the stored request of the same key; `None` if none is stored. The
--- comparison does not depend on the counter's reading.
+-- The comparison of a request with the stored request of the same key (caller and number). `None`
+-- if no such request is stored. The comparison does not depend on the counter's reading.
 abbrev pub repeat_of_read : List Fact → ReadRequest → Option Repeat
 repeat_of_read facts read = repeat_in facts (asked_at read 0 (pos 0))
 
--- The counter of the accounting register was read from its device, with this result; `None` if the
--- device gave no reading.
+-- True if the counter of the accounting register was read from its device, with this result. The
+-- result is `None` if the device gave no reading.
 pub record IsCounterTold (tells : Telling) (facts : List Fact) (register : Option (List ℕ))
     (shown : Option Shown) : Type 0 where
   pub counter : Register
@@ -37,23 +38,25 @@ pub record IsCounterTold (tells : Telling) (facts : List Fact) (register : Optio
   pub device_is : device_of facts counter.device ≡ Some device
   pub told : tells.counters device counter shown
 
--- The register's device does not exist, so its counter can't be read.
+-- True if the device of the accounting register does not exist. Then the register's counter can't
+-- be read.
 pub record LacksDevice (facts : List Fact) (register : Option (List ℕ)) : Type 0 where
   pub counter : Register
   pub register_is : option_and_then (register_of facts) register ≡ Some counter
   pub none : device_of facts counter.device ≡ None
 
--- The counter can't be read: the register or its device does not exist, or the device gave no
--- reading.
+-- True if the counter can't be read, because the register or its device does not exist or the
+-- device gave no reading.
 abbrev pub IsNotShown : Telling → List Fact → (register : Option (List ℕ)) → Type 0
 IsNotShown tells facts register =
     (option_and_then (register_of facts) register ≡ None) ⊎ LacksDevice facts register
     ⊎ IsCounterTold tells facts register None
 
--- The reading at which the line installs its meter. It is that of the register's counter, unless
--- the request is stored: then no counter is read.
+-- True for the reading at which the line installs its meter, or for `None` if the counter can't be
+-- read.
 --
--- `None`: the counter can't be read.
+-- If the store already has the request, the counter is not read. Otherwise the reading is that of
+-- the register's counter.
 abbrev pub IsShownFor : Telling → List Fact → ReadRequest → Option Shown → Type 0
 IsShownFor tells facts read (Some shown) =
     (is_some (repeat_of_read facts read) ≡ true)
@@ -61,67 +64,68 @@ IsShownFor tells facts read (Some shown) =
 IsShownFor tells facts read None =
     (repeat_of_read facts read ≡ None) × IsNotShown tells facts (line.register_of read.line)
 
--- The request installs the meter at the reading that was found for the line.
+-- True if the request installs the meter at the reading that was found for the line.
 abbrev pub AsksShown : Telling → List Fact → ReadRequest → Asked → Type 0
 AsksShown tells facts read request =
     (shown : Shown) × IsShownFor tells facts read (Some shown)
     × (request ≡ asked_at read shown.raw shown.sf)
 
--- ---- The office's answer
+-- ---- The office's answer to the query for the counter's reading
 
--- The office found the reading, or that there is none, and the store did not fail; or the query was
--- refused for a failure.
+-- True if the office found the reading, or found that there is no reading, and the store did not
+-- fail. Also true if the office refused the query for a failure.
 abbrev pub HasShown : Telling → List Fact → ReadRequest → (before after : Failures)
     → Result (Option Shown) Refusal → Type 0
 HasShown tells facts read before after (Ok found) =
     IsShownFor tells facts read found × (after ≡ before)
 HasShown tells facts read before after (Err why) = IsOutside ⊥ before after why
 
--- The office is still in the state after this past, and found the reading for the line, or refused
--- the query for a failure.
+-- True if the history of the office is still `past`. The office found the reading for the line, or
+-- refused the query for a failure.
 pub record IsFilled {B : Type 0} (ledger : B → Ledger) (tells : Telling) (read : ReadRequest)
     (past : History) (before after : Failures) (office : Office B)
     (result : Result (Option Shown) Refusal) : Type 0 where
   pub stands : Stands ledger past office
   pub told : HasShown tells (facts_of past) read before after result
 
--- `IsFilled` holds for every past in whose state the office was.
+-- True if `IsFilled` holds for every history of the office before the query.
 abbrev pub Fills : {B : Type 0} → (B → Ledger) → Telling → ReadRequest → (old new : Office B)
     → Result (Option Shown) Refusal → Type 0
 Fills ledger tells read old new result = After ledger old new (λ past.
     IsFilled ledger tells read past (failures_of ledger old) (failures_of ledger new) new result)
 
--- ---- Its parts
+-- ---- The register, the device and the reading of a counter, looked up one by one
 
--- The reading of the register's counter, or `None` if the counter can't be read.
+-- True for the reading of the register's counter, or for `None` if the counter can't be read.
 abbrev pub IsCounterFor : Telling → List Fact → (register : Option (List ℕ)) → Option Shown → Type 0
 IsCounterFor tells facts register (Some shown) = IsCounterTold tells facts register (Some shown)
 IsCounterFor tells facts register None = IsNotShown tells facts register
 
--- The office found the register's counter and the reading, and the store did not fail; or the query
--- was refused for a failure.
+-- True if the office found the register's counter and its reading, and the store did not fail. Also
+-- true if the office refused the query for a failure.
 abbrev pub HasCounter : Telling → List Fact → (register : Option (List ℕ))
     → (before after : Failures) → Result (Option Shown) Refusal → Type 0
 HasCounter tells facts register before after (Ok found) =
     IsCounterFor tells facts register found × (after ≡ before)
 HasCounter tells facts register before after (Err why) = IsOutside ⊥ before after why
 
--- The office is still in the state after this past, and found the counter's reading, or refused the
--- query for a failure.
+-- True if the history of the office is still `past`. The office found the counter's reading, or
+-- refused the query for a failure.
 pub record IsReadThere {B : Type 0} (ledger : B → Ledger) (tells : Telling)
     (register : Option (List ℕ)) (past : History) (before after : Failures) (office : Office B)
     (result : Result (Option Shown) Refusal) : Type 0 where
   pub stands : Stands ledger past office
   pub told : HasCounter tells (facts_of past) register before after result
 
--- `IsReadThere` holds for every past in whose state the office was.
+-- True if `IsReadThere` holds for every history of the office before the query.
 abbrev pub ReadsThere : {B : Type 0} → (B → Ledger) → Telling → (register : Option (List ℕ))
     → (old new : Office B) → Result (Option Shown) Refusal → Type 0
 ReadsThere ledger tells register old new result = After ledger old new (λ past.
     IsReadThere ledger tells register past (failures_of ledger old) (failures_of ledger new) new
     result)
 
--- `IsReadThere` holds for every past and every name under which the records have this register.
+-- True if `IsReadThere` holds for every history of the office, and for every name under which the
+-- store records this register.
 abbrev pub ReadsAt : {B : Type 0} → (B → Ledger) → Telling → Register → (old new : Office B)
     → Result (Option Shown) Refusal → Type 0
 ReadsAt ledger tells counter old new result = (register : Option (List ℕ)) → After ledger old new

@@ -1,5 +1,6 @@
--- Retries: the office stores the response to each accepted request. So a request acts once, and an
--- input that is entered twice acts once.
+-- Retries of requests. The office stores the response to each accepted request.
+--
+-- So a request acts once, and an input that is entered twice acts once.
 use Rattle.std.specs.Prelude.{◌≡◌, ◌⊎◌, ℕ, List, [], ◌∷◌, ◌++◌, Option, Result, Ok, IsOk}
 use Rattle.command_io.specs.Lines.{Line}
 use Rattle.office_events.specs.declared.answers.Answer.{Answer}
@@ -16,55 +17,56 @@ use Rattle.office_program.specs.Entering.Course.{AreAnswered, AreComing, Came, T
 use Rattle.office_program.specs.Entering.Course as course
 use Rattle.office_program.specs.Entering.Lines.{Telling}
 
--- Both requests have the same caller, number and bytes.
+-- True if both requests have the same caller, number and bytes.
 pub record IsSameRequest (asked again : Asked) : Type 0 where
   pub caller : again.caller ≡ asked.caller
   pub number : again.number ≡ asked.number
   pub request : again.request ≡ asked.request
 
--- A retry of an accepted request is answered as done and does not act again, whatever was accepted
--- between the two.
+-- The theorem that if an accepted request is retried, then the retry is answered as done and does
+-- not act again. The office may have accepted other events between the request and the retry.
 abbrev pub RequestsAreRepeated : Type 0
 RequestsAreRepeated = (past more : History) (at then : ℕ) (asked again : Asked)
     → AreAccepted (more ++ Fed at (event.Asked asked) ∷ past) → IsSameRequest asked again
     → decision_of (more ++ Fed at (event.Asked asked) ∷ past) then (event.Asked again)
     ≡ Ok (answer.Again (kind_of asked.command))
 
--- Each file has the same contents whenever it is read.
+-- True if each file has the same contents whenever the file is read.
 abbrev pub AreSteady : Telling → Type 0
 AreSteady tells =
     (name : List ℕ) (a b : Option (List ℕ)) → tells.files name a → tells.files name b → a ≡ b
 
--- The line's request was accepted, now or earlier.
+-- True if the request of an input line was accepted, now or earlier.
 abbrev pub HasActed : Came → Type 0
 HasActed (course.Asked one) = IsOk one.result
 HasActed _ = ⊥
 
--- Each line's request was accepted, now or earlier.
+-- True if the request of each input line was accepted, now or earlier.
 abbrev pub HaveActed : List Taken → Type 0
 HaveActed [] = Unit {0}
 HaveActed (one ∷ earlier) = HasActed one.came × HaveActed earlier
 
--- The answer says that the request was done earlier, or that the store failed or the office had
+-- True for the answer to a retry: the request was done earlier, the store failed, or the office had
 -- stopped. No memory outside the store is needed.
 abbrev pub IsRepeated : Result Answer Refusal → Type 0
 IsRepeated result =
     ((kind : CommandKind) × (result ≡ Ok (answer.Again kind)))
     ⊎ ((before after : Failures) × FailsOutside ⊥ before after result)
 
--- The line was answered as a retry, or refused for a failure.
+-- True if the input line was answered as a retry, or refused for a failure.
 abbrev pub HasRepeated : Came → Type 0
 HasRepeated (course.Asked one) = IsRepeated one.result
 HasRepeated (Undecided at request why) =
     (before after : Failures) × IsOutside ⊥ before after why
 HasRepeated _ = ⊥
 
--- Each line was answered as a retry, or refused for a failure.
+-- True if each input line was answered as a retry, or refused for a failure.
 abbrev pub HaveRepeated : List Taken → Type 0
 HaveRepeated [] = Unit {0}
 HaveRepeated (one ∷ earlier) = HasRepeated one.came × HaveRepeated earlier
 
--- All lines of the input were processed after some past, and each request was accepted.
+-- True if an office with the history `past` processed all lines of the input, and accepted each
+-- request.
 pub record HasEntered (tells : Telling) (caller : Option (List ℕ)) (lines : List Line)
     (past : History) (taken : List Taken) : Type 0 where
   pub whole : lines ≡ lines_with taken []
@@ -74,8 +76,8 @@ pub record HasEntered (tells : Telling) (caller : Option (List ℕ)) (lines : Li
   pub answered : AreAnswered past before after taken
   pub acted : HaveActed taken
 
--- Some first lines of the input are processed again later, whatever else the office has accepted
--- between the two.
+-- True if the first lines of the input are processed again later. The office may have accepted
+-- other events after the input was entered first.
 pub record EntersAgain (tells : Telling) (caller : Option (List ℕ)) (lines : List Line)
     (following later : History) (again : List Taken) : Type 0 where
   pub more : History
@@ -88,14 +90,16 @@ pub record EntersAgain (tells : Telling) (caller : Option (List ℕ)) (lines : L
   pub after : Failures
   pub answered : AreAnswered later before after again
 
--- The repeated lines do not act: the office has accepted nothing more, and each line was answered
--- as a retry or refused for a failure.
+-- True if the lines that are entered again do not act.
+--
+-- The history of the office is unchanged, and each line is answered as a retry or refused for a
+-- failure.
 pub record ActsNoMore (later : History) (again : List Taken) : Type 0 where
   pub same : history_with later again ≡ later
   pub repeated : HaveRepeated again
 
--- An input that was entered completely does not act again when it is entered again, if its files
--- have the same contents each time.
+-- The theorem that if an input was entered completely, then entering the input again has no effect.
+-- The files of the input must have the same contents each time.
 abbrev pub InputsActOnce : Telling → Type 0
 InputsActOnce tells =
     (caller : Option (List ℕ)) (lines : List Line) (past later : History) (taken again : List Taken)

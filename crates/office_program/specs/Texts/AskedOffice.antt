@@ -1,5 +1,5 @@
--- Opening an office for queries: at the clock's time, or at the latest timestamp in the store if
--- that is later.
+-- The result of opening an office for queries. The office is opened at the clock's time, or at the
+-- latest timestamp in the store if that timestamp is later.
 use Rattle.std.specs.Prelude.{ℕ, List, ◌∷◌, Option, Result, IfOk, IfErr}
 use Rattle.std.specs.declared.io.Write as writers
 use Rattle.socket_link.specs.declared.clock.Clock as a_clock
@@ -18,22 +18,22 @@ use Rattle.socket_link.specs.Clocks as clocks
 use Rattle.office_program.specs.Texts.EndTexts.{IsTold}
 use Rattle.office_program.specs.declared.texts.opened_office.Unopened.{Unopened}
 
--- The office was opened for queries: it is in the state after the opening, and pending polls are
--- lost.
+-- True if the office was opened for queries. The office is in the state after the opening, and the
+-- polls that were pending are lost.
 pub record OpensToAsk {B : Type 0} (ledger : B → Ledger) (past : History)
     (moments later : Option (List ℕ)) (office : Office B) : Type 0 where
   pub told : ℕ
   pub timed : clocks.TellsMoment moments later told
   pub stands : Stands ledger (Opened (asking_moment past told) ∷ past) office
 
--- `OpensToAsk` holds if no wrong result of the store was taken as true.
+-- True if `OpensToAsk` holds, provided that no wrong result of the store was used.
 abbrev pub OpensToAskWhereClean : {B : Type 0} → (B → Ledger) → (past : History)
     → (moments later : Option (List ℕ)) → Office B → Type 0
 OpensToAskWhereClean ledger past moments later office =
     (ledger (books_in office)).is_clean → OpensToAsk ledger past moments later office
 
--- The office was not opened, because of the timestamp or a failure. The store is in its earlier
--- state, and the reason was printed.
+-- True if the office was not opened, because of the timestamp or a failure. The store is in its
+-- state before the call, and the reason was printed.
 pub record TellsUnasked (past : History) (moments later : Option (List ℕ)) (old new : Ledger)
     (status : ExitStatus) (had holds : Option (List ℕ)) : Type 0 where
   pub told : ℕ
@@ -42,7 +42,8 @@ pub record TellsUnasked (past : History) (moments later : Option (List ℕ)) (ol
   pub refused : IsNotOpened past (asking_moment past told) old new why
   pub printed : IsTold (refused_line why) Refused status had holds
 
--- `TellsUnasked` holds with the returned store, if no wrong result of the store was taken as true.
+-- True if `TellsUnasked` holds with the returned store, provided that no wrong result of the store
+-- was used.
 abbrev pub TellsUnaskedWhereClean : {B : Type 0} → (B → Ledger) → (past : History)
     → (moments later : Option (List ℕ)) → (books : B) → (had holds : Option (List ℕ))
     → Unopened B → Type 0
@@ -50,15 +51,15 @@ TellsUnaskedWhereClean ledger past moments later books had holds unopened =
     (ledger unopened.books).is_clean → TellsUnasked past moments later (ledger books)
     (ledger unopened.books) unopened.status had holds
 
--- On `Ok`, the office was opened for queries over a store in the state of any past.
+-- True if on `Ok` the office was opened for queries, whatever history the store records.
 abbrev pub OpensToAskOver : {B C : Type 0} → stores.Ghosts B → a_clock.Ghosts C → (books : B)
     → (before after : C) → Result (Office B) (Unopened B) → Type 0
 OpensToAskOver b c books before after result =
     (past : History) → BooksStand (b.ledger books) past
     → IfOk result (OpensToAskWhereClean b.ledger past (c.moments before) (c.moments after))
 
--- On an error, the office was not opened over a store in the state of any past, and the reason was
--- printed.
+-- True if on an error the office was not opened and the reason was printed, whatever history the
+-- store records.
 abbrev pub RefusesToAskOver : {B C W : Type 0} → stores.Ghosts B → a_clock.Ghosts C
     → writers.Ghosts W → (books : B) → (before after : C) → (had holds : W)
     → Result (Office B) (Unopened B) → Type 0

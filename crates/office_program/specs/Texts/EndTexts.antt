@@ -1,19 +1,19 @@
--- The text that a command prints, and its exit status.
+-- The text that a command prints last, and its exit status.
 use Rattle.std.specs.Prelude.{◌≡◌, ◌⊎◌, ℕ, List, Option}
 use Rattle.std.specs.Io.KnownBytes.{Appends}
 use Rattle.command_io.specs.declared.status.ExitStatus.{ExitStatus}
 use Rattle.command_io.specs.declared.status.ExitStatus.TheVariants.{Failed}
 use Rattle.sun_points.specs.Writing.{GotPart}
 
--- The text was printed and the exit status is `meant`; or a write failed, a part of the text was
--- printed, and the exit status is `Failed`.
+-- True if the text was printed and the exit status is `meant`. If a write failed, a part of the
+-- text was printed, and the exit status is `Failed`.
 abbrev pub IsTold : (text : List ℕ) → (meant status : ExitStatus)
     → (old new : Option (List ℕ)) → Type 0
 IsTold text meant status old new =
     ((status ≡ meant) × Appends old new text) ⊎ ((status ≡ Failed) × GotPart text old new)
 
--- One of the texts that `Prints` allows was printed, with its exit status; or a part of it, with
--- the exit status `Failed`.
+-- True if one of the texts that `Prints` allows was printed, with its exit status. If a write
+-- failed, a part of the text was printed, with the exit status `Failed`.
 pub record TellsEnd (Prints : List ℕ → ExitStatus → Type 0) (status : ExitStatus)
     (old new : Option (List ℕ)) : Type 0 where
   pub text : List ℕ

@@ -1,4 +1,4 @@
--- Opening an office at the clock's time.
+-- The result of opening an office over a store at the clock's time.
 use Rattle.std.specs.Prelude.{ℕ, List, ◌∷◌, Option, Result, IfOk, IfErr, MatchResult}
 use Rattle.std.specs.declared.io.Write as writers
 use Rattle.socket_link.specs.declared.clock.Clock as a_clock
@@ -18,7 +18,8 @@ use Rattle.office_program.specs.Texts.EndTexts.{IsTold}
 use Rattle.office_program.specs.Texts.Passing.{Lasts}
 use Rattle.office_program.specs.declared.texts.opened_office.Unopened.{Unopened}
 
--- The office was opened: it is in the state after the opening, and pending polls are lost.
+-- True if the office was opened. The office is in the state after the opening, and the polls that
+-- were pending are lost.
 pub record Opens {B : Type 0} (ledger : B → Ledger) (past : History)
     (moments later : Option (List ℕ))
     (office : Office B) : Type 0 where
@@ -26,14 +27,14 @@ pub record Opens {B : Type 0} (ledger : B → Ledger) (past : History)
   pub timed : clocks.TellsMoment moments later at
   pub stands : Stands ledger (Opened at ∷ past) office
 
--- `Opens` holds if no wrong result of the store was taken as true.
+-- True if `Opens` holds, provided that no wrong result of the store was used.
 abbrev pub OpensWhereClean : {B : Type 0} → (B → Ledger) → (past : History)
     → (moments later : Option (List ℕ)) → Office B → Type 0
 OpensWhereClean ledger past moments later office =
     (ledger (books_in office)).is_clean → Opens ledger past moments later office
 
--- The office was not opened, because of the timestamp or a failure. The store is in its earlier
--- state, and the reason was printed.
+-- True if the office was not opened, because of the timestamp or a failure. The store is in its
+-- state before the call, and the reason was printed.
 pub record TellsUnopened (past : History) (moments later : Option (List ℕ)) (old new : Ledger)
     (status : ExitStatus)
     (had holds : Option (List ℕ)) : Type 0 where
@@ -43,7 +44,8 @@ pub record TellsUnopened (past : History) (moments later : Option (List ℕ)) (o
   pub refused : IsNotOpened past at old new why
   pub told : IsTold (refused_line why) Refused status had holds
 
--- `TellsUnopened` holds with the returned store, if no wrong result of the store was taken as true.
+-- True if `TellsUnopened` holds with the returned store, provided that no wrong result of the store
+-- was used.
 abbrev pub TellsWhereClean : {B : Type 0} → (B → Ledger) → (past : History)
     → (moments later : Option (List ℕ)) → (books : B) → (had holds : Option (List ℕ))
     → Unopened B → Type 0
@@ -51,15 +53,15 @@ TellsWhereClean ledger past moments later books had holds unopened =
     (ledger unopened.books).is_clean → TellsUnopened past moments later (ledger books)
     (ledger unopened.books) unopened.status had holds
 
--- On `Ok`, the office was opened over a store in the state of any past.
+-- True if on `Ok` the office was opened, whatever history the store records.
 abbrev pub OpensOver : {B C : Type 0} → stores.Ghosts B → a_clock.Ghosts C → (books : B)
     → (before after : C) → Result (Office B) (Unopened B) → Type 0
 OpensOver b c books before after result =
     (past : History) → BooksStand (b.ledger books) past
     → IfOk result (OpensWhereClean b.ledger past (c.moments before) (c.moments after))
 
--- On an error, the office was not opened over a store in the state of any past, and the reason was
--- printed.
+-- True if on an error the office was not opened and the reason was printed, whatever history the
+-- store records.
 abbrev pub RefusesOver : {B C W : Type 0} → stores.Ghosts B → a_clock.Ghosts C → writers.Ghosts W
     → (books : B) → (before after : C) → (had holds : W) → Result (Office B) (Unopened B) → Type 0
 RefusesOver b c w books before after had holds result =
@@ -67,8 +69,9 @@ RefusesOver b c w books before after had holds result =
     → IfErr result (TellsWhereClean b.ledger past (c.moments before) (c.moments after) books
     (w.contents had) (w.contents holds))
 
--- Whether the office is opened or not, a store that is clean after the call was clean before it,
--- and its zone stays.
+-- True if the time zone of the store is unchanged, whether the office is opened or not. If the
+-- store is clean after the call (no wrong result of it was used), then it was clean before the
+-- call.
 abbrev pub LastsInside : {B : Type 0} → (B → Ledger) → (books : B)
     → Result (Office B) (Unopened B) → Type 0
 LastsInside ledger books result = MatchResult result

@@ -25,8 +25,10 @@ use Rattle.script_text.specs.AnswerText.{refused_line}
 use Rattle.office_program.specs.Texts.EndTexts.{IsTold, TellsEnd}
 use Rattle.office_program.specs.Texts.Reports.{meant_by}
 
--- The text of the report: the register's days in the range, by the clocks of the zone, in the
--- requested form. If the report is refused, the text is the refusal alone.
+-- True for the text of a register's report on a range of days. The text has the days in the range,
+-- by the clocks of the time zone, in the requested form.
+--
+-- If the report is refused, the text consists of the refusal.
 abbrev pub IsRangedReport : Zone → History → (register : Option (List ℕ)) → ReportForm
     → Result (Unit {0}) Refusal → (text : List ℕ) → Type 0
 IsRangedReport zone past register form (Ok done) text =
@@ -35,10 +37,10 @@ IsRangedReport zone past register form (Ok done) text =
     × (text ≡ report_text form days)
 IsRangedReport zone past register form (Err why) text = text ≡ refused_line why
 
--- The text and the exit status of the report. It is refused if no register has the name. Otherwise
--- it is refused only for a failure.
+-- The text and the exit status of a register's report on a range of days.
 --
--- Memory outside the store is needed only if a register has the name.
+-- The report is refused if no register has the name, and otherwise only for a failure. Memory
+-- outside the store is needed only if a register has the name.
 pub record RangePrints (zone : Zone) (past : History) (register : Option (List ℕ))
     (form : ReportForm) (before after : Failures) (text : List ℕ) (meant : ExitStatus) :
     Type 0 where
@@ -48,7 +50,8 @@ pub record RangePrints (zone : Zone) (past : History) (register : Option (List �
   pub is : IsRangedReport zone past register form reply text
   pub means : meant ≡ meant_by reply
 
--- The office printed the report from all that it has accepted, or a part of it if a write failed.
+-- True if the office printed the report from its complete history, or a part of the report if a
+-- write failed.
 abbrev pub ReportsRange : {B W : Type 0} → stores.Ghosts B → writers.Ghosts W
     → (register : Option (List ℕ)) → ReportForm → (old new : Office B) → (had holds : W)
     → ExitStatus → Type 0
@@ -57,20 +60,21 @@ ReportsRange b w register form old new had holds status = After b.ledger old new
     (failures_of b.ledger old) (failures_of b.ledger new))
     status (w.contents had) (w.contents holds))
 
--- The refusal of the report was printed, or a part of it if the write failed.
+-- True if the refusal of the report was printed, or a part of the refusal if the write failed.
 pub record PrintsRefusal {W : Type 0} (contents : W → Option (List ℕ)) (why : Refusal)
     (status : ExitStatus) (old new : ReportRows W) : Type 0 where
   pub output : new.output.ghost_name ≡ old.output.ghost_name
   pub told : IsTold (refused_line why) Refused status (contents old.output.now)
       (contents new.output.now)
 
--- The end of the report was printed. The exit status is `Failed` if any write failed.
+-- True if the last text of the report was printed. If any write failed, the exit status is
+-- `Failed`.
 pub record PrintsLast {W : Type 0} (contents : W → Option (List ℕ)) (status : ExitStatus)
     (old new : ReportRows W) : Type 0 where
   pub finishes : Finishes contents old new
   pub means : status ≡ (if new.failed then Failed else Fine)
 
--- The end of the report was printed; or, if the report was refused, the refusal.
+-- True if the last text of the report was printed, or the refusal if the report was refused.
 abbrev pub PrintsRest : {W : Type 0} → (W → Option (List ℕ)) → Result (Unit {0}) Refusal
     → ExitStatus → (old new : ReportRows W) → Type 0
 PrintsRest contents (Ok done) status old new = PrintsLast contents status old new

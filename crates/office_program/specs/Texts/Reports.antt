@@ -21,7 +21,8 @@ use Rattle.interval_core.specs.Lines.{days_text, end_line}
 use Rattle.script_text.specs.AnswerText.{refused_line}
 use Rattle.office_program.specs.Texts.EndTexts.{TellsEnd}
 
--- The exit status for a complete report: `Fine`, or `Refused` if the report was refused.
+-- The exit status of a command that prints a report. If the report was refused, the status is
+-- `Refused`, otherwise `Fine`.
 abbrev pub meant_by : Result (Unit {0}) Refusal → ExitStatus
 meant_by (Ok done) = Fine
 meant_by (Err why) = Refused
@@ -31,8 +32,10 @@ abbrev pub last_line : (count : ℕ) → Result (Unit {0}) Refusal → List ℕ
 last_line count (Ok done) = end_line count
 last_line count (Err why) = refused_line why
 
--- The text of the report: all days of the register by the clocks of the zone, in order. If the
--- report is refused, the text is the refusal alone.
+-- True for the text of a register's report. The text has all days of the register by the clocks of
+-- the time zone, in order.
+--
+-- If the report is refused, the text consists of the refusal.
 abbrev pub IsReport : Zone → History → (register : Option (List ℕ)) → Result (Unit {0}) Refusal
     → (text : List ℕ) → Type 0
 IsReport zone past register (Ok done) text =
@@ -40,10 +43,10 @@ IsReport zone past register (Ok done) text =
     × (text ≡ days_text days)
 IsReport zone past register (Err why) text = text ≡ refused_line why
 
--- The text and the exit status of the report. It is refused if no register has the name. Otherwise
--- it is refused only for a failure.
+-- The text and the exit status of a register's report.
 --
--- Memory outside the store is needed only if a register has the name.
+-- The report is refused if no register has the name, and otherwise only for a failure. Memory
+-- outside the store is needed only if a register has the name.
 pub record ReportPrints (zone : Zone) (past : History) (register : Option (List ℕ))
     (before after : Failures)
     (text : List ℕ) (meant : ExitStatus) : Type 0 where
@@ -53,7 +56,8 @@ pub record ReportPrints (zone : Zone) (past : History) (register : Option (List 
   pub is : IsReport zone past register reply text
   pub means : meant ≡ meant_by reply
 
--- The office printed the report from all that it has accepted, or a part of it if a write failed.
+-- True if the office printed the report from its complete history, or a part of the report if a
+-- write failed.
 abbrev pub ReportsDays : {B W : Type 0} → stores.Ghosts B → writers.Ghosts W
     → (register : Option (List ℕ)) → (old new : Office B) → (had holds : W) → ExitStatus → Type 0
 ReportsDays b w register old new had holds status = After b.ledger old new
@@ -61,7 +65,7 @@ ReportsDays b w register old new had holds status = After b.ledger old new
     (failures_of b.ledger old) (failures_of b.ledger new))
     status (w.contents had) (w.contents holds))
 
--- The office was only queried, with some result.
+-- True if the office was only queried, and answered or refused the query.
 pub record Asks {B : Type 0} (ledger : B → Ledger) (old new : Office B) : Type 0 where
   pub reply : Result (Unit {0}) Refusal
   pub only : OnlyAsks ledger old new reply

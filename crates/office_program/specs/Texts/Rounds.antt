@@ -1,4 +1,4 @@
--- The text of a device's round, and of the refusal that broke the round off.
+-- The text of a device's polling round, and of the refusal that broke the round off.
 use Rattle.std.specs.Prelude.{◌≡◌, ◌⊎◌, ℕ, List, Option, Result, Ok, Err}
 use Rattle.std.specs.Io.KnownBytes.{Appends}
 use Rattle.std.specs.declared.io.Write as writers
@@ -19,8 +19,10 @@ use Rattle.office_rounds.specs.declared.fault.RoundFault.TheVariants.{Refused, L
 use Rattle.script_text.specs.AnswerText.{refused_line}
 use Rattle.sun_points.specs.Writing.{GotPart}
 
--- If the round `done` was broken off by a refusal, the refusal was printed; if the write failed, a
--- part of it, and the fault is `Output`. Nothing is printed for other results.
+-- True if the refusal that broke the polling round off was printed. If the write failed, a part of
+-- the refusal was printed, and the fault is `Output`.
+--
+-- For other results of the round, nothing was printed.
 abbrev pub IsRefusalTold : (done result : Result (Unit {0}) RoundFault)
     → (old new : Option (List ℕ)) → Type 0
 IsRefusalTold (Ok x) result old new = (result ≡ Ok x) × (new ≡ old)
@@ -31,13 +33,15 @@ IsRefusalTold (Err Link) result old new = (result ≡ Err Link) × (new ≡ old)
 IsRefusalTold (Err Output) result old new = (result ≡ Err Output) × (new ≡ old)
 IsRefusalTold (Err TurnsUsed) result old new = (result ≡ Err TurnsUsed) × (new ≡ old)
 
--- What is known at the start and the end of the round itself, before the refusal was printed.
+-- The state at the start of the polling round and at its end. The end is before the refusal that
+-- broke the round off was printed.
 abbrev pub without_cause : Passage → (printed : Option (List ℕ)) → Passage
 without_cause through printed =
     passage through.begun
     (round_state printed through.ended.moments through.ended.failures) through.from through.to
 
--- A round of the device was made. If a refusal broke it off, the refusal was printed.
+-- True if the device was polled in a polling round. If a refusal broke the round off, the refusal
+-- was printed.
 pub record PollsRound {B : Type 0} (ledger : B → Ledger) (device : Option (List ℕ)) (past : History)
     (through : Passage)
     (office : Office B) (result : Result (Unit {0}) RoundFault) : Type 0 where
@@ -46,8 +50,8 @@ pub record PollsRound {B : Type 0} (ledger : B → Ledger) (device : Option (Lis
   pub round : one.Rounds ledger device past (without_cause through printed) office done
   pub told : IsRefusalTold done result printed through.ended.printed
 
--- `PollsRound` holds for every past of the office, with the link, the clock and the writer before
--- and after.
+-- True if `PollsRound` holds for every history of the office, with the link, the clock and the
+-- writer before and after the polling round.
 abbrev pub PollsRoundOver : {L B C W : Type 0} → links.Ghosts L → stores.Ghosts B → clocks.Ghosts C
     → writers.Ghosts W → (device : Option (List ℕ)) → (from to : L) → (old new : Office B)
     → (before after : C) → (had holds : W) → Result (Unit {0}) RoundFault → Type 0
@@ -55,7 +59,7 @@ PollsRoundOver l b c w device from to old new before after had holds result =
     After b.ledger old new (λ past. PollsRound b.ledger device past
     (passage_of l b c w from to old new before after had holds) new result)
 
--- The exit status of the command for the result of its round.
+-- The exit status of the command for the result of its polling round.
 abbrev pub round_status : Result (Unit {0}) RoundFault → ExitStatus
 round_status (Ok x) = status.Fine
 round_status (Err (Refused why)) = status.Refused

@@ -36,10 +36,12 @@ use Rattle.office_core.specs.declared.office.Office.{Office}
 use Rattle.script_text.specs.AnswerText.{refused_line}
 use Rattle.office_program.specs.Texts.EndTexts.{TellsEnd}
 
--- ---- a meter
+-- ---- The statement of one meter
 
--- The statement of the meter with this name and opening: its entries, its energy in mWh, and the
--- counts of its rejected readings. Without an opening it has neither entries nor energy.
+-- The statement of a meter with this name and opening. It has the meter's entries, its energy in
+-- mWh, and the counts of its rejected readings.
+--
+-- Without an opening the meter has neither entries nor energy.
 abbrev pub told_of : Zone → DayRange → List Fact → (meter : List ℕ) → Option Opening
     → MeterStatement
 told_of zone range facts meter opening = record {
@@ -53,51 +55,52 @@ told_of zone range facts meter opening = record {
 abbrev pub statement_of : Zone → DayRange → List Fact → (meter : List ℕ) → MeterStatement
 statement_of zone range facts meter = told_of zone range facts meter (opening_of facts meter)
 
--- The statements of those of the meters that were installed in the range, in the order of
--- installation.
+-- The statements of the meters that were installed in the range, in the order of installation.
 abbrev pub statements_of : Zone → DayRange → List Fact → List Installation → List MeterStatement
 statements_of zone range facts rows =
     map (λ row. statement_of zone range facts row.opening.meter)
     (filter (was_there zone range) rows)
 
--- ---- the answers, if a meter has the name
+-- ---- The office's answers to queries for one meter
 
--- The tally of the meter's entries in the range; `None` if no meter has the name.
+-- The tally of the meter's entries in the range of days, or `None` if no meter has the name.
 abbrev pub tally_in : Zone → DayRange → List Fact → (meter : Option (List ℕ)) → Option EntryTally
 tally_in zone range facts meter =
     option_map (λ opening. tally_of zone range (entries_at facts (Some opening)))
     (option_and_then (opening_of facts) meter)
 
--- The energy of the meter in the range, in mWh; `None` if no meter has the name.
+-- The energy of the meter in the range of days, in mWh, or `None` if no meter has the name.
 abbrev pub energy_in : Zone → DayRange → List Fact → (meter : Option (List ℕ)) → Option ℕ
 energy_in zone range facts meter = option_map (energy_within zone range) (intervals_of facts meter)
 
--- The counts of the meter's rejected readings in the range; `None` if no meter has the name.
+-- The counts of the meter's rejected readings in the range of days, or `None` if no meter has the
+-- name.
 abbrev pub held_in : Zone → DayRange → List Fact → (meter : Option (List ℕ)) → Option HeldCounts
 held_in zone range facts meter =
     option_and_then (λ name. option_map (λ opening. held_within zone range (holds_of facts name))
     (opening_of facts name)) meter
 
--- The statement of the meter; `None` if no meter has the name.
+-- The statement of the meter, or `None` if no meter has the name.
 abbrev pub statement_in : Zone → DayRange → List Fact → (meter : List ℕ) → Option MeterStatement
 statement_in zone range facts meter =
     option_map (λ opening. told_of zone range facts meter (Some opening)) (opening_of facts meter)
 
--- The office's answer to a query, from the records of all accepted events. The query needs memory
--- outside the store.
+-- True if the office answered a query from the records of all accepted events. The query needs
+-- memory outside the store.
 abbrev pub AnswersOf : {B T : Type 0} → (B → Ledger) → (old new : Office B) → Result T Refusal
     → (List Fact → Option T) → Type 0
 AnswersOf ledger old new result found = After ledger old new (λ past.
     IsFound (Unit {0}) (found (facts_of past)) (failures_of ledger old) (failures_of ledger new)
     result)
 
--- ---- the meters at a register
+-- ---- The statements of the meters at a register
 
--- Each of these installations is in the records.
+-- True if each installation in `rows` is in the store's records.
 abbrev pub AreRecorded : List Fact → List Installation → Type 0
 AreRecorded facts rows = All (λ row. is_some (opening_of facts row.opening.meter) ≡ true) rows
 
--- The statements of these meters were appended to the list, or a query was refused for a failure.
+-- True if the statements of the meters in `rows` were appended to the list of statements, or the
+-- office refused a query for a failure.
 abbrev pub IsStated : Zone → DayRange → List Fact → List Installation
     → (before after : List MeterStatement) → (had has : Failures) → Result (Unit {0}) Refusal
     → Type 0
@@ -105,7 +108,7 @@ IsStated zone range facts rows before after had has (Ok done) =
     (after ≡ before ++ statements_of zone range facts rows) × (has ≡ had)
 IsStated zone range facts rows before after had has (Err why) = IsOutside (Unit {0}) had has why
 
--- `IsStated` holds for every past in whose state the office was.
+-- True if `IsStated` holds for every history of the office before the queries.
 abbrev pub States : {B : Type 0} → (B → Ledger) → Zone → DayRange → List Installation
     → (old new : Office B) → (before after : List MeterStatement) → Result (Unit {0}) Refusal
     → Type 0
@@ -113,31 +116,32 @@ States ledger zone range rows old new before after result = After ledger old new
     AreRecorded (facts_of past) rows → IsStated zone range (facts_of past) rows before after
     (failures_of ledger old) (failures_of ledger new) result)
 
--- The statements of all meters at the register; `None` if no register has the name.
+-- The statements of all meters at the register, or `None` if no register has the name.
 abbrev pub statements_in : Zone → DayRange → List Fact → (register : Option (List ℕ))
     → Option (List MeterStatement)
 statements_in zone range facts register =
     option_map (statements_of zone range facts) (meters_named facts register)
 
--- The list of the items if the result is `Ok`; otherwise its error.
+-- The list of the vector's items if the result is `Ok`, otherwise the error.
 abbrev pub items_of : {T E : Type 0} → Result (Vec T Global) E → Result (List T) E
 items_of (Ok rows) = Ok rows.items
 items_of (Err why) = Err why
 
--- ---- the printed text
+-- ---- The printed text of the statements
 
--- The text of the statements; if they are refused, the refusal alone.
+-- The text of the statements, or only the refusal if the statements are refused.
 abbrev pub statement_or_not : StatementForm → Result (List MeterStatement) Refusal → List ℕ
 statement_or_not form (Ok rows) = statement_text form rows
 statement_or_not form (Err why) = refused_line why
 
--- The exit status: `Fine` for statements, `Refused` if they are refused.
+-- The exit status of the command. If the statements are refused, the status is `Refused`, otherwise
+-- `Fine`.
 abbrev pub meant_by : Result (List MeterStatement) Refusal → ExitStatus
 meant_by (Ok rows) = Fine
 meant_by (Err why) = Refused
 
--- The text and the exit status of the statements. They are refused if no register has the name, or
--- for a failure.
+-- The text and the exit status of the statements. The statements are refused if no register has the
+-- name, or for a failure.
 pub record StatementPrints (zone : Zone) (past : History) (register : Option (List ℕ))
     (form : StatementForm) (before after : Failures) (text : List ℕ) (meant : ExitStatus)
     : Type 0 where
@@ -147,8 +151,8 @@ pub record StatementPrints (zone : Zone) (past : History) (register : Option (Li
   pub is : text ≡ statement_or_not form reply
   pub means : meant ≡ meant_by reply
 
--- The office printed the statements from all that it has accepted, or a part of them if a write
--- failed.
+-- True if the office printed the statements from its complete history, or a part of the statements
+-- if a write failed.
 abbrev pub PrintsStatement : {B W : Type 0} → stores.Ghosts B → writers.Ghosts W → Zone
     → (register : Option (List ℕ)) → StatementForm → (old new : Office B) → (had holds : W)
     → ExitStatus → Type 0

@@ -1,4 +1,4 @@
-//! Processes one line of an input: feeds its request to the office and prints the answer.
+//! Processes one input line: feeds the line's request to the office and prints the answer.
 ghost use Rattle.std.specs.Prelude.{◌≡◌, IfOk, true};
 ghost use Rattle.office_rounds.specs.Passing.{Lasts};
 ghost use Rattle.sun_points.specs.Writing.{GotText};
@@ -27,7 +27,8 @@ use std::alloc::Global;
 use std::io::{self, Write};
 use sun_points::Sink;
 
-// Prints the office's answer to the last event: notifications and `ok`, or `refused N`.
+// Prints the office's answer to the last event. If the event was accepted, prints its notifications
+// and `ok`. Otherwise prints `refused N`.
 fn print_reply<B: Books, W: Write>(
     office: &Office<B>,
     reply: Result<Answer, Refusal>,
@@ -42,7 +43,7 @@ fn print_reply<B: Books, W: Write>(
     }
 }
 
-// Feeds a request to the office at timestamp `at`, and prints the answer.
+// Feeds a request to the office at timestamp `at`, and prints the office's answer.
 fn ask_at<B: Books, W: Write>(
     office: &mut Office<B>,
     progress: Progress,
@@ -77,7 +78,8 @@ fn print_doubt<W: Write>(mwh: u128, output: &mut W) -> io::Result<()>
     output.take_text(doubted_line(mwh).bytes())
 }
 
-// Prints that an entry is doubted, and returns the progress after its line.
+// Prints that an entry by hand is doubted (above the meter's ceiling). Returns the progress of the
+// input after the entry's line.
 fn tell_doubt<W: Write>(mwh: u128, at: u64, output: &mut W) -> io::Result<Progress>
     ensures { TellsWhyNot (course.doubted_line mwh) at
         (W.contents output.old) (W.contents output.new) result }
@@ -88,7 +90,8 @@ fn tell_doubt<W: Write>(mwh: u128, at: u64, output: &mut W) -> io::Result<Progre
     }
 }
 
-// Prints the refusal of a query that a line needs, and returns the progress after the line.
+// Prints the refusal of a query that an input line needs. Returns the progress of the input after
+// the line.
 fn tell_undecided<W: Write>(why: Refusal, at: u64, output: &mut W) -> io::Result<Progress>
     ensures { TellsWhyNot (refused_line why) at
         (W.contents output.old) (W.contents output.new) result }
@@ -109,7 +112,8 @@ fn tell_unread<W: Write>(at: u64, output: &mut W) -> io::Result<Progress>
     }
 }
 
-// The timestamp of the next line: the clock's time, or that of the line before it if that is later.
+// Returns the timestamp of the next input line. This is the clock's time, or the timestamp of the
+// previous line if that timestamp is later.
 fn moment<C: Clock>(progress: Progress, clock: &mut C) -> u64
     ensures { IsAskedAt progress.latest (C.moments clock.old) (C.moments clock.new) result }
 {
@@ -117,8 +121,8 @@ fn moment<C: Clock>(progress: Progress, clock: &mut C) -> u64
     progress.latest.max(told)
 }
 
-// Feeds a request to the office and prints the answer; or, if its entry is doubted, prints that and
-// feeds nothing.
+// Feeds a request to the office and prints the office's answer. If the request's entry is doubted,
+// prints the doubt and feeds nothing.
 fn ask<B: Books, W: Write>(
     office: &mut Office<B>,
     progress: Progress,
@@ -139,7 +143,8 @@ fn ask<B: Books, W: Write>(
     }
 }
 
-// Reads the counter of a line with `@read`, and then feeds the request as `ask` does.
+// Reads the meter's counter for a line with `@read`, and then feeds the line's request to the
+// office as `ask` does.
 fn read_and_ask<B: Books, F: NamedFiles, W: Write>(
     office: &mut Office<B>,
     progress: Progress,
@@ -161,7 +166,7 @@ fn read_and_ask<B: Books, F: NamedFiles, W: Write>(
     }
 }
 
-/// Prints a line for each faulty row of a point list, followed by a refusal.
+/// Prints a line for each faulty row of a point list, followed by `refused N`.
 pub(crate) fn print_faults<W: Write>(rows: &[FaultyRow], output: &mut W) -> io::Result<()>
     ensures { GotText result (faults_text rows.now)
         (W.contents output.old) (W.contents output.new) }
@@ -170,7 +175,7 @@ pub(crate) fn print_faults<W: Write>(rows: &[FaultyRow], output: &mut W) -> io::
     write_refusal(Refusal::Limit, output)
 }
 
-// Prints the faulty rows of a point list, and returns the progress after its line.
+// Prints the faulty rows of a point list. Returns the progress of the input after the list's line.
 fn tell_faults<W: Write>(
     rows: &[FaultyRow],
     progress: Progress,
@@ -187,8 +192,8 @@ fn tell_faults<W: Write>(
     }
 }
 
-// Processes the entry of a line: feeds its request, or prints the faulty rows of its list or that
-// it is doubted.
+// Feeds the request of an input line to the office. If the line's point list has faulty rows, or
+// its entry is doubted, prints these rows or the doubt instead.
 fn enter_entry<B: Books, C: Clock, F: NamedFiles, W: Write>(
     office: &mut Office<B>,
     progress: Progress,
@@ -214,7 +219,8 @@ fn enter_entry<B: Books, C: Clock, F: NamedFiles, W: Write>(
     }
 }
 
-// Prints that a line is bad, and returns the exit status. If memory ran out, nothing is printed.
+// Prints that an input line is bad, and returns the command's exit status. If memory ran out,
+// prints nothing.
 fn tell_fault<W: Write>(fault: LineFault, number: u64, output: &mut W) -> ExitStatus
     ensures { TellsFault fault number result (W.contents output.old) (W.contents output.new) }
 {
@@ -227,8 +233,8 @@ fn tell_fault<W: Write>(fault: LineFault, number: u64, output: &mut W) -> ExitSt
     }
 }
 
-/// Processes a line of an input: feeds its request and prints the answer, or prints why it makes no
-/// request.
+/// Processes one input line. Feeds its request to the office and prints the answer, or prints why
+/// the line makes no request.
 pub(crate) fn enter_line<B: Books, C: Clock, F: NamedFiles, W: Write>(
     alloc: Global,
     office: &mut Office<B>,

@@ -1,4 +1,4 @@
-//! Checks an input without making a request.
+//! Checks the lines of an input against the store, without making a request.
 ghost use Rattle.std.specs.Prelude.{◌≡◌, ◌||◌, IfErr};
 ghost use Rattle.command_io.specs.Lines.{seen_line};
 ghost use Rattle.sun_points.specs.Writing.{GotText};
@@ -22,22 +22,22 @@ use std::alloc::{AllocError, Global};
 use std::io::{self, Write};
 use sun_points::Sink;
 
-/// What the store knows of a request by its idempotency key.
+/// The result of looking up a request's idempotency key (caller and number) in the store.
 #[derive(Clone, Copy, Debug, PartialEq, Eq)]
 pub(crate) enum Known {
-    /// The store has no request with this caller and number.
+    /// The store has no request with this key.
     New,
-    /// The request was executed earlier.
+    /// The same request (same caller, number and bytes) was executed earlier.
     Again,
     /// The request would be refused, or the store failed.
     Refused(Refusal),
 }
 
-/// What checking a line finds.
+/// The result of checking an input line.
 #[derive(Drop)]
 pub(crate) enum Look {
     Known(Known),
-    /// The point list of the line has these faulty rows.
+    /// The point list of the input line has these faulty rows.
     Faulty(FaultyRows),
     Bad,
 }
@@ -60,7 +60,7 @@ fn known_by(found: Option<Repeat>) -> Known
     }
 }
 
-// Looks up in the store whether the request was made earlier. The store is only queried.
+// Looks up in the store whether the same request was made earlier. Does not change the store.
 fn look_up<B: Books>(books: &mut B, asked: &Asked) -> Known
     ensures known { KnowsRequest (B.ledger books.old) (B.ledger books.new) asked.now result }
     ensures looks { OnlyLooks (B.ledger books.old) (B.ledger books.new) }
@@ -74,8 +74,8 @@ fn look_up<B: Books>(books: &mut B, asked: &Asked) -> Known
     }
 }
 
-// Finds what checking a line reports: what is known of its request, its faulty rows, or that it is
-// bad.
+// Returns the result of checking an input line. This is the stored state of the line's request, the
+// faulty rows of its point list, or that the line is bad.
 fn look_at<B: Books, F: NamedFiles>(
     alloc: Global,
     books: &mut B,
@@ -111,7 +111,7 @@ fn print_known<W: Write>(known: Known, output: &mut W) -> io::Result<()>
     }
 }
 
-// Prints what checking found for a line.
+// Prints the result of checking an input line.
 fn print_look<W: Write>(look: &Look, number: u64, output: &mut W) -> io::Result<()>
     ensures { GotText result (spec.look_text number look.now)
         (W.contents output.old) (W.contents output.new) }
@@ -143,8 +143,8 @@ fn is_refused(look: &Look) -> bool
     }
 }
 
-// Prints what checking found for a line. Returns whether the line is bad, faulty or would be
-// refused.
+// Prints the result of checking an input line. Returns true if the line is bad or faulty, or if its
+// request would be refused.
 fn show<W: Write>(look: &Look, number: u64, output: &mut W) -> Result<bool, ExitStatus>
     ensures shows { IsShown number look.now (W.contents output.old) (W.contents output.new) result }
     ensures fails { IfErr result (λ status. status ≡ ExitStatus.Failed) }
@@ -155,8 +155,8 @@ fn show<W: Write>(look: &Look, number: u64, output: &mut W) -> Result<bool, Exit
     }
 }
 
-// Checks a line and prints what is found. Returns whether the line is bad, faulty or would be
-// refused.
+// Checks an input line and prints the result. Returns true if the line is bad or faulty, or if its
+// request would be refused.
 fn check_line<B: Books, F: NamedFiles, W: Write>(
     alloc: Global,
     books: &mut B,
@@ -183,7 +183,7 @@ fn either(one: bool, other: bool) -> bool
     one || other
 }
 
-// Checks the lines of a text in order, and prints what is found for each.
+// Checks the lines of an input in order, and prints the result for each line.
 fn check_text<B: Books, F: NamedFiles, W: Write>(
     alloc: Global,
     books: &mut B,
@@ -212,18 +212,19 @@ fn check_text<B: Books, F: NamedFiles, W: Write>(
     }
 }
 
-/// Checks what the lines of a text would request, without entering them.
+/// Checks what the lines of an input would request, without entering the lines.
 ///
-/// Nothing is recorded, and no clock is needed. For each line the command prints one of these:
+/// Nothing is recorded, and no clock is needed. For each input line the command prints one of
+/// these:
 ///
 /// - `new`: the store has no request with the caller and the line's number;
 /// - `again`: the same request was executed earlier;
 /// - `refused 11`: another request has this number;
-/// - `refused N`: the store failed, or the caller is no name;
+/// - `refused N`: the store failed, or the caller is no valid name;
 /// - `row R fault N` for each faulty row of its point list, and then `refused 12`;
 /// - `bad line N`.
 ///
-/// All lines are checked. Returns the store in its state before the call.
+/// All lines are checked. The returned store is in its state before the call.
 pub fn check_books<B: Books, F: NamedFiles, W: Write>(
     alloc: Global,
     mut books: B,

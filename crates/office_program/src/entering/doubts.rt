@@ -1,5 +1,5 @@
-//! Finds whether an entry by hand needs a confirmation, because its energy is more than the meter's
-//! ceiling allows.
+//! Decides whether an entry by hand needs a confirmation. An entry needs a confirmation if its
+//! energy is more than the meter's ceiling allows.
 ghost use Rattle.std.specs.Prelude.{◌≡◌, ◌≤◌, ◌+◌, ◌*◌, ◌^◌};
 ghost use Rattle.std.specs.Option.{option_and_then};
 ghost use Rattle.office_rules.specs.History as history;
@@ -16,7 +16,8 @@ use office_core::Office;
 use office_events::{Asked, Command, Installation, Name, Refusal};
 use office_rules::{facts_are_lawful, installations_are_in_range};
 
-// The value that a counter showing `raw` would show without its `rolls` full turns.
+// Returns the value of a counter without overflow: the count `raw` plus `rolls` full turns of the
+// counter.
 fn turned(row: &Installation, raw: u64, rolls: u64) -> u128
     requires { IsSound row.now }
     ensures value { result ≡ raw + rolls * row.now.opening.range }
@@ -25,15 +26,15 @@ fn turned(row: &Installation, raw: u64, rolls: u64) -> u128
     u128::from(raw) + u128::from(rolls) * u128::from(row.opening.range)
 }
 
-// Whether an entry is later than the meter's last entry, and does not decrease the counter.
+// Returns whether an entry is later than the meter's last entry, and does not decrease the counter.
 fn goes_on(row: &Installation, moment: u64, up_to: u128) -> bool
     ensures { result ≡ spec.goes_on row.now moment up_to }
 {
     row.last.at < moment && u128::from(row.last.raw) <= up_to
 }
 
-// Whether a load at the meter's ceiling can make the counter advance so far. The first count may
-// need no energy.
+// Returns true if a load at the meter's ceiling can advance the counter to `up_to`. The last count
+// is subtracted, because the counter may have been about to advance.
 fn is_within_ceiling(row: &Installation, moment: u64, up_to: u128) -> bool
     requires sound { IsSound row.now }
     requires small { up_to ≤ 2 ^ 97 }
@@ -44,7 +45,8 @@ fn is_within_ceiling(row: &Installation, moment: u64, up_to: u128) -> bool
     energy * 18 <= u128::from(row.opening.ceiling) * u128::from(seconds) * 5
 }
 
-// The energy of an entry, in mWh, if the entry is doubted; otherwise `None`.
+// Returns the energy of an entry, in mWh, if the entry is doubted (above the meter's ceiling).
+// Otherwise returns `None`.
 fn doubted_up_to(row: &Installation, moment: u64, up_to: u128) -> Option<u128>
     requires sound { IsSound row.now }
     requires small { up_to ≤ 2 ^ 97 }
@@ -57,8 +59,8 @@ fn doubted_up_to(row: &Installation, moment: u64, up_to: u128) -> Option<u128>
     }
 }
 
-// The energy, in mWh, that the command's entry would record at this meter if it is doubted;
-// otherwise `None`.
+// Returns the energy, in mWh, that the command's entry would record at the meter `row`, if the
+// entry is doubted. Otherwise returns `None`.
 fn doubted_at(at: u64, command: &Command, row: &Installation) -> Option<u128>
     requires { IsSound row.now }
     ensures { result ≡ spec.doubted_at at command.now row.now }
@@ -81,8 +83,8 @@ fn doubted_at(at: u64, command: &Command, row: &Installation) -> Option<u128>
     }
 }
 
-// Like `doubted_at`, but `None` for a closed meter. The store returns no meter with numbers out of
-// range.
+// Returns the result of `doubted_at` for an open meter, or `None` for a closed meter. The store
+// returns no meter with numbers out of range.
 fn doubted_if_open(at: u64, command: &Command, row: &Installation) -> Option<u128>
     ensures { IsSound row.now
         → result ≡ option_and_then (spec.doubted_at at command.now) (if_open row.now) }
@@ -94,8 +96,8 @@ fn doubted_if_open(at: u64, command: &Command, row: &Installation) -> Option<u12
     }
 }
 
-// The accounting register at which a command makes an entry by hand; `None` if it makes none, or
-// the name is invalid.
+// Returns the accounting register of the entry by hand that a command makes. Returns `None` if the
+// command makes no such entry, or the register's name is invalid.
 fn corrected_at(command: &Command) -> Option<Name>
     ensures { result ≡ history.corrected_at command.now }
 {
@@ -115,8 +117,8 @@ fn corrected_at(command: &Command) -> Option<Name>
     }
 }
 
-// The energy, in mWh, that the command's entry would record at the register's open meter if it is
-// doubted; otherwise `None`.
+// Returns the energy, in mWh, that the command's entry would record at the register's open meter,
+// if the entry is doubted. Otherwise returns `None`.
 fn doubted_in<B: Books>(
     office: &mut Office<B>,
     at: u64,
@@ -138,8 +140,8 @@ fn doubted_in<B: Books>(
     }
 }
 
-/// Returns the energy, in mWh, that a request would record if its entry is doubted; otherwise
-/// `None`. The office is only queried.
+/// Returns the energy, in mWh, that a request would record, if its entry is doubted (above the
+/// meter's ceiling). Otherwise returns `None`. The office is only queried.
 pub(crate) fn doubt_of<B: Books>(
     office: &mut Office<B>,
     at: u64,

@@ -1,4 +1,4 @@
-//! Enters an input into an office that is opened over a store.
+//! Enters the lines of an input into an office that is opened over a store.
 ghost use Rattle.office_rounds.specs.Passing as rounds;
 ghost use Rattle.office_program.specs.Texts.Passing.{Lasts};
 ghost use Rattle.office_program.specs.Entering.Entered.{EntersOver, EntersTextOf};
@@ -17,7 +17,8 @@ use socket_link::{Clock, FixedClock};
 use std::alloc::Global;
 use std::io::Write;
 
-// Processes the lines of a text in order, from timestamp `moment` on, up to the first bad line.
+// Processes the lines of an input in order, until the first bad line. No line has a timestamp
+// before `first`.
 fn enter_text<B: Books, C: Clock, F: NamedFiles, W: Write>(
     alloc: Global,
     office: &mut Office<B>,
@@ -44,18 +45,21 @@ fn enter_text<B: Books, C: Clock, F: NamedFiles, W: Write>(
     progress.status()
 }
 
-/// Opens an office over a store at the clock's time, and requests the lines of a text from it.
+/// Opens an office over a store at the clock's time, and enters the lines of an input.
 ///
-/// Each line is a request with the caller, and with its first word as the number. So a line that
-/// acted earlier is answered `ok`, and does not act again. A line has the clock's time, or that of
-/// the line before if that is later.
+/// Each input line is a request. Its idempotency key is the caller and the line's first word, a
+/// number. So a line that acted earlier is answered `ok`, and does not act again. The timestamp of
+/// a line is the clock's time, or the timestamp of the previous line if that timestamp is later.
 ///
-/// Each line prints `ok` or `refused N`, or `row R fault N` for each faulty row of its point list
-/// and then `refused 12`. `bad line N` ends the command: the remaining lines are not executed. An
-/// entry by hand past the meter's ceiling is not requested, unless its line ends with ` !`: it
-/// prints `doubted` and the energy in mWh that it would record. If the opening is refused, the
-/// command prints only `refused N`. No line of a caller that is no name is accepted. Returns the
-/// store.
+/// For each line the command prints `ok` or `refused N`, or `row R fault N` for each faulty row of
+/// its point list and then `refused 12`. `bad line N` ends the command: the remaining lines are not
+/// executed.
+///
+/// An entry by hand above the meter's ceiling is not requested, unless its line ends with ` !`. For
+/// such an entry the command prints `doubted` and the energy in mWh that the entry would record.
+///
+/// If the opening is refused, the command prints only `refused N`. If the caller is no valid name,
+/// no line is accepted. Returns the store.
 pub fn enter_books<B: Books, C: Clock, F: NamedFiles, W: Write>(
     alloc: Global,
     books: B,

@@ -1,4 +1,4 @@
-//! Parses a line of an input, before a request is fed to the office.
+//! Parses an input line into a request, before the request is fed to the office.
 ghost use Rattle.std.specs.Prelude.{◌≡◌, Some, IfOk};
 ghost use Rattle.script_lines.specs.LineWords.Words.{words_of};
 ghost use Rattle.office_program.specs.Entering.FileLines.{seen_line};
@@ -15,18 +15,19 @@ use point_list::{FaultyRows, ListFault, read_list};
 use script_lines::{LineFault, ScriptLine};
 use std::alloc::{AllocError, Global};
 
-/// A parsed line of an input.
+/// The parsed form of an input line: a request, a request that needs a meter's counter reading, or
+/// faulty rows of a point list.
 #[derive(Drop)]
 pub(crate) enum Entry {
-    /// The line is this request.
+    /// The line makes this request.
     Ask(Asked),
-    /// The line is this request, once its counter has been read.
+    /// The line makes this request after the meter's counter has been read.
     Read(ReadRequest),
     /// The point list of the line has these faulty rows.
     Faulty(FaultyRows),
 }
 
-// The entry of a line with a point list. `request` are the bytes that the store keeps of the line.
+// Parses the point list of an input line. `request` are the bytes of the line that the store keeps.
 fn list_entry(
     alloc: Global,
     caller: Option<Name>,
@@ -54,15 +55,15 @@ fn list_entry(
     }
 }
 
-// The bytes that the store keeps of a line: a copy of the line.
+// Returns a copy of the input line, which the store keeps as the bytes of the line's request.
 fn kept_line(alloc: Global, line: &[u8]) -> Result<Piece, AllocError>
     ensures { IfOk result (λ kept. kept ≡ line.now) }
 {
     Ok(Piece::new(Vec::from_slice(alloc, line)?))
 }
 
-// The bytes that the store keeps of a line that names a file: the line, a line feed, and the bytes
-// of the file.
+// Returns the bytes that the store keeps for an input line that names a file. These are the line, a
+// line feed, and the bytes of the file.
 fn file_request(alloc: Global, line: &[u8], text: &[u8]) -> Result<Piece, AllocError>
     ensures { IfOk result (λ kept. kept ≡ lines.file_request line.now text.now) }
 {
@@ -72,7 +73,8 @@ fn file_request(alloc: Global, line: &[u8], text: &[u8]) -> Result<Piece, AllocE
     Ok(Piece::new(bytes))
 }
 
-// The entry of a script's line, by what the line requests; `Bad` if it requests nothing.
+// Returns the parsed form of a script's line, by the request in the line. Returns `Bad` if the line
+// requests nothing.
 fn wanted_entry(
     alloc: Global,
     caller: Option<Name>,
@@ -103,7 +105,7 @@ fn wanted_entry(
     }
 }
 
-// The entry of a script's line, which may end with a mark.
+// Parses a script's line, which may end with the mark ` !`.
 fn script_entry(alloc: Global, caller: Option<Name>, line: &[u8]) -> Result<Entry, LineFault>
     ensures { ReadsScript caller line.now result }
 {
@@ -113,7 +115,8 @@ fn script_entry(alloc: Global, caller: Option<Name>, line: &[u8]) -> Result<Entr
     }
 }
 
-// The entry of a line that names a file, once the bytes of the file have been read.
+// Returns the parsed form of an input line that names a file. `text` are the bytes that were read
+// from the file.
 fn held_entry(
     alloc: Global,
     caller: Option<Name>,
@@ -130,7 +133,8 @@ fn held_entry(
     }
 }
 
-// The entry of a line that names a file, which is read; `Bad` if the file does not exist.
+// Reads the file that the input line names, and returns the parsed form of the line. Returns `Bad`
+// if the file does not exist.
 fn file_entry<F: NamedFiles>(
     alloc: Global,
     caller: Option<Name>,
@@ -150,7 +154,7 @@ fn file_entry<F: NamedFiles>(
     }
 }
 
-// The entry of a line with `@read`, whose counter is still to be read.
+// Returns the parsed form of an input line with `@read`. The meter's counter is read later.
 fn read_entry(
     alloc: Global,
     caller: Option<Name>,
@@ -169,7 +173,7 @@ fn read_entry(
     }
 }
 
-// The entry of a line that names no file.
+// Parses an input line that names no file.
 fn unnamed_entry(alloc: Global, caller: Option<Name>, line: &[u8]) -> Result<Entry, LineFault>
     ensures { ReadsUnnamed caller line.now result }
 {
@@ -179,7 +183,7 @@ fn unnamed_entry(alloc: Global, caller: Option<Name>, line: &[u8]) -> Result<Ent
     }
 }
 
-/// Parses a line, with the contents of the file that the line may name.
+/// Parses an input line. If the line names a file, the file's contents are part of the parsed form.
 pub(crate) fn entry_in<F: NamedFiles>(
     alloc: Global,
     caller: Option<Name>,

@@ -1,4 +1,4 @@
-//! Parses a line that names the file of a point list.
+//! Parses an input line that names the file of a point list.
 ghost use Rattle.std.specs.Prelude.{◌≡◌, option_map};
 ghost use Rattle.office_program.specs.Entering.FileLines as spec;
 ghost use Rattle.script_lines.specs.LineWords.Words.{words_of};
@@ -6,16 +6,17 @@ ghost use Rattle.script_lines.specs.LineWords.Words.{words_of};
 use office_events::Name;
 use script_lines::{Words, next_name, next_number, nothing_more};
 
-/// `NUMBER list DEVICE @NAME`: the point list of a device is in the named file.
+/// An input line of the form `NUMBER list DEVICE @NAME`: the point list of a device is in the named
+/// file.
 #[derive(Clone, Copy, Debug)]
 pub(crate) struct FileLine<'a> {
     pub(crate) number: u64,
-    /// The device's name; `None` if the text is no valid name.
+    /// The device's name, or `None` if the word in the line is no valid name.
     pub(crate) device: Option<Name>,
     pub(crate) name: &'a [u8],
 }
 
-// The name of a file in a word that begins with `@`; otherwise `None`.
+// Returns the file's name in a word that begins with `@`. Returns `None` for any other word.
 fn file_in(word: &[u8]) -> Option<&[u8]>
     ensures { option_map (λ name. name.now) result ≡ spec.file_in word.now }
 {
@@ -41,7 +42,7 @@ fn next_list(words: &mut Words<'_>) -> Option<()>
     }
 }
 
-/// Parses a line that names a file; `None` for any other line.
+/// Parses an input line that names a file. Returns `None` for any other line.
 pub(crate) fn file_line<'a>(line: &'a [u8]) -> Option<FileLine<'a>>
     ensures { option_map spec.seen_line result ≡ spec.file_said (words_of line.now) }
 {

@@ -1,33 +1,35 @@
-//! The surroundings of an input: the files that it names, and the counters that it reads.
+//! The source of the files that an input names, and of the meter counters that an input reads.
 
 use office_events::{Device, Register};
 use std::alloc::{AllocError, Global};
 
-/// The largest size of a file, in bytes.
+/// The largest size of a file that an input names, in bytes.
 pub const MOST_FILE: usize = 65_536;
 
-/// The reading of a counter: a count, and the scale of its unit as a power of ten.
+/// The reading of a meter's counter: the count, and the scale factor of its unit as a power of ten.
 #[derive(Clone, Copy, Debug, PartialEq, Eq)]
 pub struct Shown {
     pub raw: u32,
     pub sf: i16,
 }
 
-/// Reads the files that an input names, and the counters at whose readings it installs meters.
+/// A source of the files that an input names, and of the counter readings at which it installs
+/// meters.
 pub trait NamedFiles {
     ghost use Rattle.std.specs.Prelude.{◌≤◌, ℕ, List, Option, IfOk, IfSome, length, option_map};
     ghost use Rattle.office_events.specs.declared.facts.Device.{Device};
     ghost use Rattle.office_events.specs.declared.facts.Register.{Register};
     ghost use Rattle.office_program.specs.declared.entering.files.Shown.{Shown};
 
-    // What reading a file by its name may return: its bytes, or `None` if there is none.
+    // The possible results of reading a file by its name. These are its bytes, or `None` if the
+    // file can't be read.
     ghost tells: { Self → List ℕ → Option (List ℕ) → Type 0 } = { λ _ _ _. Unit {0} };
 
-    // What reading the counter of an accounting register from its device may return: its reading,
-    // or `None` if it can't be read.
+    // The possible results of reading the counter of an accounting register from the register's
+    // device. These are its reading, or `None` if the counter can't be read.
     ghost shows: { Self → Device → Register → Option Shown → Type 0 } = { λ _ _ _ _. Unit {0} };
 
-    /// Reads the named file of at most `MOST_FILE` bytes.
+    /// Reads the file `name` of at most `MOST_FILE` bytes.
     ///
     /// Returns `None` if the file does not exist, can't be read or is longer. The implementation
     /// may report why.

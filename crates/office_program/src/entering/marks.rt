@@ -1,11 +1,11 @@
-//! The mark ` !` at the end of a line, which confirms its entry by hand.
+//! The mark ` !` at the end of an input line, which confirms the line's entry by hand.
 ghost use Rattle.std.specs.Prelude.{◌≡◌, ◌≤◌, IsTrue, length};
 ghost use Rattle.office_program.specs.Entering.Lines as lines;
 ghost use Rattle.office_program.specs.Entering.Marks as spec;
 
 use office_events::Command;
 
-/// Returns whether the line ends with the mark.
+/// Returns true if the input line ends with the mark ` !`.
 pub(crate) fn is_marked(line: &[u8]) -> bool
     ensures marked { result ≡ spec.is_marked line.now }
     ensures long { IsTrue result → 2 ≤ length line.now }
@@ -13,7 +13,7 @@ pub(crate) fn is_marked(line: &[u8]) -> bool
     line.ends_with(b" !")
 }
 
-/// Returns the line without its mark; the whole line if it has none.
+/// Returns the input line without its mark ` !`, or the complete line if it has no mark.
 pub(crate) fn unmarked(line: &[u8]) -> &[u8]
     ensures { result.now ≡ spec.unmarked line.now }
 {
@@ -24,7 +24,8 @@ pub(crate) fn unmarked(line: &[u8]) -> &[u8]
     }
 }
 
-/// Returns whether the command makes an entry by hand: lines of other commands may have no mark.
+/// Returns true if the command makes an entry by hand. Lines of other commands may not end with the
+/// mark ` !`.
 pub(crate) fn is_by_hand(command: &Command) -> bool
     ensures { result ≡ lines.is_by_hand command.now }
 {

@@ -1,4 +1,4 @@
-//! The progress of an input, line by line.
+//! The progress of entering an input: the latest timestamp, and whether any line was refused.
 ghost use Rattle.std.specs.Prelude.{◌≡◌, ◌||◌, false, true};
 ghost use Rattle.office_program.specs.Entering.Entered.{status_of};
 
@@ -7,15 +7,19 @@ use command_io::ExitStatus;
 /// The latest timestamp of an input's lines, and whether any line was refused.
 #[derive(Clone, Copy, Debug, PartialEq, Eq)]
 pub(crate) struct Progress {
-    /// The timestamp of the latest line that needed one: it made a request, or made none because of
-    /// a doubt, a failed query or an unread counter.
+    /// The timestamp of the latest input line that needed a timestamp, in seconds since 1970-01-01
+    /// UTC.
+    ///
+    /// Such a line made a request, or made no request because of a doubt, a failed query or an
+    /// unread counter.
     pub(crate) latest: u64,
-    /// Whether any line was refused or made no request.
+    /// True if any line was refused or made no request.
     pub(crate) refused: bool,
 }
 
 impl Progress {
-    /// Creates the progress before the first line, whose timestamp is at least `moment`.
+    /// Creates the progress before the first input line. The timestamp of this line is at least
+    /// `moment`.
     pub(crate) fn from(moment: u64) -> Progress
         ensures { result ≡ record { latest = moment; refused = false } }
     {
@@ -25,7 +29,7 @@ impl Progress {
         }
     }
 
-    /// Returns the progress after a line that made a request at this timestamp.
+    /// Returns the progress after a line that made a request at timestamp `at`.
     pub(crate) fn asked(self, at: u64, refused: bool) -> Progress
         ensures { result ≡ record { latest = at; refused = self.refused || refused } }
     {
@@ -35,7 +39,7 @@ impl Progress {
         }
     }
 
-    /// Returns the progress after a line with this timestamp that made no request.
+    /// Returns the progress after a line with timestamp `at` that made no request.
     pub(crate) fn unasked(at: u64) -> Progress
         ensures { result ≡ record { latest = at; refused = true } }
     {
@@ -52,8 +56,8 @@ impl Progress {
         }
     }
 
-    /// Returns the exit status of the command if no line was bad: `Refused` if a line was refused
-    /// or made no request.
+    /// Returns the exit status of the command if no line was bad. If a line was refused or made no
+    /// request, this is `Refused`.
     pub(crate) fn status(self) -> ExitStatus
         ensures { result ≡ status_of self }
     {

@@ -1,4 +1,4 @@
-//! Parses a line that installs a meter at its counter's present reading.
+//! Parses an input line with `@read`, which installs a meter at the present reading of its counter.
 ghost use Rattle.std.specs.Prelude.{◌≡◌, MatchOption, not, option_map, pos};
 ghost use Rattle.office_program.specs.Entering.ReadLines as spec;
 ghost use Rattle.script_lines.specs.LineWords.Words.{words_of};
@@ -8,10 +8,13 @@ use crate::entering::marks::{is_marked, unmarked};
 use office_events::{Asked, Command, Exchange, Install, Name, Piece};
 use script_lines::{Words, next_name, next_number, next_range, nothing_more};
 
-/// `NUMBER install REGISTER METER @read CEILING [RANGE]`, or `NUMBER exchange REGISTER LAST ROLLS
-/// METER @read CEILING [RANGE]`.
+/// An input line with `@read` in place of a counter's reading. A name is `None` if the word in the
+/// line is no valid name.
 ///
-/// A name is `None` if the text is no valid name.
+/// The line has one of two forms:
+///
+/// - `NUMBER install REGISTER METER @read CEILING [RANGE]`
+/// - `NUMBER exchange REGISTER LAST ROLLS METER @read CEILING [RANGE]`
 #[derive(Clone, Copy, Debug, PartialEq, Eq)]
 pub(crate) enum ReadLine {
     Install {
@@ -32,7 +35,7 @@ pub(crate) enum ReadLine {
     },
 }
 
-// Takes the word `@read`, which replaces the reading.
+// Reads the word `@read`, which an input line has in place of the counter's reading.
 fn next_read(words: &mut Words<'_>) -> Option<()>
     ensures { option_map (λ none. words.new) result ≡ spec.read_word words.old }
 {
@@ -43,7 +46,7 @@ fn next_read(words: &mut Words<'_>) -> Option<()>
     }
 }
 
-// `REGISTER METER @read CEILING [RANGE]`.
+// Parses the words after `NUMBER install`: `REGISTER METER @read CEILING [RANGE]`.
 fn install(number: u64, words: &mut Words<'_>) -> Option<ReadLine>
     ensures { result ≡ spec.install_said number words.old }
 {
@@ -62,7 +65,7 @@ fn install(number: u64, words: &mut Words<'_>) -> Option<ReadLine>
     })
 }
 
-// `REGISTER LAST ROLLS METER @read CEILING [RANGE]`.
+// Parses the words after `NUMBER exchange`: `REGISTER LAST ROLLS METER @read CEILING [RANGE]`.
 fn exchange(number: u64, words: &mut Words<'_>) -> Option<ReadLine>
     ensures { result ≡ spec.exchange_said number words.old }
 {
@@ -85,7 +88,8 @@ fn exchange(number: u64, words: &mut Words<'_>) -> Option<ReadLine>
     })
 }
 
-// The line with this number and verb; `None` if the words after it spell none.
+// Parses the words after the number and the verb of an input line. Returns `None` if the line has
+// neither of the two forms with `@read`.
 fn line_of(number: u64, verb: &[u8], words: &mut Words<'_>) -> Option<ReadLine>
     ensures { result ≡ spec.line_said number verb.now words.old }
 {
@@ -98,7 +102,7 @@ fn line_of(number: u64, verb: &[u8], words: &mut Words<'_>) -> Option<ReadLine>
     }
 }
 
-// Parses a line with `@read`, without its mark.
+// Parses an input line with `@read`, without its mark ` !`.
 fn read_line(line: &[u8]) -> Option<ReadLine>
     ensures { result ≡ spec.read_said (words_of line.now) }
 {
@@ -108,7 +112,8 @@ fn read_line(line: &[u8]) -> Option<ReadLine>
     line_of(number, verb, &mut words)
 }
 
-/// Parses a line with `@read`. The line may have a mark if it makes an entry by hand.
+/// Parses an input line with `@read`. The line may end with the mark ` !` if it makes an entry by
+/// hand.
 pub(crate) fn read_in(line: &[u8]) -> Option<ReadLine>
     ensures { MatchOption result (spec.IsNoRead line.now) (λ read. spec.IsRead line.now read) }
 {
@@ -125,7 +130,8 @@ pub(crate) fn read_in(line: &[u8]) -> Option<ReadLine>
 }
 
 impl ReadLine {
-    // Whether the line may end as it does: only an exchange may have a mark.
+    // Returns true if the line may end with or without the mark ` !`, as `marked` says. Only an
+    // exchange may have the mark.
     fn may_end(&self, marked: bool) -> bool
         ensures { result ≡ spec.may_end marked self.now }
     {
@@ -135,7 +141,7 @@ impl ReadLine {
         }
     }
 
-    /// Returns the number of the request.
+    /// Returns the number of the line's request.
     pub(crate) fn number(&self) -> u64
         ensures { result ≡ spec.number_of self.now }
     {
@@ -145,7 +151,8 @@ impl ReadLine {
         }
     }
 
-    /// Returns the accounting register whose counter is to be read.
+    /// Returns the accounting register whose counter is to be read, or `None` if the register's
+    /// name is invalid.
     pub(crate) fn register(&self) -> Option<Name>
         ensures { result ≡ spec.register_of self.now }
     {
@@ -155,7 +162,7 @@ impl ReadLine {
         }
     }
 
-    /// Returns the command, once the counter's reading is known.
+    /// Returns the command of the line with the counter's reading.
     pub(crate) fn command(&self, raw: u64, sf: i64) -> Command
         ensures { result ≡ spec.command_at self.now raw sf }
     {
@@ -196,7 +203,7 @@ impl ReadLine {
     }
 }
 
-/// The request of a line with `@read`, whose counter is still to be read.
+/// The request of an input line with `@read`, before the meter's counter is read.
 #[derive(Drop)]
 pub(crate) struct ReadRequest {
     pub(crate) caller: Option<Name>,
@@ -205,7 +212,7 @@ pub(crate) struct ReadRequest {
 }
 
 impl ReadRequest {
-    /// Returns the request, once the counter's reading is known.
+    /// Returns the command that the line with `@read` asks for, with the counter's reading in it.
     pub(crate) fn asked(self, shown: Shown) -> Asked
         ensures { result ≡ spec.asked_at self shown.raw shown.sf }
     {

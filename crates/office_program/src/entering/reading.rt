@@ -1,4 +1,4 @@
-//! Reads a counter, so that a meter is installed at its present reading.
+//! Reads a meter's counter, so that the meter is installed at the counter's present reading.
 ghost use Rattle.office_rounds.specs.Passing.{Lasts};
 ghost use Rattle.office_program.specs.Entering.Lines.{telling_of};
 ghost use Rattle.office_program.specs.Entering.Reading.{Fills, ReadsAt, ReadsThere};
@@ -9,10 +9,11 @@ use office_books::Books;
 use office_core::Office;
 use office_events::{Name, Refusal, Register};
 
-/// The reading to use if the counter is not read, because the request is stored.
+/// The reading to use if the counter is not read because the store already has the request.
 pub(crate) const NOT_READ: Shown = Shown { raw: 0, sf: 0 };
 
-// The reading of the register's counter from its device; `None` if it can't be read.
+// Returns the reading of the register's counter from the register's device. Returns `None` if the
+// counter can't be read.
 fn shown_at<B: Books, F: NamedFiles>(
     office: &mut Office<B>,
     register: Register,
@@ -31,7 +32,8 @@ fn shown_at<B: Books, F: NamedFiles>(
     }
 }
 
-// The reading of the counter of the register with this name; `None` if it can't be read.
+// Returns the reading of the counter of the register with this name. Returns `None` if the counter
+// can't be read.
 fn shown_there<B: Books, F: NamedFiles>(
     office: &mut Office<B>,
     name: &Option<Name>,
@@ -50,9 +52,10 @@ fn shown_there<B: Books, F: NamedFiles>(
     }
 }
 
-/// Returns the reading for a line's request; `None` if the counter can't be read.
+/// Returns the counter's reading for the request of an input line. Returns `None` if the counter
+/// can't be read.
 ///
-/// If the request is stored, the counter is not read.
+/// If the store already has the request, the counter is not read.
 pub(crate) fn shown_for<B: Books, F: NamedFiles>(
     office: &mut Office<B>,
     read: &ReadRequest,

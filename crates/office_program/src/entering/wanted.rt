@@ -1,4 +1,4 @@
-//! Turns a line of a script into a request, whose number is the line's first word.
+//! Finds the request in a line of a script. The number of the request is the line's first word.
 ghost use Rattle.std.specs.Prelude.{◌≡◌};
 ghost use Rattle.office_program.specs.Entering.Lines as lines;
 
@@ -6,16 +6,17 @@ use crate::entering::marks::is_by_hand;
 use office_events::{Command, Event};
 use script_lines::{GivenList, ScriptLine};
 
-/// What a line of a script requests, with the request's number.
+/// The request in a line of a script, with its number.
 #[derive(Drop)]
 pub(crate) enum Wanted {
     Command(u64, Command),
     List(u64, GivenList),
-    /// The line requests nothing.
+    /// The line of the script requests nothing.
     Nothing,
 }
 
-// Whether a line can request the command: all commands but the starts of polls.
+// Returns true if an input line can request the command. Only commands that start polls can't be
+// requested.
 fn is_request(command: &Command) -> bool
     ensures { result ≡ lines.is_request command.now }
 {
@@ -78,7 +79,8 @@ fn wanted_list(marked: bool, number: u64, list: GivenList) -> Wanted
     }
 }
 
-/// Returns what a line of a script requests. With a mark only an entry by hand can be requested.
+/// Returns the request in a line of a script. A line with the mark ` !` can request only an entry
+/// by hand.
 pub(crate) fn wanted_in(marked: bool, said: ScriptLine) -> Wanted
     ensures { result ≡ lines.wanted_in marked said }
 {

@@ -1,4 +1,4 @@
-//! The text with which a command ends, and its exit status.
+//! The text that a command prints last, and its exit status.
 ghost use Rattle.std.specs.Prelude.{◌≡◌, is_ok, if◌then◌else◌};
 ghost use Rattle.office_program.specs.Texts.EndTexts.{IsTold};
 ghost use Rattle.script_text.specs.AnswerText.{refused_line};
@@ -8,7 +8,8 @@ use office_events::Refusal;
 use script_text::write_refusal;
 use std::io::{self, Write};
 
-// The exit status of a command after its last write: `meant`, or `Failed` if the write failed.
+// Returns the exit status of a command after its last write. If the write failed, this is `Failed`,
+// otherwise `meant`.
 pub(crate) fn ended(written: io::Result<()>, meant: ExitStatus) -> ExitStatus
     ensures { result ≡ if is_ok written then meant else ExitStatus.Failed }
 {
@@ -18,7 +19,7 @@ pub(crate) fn ended(written: io::Result<()>, meant: ExitStatus) -> ExitStatus
     }
 }
 
-/// Prints `refused N` for a refusal, and returns the exit status.
+/// Prints `refused N` for a refusal, and returns the command's exit status.
 pub(crate) fn print_refusal<W: Write>(why: Refusal, output: &mut W) -> ExitStatus
     ensures { IsTold (refused_line why) ExitStatus.Refused result
         (W.contents output.old) (W.contents output.new) }

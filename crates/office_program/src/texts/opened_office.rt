@@ -1,4 +1,4 @@
-//! Opens an office.
+//! Opens an office over a store at the clock's time.
 ghost use Rattle.std.specs.Prelude.{◌≡◌, ◌≢◌, IfOk, IfErr};
 ghost use Rattle.office_core.specs.Standing.{IsFresh};
 ghost use Rattle.office_program.specs.Texts.OpenedOffice.{LastsInside, OpensOver, RefusesOver};
@@ -11,14 +11,14 @@ use socket_link::Clock;
 use std::alloc::Global;
 use std::io::Write;
 
-/// A store over which no office was opened, and the exit status of the command.
+/// A store over which no office could be opened, with the exit status of the command.
 #[derive(Drop)]
 pub struct Unopened<B> {
     pub books: B,
     pub status: ExitStatus,
 }
 
-/// Opens an office over a store at the clock's time. If the opening is refused, the call prints
+/// Opens an office over a store at the clock's time. If the opening is refused, the function prints
 /// `refused N`.
 pub fn open_office<B: Books, C: Clock, W: Write>(
     alloc: Global,

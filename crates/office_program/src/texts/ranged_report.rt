@@ -10,7 +10,7 @@ use office_core::Office;
 use office_events::{Name, Refusal};
 use std::io::Write;
 
-// Prints the end of a report; or, if the report was refused, `refused N`.
+// Prints the last text of a report, or `refused N` if the report was refused.
 fn print_rest<W: Write>(told: Result<(), Refusal>, rows: &mut ReportRows<'_, W>) -> ExitStatus
     ensures { PrintsRest W.contents told result rows.old rows.new }
 {
@@ -30,8 +30,8 @@ fn print_rest<W: Write>(told: Result<(), Refusal>, rows: &mut ReportRows<'_, W>)
 /// Prints the energy of an accounting register on the days of a range, by period, in a unit and a
 /// format.
 ///
-/// If the office refuses the query, only `refused N` is printed. `None` is a name that no register
-/// can have.
+/// If the office refuses the query, only `refused N` is printed. If `register` is `None`, no
+/// register has the name.
 pub fn report_range<B: Books, W: Write>(
     office: &mut Office<B>,
     register: &Option<Name>,

@@ -11,7 +11,7 @@ use office_events::{Name, Refusal};
 use script_text::write_end;
 use std::io::Write;
 
-// Prints the number of days; or, if the report was refused, `refused N`.
+// Prints the number of days of a report, or `refused N` if the report was refused.
 fn print_last<W: Write>(told: Result<(), Refusal>, count: u64, output: &mut W) -> ExitStatus
     ensures { IsTold (last_line count told) (meant_by told) result
         (W.contents output.old) (W.contents output.new) }
@@ -25,11 +25,11 @@ fn print_last<W: Write>(told: Result<(), Refusal>, count: u64, output: &mut W) -
     }
 }
 
-/// Prints the energy of an accounting register by civil day, a line a day, and then the number of
-/// days.
+/// Prints the energy of an accounting register by civil day, one line for each day, and then the
+/// number of days.
 ///
-/// If the office refuses the query, only `refused N` is printed. `None` is a name that no register
-/// can have.
+/// If the office refuses the query, only `refused N` is printed. If `register` is `None`, no
+/// register has the name.
 pub fn report_days<B: Books, W: Write>(
     office: &mut Office<B>,
     register: &Option<Name>,

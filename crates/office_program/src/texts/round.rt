@@ -1,4 +1,4 @@
-//! Polls a device once, and prints the round.
+//! Polls a device once, and prints the office's reports of the polling round.
 ghost use Rattle.std.specs.Prelude.{◌≡◌, Err};
 ghost use Rattle.office_rounds.specs.Passing.{AreAtMost, AreTakes, CountsFailures, Lasts};
 ghost use Rattle.office_program.specs.Texts.Rounds as rounds;
@@ -15,7 +15,7 @@ use socket_link::Clock;
 use std::alloc::Global;
 use std::io::Write;
 
-// Prints `refused N` if a refusal broke the round off; prints nothing for any other result.
+// Prints `refused N` if a refusal broke the polling round off. Prints nothing for any other result.
 fn print_cause<W: Write>(done: Result<(), RoundFault>, output: &mut W) -> Result<(), RoundFault>
     ensures { IsRefusalTold done result (W.contents output.old) (W.contents output.new) }
 {
@@ -28,11 +28,11 @@ fn print_cause<W: Write>(done: Result<(), RoundFault>, output: &mut W) -> Result
     }
 }
 
-/// Polls the complete plan of a device once over a new link, and prints the round as `round_over`
-/// does.
+/// Polls the complete plan of a device once over a new link, and prints the polling round as
+/// `round_over` does.
 ///
-/// If the office refused an event, `refused N` is printed last. `None` is a name that no device can
-/// have.
+/// If the office refused an event, `refused N` is printed last. If `device` is `None`, no device
+/// has the name.
 pub fn poll_round<L: Link, B: Books, C: Clock, W: Write>(
     alloc: Global,
     link: &mut L,
@@ -53,8 +53,10 @@ pub fn poll_round<L: Link, B: Books, C: Clock, W: Write>(
     print_cause(done, output)
 }
 
-/// Returns the exit status of the command for the result of its round. `Refused`: the office
-/// refused an event. `Failed`: the link or the output failed, or the reads were used up.
+/// Returns the exit status of the command for the result of its polling round.
+///
+/// The status is `Refused` if the office refused an event. It is `Failed` if the link or the output
+/// failed, or the round used all its reads of the link.
 pub fn round_status(done: Result<(), RoundFault>) -> ExitStatus
     ensures { result ≡ rounds.round_status done }
 {

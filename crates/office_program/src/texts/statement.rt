@@ -19,13 +19,14 @@ use office_events::{Installation, Name, Refusal};
 use std::alloc::Global;
 use std::io::Write;
 
-// The number of entries in one query, and the largest number of queries. Entry indexes have 64
-// bits.
+// The number of meter entries in one query. `MOST_PIECES` is the largest number of queries, since
+// entry indexes have 64 bits.
 const PIECE: u32 = 65536;
 
 const MOST_PIECES: u64 = 281_474_976_710_655;
 
-// The tally of a meter's entries in a range of days. The entries are queried in chunks.
+// Returns the tally of a meter's entries in a range of days. Each query returns a chunk of the
+// entries.
 fn tally<B: Books>(
     office: &mut Office<B>,
     zone: &Zone,
@@ -51,8 +52,8 @@ fn tally<B: Books>(
     Err(Refusal::Memory)
 }
 
-// The energy of a meter in a range of days, in mWh. Only the quarter hours around these days are
-// queried.
+// Returns the energy of a meter in a range of days, in mWh. Only the quarter hours around these
+// days are queried.
 fn energy<B: Books>(
     office: &mut Office<B>,
     zone: &Zone,
@@ -70,7 +71,7 @@ fn energy<B: Books>(
     }
 }
 
-// The counts of a meter's rejected readings in a range of days.
+// Returns the counts of a meter's rejected readings in a range of days.
 fn held<B: Books>(
     office: &mut Office<B>,
     zone: &Zone,
@@ -88,7 +89,7 @@ fn held<B: Books>(
     }
 }
 
-// The statement of a meter on a range of days.
+// Returns the statement of a meter on a range of days.
 fn meter_statement<B: Books>(
     office: &mut Office<B>,
     zone: &Zone,
@@ -141,7 +142,7 @@ fn add_statement<B: Books>(
     }
 }
 
-// Appends the statements of those of the meters that were installed in the range of days.
+// Appends the statement of each meter in the list that was installed in the range of days.
 fn add_statements<B: Books>(
     rows: &mut Vec<MeterStatement>,
     office: &mut Office<B>,
@@ -162,7 +163,8 @@ fn add_statements<B: Books>(
     Ok(())
 }
 
-// The statements of the meters at an accounting register that were installed in the range of days.
+// Returns the statements of the meters at an accounting register that were installed in the range
+// of days.
 fn statements<B: Books>(
     alloc: Global,
     office: &mut Office<B>,
@@ -186,14 +188,15 @@ fn statements<B: Books>(
     }
 }
 
-/// Prints for each meter of an accounting register what is needed to check a bill on a range of
+/// Prints the statement of each meter of an accounting register, to check a bill on a range of
 /// days.
 ///
-/// The meters come in the order of installation. Each has its counter at its first and last entry
-/// in the range, its energy there, its corrections, and its number of rejected readings.
+/// The meters come in the order of installation. The statement of a meter has its counter at its
+/// first and last entry in the range, its energy in the range, its corrections, and its number of
+/// rejected readings.
 ///
-/// If the office refuses a query, only `refused N` is printed. `None` is a name that no register
-/// can have.
+/// If the office refuses a query, only `refused N` is printed. If `register` is `None`, no register
+/// has the name.
 pub fn report_statement<B: Books, W: Write>(
     alloc: Global,
     office: &mut Office<B>,

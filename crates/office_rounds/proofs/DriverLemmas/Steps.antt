@@ -1,4 +1,4 @@
--- The steps of a turn.
+-- Properties of a call of the driver's `turn`, which feeds events to the office one by one.
 use Rattle.std.proofs.Common.{◌≡◌, inl, inr, ℕ, ◌+◌, ◌≤◌, List, [], ◌∷◌, map, length, Option, Some, None, Result, refl, sym, ap, ◌∙◌, subst, arith}
 use Rattle.office_events.specs.declared.answers.Answer.{Answer}
 use Rattle.office_events.specs.declared.answers.Note.{Note}
@@ -44,7 +44,8 @@ next_shown sees old new next place at e answer notes now frames out is notes_are
     ∙ ap (λ p. shown p at e answer now out) (sym (ap place_of is)))
     h
 
--- One event is fed, which is next.
+-- After the next event of a call of `turn` is fed, the office, the polling rounds and the observer
+-- are in the state after this event.
 pub feeds_next : {B V : Type 0} (ledger : B → Ledger) (sees : V → Shown → V → Type 0) (at : ℕ) (place : Option ℕ) (e : Event)
     (answer : Result Answer Refusal) (old new : Scene B V) (mid : List Round) (notes : List Note) (frames : List ℕ)
     → ((past : History) → Stands ledger past old.office → (ledger (books_in new.office)).is_clean
@@ -71,7 +72,7 @@ feeds_next ledger sees at place e answer old new mid notes frames feeds mid_is n
       },
     )
 
--- A turn that has fed `steps` events or more.
+-- The state of a call of `turn` that has fed at least `steps` events.
 pub record GoesFar {B V : Type 0} (ledger : B → Ledger) (sees : V → Shown → V → Type 0) (at steps : ℕ) (past : History) (begun : Start V)
     (now : Scene B V) : Type 0 where
   pub fed : List Answered
@@ -118,7 +119,8 @@ begins ledger sees at past first old stands = record {
   shown = refl;
 }
 
--- The turn begins with the events that rounds request.
+-- If a call of `turn` has no device event, then it begins with the events that polling rounds
+-- request.
 pub turns_on : {B V : Type 0} (ledger : B → Ledger) (sees : V → Shown → V → Type 0) (at : ℕ) (past : History) (old new : Scene B V)
     → OfficeGoesOn ledger sees at old new → Stands ledger past old.office → (ledger (books_in new.office)).is_clean
     → TakesTurn ledger sees past (start old.failures (table None old.rounds) old.observer) at new
@@ -126,7 +128,7 @@ turns_on ledger sees at past old new goes stands clean =
     let so = goes past (start old.failures (table None old.rounds) old.observer) [] (begins ledger sees at past None old stands) clean in
     record { fed = so.0; going = so.1; settled = so.2 }
 
--- The turn begins with a device event.
+-- If a call of `turn` has a device event, then it feeds this event first.
 pub turns_first : {B V : Type 0} (ledger : B → Ledger) (sees : V → Shown → V → Type 0) (at : ℕ) (past : History) (one : Wished) (old mid new : Scene B V)
     → FeedsNext ledger sees at one old mid → OfficeGoesOn ledger sees at mid new
     → ((ledger (books_in new.office)).is_clean → (ledger (books_in mid.office)).is_clean) → Stands ledger past old.office
@@ -138,7 +140,8 @@ turns_first ledger sees at past one old mid new feeds goes lasts stands clean =
     let so = goes past begun (fed.0 ∷ []) fed.1 clean in
     record { fed = so.0; going = so.1; settled = so.2 }
 
--- The same with another form of what is to be fed.
+-- If `TakesTurn` holds for a state at the start of a call of `turn`, then it holds for an equal
+-- state.
 pub turns_as : {B V : Type 0} (ledger : B → Ledger) (sees : V → Shown → V → Type 0) (at : ℕ) (past : History) (failures : Failures) (one other : Table) (observer : V)
     (new : Scene B V) → one ≡ other → TakesTurn ledger sees past (start failures one observer) at new
     → TakesTurn ledger sees past (start failures other observer) at new

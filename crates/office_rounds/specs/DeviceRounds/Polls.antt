@@ -1,20 +1,20 @@
--- The pending polls of a round.
+-- The numbers of the pending polls of a polling round.
 use Rattle.std.specs.Prelude.{ℕ, zero, suc, ◌+◌, ◌-◌, ◌^◌, ◌==◌, min, Bool, false, not, List, [], ◌∷◌, ◌++◌}
 use Rattle.std.specs.List.{list_any}
 use Rattle.office_events.specs.declared.answers.Note.{Note}
 use Rattle.office_events.specs.declared.answers.Note.TheVariants as note
 
--- Whether the notification reports the outcome of this poll.
+-- True if the notification reports the outcome of the poll with number `poll`.
 abbrev pub ends : (poll : ℕ) → Note → Bool
 ends poll (note.Outcome ended outcome) = ended == poll
 ends poll (note.Reading meter raw rolls step) = false
 ends poll (note.Held meter raw cause) = false
 
--- Whether the poll is still pending: no notification reports its outcome.
+-- True if the poll is still pending, because no notification reports its outcome.
 abbrev pub waits : List Note → (poll : ℕ) → Bool
 waits notes poll = not (list_any (ends poll) notes)
 
--- The `count` consecutive numbers from `first` on, of which none exceeds 2^64 - 1.
+-- A list of `count` consecutive numbers, beginning with `first`. Each number saturates at 2^64 - 1.
 abbrev pub numbers : (first count : ℕ) → List ℕ
 numbers first zero = []
 numbers first (suc n) = numbers first n ++ min (first + n) (2 ^ 64 - 1) ∷ []

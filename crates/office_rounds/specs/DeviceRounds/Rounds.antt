@@ -1,4 +1,4 @@
--- How a round advances with its connection, and with the office's answers and notifications.
+-- The effects of a connection, and of the office's answers and notifications, on a polling round.
 use Rattle.std.specs.Prelude.{ℕ, ◌+◌, ◌-◌, ◌^◌, ◌==◌, nat_lt, nat_le, min, Bool, true, false, List, [], ◌++◌, length, Option, Some, None, Result, Ok, Err, if◌then◌else◌}
 use Rattle.std.specs.List.{filter}
 use Rattle.poll_core.specs.declared.outcome.Closing.{Closing}
@@ -17,7 +17,7 @@ use Rattle.office_rounds.specs.declared.device_rounds.round.Round.{Round}
 use Rattle.office_rounds.specs.declared.device_rounds.stage.Stage.{Stage}
 use Rattle.office_rounds.specs.declared.device_rounds.stage.Stage.TheVariants.{Off, Joining, Starting, Waiting, Leaving}
 
--- The round of a device that is not connected.
+-- The polling round of a device that is not connected.
 abbrev pub unconnected : (device : Option (List ℕ)) → Round
 unconnected device = record {
   device = device;
@@ -28,12 +28,12 @@ unconnected device = record {
   sum = sums.none;
 }
 
--- Whether the round requests an event of the office.
+-- True if the polling round requests an event of the office.
 abbrev pub is_wishing : Round → Bool
 is_wishing round = stages.is_wishing round.stage
 
--- The event that a round requests at this stage: the connection, a start of the reads that remain,
--- or that the device is gone. `None` if it waits for the device.
+-- The event that a polling round requests at a stage. It is the connection, a start of the
+-- remaining reads, or that the device is gone. `None` if the round is waiting for its device.
 abbrev pub wish_at : Stage → (device : Option (List ℕ)) → (started : ℕ) → Option Event
 wish_at Off device started = None
 wish_at Joining device started = Some (event.Connected device)
@@ -42,12 +42,12 @@ wish_at Starting device started =
 wish_at Waiting device started = None
 wish_at (Leaving closing) device started = Some (event.Gone device closing)
 
--- The event that the round requests; `None` if it requests none.
+-- The event that the polling round requests, or `None` if the round requests no event.
 abbrev pub wish_of : Round → Option Event
 wish_of round = wish_at round.stage round.device round.started
 
--- A round at this stage after its device was connected: a new round if none was running, otherwise
--- unchanged.
+-- A polling round at a stage after its device connected. If no round was running, a new round.
+-- Otherwise the unchanged round.
 abbrev pub joined_at : Stage → Round → Round
 joined_at Off round = record {
   device = round.device;
@@ -62,23 +62,24 @@ joined_at Starting round = round
 joined_at Waiting round = round
 joined_at (Leaving closing) round = round
 
--- The round after its device was connected.
+-- The polling round after its device connected.
 abbrev pub joined : Round → Round
 joined round = joined_at round.stage round
 
--- The round after the connection to its device ended.
+-- The polling round after the connection to its device ended.
 abbrev pub leaving : Closing → Round → Round
 leaving closing round = record round { stage = stages.left closing round.stage }
 
--- The round after it was broken off: its last event will be that the device is gone.
+-- The polling round after it was broken off. Its last event will be that the device is gone.
 abbrev pub broken_off : Round → Round
 broken_off round = record round { stage = Leaving closing.Failed }
 
--- The stage after a start: wait for responses, or leave if no poll is pending.
+-- The stage after Modbus reads were started. If a poll is pending, the polling round waits for
+-- responses. Otherwise it leaves.
 abbrev pub stage_after : List ℕ → Stage
 stage_after polls = if length polls == 0 then Leaving closing.Gone else Waiting
 
--- The round after its start of `count` polls, whose numbers begin with `first`.
+-- The polling round after `count` of its polls were started. The poll numbers begin with `first`.
 abbrev pub begun : (first count planned : ℕ) → Round → Round
 begun first count planned round = record {
   device = round.device;
@@ -89,8 +90,9 @@ begun first count planned round = record {
   sum = round.sum;
 }
 
--- The round after the answer to a start. An answer that reports no start, or more than 16 pending
--- polls, breaks the round off.
+-- The polling round after the office's answer to its start of Modbus reads.
+--
+-- If the answer reports no started polls, or more than 16 pending polls, the round is broken off.
 abbrev pub started_by : Answer → Round → Round
 started_by answer.Noted round = broken_off round
 started_by (answer.Done kind) round = broken_off round
@@ -99,8 +101,10 @@ started_by (answer.Started first count of) round =
     if nat_le (length round.polls.items + count) 16 then begun first count of round
     else broken_off round
 
--- A round at this stage after the answer to its event. After the connection the reads are started.
--- A refusal breaks the round off; if the connection was refused, the round is over.
+-- A polling round at a stage after the office's answer to the round's event.
+--
+-- After the connection the round starts its Modbus reads. A refusal breaks the round off. If the
+-- connection was refused, the round is over.
 abbrev pub answered_at : Stage → Result Answer Refusal → Round → Round
 answered_at Off result round = round
 answered_at Joining (Ok given) round = record round { stage = Starting }
@@ -111,19 +115,20 @@ answered_at Waiting (Ok given) round = round
 answered_at Waiting (Err why) round = broken_off round
 answered_at (Leaving closing) result round = record round { stage = Off }
 
--- The round after the office answered the event that the round requested.
+-- The polling round after the office answered the event that the round requested.
 abbrev pub answered : Result Answer Refusal → Round → Round
 answered result round = answered_at round.stage result round
 
--- The round after one of its polls ended: it starts the remaining reads. If none remains and no
--- poll is pending, it leaves.
+-- The polling round after one of its polls ended. The round starts the remaining Modbus reads. If
+-- no read remains and no poll is pending, the round leaves.
 abbrev pub gone_on : Round → Round
 gone_on round =
     if nat_lt round.started round.planned then record round { stage = Starting }
     else if length round.polls.items == 0 then record round { stage = Leaving closing.Gone }
     else round
 
--- The round at this stage after notifications; `ended` says whether they end one of its polls.
+-- A polling round at a stage after notifications. `ended` is true if the notifications end one of
+-- the round's polls.
 abbrev pub going_on : Stage → (ended : Bool) → Round → Round
 going_on Off ended round = round
 going_on Joining ended round = round
@@ -132,11 +137,11 @@ going_on Waiting true round = gone_on round
 going_on Waiting false round = round
 going_on (Leaving closing) ended round = round
 
--- The polls of the round that are still pending after these notifications.
+-- The polls of the polling round that are still pending after the given notifications.
 abbrev pub polls_left : List Note → Round → List ℕ
 polls_left notes round = filter (waits notes) round.polls.items
 
--- The round after the office's notifications of an event.
+-- The polling round after the office's notifications of an event.
 abbrev pub heard : List Note → Round → Round
 heard notes round =
     going_on round.stage (nat_lt (length (polls_left notes round)) (length round.polls.items))

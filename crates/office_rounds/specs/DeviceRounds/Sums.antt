@@ -1,4 +1,4 @@
--- How many polls of a round were answered, timed out, or failed.
+-- The counts of a polling round's ended polls: answered, timed out, or failed otherwise.
 use Rattle.std.specs.Prelude.{ℕ, ◌==◌, List, [], ◌∷◌, if◌then◌else◌}
 use Rattle.std.specs.List.{list_any}
 use Rattle.poll_core.specs.declared.outcome.Outcome.{Outcome}
@@ -8,7 +8,7 @@ use Rattle.office_events.specs.declared.answers.Note.TheVariants as note
 use Rattle.office_events.specs.Numbers.{one_more}
 use Rattle.office_rounds.specs.declared.device_rounds.polls.Sum.{Sum}
 
--- The counts of a round without ended polls.
+-- The counts of a polling round without ended polls.
 abbrev pub none : Sum
 none = record { answered = 0; silent = 0; failed = 0 }
 
@@ -20,8 +20,8 @@ ended Silent sum = record sum { silent = one_more sum.silent }
 ended (Malformed wrong) sum = record sum { failed = one_more sum.failed }
 ended (Lost cause) sum = record sum { failed = one_more sum.failed }
 
--- The counts after one more notification. It counts only if it ends a poll in `polls`, which were
--- pending.
+-- The counts after one more notification. The notification is counted only if it reports the
+-- outcome of a poll in `polls`.
 abbrev pub noted : (polls : List ℕ) → Note → Sum → Sum
 noted polls (note.Outcome poll outcome) sum =
     if list_any (λ one. one == poll) polls then ended outcome sum else sum

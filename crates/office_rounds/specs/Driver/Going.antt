@@ -1,5 +1,5 @@
--- What a turn of the driver has done so far: which events it fed, and in which state the office and
--- the rounds are.
+-- The events that one call of the driver's `turn` has fed so far, and the state of the office and
+-- of the polling rounds.
 use Rattle.std.specs.Prelude.{◌≡◌, ◌⊎◌, ◌≤◌, ℕ, List, [], ◌∷◌, length, Option, Some, None}
 use Rattle.office_rules.specs.History.{History}
 use Rattle.office_books.specs.declared.failures.Failures.{Failures}
@@ -13,38 +13,40 @@ use Rattle.office_rounds.specs.declared.device_rounds.round.Round.{Round}
 use Rattle.office_events.specs.Showing.{Shown}
 use Rattle.office_rounds.specs.Driver.Turns.{AreNext, AreShown, Table, Wished, first_wish, next_by, table, table_with}
 
--- The state during a turn: the office, the failure counts of its store, the rounds, and the
--- observer.
+-- The state during a call of `turn`: the office, the failure counts of its store, the polling
+-- rounds, and the observer.
 pub record Scene (B V : Type 0) : Type 0 where
   pub office : Office B
   pub failures : Failures
   pub rounds : List Round
   pub observer : V
 
--- The state during a turn with these parts.
+-- The `Scene` during a call of `turn` with these fields.
 abbrev pub scene : {B V : Type 0} → Office B → Failures → List Round → V → Scene B V
 scene office failures rounds observer =
     record { office = office; failures = failures; rounds = rounds; observer = observer }
 
--- The state at the start of a turn: the store's failure counts, the rounds with the event to feed
--- first, and the observer.
+-- The state at the start of a call of `turn`. It has the store's failure counts, the polling rounds
+-- with the event to feed first, and the observer.
 pub record Start (V : Type 0) : Type 0 where
   pub failures : Failures
   pub table : Table
   pub observer : V
 
--- The state at the start of a turn with these parts.
+-- The `Start` of a call of `turn` with these fields.
 abbrev pub start : {V : Type 0} → Failures → Table → V → Start V
 start failures at observer = record { failures = failures; table = at; observer = observer }
 
--- Each of these events has the timestamp `at`.
+-- True if each event in the list has the timestamp `at`.
 abbrev pub AreAt : ℕ → List Answered → Type 0
 AreAt at [] = Unit {0}
 AreAt at (one ∷ earlier) = AreAt at earlier × (one.at ≡ at)
 
--- So far the turn fed exactly the events that were next, all with one timestamp. Each has the
--- defined answer, the office and the rounds are in the state after them, and the observer was shown
--- each.
+-- The state during a call of `turn` that has fed exactly the events that were next, all with one
+-- timestamp.
+--
+-- Each event has the defined answer, the office and the polling rounds are in the state after the
+-- events, and the observer was shown each event.
 pub record Going {B V : Type 0} (ledger : B → Ledger) (sees : V → Shown → V → Type 0)
     (past : History) (begun : Start V)
     (at : ℕ) (fed : List Answered) (first : Option Wished) (now : Scene B V) : Type 0 where
@@ -55,8 +57,10 @@ pub record Going {B V : Type 0} (ledger : B → Ledger) (sees : V → Shown → 
   pub rounds : table first now.rounds ≡ table_with past begun.table fed
   pub shown : AreShown sees begun.observer now.observer past begun.table fed
 
--- If `one` is the next event, it was fed, and the turn is in the state after it. No wrong result of
--- the store was taken as true so far.
+-- True if the event `one` was fed and the state follows from it, provided that `one` is the next
+-- event to feed.
+--
+-- No wrong result of the store was used so far.
 abbrev pub FeedsNext : {B V : Type 0} → (B → Ledger) → (V → Shown → V → Type 0) → (at : ℕ) → Wished
     → (old new : Scene B V) → Type 0
 FeedsNext {B} {V} ledger sees at one old new =
@@ -65,12 +69,13 @@ FeedsNext {B} {V} ledger sees at one old new =
     → (ledger (books_in new.office)).is_clean
     → (next : Answered) × Going ledger sees past begun at (next ∷ fed) None new
 
--- The turn is complete: no round requests an event, or at least 256 events were fed.
+-- True if a call of `turn` is complete, because no polling round requests an event or at least 256
+-- events were fed.
 abbrev pub IsSettled : List Round → (before after : List Answered) → Type 0
 IsSettled rounds before after = (first_wish rounds ≡ None) ⊎ (256 ≤ length after)
 
--- The turn fed the events that the rounds request, until no round requested any or 256 events were
--- fed.
+-- True if the events that the polling rounds request were fed, until no round requested an event or
+-- 256 events were fed.
 abbrev pub OfficeGoesOn : {B V : Type 0} → (B → Ledger) → (V → Shown → V → Type 0) → (at : ℕ)
     → (old new : Scene B V) → Type 0
 OfficeGoesOn {B} {V} ledger sees at old new =
@@ -79,22 +84,24 @@ OfficeGoesOn {B} {V} ledger sees at old new =
     → (later : List Answered) × Going ledger sees past begun at later None new
     × IsSettled new.rounds fed later
 
--- `FeedsNext` for an office, its rounds and its observer before and after the call.
+-- True if `FeedsNext` holds for an office, its polling rounds and its observer before and after the
+-- call.
 abbrev pub FeedsOne : {B V : Type 0} → (B → Ledger) → (V → Shown → V → Type 0) → (at : ℕ) → Wished
     → (old new : Office B) → (before after : List Round) → (from to : V) → Type 0
 FeedsOne ledger sees at one old new before after from to =
     FeedsNext ledger sees at one (scene old (failures_of ledger old) before from)
     (scene new (failures_of ledger new) after to)
 
--- `OfficeGoesOn` for an office, its rounds and its observer before and after the call.
+-- True if `OfficeGoesOn` holds for an office, its polling rounds and its observer before and after
+-- the call.
 abbrev pub Settles : {B V : Type 0} → (B → Ledger) → (V → Shown → V → Type 0) → (at : ℕ)
     → (old new : Office B) → (before after : List Round) → (from to : V) → Type 0
 Settles ledger sees at old new before after from to =
     OfficeGoesOn ledger sees at (scene old (failures_of ledger old) before from)
     (scene new (failures_of ledger new) after to)
 
--- A complete turn: it fed the event of a device and then what the rounds requested, until none
--- requested any or 256 events were fed.
+-- The result of a complete call of `turn`. It fed the event of a device, and then the events that
+-- the polling rounds requested, until no round requested an event or 256 events were fed.
 pub record TakesTurn {B V : Type 0} (ledger : B → Ledger) (sees : V → Shown → V → Type 0)
     (past : History) (begun : Start V)
     (at : ℕ) (now : Scene B V) : Type 0 where
@@ -102,8 +109,10 @@ pub record TakesTurn {B V : Type 0} (ledger : B → Ledger) (sees : V → Shown 
   pub going : Going ledger sees past begun at fed None now
   pub settled : IsSettled now.rounds [] fed
 
--- A complete turn, for an office before and after it. `begun` has the rounds and the event to feed
--- first; `rounds` and `to` are the rounds and the observer after it.
+-- True if an office has performed a complete call of `turn`.
+--
+-- `begun` has the polling rounds and the event to feed first. `rounds` and `to` are the rounds and
+-- the observer after the call.
 abbrev pub Turns : {B V : Type 0} → (B → Ledger) → (V → Shown → V → Type 0) → (at : ℕ)
     → (begun : Table) → (old new : Office B) → (rounds : List Round) → (from to : V) → Type 0
 Turns ledger sees at begun old new rounds from to =

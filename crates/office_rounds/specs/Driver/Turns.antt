@@ -1,7 +1,7 @@
--- The order of events in a turn: first the event of a device, and then those that rounds request,
--- by the order of their slots.
+-- The order of the events that one call of the driver's `turn` feeds. The device event comes first,
+-- and then the events that polling rounds request, in the order of their slots.
 --
--- Lists of fed events have the latest first.
+-- Lists of fed events have the latest event first.
 use Rattle.std.specs.Prelude.{◌≡◌, ℕ, zero, suc, List, [], ◌∷◌, map, position, slice_get, Option, Some, None, Result}
 use Rattle.office_events.specs.declared.answers.Answer.{Answer}
 use Rattle.office_events.specs.declared.answers.Note.{Note}
@@ -20,114 +20,121 @@ use Rattle.office_events.specs.Showing.{Shown, shown}
 use Rattle.office_rounds.specs.declared.driver.device_events.DeviceEvent.{DeviceEvent}
 use Rattle.office_rounds.specs.declared.driver.device_events.DeviceEvent.TheVariants.{Connected, Received, Closed, Tick}
 
--- An event to feed, with the slot of the round that requests it; `None` for an event of a device.
+-- An event to feed, with the slot of the polling round that requests the event. The slot is `None`
+-- for an event of a device.
 pub record Wished : Type 0 where
   pub place : Option ℕ
   pub event : Event
 
--- The event to feed for the round in this slot, or for none.
+-- An event to feed for the polling round in slot `place`, or for no polling round.
 abbrev pub wished : Option ℕ → Event → Wished
 wished place e = record { place = place; event = e }
 
--- The event that the round in slot `place` requests; `None` if it requests none.
+-- The event that the polling round in slot `place` requests, or `None` if the round requests no
+-- event.
 abbrev pub wished_at : ℕ → Option Event → Option Wished
 wished_at place None = None
 wished_at place (Some e) = Some (wished (Some place) e)
 
--- The event that this round in slot `place` requests; `None` if the slot is empty or the round
--- requests none.
+-- The event that the polling round in slot `place` requests. `None` if the slot is empty or the
+-- round requests no event.
 abbrev pub wish_in : ℕ → Option Round → Option Wished
 wish_in place None = None
 wish_in place (Some round) = wished_at place (wish_of round)
 
--- The event that the round in this slot requests; `None` without a slot.
+-- The event that the polling round in a slot requests, or `None` without a slot.
 abbrev pub wish_from : Option ℕ → List Round → Option Wished
 wish_from None rounds = None
 wish_from (Some place) rounds = wish_in place (slice_get rounds place)
 
--- The event of the first round that requests one; `None` if none does.
+-- The event of the first polling round that requests an event, or `None` if no round requests an
+-- event.
 abbrev pub first_wish : List Round → Option Wished
 first_wish rounds = wish_from (position is_wishing rounds) rounds
 
--- A slot with its event, as an event to feed.
+-- The event to feed that the given slot and event form.
 abbrev pub as_wished : Option (ℕ × Event) → Option Wished
 as_wished None = None
 as_wished (Some one) = Some (wished (Some one.0) one.1)
 
--- The rounds of a turn, and the event to feed before any that they request.
+-- The polling rounds during a call of `turn`, and the event to feed before any event that the
+-- rounds request.
 pub record Table : Type 0 where
   pub first : Option Wished
   pub rounds : List Round
 
--- The rounds with the event to feed first.
+-- The polling rounds with the event to feed first.
 abbrev pub table : Option Wished → List Round → Table
 table first rounds = record { first = first; rounds = rounds }
 
--- The next event to feed: `first` if it is there, otherwise that of the first round that requests
--- one.
+-- The next event to feed. If an event is to be fed first, this event. Otherwise the event of the
+-- first polling round that requests an event.
 abbrev pub next_by : Option Wished → List Round → Option Wished
 next_by None rounds = first_wish rounds
 next_by (Some one) rounds = Some one
 
--- The next event to feed in this state of a turn.
+-- The next event to feed in this state of a call of `turn`.
 abbrev pub next_of : Table → Option Wished
 next_of at = next_by at.first at.rounds
 
--- The rounds, where the one in slot `place` is changed; unchanged if no such slot exists.
+-- The polling rounds after `change` is applied to the round in slot `place`. If the slot does not
+-- exist, the rounds are unchanged.
 abbrev pub at_place : ℕ → (Round → Round) → List Round → List Round
 at_place place change [] = []
 at_place zero change (round ∷ rounds) = change round ∷ rounds
 at_place (suc place) change (round ∷ rounds) = round ∷ at_place place change rounds
 
--- The rounds after the answer to an event: the round in the event's slot gets the answer.
+-- The polling rounds after the office's answer to an event. Only the round in the event's slot gets
+-- the answer.
 abbrev pub answered_for : Option ℕ → Result Answer Refusal → List Round → List Round
 answered_for None answer rounds = rounds
 answered_for (Some place) answer rounds = at_place place (answered answer) rounds
 
--- The rounds after an event: the round in its slot gets the answer, and then all rounds get the
--- notifications.
+-- The polling rounds after an event. The round in the event's slot gets the answer, and then all
+-- rounds get the notifications.
 abbrev pub told : Option ℕ → Result Answer Refusal → List Note → List Round → List Round
 told place answer notes rounds = map (heard notes) (answered_for place answer rounds)
 
--- The slot of the round that requests the event; `None` without an event or a slot.
+-- The slot of the polling round that requests the event. `None` without an event or without a slot.
 abbrev pub place_of : Option Wished → Option ℕ
 place_of None = None
 place_of (Some one) = one.place
 
--- The state of a turn after its next event got this answer and these notifications.
+-- The state of a call of `turn` after the office answered the next event with the given answer and
+-- notifications.
 abbrev pub table_after : Table → Result Answer Refusal → List Note → Table
 table_after at answer notes = table None (told (place_of (next_of at)) answer notes at.rounds)
 
--- The notifications of an event, if these events were fed before it.
+-- The office's notifications of an event that was fed after the events `earlier`.
 abbrev pub notes_of : (past : History) → List Answered → Answered → List Note
 notes_of past earlier one = notes_after (history_with past earlier) one.at one.event one.result
 
--- The state of a turn after these fed events.
+-- The state of a call of `turn` after it fed a list of events.
 abbrev pub table_with : (past : History) → Table → List Answered → Table
 table_with past from [] = from
 table_with past from (one ∷ earlier) =
     table_after (table_with past from earlier) one.result (notes_of past earlier one)
 
--- `e` is the event to feed next; false if there is none.
+-- True if `e` is the event to feed next. False if there is no event to feed.
 abbrev pub IsNext : Option Wished → Event → Type 0
 IsNext None e = ⊥
 IsNext (Some one) e = e ≡ one.event
 
--- Each of these events was the next one to feed after the earlier ones.
+-- True if each event in the list was the next event to feed after the earlier events.
 abbrev pub AreNext : (past : History) → Table → List Answered → Type 0
 AreNext past from [] = Unit {0}
 AreNext past from (one ∷ earlier) =
     AreNext past from earlier × IsNext (next_of (table_with past from earlier)) one.event
 
--- What the observer is shown of an event: its slot, timestamp, event, answer, notifications, and
--- bytes to send.
+-- The record shown to the observer for an event: its slot, timestamp, event, answer, notifications,
+-- and bytes to send.
 abbrev pub shown_of : (past : History) → Table → List Answered → Answered → Shown
 shown_of past from earlier one =
     shown (place_of (next_of (table_with past from earlier))) one.at one.event one.result
     (notes_of past earlier one)
     (outgoing_after (history_with past earlier) one.at one.event one.result)
 
--- The observer was shown each of these events in order, and nothing else.
+-- True if the observer was shown each event in the list in order, and nothing else.
 abbrev pub AreShown : {V : Type 0} → (V → Shown → V → Type 0) → (from to : V) → (past : History)
     → Table → List Answered → Type 0
 AreShown sees from to past begun [] = to ≡ from
@@ -135,7 +142,8 @@ AreShown {V} sees from to past begun (one ∷ earlier) =
     (between : V) × AreShown sees from between past begun earlier
     × sees between (shown_of past begun earlier one) to
 
--- The event for bytes from the device in slot `place`; `None` if its round waits for no responses.
+-- The event for bytes from the device in slot `place`. `None` if the stage of the device's polling
+-- round is not `Waiting`.
 abbrev pub came_at : Stage → ℕ → Option (List ℕ) → List ℕ → Option Wished
 came_at Off place device piece = None
 came_at Joining place device piece = None
@@ -143,25 +151,25 @@ came_at Starting place device piece = None
 came_at Waiting place device piece = Some (wished (Some place) (event.Bytes device piece))
 came_at (Leaving closing) place device piece = None
 
--- The event for bytes from the device in slot `place`; `None` if the slot is empty or its round
--- waits for no responses.
+-- The event for bytes from the device in slot `place`. `None` if the slot is empty, or if its
+-- polling round is not waiting for responses.
 abbrev pub came : ℕ → Option Round → List ℕ → Option Wished
 came place None piece = None
 came place (Some round) piece = came_at round.stage place round.device piece
 
--- The event for bytes from the device in slot `place`; `None` for `None`, where no round waits for
--- responses.
+-- The event for bytes from the device in slot `place`. `None` if no polling round in this slot is
+-- waiting for responses.
 abbrev pub came_from : ℕ → Option (Option (List ℕ)) → List ℕ → Option Wished
 came_from place None piece = None
 came_from place (Some device) piece = Some (wished (Some place) (event.Bytes device piece))
 
--- The state at the start of a turn for bytes from the device in slot `place`: their event is fed
--- first.
+-- The state at the start of a call of `turn` for bytes from the device in slot `place`. The event
+-- for the bytes is fed first.
 abbrev pub brought : ℕ → List ℕ → List Round → Table
 brought place piece rounds = table (came place (slice_get rounds place) piece) rounds
 
--- The state at the start of a turn: the device event is fed first, or changes what its round
--- requests.
+-- The state at the start of a call of `turn`. The device event is fed first, or changes the event
+-- that the device's polling round requests.
 abbrev pub opened : DeviceEvent → List Round → Table
 opened (Connected place) rounds = table None (at_place place joined rounds)
 opened (Received place piece) rounds = brought place piece rounds

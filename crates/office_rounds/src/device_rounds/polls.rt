@@ -1,4 +1,4 @@
-//! The pending polls of a round, and the counts of those that ended.
+//! The pending polls of a polling round, and the counts of its ended polls.
 ghost use Rattle.std.specs.Prelude.{◌≡◌, ◌==◌, ◌≤◌, ◌+◌, ◌++◌};
 ghost use Rattle.std.specs.List.{filter, list_any};
 ghost use Rattle.arrayvec.specs.ArrayVec.{array_vec_len};
@@ -8,13 +8,13 @@ use arrayvec::ArrayVec;
 use office_events::Note;
 use poll_core::Outcome;
 
-/// The largest number of polls of a device that may be pending at a time.
+/// The largest number of pending polls of a device at a time.
 pub const MOST_WAITING: usize = 16;
 
-/// The numbers of a round's pending polls.
+/// The numbers of the pending polls of a polling round.
 pub type Polls = ArrayVec<u64, 16>;
 
-// Whether the notification reports the outcome of this poll.
+// Returns true if the notification reports the outcome of the poll with number `poll`.
 fn ends(note: &Note, poll: u64) -> bool
     ensures { result ≡ specs.ends poll note.now }
 {
@@ -25,7 +25,7 @@ fn ends(note: &Note, poll: u64) -> bool
     }
 }
 
-// Whether one of the notifications reports the outcome of this poll.
+// Returns true if one of the notifications reports the outcome of the poll with number `poll`.
 fn has_ended(notes: &[Note], poll: u64) -> bool
     ensures { result ≡ list_any (specs.ends poll) notes.now }
 {
@@ -38,7 +38,8 @@ fn waits(notes: &[Note], poll: u64) -> bool
     !has_ended(notes, poll)
 }
 
-/// The polls of the round that are still pending after these notifications.
+/// Returns the polls that are still pending, because none of the notifications reports their
+/// outcome.
 pub(crate) fn waiting_after(polls: &Polls, notes: &[Note]) -> Polls
     ensures { result.items ≡ filter (specs.waits notes.now) polls.now.items }
 {
@@ -51,7 +52,7 @@ pub(crate) fn waiting_after(polls: &Polls, notes: &[Note]) -> Polls
     left
 }
 
-/// Adds `count` pending polls with consecutive numbers from `first` on.
+/// Adds `count` pending polls with consecutive numbers, beginning with `first`.
 pub(crate) fn add(polls: &mut Polls, first: u64, count: u64)
     requires { array_vec_len polls.old + count ≤ 16 }
     ensures { polls.new.items ≡ polls.old.items ++ specs.numbers first count }
@@ -61,9 +62,10 @@ pub(crate) fn add(polls: &mut Polls, first: u64, count: u64)
     }
 }
 
-/// The polls of a round by outcome: answered, silent (timed out), or failed otherwise.
+/// The numbers of a polling round's ended polls by outcome: answered, silent (timed out), or failed
+/// otherwise.
 ///
-/// Each count stays at 2^64 - 1.
+/// Each number saturates at 2^64 - 1.
 #[derive(Clone, Copy, Debug, PartialEq, Eq)]
 pub struct Sum {
     pub answered: u64,
@@ -75,7 +77,7 @@ impl Sum {
     ghost use Rattle.std.specs.Prelude.{◌≡◌};
     ghost use Rattle.office_rounds.specs.DeviceRounds.Sums as sums;
 
-    /// Creates the counts of a round without ended polls.
+    /// Creates the counts of a polling round without ended polls.
     pub fn none() -> Sum
         ensures { result ≡ sums.none }
     {
@@ -86,7 +88,7 @@ impl Sum {
         }
     }
 
-    // Counts one poll that ended with this outcome.
+    // Counts one poll that ended with the given outcome.
     fn end(&mut self, outcome: Outcome)
         ensures { self.new ≡ sums.ended outcome self.old }
     {
@@ -99,7 +101,7 @@ impl Sum {
         }
     }
 
-    // Counts the outcome in a notification, if its poll was pending.
+    // Counts the outcome that a notification reports, if its poll was pending.
     fn note(&mut self, polls: &Polls, note: &Note)
         ensures { self.new ≡ sums.noted polls.now.items note.now self.old }
     {
@@ -114,7 +116,7 @@ impl Sum {
         }
     }
 
-    /// Counts the outcomes in several notifications.
+    /// Counts the outcomes that several notifications report.
     pub(crate) fn note_all(&mut self, polls: &Polls, notes: &[Note])
         ensures { self.new ≡ sums.noted_all polls.now.items notes.now self.old }
     {

@@ -1,21 +1,24 @@
-//! The round of one device: its stage, its pending polls, and how the others ended.
+//! The polling round of one device: its stage, its pending polls, and the counts of its ended
+//! polls.
 use crate::device_rounds::polls::{MOST_WAITING, Polls, Sum, add, waiting_after};
 use crate::device_rounds::stage::Stage;
 use office_events::{Answer, Command, Event, Name, Note, Refusal, StartRound};
 use poll_core::Closing;
 
-/// The progress of a device's round, which follows from the office's answers and notifications.
+/// The progress of a device's polling round, which follows from the office's answers and
+/// notifications.
 #[derive(Drop)]
 pub struct Round {
     pub device: Option<Name>,
     pub stage: Stage,
-    /// The pending polls.
+    /// The numbers of the round's pending polls.
     pub polls: Polls,
-    /// The number of reads of the plan that were started.
+    /// The number of Modbus reads of the plan that were started.
     pub started: u64,
-    /// The number of reads in the plan.
+    /// The number of Modbus reads in the plan.
     pub planned: u64,
-    /// How the ended polls of the round ended. The counts stay until the device is connected again.
+    /// The counts of the round's ended polls by outcome. They are kept until the device connects
+    /// again.
     pub sum: Sum,
 }
 
@@ -24,7 +27,7 @@ impl Round {
     ghost use Rattle.office_events.specs.declared.answers.Answer.{Answer};
     ghost use Rattle.office_rounds.specs.DeviceRounds.Rounds as rounds;
 
-    /// Creates the round of a device that is not connected.
+    /// Creates the polling round of a device that is not connected.
     pub fn new(device: Option<Name>) -> Round
         ensures { result ≡ rounds.unconnected device }
     {
@@ -38,8 +41,8 @@ impl Round {
         }
     }
 
-    /// Returns the event that the round requests next; `None` if it waits for the device, or is
-    /// over.
+    /// Returns the event that the polling round requests next. Returns `None` if the round is
+    /// waiting for its device, or is over.
     pub fn event_wanted(&self) -> Option<Event>
         ensures { result ≡ rounds.wish_of self.now }
     {
@@ -55,7 +58,8 @@ impl Round {
         }
     }
 
-    /// Begins a round after a new connection, unless a round is running.
+    /// Begins a polling round after a new connection of the device, unless a round is already
+    /// running.
     pub fn join(&mut self)
         ensures { self.new ≡ rounds.joined self.old }
     {
@@ -68,14 +72,14 @@ impl Round {
         }
     }
 
-    /// Marks the round as leaving, because the connection to its device ended.
+    /// Marks the polling round as leaving, because the connection to its device ended.
     pub fn leave(&mut self, closing: Closing)
         ensures { self.new ≡ rounds.leaving closing self.old }
     {
         self.stage = self.stage.left(closing);
     }
 
-    // Adds the polls that the office's answer reports as started.
+    // Adds the polls that the office's answer reports as started to the polling round.
     fn start(&mut self, answer: Answer)
         ensures { self.new ≡ rounds.started_by answer self.old }
     {
@@ -93,7 +97,7 @@ impl Round {
         }
     }
 
-    /// Updates the round by the office's answer to an event of the round.
+    /// Updates the polling round by the office's answer to an event of the round.
     pub fn answer(&mut self, answer: Result<Answer, Refusal>)
         ensures { self.new ≡ rounds.answered answer self.old }
     {
@@ -109,8 +113,8 @@ impl Round {
         }
     }
 
-    // After the end of a poll: requests the next reads, or ends the round if none remains and no
-    // poll is pending.
+    // Requests the next Modbus reads after a poll has ended. If no read remains and no poll is
+    // pending, ends the polling round.
     fn go_on(&mut self)
         ensures { self.new ≡ rounds.gone_on self.old }
     {
@@ -121,7 +125,7 @@ impl Round {
         }
     }
 
-    /// Updates the round by the office's notifications.
+    /// Updates the polling round by the office's notifications.
     pub fn apply_notes(&mut self, notes: &[Note])
         ensures { self.new ≡ rounds.heard notes.now self.old }
     {
@@ -139,7 +143,7 @@ impl Round {
     ghost use Rattle.arrayvec.specs.ArrayVec.{array_vec_len};
     ghost use Rattle.office_rounds.specs.DeviceRounds.Rounds.{begun};
 
-    // Adds `count` pending polls from number `first` on, for a plan of `of` reads.
+    // Adds `count` pending polls, beginning with number `first`, for a plan of `of` Modbus reads.
     fn begin(&mut self, first: u64, count: u64, of: u64)
         requires { array_vec_len self.old.polls + count ≤ 16 }
         ensures { self.new ≡ begun first count of self.old }

@@ -1,18 +1,18 @@
-//! The stages of a round.
+//! The stages of a device's polling round.
 use poll_core::Closing;
 
-/// The stage of a round, which determines the event that the round requests next.
+/// The stage of a polling round, which determines the event that the round requests next.
 #[derive(Clone, Copy, Debug, PartialEq, Eq)]
 pub enum Stage {
-    /// The device is not connected; the round requests nothing.
+    /// The device is not connected. The round requests nothing.
     Off,
-    /// The device is connected, and the office is still to be fed the connection.
+    /// The device is connected. The round requests that the connection is fed to the office.
     Joining,
-    /// Reads of the plan are to be started, from the first that was not started.
+    /// Modbus reads of the plan remain. The round requests a start of these reads.
     Starting,
-    /// Responses are pending; the round requests nothing.
+    /// The round waits for responses of the device, and requests nothing.
     Waiting,
-    /// The device is gone, and the office is still to be fed that event.
+    /// The device is gone. The round requests that this event is fed to the office.
     Leaving(Closing),
 }
 
@@ -20,7 +20,7 @@ impl Stage {
     ghost use Rattle.std.specs.Prelude.{◌≡◌};
     ghost use Rattle.office_rounds.specs.DeviceRounds.Stages as stages;
 
-    /// Returns whether a round at this stage requests an event.
+    /// Returns true if a polling round at this stage requests an event.
     pub fn is_wishing(self) -> bool
         ensures { result ≡ stages.is_wishing self }
     {
@@ -33,7 +33,7 @@ impl Stage {
         }
     }
 
-    /// Returns the stage after the connection to the device has ended.
+    /// Returns the stage of a polling round after the connection to its device has ended.
     pub fn left(self, closing: Closing) -> Stage
         ensures { result ≡ stages.left closing self }
     {

@@ -1,16 +1,16 @@
-//! The events of devices.
+//! The events of the devices that an office polls.
 use office_events::Piece;
 use poll_core::Closing;
 
 /// An event of the device in a slot, or a timer event. An event for an empty slot has no effect.
 #[derive(Drop)]
 pub enum DeviceEvent {
-    /// A device was connected.
+    /// The device in the slot has connected.
     Connected(usize),
-    /// Bytes came from a device.
+    /// Bytes arrived from the device in the slot.
     Received(usize, Piece),
-    /// The connection to a device has ended, or is to be closed.
+    /// The connection to the device in the slot has ended, or is to be closed.
     Closed(usize, Closing),
-    /// A second has passed.
+    /// A timer event: a second has passed.
     Tick,
 }

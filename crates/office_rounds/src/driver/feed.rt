@@ -1,4 +1,4 @@
-//! Feeds one event to an office.
+//! Feeds one event to an office, and passes the office's answer to the polling rounds.
 ghost use Rattle.std.specs.Prelude.{◌≡◌};
 ghost use Rattle.office_rounds.specs.Passing.{Lasts};
 ghost use Rattle.office_rounds.specs.Driver.Turns as turns;
@@ -10,7 +10,8 @@ use office_books::Books;
 use office_core::Office;
 use office_events::{Answer, Event, Observer, Refusal};
 
-// Passes the office's answer to the round in the event's slot; does nothing without a slot.
+// Passes the office's answer to the polling round in slot `place`. If `place` is `None`, does
+// nothing.
 fn answer_for(rounds: &mut [Round], place: Option<usize>, answer: Result<Answer, Refusal>)
     ensures { rounds.new ≡ answered_for place answer rounds.old }
 {
@@ -21,8 +22,10 @@ fn answer_for(rounds: &mut [Round], place: Option<usize>, answer: Result<Answer,
     }
 }
 
-/// Feeds one event to the office, for the round in a slot or for none. Shows it to the observer,
-/// and passes the answer and the notifications to the rounds.
+/// Feeds one event to the office. The polling round in slot `place` requested the event. `None` if
+/// no round requested it.
+///
+/// Shows the event to the observer, and passes the answer and the notifications to the rounds.
 pub(crate) fn feed_one<B: Books, V: Observer>(
     rounds: &mut [Round],
     place: Option<usize>,
@@ -43,7 +46,8 @@ pub(crate) fn feed_one<B: Books, V: Observer>(
     observer.observe(place, at, event, answer, notes, frames);
 }
 
-/// The slot of the first round that requests an event, with this event; `None` if none does.
+/// Returns the slot of the first polling round that requests an event, and this event. Returns
+/// `None` if no round requests an event.
 pub(crate) fn first_wish(rounds: &[Round]) -> Option<(usize, Event)>
     ensures { turns.as_wished result ≡ turns.first_wish rounds.now }
 {

@@ -1,4 +1,5 @@
-//! Makes a turn: feeds a device event, and then the events that the rounds request.
+//! Processes one device event: feeds the event to the office, and then the events that the polling
+//! rounds request.
 ghost use Rattle.std.specs.Prelude.{◌≡◌, ℕ, List, Some, None, slice_get};
 ghost use Rattle.office_rounds.specs.Passing.{Lasts};
 ghost use Rattle.office_rounds.specs.Driver.Turns.{at_place, brought, came, came_from, opened, table, wished};
@@ -13,13 +14,13 @@ use office_core::Office;
 use office_events::{Event, Name, Observer, Piece};
 use poll_core::Closing;
 
-/// The largest number of requested events that a turn feeds after the device event.
+/// The largest number of requested events that one call of `turn` feeds after the device event.
 ///
-/// If rounds request more, the next turn feeds the rest.
+/// If polling rounds request more events, the next call of `turn` feeds the remaining events.
 pub const MOST_STEPS: u32 = 256;
 
-// Feeds the events that the rounds request, until none requests any or the maximum of a turn is
-// reached.
+// Feeds the events that the polling rounds request, until no round requests an event or 256 events
+// were fed.
 fn settle<B: Books, V: Observer>(
     rounds: &mut [Round],
     office: &mut Office<B>,
@@ -54,7 +55,7 @@ fn leave(rounds: &mut [Round], place: usize, closing: Closing)
     }
 }
 
-// Feeds this event first, and then the events that the rounds request.
+// Feeds the event `event` first, and then the events that the polling rounds request.
 fn begin<B: Books, V: Observer>(
     rounds: &mut [Round],
     place: Option<usize>,
@@ -71,7 +72,7 @@ fn begin<B: Books, V: Observer>(
     settle(rounds, office, at, observer);
 }
 
-// Feeds the events that the rounds request, without a device event first.
+// Feeds the events that the polling rounds request, without a device event first.
 fn go_on<B: Books, V: Observer>(
     rounds: &mut [Round],
     office: &mut Office<B>,
@@ -85,7 +86,8 @@ fn go_on<B: Books, V: Observer>(
     settle(rounds, office, at, observer);
 }
 
-// The name of the device in a slot if its round waits for responses; otherwise `None`.
+// Returns the name of the device in slot `place`, if the device's polling round is waiting for
+// responses. Otherwise returns `None`.
 fn waiting_at(rounds: &[Round], place: usize) -> Option<Option<Name>>
     ensures { (piece : List ℕ) → came_from place result piece
         ≡ came place (slice_get rounds.now place) piece }
@@ -99,7 +101,8 @@ fn waiting_at(rounds: &[Round], place: usize) -> Option<Option<Name>>
     None
 }
 
-// Feeds bytes of a device whose round waits for responses; drops the bytes of any other device.
+// Feeds bytes of a device to the office, if the device's polling round is waiting for responses.
+// Drops the bytes of any other device.
 fn take_bytes<B: Books, V: Observer>(
     rounds: &mut [Round],
     place: usize,
@@ -121,10 +124,11 @@ fn take_bytes<B: Books, V: Observer>(
     }
 }
 
-/// Makes a turn: feeds a device event to the office, and then the events that the rounds request.
+/// Feeds a device event to the office, and then the events that the polling rounds request.
 ///
-/// The round in the first slot comes first. The turn ends when no round requests an event, or after
-/// 256 requested events. All events have the same timestamp, in seconds since 1970-01-01 UTC.
+/// The polling round in the first slot comes first. The call ends when no round requests an event,
+/// or after 256 requested events. All events have the timestamp `at`, in seconds since 1970-01-01
+/// UTC.
 pub fn turn<B: Books, V: Observer>(
     rounds: &mut [Round],
     device_event: DeviceEvent,

@@ -1,4 +1,4 @@
--- Entries by hand, resets, rescalings, closings and exchanges.
+-- Worked examples of entries by hand, resets, rescales, closings and exchanges.
 use Rattle.std.proofs.Common.{◌≡◌, pos, true, false, [], ◌∷◌, Some, None, Ok, Err, refl}
 use Rattle.energy_core.specs.Value.{unit_of}
 use Rattle.energy_core.specs.declared.verdicts.Cause.TheVariants as cause
@@ -92,7 +92,7 @@ intervals_of_the_new : rows_of_meter (facts_of (Fed 3700 (manual 45 0 None) ∷ 
 unfolding unit_of frames frames_in rest rest_in is_garbled is_over is_closed stream next_id frames_at ending_at settled_by pending outcomes_at
 intervals_of_the_new = refl
 
--- A rescaling, and its retry.
+-- A rescale of a counter, then a start of a poll.
 abbrev rescaled : History
 rescaled = Fed 2800 (start three_words) ∷ Fed 2000 (rescale 5200 520 (pos 1)) ∷ answered
 
@@ -108,7 +108,7 @@ at_the_old_scale : told rescaled 2800 (reply 1 20 80 0) ≡ note.Outcome 2 outco
 unfolding unit_of frames frames_in rest rest_in is_garbled is_over is_closed stream next_id frames_at ending_at settled_by pending outcomes_at
 at_the_old_scale = refl
 
--- A reset, and its retry.
+-- A reset of a counter to 0, then a start of a poll.
 abbrev set_to_0 : History
 set_to_0 = Fed 2800 (start three_words) ∷ Fed 2000 (reset 5250 0) ∷ answered
 

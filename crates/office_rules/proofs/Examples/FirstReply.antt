@@ -1,4 +1,4 @@
--- One response gives one reading.
+-- A worked example: one response contains one reading.
 use Rattle.std.proofs.Common.{◌≡◌, pos, false, [], ◌∷◌, Some, None, Ok, refl}
 use Rattle.energy_core.specs.Value.{unit_of}
 use Rattle.energy_core.specs.declared.entries.Entry.TheVariants as entry

@@ -1,4 +1,5 @@
--- The limits of requests, computed: the last allowed number and the first refused one.
+-- Worked examples of the limits of commands, each with the last allowed number and the first
+-- refused number.
 use Rattle.std.proofs.Common.{◌≡◌, ℕ, ℤ, pos, negsuc, true, false, Bool, List, [], Some, replicate, refl}
 use Rattle.office_events.specs.declared.commands.Command.TheVariants as command
 use Rattle.office_events.specs.declared.commands.GivenScale.{GivenScale}
@@ -13,7 +14,7 @@ use Rattle.office_rules.specs.Refusals.{asks_bad_field, asks_bad_scale, is_crowd
 use Rattle.office_rules.specs.Sessions.{Slot}
 use Rattle.office_rules.proofs.Examples.Samples.{inv, main, m1, m2, full_range}
 
--- A device.
+-- The limits of a device.
 
 abbrev adds : (unit timeout window : ℕ) → Bool
 adds unit timeout window =
@@ -28,7 +29,7 @@ timeouts = (refl, refl, refl, refl)
 windows : (adds 1 5 0 ≡ true) × (adds 1 5 1 ≡ false) × (adds 1 5 16 ≡ false) × (adds 1 5 17 ≡ true)
 windows = (refl, refl, refl, refl)
 
--- A register.
+-- The limits of an accounting register.
 
 abbrev registers : (function address : ℕ) → GivenScale → Bool
 registers function address scale =
@@ -38,14 +39,15 @@ functions : (registers 2 0 (given.Fixed (pos 0)) ≡ true) × (registers 3 0 (gi
     × (registers 4 0 (given.Fixed (pos 0)) ≡ false) × (registers 5 0 (given.Fixed (pos 0)) ≡ true)
 functions = (refl, refl, refl, refl)
 
--- A counter has two registers, so the last address is that of its low word.
+-- A counter occupies two Modbus registers, so 65534 is its last allowed address.
 addresses : (registers 3 65534 (given.Fixed (pos 0)) ≡ false) × (registers 3 65535 (given.Fixed (pos 0)) ≡ true)
 addresses = (refl, refl)
 
 scale_addresses : (registers 3 65500 (given.Register 65535) ≡ false) × (registers 3 65500 (given.Register 65536) ≡ true)
 scale_addresses = (refl, refl)
 
--- One read contains the counter and its scale: at most 125 registers, in either order.
+-- One read must contain the counter and its scale factor, in either order, with at most 125 Modbus
+-- registers.
 spans : (registers 3 40000 (given.Register 40124) ≡ false) × (registers 3 40000 (given.Register 40125) ≡ true)
     × (registers 3 40123 (given.Register 40000) ≡ false) × (registers 3 40124 (given.Register 40000) ≡ true)
 spans = (refl, refl, refl, refl)
@@ -57,7 +59,7 @@ scales sf =
 scale_factors : (scales (negsuc 3) ≡ true) × (scales (negsuc 2) ≡ false) × (scales (pos 3) ≡ false) × (scales (pos 4) ≡ true)
 scale_factors = (refl, refl, refl, refl)
 
--- A meter.
+-- The limits of a meter.
 
 abbrev installs : (range raw ceiling : ℕ) → Bool
 installs range raw ceiling =
@@ -67,7 +69,7 @@ ranges : (installs 65535 0 1 ≡ true) × (installs 65536 0 1 ≡ false) × (ins
     × (installs 4294967297 0 1 ≡ true)
 ranges = (refl, refl, refl, refl)
 
--- The count is below the range.
+-- The count of a new meter must be below its range.
 counters : (installs 65536 65535 1 ≡ false) × (installs 65536 65536 1 ≡ true)
     × (installs full_range 4294967295 1 ≡ false) × (installs full_range 4294967296 1 ≡ true)
 counters = (refl, refl, refl, refl)
@@ -82,7 +84,7 @@ closes rolls = asks_bad_field 0 (command.Close (record { register = Some main; r
 turns : (closes 255 ≡ false) × (closes 256 ≡ true)
 turns = (refl, refl)
 
--- The maximum numbers of devices, registers and meters.
+-- The maximum numbers of devices, accounting registers and meters.
 
 abbrev adds_after : (devices : List Slot) → Bool
 adds_after devices = is_crowded devices [] (command.AddDevice (record { name = Some inv; unit = 1; timeout = 5; window = 1 }))
@@ -110,9 +112,9 @@ installs_after count =
 installations : (installs_after 4095 ≡ false) × (installs_after 4096 ≡ true)
 installations = (refl, refl)
 
--- Timestamps and numbers.
+-- The limits of timestamps, poll numbers and request numbers.
 
--- The first second of 2100.
+-- The greatest timestamp is the first second of 2100.
 last_moment : moment_limit ≡ 4102444800
 last_moment = refl
 

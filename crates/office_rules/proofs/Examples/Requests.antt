@@ -1,4 +1,5 @@
--- New requests, retries, requests with other bytes, and the order of refusals.
+-- Worked examples of requests: new requests, retries, requests whose key is stored with other
+-- bytes, and the order of refusals.
 use Rattle.std.proofs.Common.{◌≡◌, [], ◌∷◌, Some, None, Ok, Err, refl}
 use Rattle.energy_core.specs.Value.{unit_of}
 use Rattle.mb_wire.specs.Frames.{frames, frames_in, rest, rest_in, is_garbled}

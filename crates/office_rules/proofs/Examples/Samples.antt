@@ -1,4 +1,4 @@
--- The parts of the examples.
+-- The names, events and histories that the worked examples use.
 use Rattle.std.proofs.Common.{ℕ, ℤ, ◌++◌, pos, List, [], ◌∷◌, Option, Some, lit≤}
 use Rattle.std.specs.Option.{option_map}
 use Rattle.mb_wire.specs.declared.span.ReadFunction.TheVariants.{HoldingRegisters}
@@ -17,7 +17,7 @@ use Rattle.office_rules.specs.History.{History, Opened, Fed, facts_of}
 use Rattle.office_rules.specs.Refusals.{decision_of}
 use Rattle.office_rules.specs.Notes.{notes_after, outgoing_after}
 
--- Names.
+-- Names of a device, an accounting register, a meter and a caller.
 
 abbrev pub inv : List ℕ
 inv = 105 ∷ 110 ∷ 118 ∷ []
@@ -34,7 +34,7 @@ m2 = 109 ∷ 50 ∷ []
 abbrev pub desk : List ℕ
 desk = 100 ∷ 101 ∷ 115 ∷ 107 ∷ []
 
--- Events.
+-- Events of a device, and commands.
 
 abbrev pub device : (name : List ℕ) → (window : ℕ) → Event
 device name window = event.Command (command.AddDevice (record { name = Some name; unit = 1; timeout = 5; window = window }))
@@ -65,7 +65,7 @@ gone = event.Gone (Some inv) closing.Gone
 abbrev pub bytes : List ℕ → Event
 bytes piece = event.Bytes (Some inv) piece
 
--- A read of the counter and its scale, and a read of the counter alone.
+-- A read of a counter and its scale factor, and a read of the counter only.
 abbrev pub three_words : ReadSpan
 three_words = record { function = HoldingRegisters; address = 40094; count = 3; some = lit≤ tt; few = lit≤ tt; inside = lit≤ tt }
 
@@ -112,22 +112,23 @@ exchange last = event.Command (exchange_of last)
 abbrev pub asked : (request : List ℕ) → (last : ℕ) → Event
 asked request last = event.Asked (record { caller = Some desk; number = 7; request = request; command = exchange_of last })
 
--- Earlier events.
+-- Histories of accepted events.
 
--- A device, a register and a meter, and a pending poll.
+-- The events that add a device, an accounting register and a meter, and that start a poll.
 abbrev pub started : History
 started = Fed 1898 (start three_words) ∷ Fed 1898 connect ∷ Fed 1000 (install 5000 (pos 0) 100000 full_range)
     ∷ Fed 1000 (register (given.Register 40096)) ∷ Fed 1000 (device inv 1) ∷ Opened 0 ∷ []
 
--- The meter's count and scale, in the response to the poll with an identifier.
+-- The response to a poll with a given transaction identifier. It contains the meter's count and
+-- scale factor.
 abbrev pub reply : (id high low sf : ℕ) → Event
 reply id high low sf = bytes (0 ∷ id ∷ 0 ∷ 0 ∷ 0 ∷ 9 ∷ 1 ∷ 3 ∷ 6 ∷ 0 ∷ 0 ∷ high ∷ low ∷ 0 ∷ sf ∷ [])
 
--- The response 5200 arrived.
+-- The events up to a response with the count 5200.
 abbrev pub answered : History
 answered = Fed 1900 (reply 0 20 80 0) ∷ started
 
--- A meter with a fixed scale, installed at a time.
+-- The events that install a meter with a fixed scale factor at a given time.
 abbrev pub house : (at raw : ℕ) → (sf : ℤ) → (ceiling range : ℕ) → History
 house at raw sf ceiling range = Fed at connect ∷ Fed at (install raw sf ceiling range) ∷ Fed 0 (register (given.Fixed sf))
     ∷ Fed 0 (device inv 1) ∷ Opened 0 ∷ []
@@ -135,11 +136,11 @@ house at raw sf ceiling range = Fed at connect ∷ Fed at (install raw sf ceilin
 abbrev pub shows : (id : ℕ) → (counter : List ℕ) → Event
 shows id counter = bytes ((0 ∷ id ∷ 0 ∷ 0 ∷ 0 ∷ 7 ∷ 1 ∷ 3 ∷ 4 ∷ []) ++ counter)
 
--- The meter was read at a time, with this count.
+-- The events after a reading of the meter at a given time, with a given count.
 abbrev pub read : (at id : ℕ) → (counter : List ℕ) → History → History
 read at id counter past = Fed at (shows id counter) ∷ Fed at (start two_words) ∷ past
 
--- Notifications.
+-- The notifications and sent bytes after an event, and the state of a meter after a history.
 
 abbrev pub told : History → (at : ℕ) → Event → List Note
 told past at e = notes_after past at e (decision_of past at e)

@@ -1,4 +1,5 @@
--- Rollovers, gaps, ranges and the ceiling.
+-- Worked examples of verdicts on readings: rollovers of the counter, gaps between readings, counts
+-- out of range, and steps above the ceiling.
 use Rattle.std.proofs.Common.{◌≡◌, pos, negsuc, [], ◌∷◌, Err, refl}
 use Rattle.energy_core.specs.Value.{unit_of}
 use Rattle.energy_core.specs.declared.verdicts.Cause.TheVariants as cause

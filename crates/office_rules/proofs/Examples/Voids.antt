@@ -1,4 +1,4 @@
--- The effect of a void, and the entries that may be voided.
+-- Worked examples of voids, and of the entries that may be voided.
 use Rattle.std.proofs.Common.{◌≡◌, ℕ, pos, true, false, [], ◌∷◌, Some, None, Ok, Err, refl}
 use Rattle.std.specs.Option.{option_map}
 use Rattle.energy_core.specs.Value.{unit_of}
@@ -56,7 +56,7 @@ before_one_by_hand : decision_of (Fed 2800 (manual 5300 0 None) ∷ answered) 40
 unfolding unit_of frames frames_in rest rest_in is_garbled is_over is_closed stream next_id frames_at ending_at settled_by pending outcomes_at
 before_one_by_hand = refl
 
--- A second reading, 5300 at 2800.
+-- A second reading of 5300 counts at 2800 s.
 abbrev two : History
 two = Fed 2800 (reply 1 20 180 0) ∷ Fed 2800 (start three_words) ∷ answered
 
@@ -79,7 +79,8 @@ with_its_neighbours : entry_at (facts_of two) m1 2 ≡ Some (record {
 unfolding unit_of frames frames_in rest rest_in is_garbled is_over is_closed stream next_id frames_at ending_at settled_by pending outcomes_at
 with_its_neighbours = refl
 
--- A ceiling of 4 W: 10 at 0, then the readings 12 at 900 and 14 at 1800.
+-- A meter with a ceiling of 4 W. It shows 10 counts at 0 s, 12 counts at 900 s and 14 counts at
+-- 1800 s.
 abbrev slow : History
 slow = read 1800 1 (0 ∷ 0 ∷ 0 ∷ 14 ∷ []) (read 900 0 (0 ∷ 0 ∷ 0 ∷ 12 ∷ []) (house 0 10 (pos 0) 4 full_range))
 
@@ -95,7 +96,7 @@ the_last_may_go : decision_of slow 4000 (void 3) ≡ Ok (answer.Done done.Void)
 unfolding unit_of frames frames_in rest rest_in is_garbled is_over is_closed stream next_id frames_at ending_at settled_by pending outcomes_at
 the_last_may_go = refl
 
--- The readings 4294967290 at 1900 and 104 at 2800.
+-- The readings 4294967290 at 1900 s and 104 at 2800 s, and the void of the first reading.
 abbrev turned : History
 turned = Fed 4000 (void 2)
     ∷ read 2800 1 (0 ∷ 0 ∷ 0 ∷ 104 ∷ []) (read 1900 0 (255 ∷ 255 ∷ 255 ∷ 250 ∷ []) (house 1000 4294967200 (pos 0) 100000 full_range))

@@ -1,4 +1,5 @@
--- Records that are written one after another, and their transaction.
+-- Proofs about writing records one after another, and about the transaction that writes the
+-- records.
 use Rattle.std.proofs.Common.{◌≡◌, ◌≢◌, ◌==◌, Bool, true, false, ℕ, ◌+◌, ◌<◌, List, [], ◌∷◌, ◌++◌, Ok, Err, Result, IsErrAnd, take, length, get_or, sym, ap, subst, ◌∙◌}
 use Rattle.std.proofs.lemmas.List.{take_more}
 use Rattle.sqlite.specs.Store.{Ghosts}
@@ -14,11 +15,11 @@ use Rattle.store_facts.proofs.Committed.{untouched}
 use Rattle.store_facts.proofs.GoingLemmas as going
 use Rattle.store_facts.proofs.Following.{none_recorded, one_recorded}
 
--- No record is written yet.
+-- When a transaction begins, it has written no record.
 pub begun : (a : State) → Goes {X = Unit {0}} {E = RowFault} a a (Ok tt) (RecordsAll [])
 begun a = going.nothing_done a tt (RecordsAll []) none_recorded
 
--- One more record.
+-- If one more record is written, the list of written records gets this record at its end.
 pub came : (fs : List Fact) (i : ℕ) (f : Fact) (a b c : State) → i < length fs → f ≡ get_or fs i f → Goes {X = Unit {0}} {E = RowFault} a b (Ok tt) (RecordsAll (take i fs))
     → Goes {X = Unit {0}} {E = RowFault} b c (Ok tt) (Records f) → Goes {X = Unit {0}} {E = RowFault} a c (Ok tt) (RecordsAll (take (i + 1) fs))
 came fs i f a b c lt is one two =
@@ -26,7 +27,8 @@ came fs i f a b c lt is one two =
     subst (λ (l : List Fact). Goes {X = Unit {0}} {E = RowFault} a c (Ok tt) (RecordsAll l)) (sym more)
     (going.goes_then a b c tt (Ok tt) (RecordsAll (take i fs)) (Records f) (RecordsAll (take i fs ++ f ∷ [])) one two (λ content mid after all here. one_recorded (take i fs) f content mid after all here))
 
--- What `Commits` states of a failed transaction does not depend on the error.
+-- If a failed transaction satisfies the contract `Commits`, it also satisfies the contract with
+-- another error.
 pub commit_failed : {X Y D : Type 0} (T : RowFault → Type 0) (a b : State) (e : D) (r : Result Y RowFault) (Makes : Content → Content → Type 0) → Commits {X = X} a b (Err e) Makes → IsErrAnd r T → Commits a b r Makes
 commit_failed T a b e (Ok y) Makes one is = absurd is
 commit_failed T a b e (Err d) Makes one is = record { ok = λ clean content has. tt; err = one.err; survives = one.survives }
@@ -34,13 +36,13 @@ commit_failed T a b e (Err d) Makes one is = record { ok = λ clean content has.
 pub commit_done : {X Y D E : Type 0} (a b : State) (x : X) (y : Y) (Makes : Content → Content → Type 0) → Commits {X = X} {E = D} a b (Ok x) Makes → Commits {X = Y} {E = E} a b (Ok y) Makes
 commit_done a b x y Makes one = record { ok = one.ok; err = λ clean content has. tt; survives = one.survives }
 
--- A transaction that was rolled back.
+-- If a transaction is rolled back, it stores no record.
 pub left_off : {S X Y D : Type 0} (g : Ghosts S) (old : Held S) (mid end : State) (Makes : Content → Content → Type 0) (T : RowFault → Type 0) (e : D) (r : Result Y RowFault)
     → Goes {X = X} (state g (record old { in_transaction = true })) mid (Err e) Makes → (HasCleanDisk end → IsRolledBack mid end) → Survives mid end (λ _. ⊥) → IsErrAnd r T → Commits (state g old) end r Makes
 left_off g old mid end Makes T e (Ok y) done undone crash is = absurd is
 left_off g old mid end Makes T e (Err d) done undone crash is = going.given_up g old mid end Makes e d done undone crash
 
--- The check that the database is open failed.
+-- If `check_open` fails, no transaction begins and the store is unchanged.
 pub not_begun : {S X : Type 0} (T : RowFault → Type 0) (g : Ghosts S) (zone : List ℕ) (old new : Held S) (fs : List Fact) (r : Result X RowFault) → (fs ≢ []) → (HasCleanDisk (state g new) → KeepsCommit (state g old) (state g new))
     → Survives (state g old) (state g new) (λ _. ⊥) → IsErrAnd r T → BooksFacts g zone fs old new r
 not_begun T g zone old new fs (Ok x) some kept quiet is = absurd is

@@ -1,4 +1,5 @@
--- Interval rows of a meter after shares were subtracted and others added.
+-- Proofs about a meter's rows of `intervals` after a void subtracted energy from quarter hours and
+-- added other energy.
 use Rattle.std.proofs.Common.{◌≡◌, ℕ, ◌-◌, ◌≤◌, ◌<◌, ◌==◌, ◌&&◌, not, Bool, true, false, cond, inl, inr, List, [], ◌∷◌, ◌++◌, map, filter, bytes_eq, nat_le, nat_lt, refl, sym, ap, subst, ◌∙◌, arith, eqb-true, IsPermutation}
 use Rattle.std.specs.List.{list_any, AllByRecursion}
 use Rattle.std.proofs.lemmas.Bool.{cases_Bool, cond-true, cond-false, and_parts}
@@ -21,7 +22,7 @@ use Rattle.store_facts.proofs.Passing.{map_agree, any_agree, any_map, filter_edi
 use Rattle.store_facts.specs.Voids.Withdrawal.{lowered, without_share, without_shares, HasShare, HaveShares, TakesShares, starts_from, DropsRows}
 use Rattle.office_store.specs.Bookings.Corrections.{gone_from}
 
--- ---- shares that are subtracted from the rows of a journal
+-- ---- energy that is subtracted from a meter's quarter hours
 
 less_start : (b : Bool) (share row : Share) → (let made : Share = cond b (record { start = row.start; mwh = row.mwh - share.mwh }) row in made.start) ≡ row.start
 less_start true share row = refl
@@ -65,7 +66,8 @@ pub starts_below_without : (bound : ℕ) (shares rows : List Share) → AllByRec
 starts_below_without bound [] rows h = h
 starts_below_without bound (share ∷ shares) rows h = starts_below_without bound shares (journal.without_share share rows) (starts_below_less bound share rows h)
 
--- If the share and all rows start below a bound, all rows with the share added start below it.
+-- If all quarter hours start before a bound, and energy of a quarter hour before the bound is
+-- added, all still start before the bound.
 below_with : (bound : ℕ) (share : Share) (rows : List Share) → share.start < bound → AllByRecursion (λ (row : Share). row.start < bound) rows → AllByRecursion (λ (row : Share). row.start < bound) (journal.with_share share rows)
 below_with bound share [] low h = (low, tt)
 below_with bound share (row ∷ rows) low h = elim (cases_Bool (row.start == share.start)) [
@@ -78,7 +80,7 @@ pub starts_below_with : (bound : ℕ) (shares rows : List Share) → AllByRecurs
 starts_below_with bound [] rows low h = h
 starts_below_with bound (share ∷ shares) rows low h = starts_below_with bound shares (journal.with_share share rows) low.1 (below_with bound share rows low.0 h)
 
--- If all rows start before the last entry, no row is deleted.
+-- If all rows of `intervals` start before the meter's last entry, a void deletes no row.
 pub none_gone : (opened last : ℕ) (rows : List Share) → opened < last → AllByRecursion (λ (row : Share). row.start < last) rows → rows_until opened last rows ≡ rows
 none_gone opened last rows later low = cond-false (last == opened) [] (filter (λ (row : Share). nat_lt row.start last) rows) (grind (arith, nat_tests, later)) ∙ all_stay rows low
   where
@@ -94,13 +96,14 @@ pub several_therein : (one two rows : List Share) → AreTherein (one ++ two) ro
 several_therein [] two rows h = (tt, h)
 several_therein (share ∷ one) two rows h = let rest = several_therein one two (journal.without_share share rows) h.1 in ((h.0, rest.0), rest.1)
 
--- ---- the rows of the table
+-- ---- a meter's rows of the table `intervals`
 
 module _ (meter : List ℕ) where
   at_start : (start : ℕ) (share : Share) → is_at meter start (interval_of meter share) ≡ has_start start share
   at_start start share = ap (λ b. b && (share.start == start)) (itself meter)
 
-  -- An edit that keeps the meters of all rows, and edits the shares of one meter.
+  -- If an edit of a meter's rows of `intervals` corresponds to an edit of its quarter hours in the
+  -- records, the edited rows encode the edited quarter hours.
   edited : (f : Interval → Interval) (h : Share → Share) (rows : List Interval) (shares : List Share)
       → ((i : Interval) → (f i).meter ≡ i.meter) → ((share : Share) → f (interval_of meter share) ≡ interval_of meter (h share))
       → AreRowsOf meter rows shares → AreRowsOf meter (map f rows) (map h shares)
@@ -132,7 +135,8 @@ module _ (meter : List ℕ) where
   taken [] rows shares are = are
   taken (share ∷ outs) rows shares are = taken outs (without_share meter share rows) (journal.without_share share shares) (taken_one share rows shares are)
 
-  -- Each share is in its row.
+  -- If a meter's quarter hour in the records has at least a given energy, its row of `intervals`
+  -- also has at least this energy.
   each_has : (share : Share) (shares : List Share) → AllByRecursion (λ (row : Share). row.start ≡ share.start → share.mwh ≤ row.mwh) shares → AllByRecursion IsSmall shares
       → AllByRecursion (HasShare meter share) (map (interval_of meter) shares)
   each_has share [] has small = tt
@@ -151,7 +155,7 @@ module _ (meter : List ℕ) where
     have outs (without_share meter share rows) (journal.without_share share shares) (taken_one share rows shares are) therein.1 (small_less share shares small),
   )
 
-  -- ---- deleted rows
+  -- ---- rows of `intervals` that a void deletes
 
   module _ (from : ℕ) where
     abbrev early : Interval → Bool
@@ -189,7 +193,7 @@ module _ (meter : List ℕ) where
     | inr off ↦ ap (λ n. filter (λ (row : Share). nat_lt row.start n) shares) (cond-false (last == opened) 0 last off) ∙ sym (cond-false (last == opened) [] (filter (λ (row : Share). nat_lt row.start last) shares) off)
   ]
 
-  -- ---- the rows of the other meters
+  -- ---- rows of `intervals` for all other meters, which stay unchanged
 
   module _ (other : List ℕ) (off : bytes_eq meter other ≡ false) where
     apart_from : (i : Interval) → is_of other i ≡ true → is_of meter i ≡ false
@@ -222,7 +226,7 @@ module _ (meter : List ℕ) where
     others_dropped from [] = refl
     others_dropped from (i ∷ rows) = kept_step (is_of meter i) (nat_le from (start_of i)) (is_of other i) i (without_where (starts_from meter from) rows) rows refl refl (others_dropped from rows)
 
--- ---- all changes
+-- ---- all changes that a void makes to `intervals`
 
 module _ (meter : List ℕ) (A B C : List Share) (from : ℕ) (rows : List Interval) where
   abbrev pub less_rows : List Interval

@@ -1,4 +1,5 @@
--- A meter that is installed: three rows, and the record that they encode.
+-- Proofs that the three rows that are inserted for a new meter encode the record of its
+-- installation.
 use Rattle.std.proofs.Common.{◌≡◌, ℕ, List, subst}
 use Rattle.office_events.specs.declared.facts.Opening.{Opening}
 use Rattle.office_events.specs.declared.facts.Fact.TheVariants as fact

@@ -1,4 +1,4 @@
--- The tables after a void.
+-- Proofs about the tables after a meter entry was voided.
 use Rattle.std.proofs.Common.{◌≡◌, ◌≢◌, ℕ, ◌+◌, ◌≤◌, ◌<◌, ◌==◌, ◌&&◌, Bool, true, false, cond, inl, inr, List, [], ◌∷◌, ◌++◌, map, filter, Option, Some, None, option_map, bytes_eq, refl, sym, ap, ap₂, subst, ◌∙◌, IsPermutation, arith}
 use Rattle.std.specs.Prelude.{nat_lt, is_some, is_none}
 use Rattle.std.specs.List.{AllByRecursion}
@@ -68,12 +68,12 @@ use Rattle.office_store.proofs.BookingsLemmas.Later.{next_lies, shares_begin}
 use Rattle.office_store.proofs.BookingsLemmas.Rolling as rolling
 
 module _ (f : Fact) (facts : List Fact) (meter : List ℕ) (same_found : (m : List ℕ) → opening_of (f ∷ facts) m ≡ opening_of facts m) (spares : SparesOthers f facts meter) where
-  -- ---- the entries
+  -- ---- the rows of `entries` after a void
   module _ (o : Opening) (there : opening_of facts meter ≡ Some o) where
     own_entries : (g : List Fact) → opening_of g meter ≡ Some o → entries_of g meter ≡ entered_rows o (rows_of g o)
     own_entries g found = ap (entries_at g) found
 
-    -- No row changes.
+    -- If no entry follows the voided entry, a void changes no row of `entries`.
     pub entries_kept : (content after : Content) → entered_rows o (rows_of (f ∷ facts) o) ≡ entered_rows o (rows_of facts o) → Edits entry_tree.entries entry_columns (λ rows. rows) content after
         → AreEntries facts content → AreEntries (f ∷ facts) after
     entries_kept content after are e a = record {
@@ -88,7 +88,7 @@ module _ (f : Fact) (facts : List Fact) (meter : List ℕ) (same_found : (m : Li
         own : entries_of facts meter ≡ entries_of (f ∷ facts) meter
         own = own_entries facts there ∙ sym are ∙ sym (own_entries (f ∷ facts) (same_found meter ∙ there))
 
-    -- One row changes.
+    -- If a meter entry follows the voided entry, a void changes only the row of the next entry.
     module _ (place rolls : ℕ) where
       abbrev edit : Entered → Entered
       edit e = cond (is_entry meter place e) (with_rollovers rolls e) e
@@ -135,11 +135,12 @@ map_same : {X : Type 0} (xs : List X) → map (λ x. x) xs ≡ xs
 map_same [] = refl
 map_same (x ∷ xs) = ap (λ l. x ∷ l) (map_same xs)
 
--- An entry with its new rollovers, if it is this entry.
+-- The row of an entry, with new rollovers if it is the meter's entry at index `place`, and
+-- otherwise unchanged.
 abbrev edited : (meter : List ℕ) → (place rolls : ℕ) → Entered → Entered
 edited meter place rolls e = cond (is_entry meter place e) (with_rollovers rolls e) e
 
--- ---- the removed and the added shares
+-- ---- the energy by quarter hours that a void subtracts and adds
 
 abbrev pub next_out : Option Rejoined → List Share
 next_out None = []
@@ -149,14 +150,15 @@ abbrev pub next_put : Option Rejoined → List Share
 next_put None = []
 next_put (Some joined) = shares_of joined.put
 
--- The next entry that is not voided, with the rollovers that follow from its new predecessor.
+-- True if the rejoined meter entry is the next entry that is not voided, with rollovers counted
+-- from the entry before the void. None means no next entry.
 abbrev pub HasRolls : (opening : Last) → Around → Option Rejoined → Type 0
 HasRolls opening around None = around.next ≡ None
 HasRolls opening around (Some joined) =
     (next : EntryRow) × (around.next ≡ Some next)
     × (joined.rollover ≡ record { place = next.place; rolls = rolls_of (with_rolls (last_before opening around) next.entry) })
 
--- The changes, in terms of records.
+-- True if a correction has exactly the changes that the records require for a void.
 pub record IsLeft (facts : List Fact) (o : Opening) (place : ℕ) (made : Correction) : Type 0 where
   pub around : Around
   pub there : row_at place (rows_of facts o) ≡ Some around
@@ -170,9 +172,10 @@ pub record IsLeft (facts : List Fact) (o : Opening) (place : ℕ) (made : Correc
   pub last : made.last ≡ stands_at (cond (is_none made.next) (last_before (opened o) around) (installation_of facts o).last) total
   pub from : made.from ≡ gone_from o.at made.last.moment
 
--- ---- the interval rows
+-- ---- the rows of `intervals` after a void
 
--- The condition under which shares are added.
+-- True if the energy up to the next meter entry may be added to `intervals`: no row then exceeds
+-- the greatest total of a meter.
 abbrev pub may_put : (meter : List ℕ) → Option Rejoined → List Interval → Type 0
 may_put meter None is = Unit {0}
 may_put meter (Some joined) is = AreSmall (with_shares meter (shares_of joined.put) is)
@@ -202,7 +205,8 @@ within_sum n (row ∷ rows) h =
     let parts = sum_by-cons (λ (row : Share). row.mwh) row rows in
     (omega (arith, h, parts), within_sum n rows (omega (arith, h, parts)))
 
--- The shares of several steps start before the last step ends.
+-- True if a step (the energy between two meter entries) has a positive length and ends at `bound`
+-- or earlier.
 abbrev IsBefore : ℕ → Step → Type 0
 IsBefore bound step = (step.from < step.till) × (step.till ≤ bound)
 
@@ -270,7 +274,7 @@ module _ (v : VoidedEntry) (facts : List Fact) (lawful : AreLawful (fact.Void v 
   voided_so : IsVoided (installed o) lines v.place around
   voided_so = change (installed o) lines v.place around begun (fits, fitting) left.there
 
-  -- ---- the account of the meter
+  -- ---- the state and the energy of the meter after a void
 
   stands_by : (next : Option Rejoined) (l : Last) → HasRolls (opened o) around next → cond (is_none next) last l ≡ cond (is_some around.next) l last
   stands_by None l none = sym (ap (λ (n : Option EntryRow). cond (is_some n) l last) none)
@@ -295,7 +299,7 @@ module _ (v : VoidedEntry) (facts : List Fact) (lawful : AreLawful (fact.Void v 
       ap (λ ls. installed_as place (installation_by o ls)) line_is
       ∙ ap (λ (l : LastRow). settled l false (installed_row facts place o)) (sym last_is)
 
-  -- ---- the entries of the meter
+  -- ---- the entries of the meter after a void
 
   numbered : AreNumbered rows
   numbered = (stand (installed o) lines begun fitting).places
@@ -343,7 +347,7 @@ module _ (v : VoidedEntry) (facts : List Fact) (lawful : AreLawful (fact.Void v 
       entry_rolled f facts v.meter same_found spares o there joined.rollover.place joined.rollover.rolls content after
       (ap (entered_rows o) rows_are ∙ (ap (λ (n : Option EntryRow). entered_rows o (map (changed_by v.place n last) rows)) next_is ∙ (rolled_rows ∙ same_edit))) e a
 
-  -- ---- the interval rows of the meter
+  -- ---- the meter's rows of `intervals` after a void
   module _ (kept : MetersAreKept) (ranges : InstallationsAreInRange) (lying : RowsLieWithin) (law : SharesAddUp) where
     abbrev old : List Share
     old = rows_of_opening facts o
@@ -378,7 +382,7 @@ module _ (v : VoidedEntry) (facts : List Fact) (lawful : AreLawful (fact.Void v 
         ∙ ap₂ (λ (outs puts : List Share). rows_until o.at ended (with_each puts (without_each outs old))) left.out left.put
         ∙ ap (λ (rest : List Share). rows_until o.at ended (with_each C rest)) (several_taken A B old)
 
-    -- If there is a next entry, no row is deleted.
+    -- If a meter entry follows the voided entry, a void deletes no row of `intervals`.
     all_stay : (next : EntryRow) → around.next ≡ Some next → rows_until o.at ended exchanged ≡ exchanged
     all_stay next is =
         let end : ended ≡ (books.last_in (installed o) lines).at = ap (λ (l : Last). l.at) (voided_so.last ∙ ap (λ (n : Option EntryRow). cond (is_some n) (books.last_in (installed o) lines) last) is) in

@@ -1,4 +1,4 @@
--- The index after the last row, from the row that a query shows.
+-- Proofs that the answer of a query for the last row determines the index of the next row.
 use Rattle.std.proofs.Common.{◌≡◌, ℕ, ◌+◌, pos, Bool, true, false, cond, ◌&&◌, List, [], ◌∷◌, map, take, Option, Some, None, Ok, Err, Result, refl, sym, ap, ◌∙◌}
 use Rattle.std.specs.Prelude.{nat_le}
 use Rattle.sqlite.specs.declared.types.Value.TheVariants.{Int}

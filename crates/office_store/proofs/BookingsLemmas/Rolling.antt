@@ -1,4 +1,4 @@
--- The rows of a meter's entries after a void.
+-- Proofs about the rows of a meter's entries after one entry was voided.
 use Rattle.std.proofs.Common.{◌≡◌, ℕ, ℤ, ◌+◌, ◌≤◌, ◌<◌, ◌==◌, ◌&&◌, Bool, true, false, cond, inl, inr, List, [], ◌∷◌, map, length, Option, Some, None, bytes_eq, option_map, refl, sym, ap, ap₂, subst, ◌∙◌, arith, eq-eqb, eqb-true, ne_eqb}
 use Rattle.std.specs.List.{AllByRecursion}
 use Rattle.std.specs.Option.{option_or}
@@ -23,9 +23,10 @@ use Rattle.store_tables.specs.Entries.Rows.{Entered, is_entry, rolled as with_ro
 use Rattle.store_facts.specs.Rows.{rolls_of, entry_row, entered, opening_row, scale_after, entered_rows}
 use Rattle.store_queries.proofs.MeteringLemmas.Shapes.{IsBelow, below, FoundThere, found_rest, found_there}
 
--- ---- the next row that is not voided
+-- ---- the next meter entry of a journal that is not voided
 
--- The next entry is the only one at its index, and its index is after `place`.
+-- True if the next meter entry is the only entry at its index, and its index is greater than
+-- `place`.
 pub record IsNextThere (place : ℕ) (next : EntryRow) (rows : List EntryRow) : Type 0 where
   pub each : AllByRecursion (FoundThere next.place next) rows
   pub stands : next.stands ≡ true
@@ -37,7 +38,7 @@ stands_if : (b : Bool) (row next : EntryRow) → row.stands ≡ b → (let o : O
 stands_if true row next is h = (is, same_Some row next h)
 stands_if false row next is h = absurd (let e = h in cc)
 
--- The next row that is not voided, in a list with one more row.
+-- If a row is added to a journal, the next meter entry that is not voided keeps its properties.
 past : (place : ℕ) (row : EntryRow) (rows : List EntryRow) (o : Option EntryRow) (next : EntryRow) → AreNumbered (row ∷ rows) → place ≤ length rows + 1
     → ((n : EntryRow) → o ≡ Some n → IsNextThere place n rows) → option_or o (if_standing row) ≡ Some next → IsNextThere place next (row ∷ rows)
 past place row rows (Some m) next numbered low before whole =
@@ -81,7 +82,7 @@ next_there place (row ∷ rows) around next numbered h is = elim (cases_Bool (ro
       (ap (λ (a : Around). a.next) passing ∙ is)
 ]
 
--- ---- the scale after the rows
+-- ---- the counter's scale factor after a meter's entries
 
 sf_kept : (l m : Last) (e : Entry) → l.sf ≡ m.sf → (after l e).sf ≡ (after m e).sf
 sf_kept l m (entry.Step at raw rolls) is = is
@@ -99,7 +100,7 @@ sf_read l kind.Closing (entry.Change at before new sf) is = absurd (cc)
 sf_read l kind.Reset (entry.Change at before new sf) is = absurd (cc)
 sf_read l kind.Rescale (entry.Change at before new sf) is = absurd (cc)
 
--- A row at the index of the void, and any other row.
+-- If a journal row has the index of the voided meter entry, the void marks this row as voided.
 at_void : (place : ℕ) (next : Option EntryRow) (last : Last) (row : EntryRow) → (row.place == place) ≡ true → changed_by place next last row ≡ struck row
 at_void place next last row at = cond-true (row.place == place) (struck row) (cond (is_next next row) (rolled last row) row) at
 
@@ -110,7 +111,8 @@ module _ (o : Opening) where
   abbrev stood : List EntryRow → Last
   stood rows = last_of (opened o) (entries_in rows)
 
-  -- A row that is voided or not as before, with an entry of the same scale.
+  -- If a meter entry is replaced by an entry with the same scale factor, the scale factor after the
+  -- journal stays the same.
   same_scale : (b : Bool) (row now : EntryRow) (rows rest : List EntryRow) → row.stands ≡ b → now.stands ≡ b → ((l : Last) → (after l now.entry).sf ≡ (after l row.entry).sf)
       → scale_after o rest ≡ scale_after o rows → scale_after o (now ∷ rest) ≡ scale_after o (row ∷ rows)
   same_scale true row now rows rest was is keeps more =
@@ -119,7 +121,8 @@ module _ (o : Opening) where
   same_scale false row now rows rest was is keeps more =
       ap (λ es. (last_of (opened o) es).sf) (entries_struck now rest is) ∙ more ∙ sym (ap (λ es. (last_of (opened o) es).sf) (entries_struck row rows was))
 
-  -- A reading that is voided.
+  -- If a reading is voided, the scale factor after the journal stays the same, because readings do
+  -- not set the scale factor.
   struck_scale : (b : Bool) (row : EntryRow) (rows rest : List EntryRow) → row.stands ≡ b → is_read row.kind row.entry ≡ true
       → scale_after o rest ≡ scale_after o rows → scale_after o (struck row ∷ rest) ≡ scale_after o (row ∷ rows)
   struck_scale true row rows rest was read more =
@@ -131,7 +134,7 @@ module _ (o : Opening) where
   rolled_scale true last row rows rest more = same_scale row.stands row (record row { entry = with_rolls last row.entry }) rows rest refl refl (λ l. sf_rolled last l row.entry) more
   rolled_scale false last row rows rest more = same_scale row.stands row row rows rest refl refl (λ l. refl) more
 
-  -- A row at the index of the void is a reading.
+  -- True if a row at the index of the void is a reading.
   abbrev pub IsRead : (place : ℕ) → EntryRow → Type 0
   IsRead place row = row.place ≡ place → is_read row.kind row.entry ≡ true
 
@@ -153,9 +156,9 @@ module _ (o : Opening) where
   same_scales place next last (row ∷ rows) h =
       changed_scale (row.place == place) place next last row rows (map (changed_by place next last) rows) refl h.0 (same_scales place next last rows h.1)
 
-  -- ---- the rows of the table
+  -- ---- the rows of `entries` after a void
 
-  -- The table's row of a journal row, with any edit.
+  -- The row of `entries` for a journal row, after an edit of `entries`.
   module _ (place : ℕ) (next : Option EntryRow) (last : Last) (edit : Entered → Entered) where
     abbrev pub IsEdited : EntryRow → Type 0
     IsEdited row = (s : ℤ) → entered o.meter (entry_row s (changed_by place next last row)) ≡ edit (entered o.meter (entry_row s row))
@@ -168,7 +171,7 @@ module _ (o : Opening) where
         let scale : scale_after o (ch row ∷ map ch rows) ≡ scale_after o (row ∷ rows) = same_scales place next last (row ∷ rows) h in
         ap₂ ◌∷◌ (ap (λ s. entered o.meter (entry_row s (ch row))) scale ∙ e.0 (scale_after o (row ∷ rows))) (all_edited begin rows h.1 e.1)
 
-  -- Without a next entry no row changes.
+  -- If an entry is marked as voided in the journal, its row of `entries` stays unchanged.
   struck_or_not : (b : Bool) (last : Last) (row : EntryRow) (s : ℤ) → entry_row s (cond b (struck row) row) ≡ entry_row s row
   struck_or_not true last row s = refl
   struck_or_not false last row s = refl
@@ -176,7 +179,7 @@ module _ (o : Opening) where
   pub none_next : (place : ℕ) (last : Last) (row : EntryRow) → IsEdited place None last (λ e. e) row
   none_next place last row s = ap (entered o.meter) (struck_or_not (row.place == place) last row s)
 
-  -- There is a next entry.
+  -- If a next meter entry exists, a void changes only the row of this entry.
   module _ (place : ℕ) (next : EntryRow) (last : Last) (following : place < next.place) (stands : next.stands ≡ true) (read : is_read next.kind next.entry ≡ true) where
     abbrev pub rolls : ℕ
     rolls = rolls_of (with_rolls last next.entry)

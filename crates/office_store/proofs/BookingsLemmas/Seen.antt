@@ -1,4 +1,4 @@
--- The row with a key, from the row that a query shows.
+-- Proofs that a query finds the row with a key, and that its reader returns the row's value.
 use Rattle.std.proofs.Common.{◌≡◌, ℕ, Bool, List, [], ◌∷◌, map, take, slice_get, Some, Ok, Err, Result, IsErrAnd, refl, sym, ap, ◌∙◌}
 use Rattle.sqlite.specs.Order.{Row}
 use Rattle.sqlite.specs.Store.{Ghosts}
@@ -13,7 +13,7 @@ use Rattle.store_facts.specs.Going.{Goes, Told}
 use Rattle.store_facts.proofs.GoingLemmas.{of_answer, told_less}
 use Rattle.office_store.specs.Bookings.Places.{Answered, IsSeenIn}
 
--- The answer of the query is not used.
+-- If a call fails after one query, it commits nothing.
 pub asked_refused : {S A D Y E : Type 0} (g : Ghosts S) (old new : Held S) (r : Result A D) (e : E) (Makes : Content → Content → Type 0) → AsksInside g old new r
     → Goes {X = Y} (state g old) (state g new) (Err e) Makes
 asked_refused g old new r e Makes asks = record { kept = λ clean inside content has. asks.kept clean content has; makes = λ clean inside content has. tt; survives = asks.survives }
@@ -28,7 +28,7 @@ module _ {X : Type 0} (passes : X → Bool) (shown : X → Row) where
   first_shown row items [] is e = absurd (let f = sym is ∙ ap (λ rs. slice_get rs 0) e in cc)
   first_shown row items (x ∷ found) is e = (x, refl, (let f : Some row ≡ Some (shown x) = sym is ∙ ap (λ rs. slice_get rs 0) e in cc))
 
-  -- The answer from a row that was read.
+  -- If the query of a look-up returns a row, the look-up's answer follows from this row.
   pub seen_told : {S A B Q : Type 0} (g : Ghosts S) (old new : Held S) (tree : ℕ) (columns : X → Row) (rows : Q) (items : List Row) (row : Row) (a : A) (b : B)
       (IsRead : X → A → Type 0) (IsSound : X → Type 0) (IsSeen : X → B → Type 0) → ((x : X) → IsRead x a → IsSeen x b)
       → AsksInside {X = Q} {E = Error} g old new (Ok rows) → TellsAnswer g old new tree columns (Ok rows) (λ xs a. ShowsFirst passes AnyOrder shown xs items)
@@ -45,7 +45,8 @@ module _ {X : Type 0} (passes : X → Bool) (shown : X → Row) where
       })
       (of_answer g old new tree columns (λ xs a. ShowsFirst passes AnyOrder shown xs items) rows asks tells)
 
-  -- The value that was read is the answer.
+  -- If the query of a look-up returns a row, the look-up's answer is the value that the reader
+  -- returns for this row.
   pub read_told : {S A Q : Type 0} (g : Ghosts S) (old new : Held S) (tree : ℕ) (columns : X → Row) (rows : Q) (items : List Row) (row : Row) (r : Result A RowFault)
       (IsSeen : X → A → Type 0) (IsSound : X → Type 0)
       → AsksInside {X = Q} {E = Error} g old new (Ok rows) → TellsAnswer g old new tree columns (Ok rows) (λ xs a. ShowsFirst passes AnyOrder shown xs items)

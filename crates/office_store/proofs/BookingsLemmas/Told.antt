@@ -1,4 +1,4 @@
--- The changes of a void in the tables are its changes in the records.
+-- Proofs that the changes of a void in the tables equal the changes that the records require.
 use Rattle.std.proofs.Common.{◌≡◌, ℕ, ℤ, ◌+◌, ◌≤◌, ◌&&◌, true, false, cond, inl, inr, ◌⊎◌, List, [], ◌∷◌, ◌++◌, map, filter, Option, Some, None, option_map, refl, sym, ap, ap₂, subst, ◌∙◌, IsPermutation, arith, append-nil}
 use Rattle.std.specs.Prelude.{is_none}
 use Rattle.std.specs.List.{AllByRecursion}
@@ -57,7 +57,7 @@ use Rattle.store_queries.proofs.MeteringLemmas.Around.{AtRow, IsNextRow, AreStru
 use Rattle.office_store.proofs.BookingsLemmas.Left.{HasRolls, IsLeft, next_out, next_put}
 use Rattle.office_store.proofs.BookingsLemmas.Rolling as rolling
 
--- ---- a reading in its row
+-- ---- a reading and its row of `entries`
 
 read_back : (k : EntryKind) (e : Entry) → is_read k e ≡ true → entry.Step (moment_of e) (raw_of e) (rolls_of e) ≡ e
 read_back k e is = by_read (λ k e. entry.Step (moment_of e) (raw_of e) (rolls_of e) ≡ e) (λ at raw rolls. refl) k e is
@@ -68,12 +68,12 @@ read_shape k e is = by_read HasShape (λ at raw rolls. tt) k e is
 read_kind : (k : EntryKind) (e : Entry) → is_read k e ≡ true → is_reading k ≡ true
 read_kind k e is = by_read (λ k e. is_reading k ≡ true) (λ at raw rolls. refl) k e is
 
--- The entry that is read from its row.
+-- If a journal entry is read from a row of `entries`, it equals the recorded entry.
 told_entry : (row : stored.EntryRow) (e : Entry) (sf : ℤ) (is : EntryRow) → IsReadingOf row e → row ≡ entry_row sf is → is_read is.kind is.entry ≡ true → e ≡ is.entry
 told_entry row e sf is reading row_is read =
     reading.step ∙ ap (λ (r : stored.EntryRow). entry.Step r.moment r.raw r.rolls) row_is ∙ read_back is.kind is.entry read
 
--- ---- the removed and the added steps
+-- ---- the steps that a void removes and adds
 
 one_energy : (s : Step) → energy_in (s ∷ []) ≡ s.mwh
 one_energy s = let parts = sum_by-cons (λ (x : Step). x.mwh) s [] in omega (arith, parts)
@@ -87,7 +87,8 @@ one_shares s = append-nil (shares_of s)
 two_shares : (s t : Step) → all_shares (s ∷ t ∷ []) ≡ shares_of s ++ shares_of t
 two_shares s t = ap (λ (l : List Share). shares_of s ++ l) (append-nil (shares_of t))
 
--- The steps of the next entry.
+-- True if the removed and the added energy and the next meter entry's rollovers agree with the
+-- records. The energy agrees in total and by quarter hours.
 record NextLeft (o : Opening) (around : Around) (out : Step) (next : Option Rejoined) : Type 0 where
   rolls : HasRolls (opened o) around next
   outs : all_shares (steps_out (installed o) around) ≡ next_out next ++ shares_of out
@@ -134,7 +135,7 @@ module _ (o : Opening) (around : Around) (out : Step) where
         come = ap energy_in put_is ∙ (one_energy come ∙ ap (λ (s : Step). s.mwh) (sym puts));
       }
 
--- ---- all changes
+-- ---- all changes that a void makes to `intervals`
 
 module _ (v : VoidedEntry) (facts : List Fact) (lawful : AreLawful (fact.Void v ∷ facts)) (o : Opening) (there : opening_of facts v.meter ≡ Some o)
     (stand : RowsStand) (change : VoidsChangeTwoRows) (late : 2 ≤ v.place) (zone : List ℕ) (content after_asking : Content) (a : AreOf zone facts content)
@@ -181,7 +182,8 @@ module _ (v : VoidedEntry) (facts : List Fact) (lawful : AreLawful (fact.Void v 
   abbrev before : Last
   before = last_before (opened o) around
 
-  -- The voids.
+  -- The table `voids` has a void for an entry exactly if the meter's journal marks the entry as
+  -- voided.
   named_at : (place : ℕ) → names v.meter place vs ≡ is_voided place lines
   named_at place = names_are facts v.meter place ∙ ap (λ m. is_voided place (journal_of facts m)) (sym name)
 
@@ -217,7 +219,8 @@ module _ (v : VoidedEntry) (facts : List Fact) (lawful : AreLawful (fact.Void v 
   voided_is : counter_after found.near.entry ≡ after before around.row.entry
   voided_is = ap counter_after row.is ∙ stands_after_row o around.row around.before (read_shape around.row.kind around.row.entry read) stands
 
-  -- The state of the meter.
+  -- The last entry and the total energy in the meter's row of `installations` equal the meter's
+  -- last entry and energy in the records.
   last_is : found.standing.last ≡ last_row (installation_of facts o)
   last_is = let it = stands_found facts lawful.1 v.meter o there StandsThere found.standing.last (at.standing.last (placed (installed_row facts) (openings_in facts)) a.installations) in it.1 ∙ it.2
 

@@ -1,4 +1,4 @@
--- The tables of one database determine its records, in any order of its rows.
+-- Proofs that two lists of records are equal up to order if one database encodes both lists.
 use Rattle.std.proofs.Common.{ℕ, List, [], ◌∷◌, map, refl}
 use Rattle.std.proofs.lemmas.List.Sorted.{IsPermutation-sym, IsPermutation-trans}
 use Rattle.sqlite.specs.Order.{Row}
@@ -22,7 +22,8 @@ use Rattle.store_facts.specs.Rows.{placed, added, registered, installed_row, ran
 use Rattle.store_facts.specs.Tables.{meta_tree, meta_columns, AreOf}
 use Rattle.office_store.specs.Laws.Laws.{TablesTellTheirFacts, DatabasesTellTheirFacts}
 
--- The same rows, in another order.
+-- Proofs about two contents of one database's tables. The contents have the same rows, possibly in
+-- another order.
 module _ (db : Database) (content after : Content) (had : AreTables db content) (has : AreTables db after) where
   same_rows : {X : Type 0} (tree : ℕ) (columns : X → Row) (rows : List X) → HasTree books_schema.tables tree → HasRows tree columns rows content → HasRows tree columns rows after
   same_rows tree columns rows there are =

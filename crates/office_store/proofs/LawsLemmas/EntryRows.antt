@@ -1,4 +1,4 @@
--- The entries of a meter in the table determine its opening and its rows.
+-- Proofs that the rows of a meter in `entries` determine its opening and its journal.
 use Rattle.std.proofs.Common.{◌≡◌, ℕ, ℤ, ◌+◌, ◌≤◌, Bool, true, false, not, List, [], ◌∷◌, length, inl, inr, refl, sym, ap, ap₂, ◌∙◌, Option, Some, None, arith}
 use Rattle.std.specs.List.{AllByRecursion}
 use Rattle.sqlite_keyed.proofs.ListLemmas.{all_weaker}
@@ -22,7 +22,7 @@ use Rattle.office_store.proofs.LawsLemmas.Lists.{Among, InOrder, undone}
 use Rattle.office_store.proofs.LawsLemmas.Journals.{is_change, sets, IsFormed, StandsBy}
 use Rattle.office_store.proofs.LawsLemmas.Placed.{Falls}
 
--- The kind of a journal row, from the kind in the table.
+-- The kind of a journal row for a kind in the table `entries`, or None for an opening.
 kind_from : EntryKind → Option journal.EntryKind
 kind_from kind.Opening = None
 kind_from kind.Reading = Some from.Reading
@@ -39,7 +39,8 @@ kind_back from.Closing = refl
 kind_back from.Reset = refl
 kind_back from.Rescale = refl
 
--- A change has the scale that the counter was set to.
+-- True if a scale factor is the scale factor that a reset or a rescale set. Always true for any
+-- other meter entry.
 abbrev HasScale : Entry → ℤ → Type 0
 HasScale (entry.Step at raw rolls) sf = Unit {0}
 HasScale (entry.Change at before new set) sf = set ≡ sf
@@ -51,7 +52,8 @@ scale_by o place k (entry.Change at before new set) stands rows h =
     let row : EntryRow = record { place = place; kind = k; entry = entry.Change at before new set; stands = stands } in
     sym (ap (λ es. (last_of (opened o) es).sf) (entries_standing row rows (h refl)))
 
--- Two entries of the same kind are both changes, or both steps.
+-- If two meter entries have the same kind, either both set the counter (a reset or a rescale), or
+-- neither does.
 entry_told : (k : journal.EntryKind) (a b : Entry) (sf : ℤ) → sets k ≡ is_change a → sets k ≡ is_change b → HasScale a sf → HasScale b sf
     → moment_of a ≡ moment_of b → raw_of a ≡ raw_of b → rolls_of a ≡ rolls_of b → after_of a ≡ after_of b → a ≡ b
 entry_told k (entry.Step at raw rolls) (entry.Step at' raw' rolls') sf p q s t moment r turns after = λ i. entry.Step (moment i) (r i) (turns i)
@@ -60,7 +62,7 @@ entry_told k (entry.Change at before new set) (entry.Step at' raw' rolls') sf p 
 entry_told k (entry.Change at before new set) (entry.Change at' before' new' set') sf p q s t moment r turns after =
     let scale : set ≡ set' = s ∙ sym t in λ i. entry.Change (moment i) (r i) (after i) (scale i)
 
--- Two journals with voids of the same entries.
+-- True if two journals have voids of the same meter entries.
 abbrev pub SameVoids : Journal → Journal → Type 0
 SameVoids lines others = (place : ℕ) → is_voided place lines ≡ is_voided place others
 
@@ -100,7 +102,7 @@ module _ (o : Opening) (lines others : Journal) (voids : SameVoids lines others)
       let rest : entered_rows o xs ≡ entered_rows o ys = cc in
       ap₂ ◌∷◌ (row_told x y xs ys head p.0 q.0 s.0 t.0) (rows_told xs ys rest p.1 q.1 s.1 t.1)
 
--- ---- the indices of the entries
+-- ---- the indices of a meter's entries
 
 few : (o : Opening) (n : ℕ) (xs : List EntryRow) → AreNumbered xs → length xs + 1 ≤ n → AllByRecursion (λ e. entry_place e ≤ n) (entered_rows o xs)
 few o n [] h le = (omega arith, tt)
@@ -119,7 +121,7 @@ pub opening_among : (o : Opening) (xs : List EntryRow) → Among (entered o.mete
 opening_among o [] = inl refl
 opening_among o (x ∷ xs) = inr (opening_among o xs)
 
--- The entry with index 1 is the opening.
+-- If an entry of a meter has index 1, it is the opening of the meter.
 pub first_entry : (o : Opening) (xs : List EntryRow) (e : Entered) → AreNumbered xs → Among e (entered_rows o xs) → entry_place e ≡ 1 → e ≡ entered o.meter (opening_row o)
 first_entry o [] e h (inl is) one = is
 first_entry o [] e h (inr there) one = absurd there

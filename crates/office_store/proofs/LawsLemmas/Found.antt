@@ -1,4 +1,4 @@
--- An open finds the records that a crash left, and those of a file.
+-- Proofs that opening a file finds the records that a crash left in it.
 use Rattle.std.proofs.Common.{◌≡◌, sym, subst, ◌∙◌}
 use Rattle.sqlite.specs.Tree.{Trees}
 use Rattle.sqlite.specs.Schema.{Schema}
@@ -9,7 +9,7 @@ use Rattle.store_facts.specs.Holding.{HasFacts}
 use Rattle.office_store.specs.Laws.Laws.{LeftFactsAreFound}
 use Rattle.office_store.specs.Laws.Files.{HasFactsIn, FoundFilesKeepTheirs}
 
--- Trees determine the schema.
+-- If two schemas fit the same B-trees, the schemas are equal.
 one_schema : (s t : Schema) (trees : Trees) → IsSound s trees → IsSound t trees → s ≡ t
 one_schema s t trees h k =
     let read = reads _ s h.lists in read_once _ s t read.tables read.indexes read.views (reads _ t k.lists)

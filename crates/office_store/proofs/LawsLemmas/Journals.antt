@@ -1,4 +1,4 @@
--- Properties that determine the rows of a journal.
+-- Proofs of properties of journals from which the rows of a journal follow.
 use Rattle.std.proofs.Common.{◌≡◌, ℕ, ◌==◌, ◌&&◌, Bool, true, false, not, List, [], ◌∷◌, refl, sym, ap, subst, ◌∙◌, inl, inr, Option, Some, None}
 use Rattle.std.specs.List.{AllByRecursion}
 use Rattle.std.proofs.lemmas.Bool.{cases_Bool, cond-true, cond-false}
@@ -16,7 +16,7 @@ use Rattle.meter_journal.specs.Standing.{is_voided}
 use Rattle.meter_journal.proofs.AsEntered.{AreRowsOf, rows_are_entered}
 use Rattle.meter_journal.proofs.Keeping.{all_three, by_read, mapped_some}
 
--- The kinds whose entries set the counter.
+-- True if meter entries of a kind set the counter: a reset or a rescale.
 abbrev pub sets : EntryKind → Bool
 sets kind.Reading = false
 sets kind.Manual = false
@@ -28,7 +28,8 @@ abbrev pub is_change : Entry → Bool
 is_change (entry.Step at raw rolls) = false
 is_change (entry.Change at before new sf) = true
 
--- The kind of a row determines whether it sets the counter. A row that does is not voided.
+-- True if the kind of a journal row fits its meter entry, and a row that sets the counter is not
+-- voided.
 pub record IsFormed (row : EntryRow) : Type 0 where
   pub kind : sets row.kind ≡ is_change row.entry
   pub stands : is_change row.entry ≡ true → row.stands ≡ true
@@ -59,7 +60,7 @@ rolled_formed last row h =
       | inr e ↦ subst IsFormed (sym (cond-false _ _ _ e)) h
     ]
 
--- A reading that is voided.
+-- If a reading is marked as voided, its row is still a valid row of a journal.
 struck_formed : (row : EntryRow) → is_read row.kind row.entry ≡ true → IsFormed (record row { stands = false })
 struck_formed row read =
     by_read (λ k e. IsFormed (record { place = row.place; kind = k; entry = e; stands = false }))
@@ -99,7 +100,7 @@ rows_are_formed meter (Voided place ∷ lines) h =
     let may = all_three around.row.stands (is_read around.row.kind around.row.entry) (is_free around.next) h.0.voidable in
     void_formed meter.opening place (rows_of meter.opening lines) around h.0.there may.1 (rows_are_formed meter lines h.1)
 
--- A row is not voided if no void has its index.
+-- True if a journal row is marked as voided exactly if a void has its index.
 abbrev pub StandsBy : Journal → EntryRow → Type 0
 StandsBy whole row = row.stands ≡ not (is_voided row.place whole)
 

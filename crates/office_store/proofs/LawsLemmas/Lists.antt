@@ -1,4 +1,4 @@
--- Lists that their elements determine.
+-- Proofs that two lists are equal if they have the same elements and the same order.
 use Rattle.std.proofs.Common.{◌≡◌, ◌⊎◌, Bool, List, [], ◌∷◌, map, filter, inl, inr, refl, sym, ap₂, subst, ◌∙◌, Option, Some, IsPermutation}
 use Rattle.std.specs.List.{AllByRecursion, AllZip, Contains, find}
 use Rattle.std.proofs.lemmas.Bool.{cases_Bool, cond-true, cond-false}
@@ -8,7 +8,7 @@ use Rattle.std.proofs.lemmas.List.Sorted.{IsPermutation-sym, IsPermutation-trans
 use Rattle.sqlite_keyed.proofs.ListLemmas.{all_weaker, all_both, IsPermutation-filter}
 use Rattle.store_tables.proofs.Permuted.{unmapped}
 
--- `x` is an element of the list.
+-- True if `x` is an element of a list.
 abbrev pub Among : {X : Type 0} → X → List X → Type 0
 Among x [] = ⊥
 Among x (y ∷ ys) = (x ≡ y) ⊎ Among x ys
@@ -30,25 +30,26 @@ among_permuted xs ys h =
     recursion_from_All (λ x. Among x ys) xs
     (All-permutation (λ x. Among x ys) ys xs (IsPermutation-sym xs ys h) (All-from_recursion (λ x. Among x ys) ys (among_itself ys)))
 
--- An element of a mapped list is `f` of an element with the property.
+-- If all elements of a list have the property `P`, every element of the mapped list is `f` of an
+-- element with `P`.
 pub among_map : {X Y : Type 0} (f : X → Y) (P : X → Type 0) (xs : List X) (y : Y) → AllByRecursion P xs → Among y (map f xs) → (x : X) × P x × (y ≡ f x)
 among_map f P [] y h there = absurd there
 among_map f P (x ∷ xs) y h (inl is) = (x, h.0, is)
 among_map f P (x ∷ xs) y h (inr there) = among_map f P xs y h.1 there
 
--- Each element is before all later elements.
+-- True if each element of a list is related by `Before` to all later elements.
 abbrev pub InOrder : {X : Type 0} → (Before : X → X → Type 0) → List X → Type 0
 InOrder Before [] = Unit {0}
 InOrder Before (x ∷ xs) = AllByRecursion (Before x) xs × InOrder Before xs
 
--- Lists in an asymmetric order.
+-- Proofs about lists that are sorted by an asymmetric order.
 module _ {X : Type 0} (Before : X → X → Type 0) (one_way : (x y : X) → Before x y → Before y x → ⊥) where
   same_head : (x y : X) (xs ys : List X) → InOrder Before (x ∷ xs) → InOrder Before (y ∷ ys) → Among x (y ∷ ys) → Among y (x ∷ xs) → x ≡ y
   same_head x y xs ys h k (inl is) other = is
   same_head x y xs ys h k (inr there) (inl is) = sym is
   same_head x y xs ys h k (inr there) (inr here) = absurd (one_way x y (all_among (Before x) xs y h.0 here) (all_among (Before y) ys x k.0 there))
 
-  -- The first element is not one of the others.
+  -- If an element of a list differs from the first element, it is in the rest of the list.
   not_first : (x y z : X) (ys : List X) → x ≡ y → Before x z → Among z (y ∷ ys) → Among z ys
   not_first x y z ys e before (inl is) = absurd (let b : Before x x = subst (Before x) (is ∙ sym e) before in one_way x x b b)
   not_first x y z ys e before (inr there) = there
@@ -64,11 +65,11 @@ module _ {X : Type 0} (Before : X → X → Type 0) (one_way : (x y : X) → Bef
       (all_both (Before x) (λ z. Among z (y ∷ ys)) (λ z. Among z ys) (λ z before. not_first x y z ys e before) xs h.0 there.1)
       (all_both (Before y) (λ z. Among z (x ∷ xs)) (λ z. Among z xs) (λ z before. not_first y x z xs (sym e) before) ys k.0 here.1))
 
-  -- A permutation that keeps the order is the identity.
+  -- If two sorted lists have the same elements, the lists are equal.
   pub same_in_order : (xs ys : List X) → InOrder Before xs → InOrder Before ys → IsPermutation xs ys → xs ≡ ys
   same_in_order xs ys h k p = same_elements xs ys h k (among_permuted xs ys p) (among_permuted ys xs (IsPermutation-sym xs ys p))
 
--- ---- functions that can be undone
+-- ---- mapping lists by injective functions
 
 abbrev pub IsInjective : {X Y : Type 0} → (X → Y) → Type 0
 IsInjective {X} f = (x y : X) → f x ≡ f y → x ≡ y
@@ -88,14 +89,15 @@ map_undone f one (x ∷ xs) (y ∷ ys) e =
 pub permuted_back : {X Y : Type 0} (f : X → Y) → IsInjective f → (xs ys : List X) → IsPermutation (map f xs) (map f ys) → IsPermutation xs ys
 permuted_back f one xs ys h = let moved = unmapped f xs (map f ys) h in subst (IsPermutation xs) (sym (map_undone f one ys moved.0 moved.2)) moved.1
 
--- Two lists with the rows of one table.
+-- If two lists have the same table rows, and a row determines its element, the lists have the same
+-- elements.
 pub one_table : {X Y : Type 0} (columns : X → Y) → IsInjective columns → (xs ys : List X) (rows : List Y)
     → IsPermutation (map columns xs) rows → IsPermutation (map columns ys) rows → IsPermutation xs ys
 one_table columns one xs ys rows h k =
     permuted_back columns one xs ys (IsPermutation-trans (map columns xs) rows (map columns ys) h (IsPermutation-sym (map columns ys) rows k))
 
--- Lists that agree element by element are equal, if the elements' properties make agreement
--- equality.
+-- If two lists agree element by element, and agreement of two elements implies their equality, the
+-- lists are equal.
 pub same_by_parts : {X : Type 0} (R : X → X → Type 0) (P Q : X → Type 0) → ((x y : X) → R x y → P x → Q y → x ≡ y)
     → (xs ys : List X) → AllZip R xs ys → AllByRecursion P xs → AllByRecursion Q ys → xs ≡ ys
 same_by_parts R P Q same [] [] h p q = refl
@@ -103,7 +105,7 @@ same_by_parts R P Q same [] (y ∷ ys) h p q = absurd h
 same_by_parts R P Q same (x ∷ xs) [] h p q = absurd h
 same_by_parts R P Q same (x ∷ xs) (y ∷ ys) h p q = ap₂ ◌∷◌ (same x y h.0 p.0 q.0) (same_by_parts R P Q same xs ys h.1 p.1 q.1)
 
--- Two lists with the passing rows of two tables.
+-- If two tables have the same rows, the same rows of both tables pass a test.
 pub of_passing : {X : Type 0} (p : X → Bool) (rows others xs ys : List X) → IsPermutation rows others
     → IsPermutation (filter p rows) xs → IsPermutation (filter p others) ys → IsPermutation xs ys
 of_passing p rows others xs ys h k l =

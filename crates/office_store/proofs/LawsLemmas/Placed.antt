@@ -1,4 +1,4 @@
--- Rows with indices determine the elements that they encode.
+-- Proofs that numbered rows determine the elements that they encode.
 use Rattle.std.proofs.Common.{◌≡◌, ℕ, ◌+◌, ◌<◌, ◌≤◌, List, [], ◌∷◌, length, sym, IsPermutation, arith}
 use Rattle.std.specs.List.{AllByRecursion, AllZip}
 use Rattle.std.proofs.lemmas.List.Elements.{same_from_all_zip}
@@ -6,7 +6,7 @@ use Rattle.sqlite_keyed.proofs.ListLemmas.{all_weaker}
 use Rattle.store_facts.specs.Rows.{placed, placed_on}
 use Rattle.office_store.proofs.LawsLemmas.Lists.{InOrder, same_in_order}
 
--- Later rows have lower indices, or higher ones.
+-- True if the row `a` has a greater index than the row `b`.
 abbrev pub Falls : {Y : Type 0} → (key : Y → ℕ) → Y → Y → Type 0
 Falls key a b = key b < key a
 
@@ -44,7 +44,7 @@ module _ {X Y : Type 0} (key : Y → ℕ) (row : ℕ → X → Y) (keyed : (plac
         placed_rise (before + 1) xs,
       )
 
--- Two lists with the same rows, if a row determines its element up to `R`.
+-- If two lists have the same numbered rows, `R` relates their elements at each index.
 module _ {X Y : Type 0} (row other : ℕ → X → Y) (R : X → X → Type 0) (tells : (m n : ℕ) (x y : X) → row m x ≡ other n y → R x y) where
   zip_placed : (xs ys : List X) → placed row xs ≡ placed other ys → AllZip R xs ys
   zip_placed [] [] e = tt
@@ -74,7 +74,7 @@ module _ {X Y : Type 0} (row other : ℕ → X → Y) (R : X → X → Type 0) (
         zip_placed_on 0 0 xs ys
         (same_in_order (Rises key) (rises_one_way key) (placed_on row 0 xs) (placed_on other 0 ys) (placed_rise key row keyed 0 xs) (placed_rise key other other_keyed 0 ys) h)
 
--- If a row determines its element completely.
+-- If two lists have the same numbered rows, and a row determines its element, the lists are equal.
 pub placed_same : {X Y : Type 0} (row : ℕ → X → Y) (tells : (m n : ℕ) (x y : X) → row m x ≡ row n y → x ≡ y) (key : Y → ℕ)
     (keyed : (place : ℕ) (x : X) → key (row place x) ≡ place) (xs ys : List X) → IsPermutation (placed row xs) (placed row ys) → xs ≡ ys
 placed_same row tells key keyed xs ys h =

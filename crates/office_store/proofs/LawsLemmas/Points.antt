@@ -1,4 +1,4 @@
--- The points of a device in the table determine its list.
+-- Proofs that a device's rows of the table `points` determine the device's point list.
 use Rattle.std.proofs.Common.{◌≡◌, ℕ, Bool, true, false, ◌&&◌, List, IsTrue, refl, sym, ap, ◌∙◌, Option, Some, None, IsPermutation}
 use Rattle.std.specs.List.{AllByRecursion}
 use Rattle.std.specs.Option.{option_and_then}
@@ -24,7 +24,7 @@ use Rattle.store_facts.specs.Rows.{placed_on, listed, points_put}
 use Rattle.office_store.proofs.LawsLemmas.Lists.{same_by_parts, found_has}
 use Rattle.office_store.proofs.LawsLemmas.Placed.{placed_on_alike}
 
--- The texts of a point's type and scale are read back.
+-- True if the texts of a point's type and scale parse as the type and the scale of the point.
 record IsRead (point : ListedPoint) : Type 0 where
   kind : type_of (type_text point.kind) ≡ Some point.kind
   scale : scale_spelled (scale_text point.scale) ≡ Some point.scale
@@ -33,7 +33,7 @@ second : (a b : Bool) → (a && b) ≡ true → b ≡ true
 second true b h = h
 second false b h = absurd (let e = h in cc)
 
--- The point of a scale has a name.
+-- If a point's scale names another point, the name is a valid name of a point.
 scale_named : (points : List ListedPoint) (name : List ℕ) (P : ListedPoint → Type 0) (found : Option ListedPoint) → scale_point points name ≡ found
     → IsSomeAnd found P → AllByRecursion (λ p. IsTrue (is_name p.name)) points → is_name name ≡ true
 scale_named points name P None is h named = absurd h
@@ -57,7 +57,7 @@ all_read points l = recursion_from_All IsRead points (λ k d below.
     let size = l.sized k d below in
     record { kind = type-read _ size.0 size.1; scale = scale_read points _ _ l (l.scaled k d below) })
 
--- The columns of two points agree.
+-- True if two points have equal columns in the table `points`.
 record IsAlike (a b : ListedPoint) : Type 0 where
   name : a.name ≡ b.name
   function : a.function ≡ b.function
@@ -75,7 +75,7 @@ one_alike a b h p q =
     let scale : a.scale ≡ b.scale = read_alike scale_text scale_spelled _ _ p.scale q.scale h.scale in
     λ i. record { name = h.name i; function = h.function i; area = h.area i; address = h.address i; kind = kind i; scale = scale i }
 
--- ---- the latest list
+-- ---- the latest point list
 
 abbrev pub IsPut : Option DeviceList → Type 0
 IsPut None = Unit {0}
@@ -104,7 +104,8 @@ same_points device a b p q h =
     point_place (λ place x. refl) (λ place x. refl) (points_put a) (points_put b) h)
     (put_read a p) (put_read b q)
 
--- The points determine the list. A list without points counts as none.
+-- If two point lists of a device have the same points, the lists are equal. A list without points
+-- counts as no list.
 same_planned : ListsArePlannedOnce → (a b : Option DeviceList) → IsPut a → IsPut b → points_put a ≡ points_put b → list_put a ≡ list_put b
 same_planned once None None p q e = refl
 same_planned once None (Some b) p q e = ap (λ points. if_some points b.list) e

@@ -1,4 +1,4 @@
--- A row of a table determines the record that it encodes.
+-- Proofs that a row of a table determines the record that it encodes.
 use Rattle.std.proofs.Common.{◌≡◌, ℕ, ◌+◌, ◌≤◌, refl, subst, Option, Some}
 use Rattle.std.proofs.Math.Bridge.{le_prop}
 use Rattle.mb_wire.specs.declared.span.ReadFunction.{ReadFunction}
@@ -43,7 +43,7 @@ one_end a b e = λ i. record { poll = (e i).poll; at = (e i).moment; outcome = (
 pub one_reply : IsInjective kept
 one_reply a b e = λ i. record { caller = (e i).caller; number = (e i).number; request = (e i).request; kind = (e i).kind; at = (e i).moment }
 
--- A span, with its properties.
+-- The span of a Modbus read of 1 to 125 Modbus registers that ends at or below address 65535.
 abbrev span : (f : ReadFunction) → (a c : ℕ) → (1 ≤ c) × (c ≤ 125) × (a + c ≤ 65536) → ReadSpan
 span f a c h = record { function = f; address = a; count = c; some = h.0; few = h.1; inside = h.2 }
 

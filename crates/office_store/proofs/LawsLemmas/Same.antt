@@ -1,4 +1,4 @@
--- Records with the same tables are equal up to order.
+-- Proofs that two lists of records with the same tables are equal up to order.
 use Rattle.std.proofs.Common.{◌≡◌, ℕ, List, [], ◌∷◌, map, inl, inr, refl, sym, ap, subst, ◌∙◌, Some, IsPermutation}
 use Rattle.std.specs.List.{AllByRecursion, Contains}
 use Rattle.std.proofs.lemmas.Option.{same_Some}
@@ -88,7 +88,7 @@ module _ (stand : RowsStand) (once : ListsArePlannedOnce) (zone others_zone : Li
       (one_table point_columns columns.one_point a.points.rows b.points.rows (content list_tree.points) a.points.there b.points.there)
       (a.points.each device) (b.points.each device))
 
-  -- ---- meters
+  -- ---- properties of meters and their entries
 
   same_entries : (meter : List ℕ) → IsPermutation (entries_of facts meter) (entries_of others meter)
   same_entries meter =
@@ -96,20 +96,21 @@ module _ (stand : RowsStand) (once : ListsArePlannedOnce) (zone others_zone : Li
       (one_table entry_columns columns.one_entry a.entries.rows b.entries.rows (content entry_tree.entries) a.entries.there b.entries.there)
       (a.entries.each meter) (b.entries.each meter)
 
-  -- The entries of a meter that both lists have.
+  -- If two lists of records have the same tables, each meter has the same entries in both lists.
   meter_entries : (o p : Opening) → IsInstalled facts o → opening_of others o.meter ≡ Some p
       → IsPermutation (entered_rows o (rows_of facts o)) (entered_rows p (rows_of others p))
   meter_entries o p here there =
       subst (λ rows. IsPermutation rows (entered_rows p (rows_of others p))) (ap (entries_at facts) here)
       (subst (IsPermutation (entries_of facts o.meter)) (ap (entries_at others) there) (same_entries o.meter))
 
-  -- What the table of installations says about an opening.
+  -- True if two openings have the same meter, accounting register and greatest power.
   record IsAlike (o p : Opening) : Type 0 where
     meter : o.meter ≡ p.meter
     register : o.register ≡ p.register
     ceiling : o.ceiling ≡ p.ceiling
 
-  -- The opening is installed, and its range is in the other table of ranges.
+  -- True if a meter's opening is in one list of records, and the tables of the other list have the
+  -- range of the meter's counter.
   record IsKnown (o : Opening) : Type 0 where
     here : IsInstalled facts o
     range : Among (ranged o) (map ranged (openings_in others))

@@ -1,4 +1,5 @@
--- The changes that the void of an entry makes to its meter, from the entries around it.
+-- Defines which changes voiding an entry makes to its meter, given the entries around the voided
+-- entry.
 use Rattle.std.specs.Prelude.{◌≡◌, ℕ, ◌+◌, ◌<◌, ◌≤◌, ◌==◌, Bool, Option, Some, None, IfSome, is_none, if◌then◌else◌}
 use Rattle.energy_core.specs.declared.limits.TheConstants.{MAX_INTERVALS}
 use Rattle.energy_core.specs.declared.entries.Entry.{Entry}
@@ -18,32 +19,34 @@ use Rattle.office_store.specs.declared.bookings.corrections.Rejoined.{Rejoined}
 use Rattle.office_store.specs.declared.bookings.surroundings.Surroundings.{Surroundings}
 use Rattle.office_store.specs.Bookings.MeterState.{counter_of, stands_at}
 
--- The row is that of a reading, and `e` is its entry in the journal.
+-- True if a row of `entries` encodes a reading, and `e` is the reading's journal entry.
 pub record IsReadingOf (row : EntryRow) (e : Entry) : Type 0 where
   pub kind : row.kind ≡ kind.Reading
   pub step : e ≡ entry.Step row.moment row.raw row.rolls
 
--- The tables allow a step and its shares: its time, its length and its energy are in their ranges.
+-- True if the tables allow a step (the energy between two meter entries): its time, its length and
+-- its energy are in their ranges.
 pub record CanBeShared (step : Step) : Type 0 where
   pub forward : step.from < step.till
   pub intervals : intervals_touched step.from step.till ≤ MAX_INTERVALS
   pub energy : step.mwh ≤ greatest_total
   pub till : step.till ≤ latest_moment
 
--- The tables allow the steps and the index of a rejoined entry.
+-- True if the steps and the index of a rejoined meter entry are in the ranges of the tables.
 pub record CanBeRejoined (joined : Rejoined) : Type 0 where
   pub place : joined.rollover.place ≤ greatest_place
   pub out : CanBeShared joined.out
   pub put : CanBeShared joined.put
 
--- The tables allow all changes of a correction.
+-- True if the tables allow all changes of a correction.
 pub record CanBeBooked (made : Correction) : Type 0 where
   pub out : CanBeShared made.out
   pub next : IfSome made.next CanBeRejoined
   pub last : IsSoundLast made.last
   pub from : made.from ≤ latest_moment
 
--- `joined` joins the next entry to the counter's state before the voided entry.
+-- True if `joined` has the next meter entry's new rollovers, counted from the counter's state
+-- before the voided entry.
 pub record Rejoins (range : ℕ) (before voided : Last) (next : EntryRow) (joined : Rejoined) : Type 0
   where
     pub entry : Entry
@@ -53,37 +56,38 @@ pub record Rejoins (range : ℕ) (before voided : Last) (next : EntryRow) (joine
     pub out : joined.out ≡ step_to range voided entry
     pub put : joined.put ≡ step_to range before (with_rolls before entry)
 
--- `joined` joins the next entry, if there is one. It is None without a next entry.
+-- True if `joined` has the next meter entry's new rollovers, or is None if there is no next entry.
 abbrev pub RejoinsNext : (range : ℕ) → (before voided : Last) → Option EntryRow → Option Rejoined
     → Type 0
 RejoinsNext range before voided None joined = joined ≡ None
 RejoinsNext range before voided (Some next) None = ⊥
 RejoinsNext range before voided (Some next) (Some joined) = Rejoins range before voided next joined
 
--- The energy of the steps that a void removes, in mWh: to the voided entry, and from it to the next
--- entry.
+-- The energy that a void removes, in mWh. It is the energy up to the voided meter entry, plus the
+-- energy from the voided entry to the next entry, if a next entry exists.
 abbrev pub energy_out : Step → Option Rejoined → ℕ
 energy_out out None = out.mwh
 energy_out out (Some joined) = joined.out.mwh + out.mwh
 
--- The energy of the step that replaces the removed steps, in mWh. 0 if there is no next entry.
+-- The energy in mWh that a void adds from the meter entry before the voided entry to the next
+-- entry, or 0 if there is no next entry.
 abbrev pub energy_put : Option Rejoined → ℕ
 energy_put None = 0
 energy_put (Some joined) = joined.put.mwh
 
--- `last` is the meter's new last entry with the total energy. If the voided entry was the last,
--- this is the entry before it.
+-- True if `last` is the meter's new last entry with the total energy. If the voided entry was the
+-- last, the entry before it becomes the last.
 abbrev pub StandsAt : Surroundings → (before : Last) → (total : ℕ) → (is_last : Bool) → LastRow
     → Type 0
 StandsAt found before total is_last last =
     last ≡ stands_at (if is_last then before else counter_of found.standing.last) total
 
--- The start from which a void deletes interval rows: the time of the last entry, or 0 if that entry
--- is the opening.
+-- The start from which a void deletes rows of `intervals`: the time of the meter's last entry, or 0
+-- if this entry is the opening.
 abbrev pub gone_from : (opened last : ℕ) → ℕ
 gone_from opened last = if last == opened then 0 else last
 
--- `made` has the changes that voiding an entry makes, given the entries around it.
+-- True if `made` has the changes that voiding a meter entry makes, given the entries around it.
 pub record Corrects (found : Surroundings) (made : Correction) : Type 0 where
   pub entry : Entry
   pub reading : IsReadingOf found.near.entry entry

@@ -1,4 +1,4 @@
--- The state of a meter in the tables, and its state after one more entry.
+-- Definitions about the state of a meter in the tables, and about its state after one more entry.
 use Rattle.std.specs.Prelude.{◌≡◌, ℕ, ◌+◌, true, Bool, List, Some, Ok, if◌then◌else◌}
 use Rattle.energy_core.specs.declared.entries.Last.{Last}
 use Rattle.energy_core.specs.declared.entries.Step.{Step}
@@ -20,7 +20,7 @@ use Rattle.office_store.specs.declared.bookings.meter_state.Standing.{Standing}
 use Rattle.office_store.specs.declared.bookings.meter_entries.Advance.{Advance}
 use Rattle.office_store.specs.Bookings.Places.{StandsThere}
 
--- A query found this state of the meter in the tables, and changed nothing.
+-- True if a query found the state `standing` of a meter in the tables, and changed nothing.
 pub record IsStanding (meter : List ℕ) (standing : Standing)
     (content after : Content) : Type 0 where
   pub same : after ≡ content
@@ -32,15 +32,16 @@ pub record IsStanding (meter : List ℕ) (standing : Standing)
   pub range : (rows : List Ranged) → HasRows meter_tree.ranges ranged_columns rows content
       → IsFound (is_range_of meter) HasRange rows (Some standing.range)
 
--- The state of the counter that the columns of a last entry have.
+-- The state of a meter's counter, from the columns of its last entry.
 abbrev pub counter_of : LastRow → Last
 counter_of last = record { at = last.moment; raw = last.raw; sf = last.sf }
 
--- The columns of a last entry with this state of the counter and this total energy.
+-- The columns of a meter's last entry, from the counter's state and the total energy.
 abbrev pub stands_at : Last → (total : ℕ) → LastRow
 stands_at last total = record { moment = last.at; raw = last.raw; sf = last.sf; total = total }
 
--- If the rules accept the entry, `advance` has the meter's new last entry and the step to it.
+-- True if the rules accept an entry, and `advance` has the meter's new last entry and the energy
+-- from the previous entry to the new last entry.
 abbrev pub Advances : Standing → Entry → Advance → Type 0
 Advances standing e advance =
     (last : Last) (step : Step)
@@ -48,8 +49,7 @@ Advances standing e advance =
     ≡ Ok (last, step)
     → (advance.last ≡ stands_at last (standing.last.total + step.mwh)) × (advance.step ≡ step)
 
--- The installation with this last entry. If the entry is a closing, the installation is marked as
--- closed.
+-- An installation with a new last meter entry. A closing also marks the installation as closed.
 abbrev pub settled : LastRow → (is_closing : Bool) → Installed → Installed
 settled last is_closing i =
     record i {
@@ -57,14 +57,15 @@ settled last is_closing i =
           { last = last; is_ended = if is_closing then true else i.row.is_ended };
     }
 
--- The row of the meter's installation gets this last entry. If the entry is a closing, the row is
--- marked as closed.
+-- The effect of a new last entry on the row of the meter in `installations`. A closing also marks
+-- the row as closed.
 abbrev pub Settles : (meter : List ℕ) → LastRow → (is_closing : Bool) → Content → Content → Type 0
 Settles meter last is_closing =
     Edits meter_tree.installations installed_columns
     (changed_where (is_meter meter) (settled last is_closing))
 
--- One more entry of a meter is stored: its row, the energy of its step, and the meter's new state.
+-- The effect of storing one more entry of a meter. The effect consists of the entry's row, the
+-- energy of its step, and the meter's new state.
 pub record EntersEntry (meter : List ℕ) (row : EntryRow) (advance : Advance) (is_closing : Bool)
     (content after : Content) : Type 0 where
   pub one : Content

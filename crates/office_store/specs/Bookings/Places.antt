@@ -1,4 +1,5 @@
--- Queries inside a transaction: the index after the last row, and a row with a key.
+-- Definitions about queries inside a transaction: for the index of the next row, and for the row
+-- with a key.
 use Rattle.std.specs.Prelude.{◌≡◌, ℕ, ◌+◌, Bool, nat_le, List, Option, Some, None, Result, Ok, Err, ⊤, if◌then◌else◌}
 use Rattle.std.specs.List.{slice_get}
 use Rattle.sqlite.specs.Order.{Row, column}
@@ -11,37 +12,38 @@ use Rattle.store_tables.specs.Limits.{greatest_place}
 use Rattle.store_tables.specs.declared.meters.rows.LastRow.{LastRow}
 use Rattle.store_tables.specs.Meters.Rows.{Installed}
 
--- The index after this one. The greatest index has none, which is damage.
+-- The index after a given index, or `Damaged` for the greatest index.
 abbrev pub one_on : ℕ → Result ℕ RowFault
 one_on place = if nat_le greatest_place place then Err Damaged else Ok (place + 1)
 
--- The index after that in the first column of a row. An index out of range is damage.
+-- The index that follows the index in the first column of a row, or `Damaged` if this index is out
+-- of its range.
 abbrev pub following_place : Row → Result ℕ RowFault
 following_place row = and_then (or_damaged (whole_in 1 greatest_place (column row 0))) one_on
 
--- The index after that of the row, or 1 if there is no row.
+-- The index that follows the index in a row, or 1 if there is no row.
 abbrev pub place_after : Option Row → Result ℕ RowFault
 place_after None = Ok 1
 place_after (Some row) = following_place row
 
--- The index after that of the first row, or 1 if there are no rows.
+-- The index that follows the index in a result's first row, or 1 if the result has no row.
 abbrev pub next_in : List Row → Result ℕ RowFault
 next_in rows = place_after (slice_get rows 0)
 
--- At Ok, `Makes` with the answer relates the old and the new tables. An error says nothing about
--- them.
+-- True if `Makes` relates the old and the new tables to an Ok answer. An error implies nothing
+-- about the tables.
 abbrev pub Answered : {X E : Type 0} → Result X E → (X → Content → Content → Type 0) → Content
     → Content → Type 0
 Answered (Ok x) Makes = Makes x
 Answered (Err e) Makes = λ content after. ⊤
 
--- The answer is what the query shows of one row that passes the test, and nothing changed.
+-- True if the answer is the value in one row that passes a test, and the query changed nothing.
 pub record IsSeenIn {X A : Type 0} (tree : ℕ) (columns : X → Row) (passes : X → Bool)
     (IsSeen : X → A → Type 0) (answer : A) (content after : Content) : Type 0 where
   pub same : after ≡ content
   pub seen : (rows : List X) → HasRows tree columns rows content
       → IsFound passes IsSeen rows (Some answer)
 
--- The value read is the last entry of the installation.
+-- True if the value that a query returned equals the last meter entry in a row of `installations`.
 abbrev pub StandsThere : Installed → LastRow → Type 0
 StandsThere i last = last ≡ i.row.last

@@ -1,4 +1,4 @@
--- An entry of a meter and the entries around it, in the tables.
+-- Definitions about an entry of a meter and the entries around it, in the tables.
 use Rattle.std.specs.Prelude.{◌≡◌, ℕ, List, Option, Some}
 use Rattle.store_tables.specs.Answer.{IsFound}
 use Rattle.store_tables.specs.Content.{Content, HasRows}
@@ -10,33 +10,34 @@ use Rattle.office_store.specs.declared.bookings.surroundings.Neighbours.{Neighbo
 use Rattle.office_store.specs.declared.bookings.surroundings.Surroundings.{Surroundings}
 use Rattle.office_store.specs.Bookings.MeterState.{IsStanding}
 
--- `found` is the meter's entry at index `place`, or None if there is none.
+-- True if `found` is the meter's entry at index `place`, or None if the meter has no such entry.
 abbrev pub HasEntry : (meter : List ℕ) → (place : ℕ) → Option EntryRow → Content → Type 0
 HasEntry meter place found content =
     (rows : List Entered) → HasRows entries entry_columns rows content
     → IsFound (is_entry meter place) IsRow rows found
 
--- `before` is the index of the last entry before `place` that is not voided.
+-- True if `before` is the index of the last meter entry before `place` that is not voided.
 abbrev pub StandsBefore : (meter : List ℕ) → (place before : ℕ) → Content → Type 0
 StandsBefore meter place before content =
     (rows : List Voided) → HasRows voids voided_columns rows content
     → IsBefore meter place rows before
 
--- `next` is the first index after `place` that has no void.
+-- True if `next` is the first index after `place` for which the meter has no void.
 abbrev pub StandsAfter : (meter : List ℕ) → (place next : ℕ) → Content → Type 0
 StandsAfter meter place next content =
     (rows : List Voided) → HasRows voids voided_columns rows content
     → IsAfter meter place rows next
 
--- ---- answers of queries that change nothing
+-- ---- the answers of queries for the meter entries around an entry
 
--- A query found the meter's entry at index `place`, and changed nothing.
+-- True if a query found the meter's entry at index `place`, and changed nothing.
 pub record FindsEntry (meter : List ℕ) (place : ℕ) (entry : EntryRow)
     (content after : Content) : Type 0 where
   pub same : after ≡ content
   pub there : HasEntry meter place (Some entry) content
 
--- Queries found the last entry before `place` that is not voided, and changed nothing.
+-- True if queries found the last meter entry before `place` that is not voided, and changed
+-- nothing.
 pub record FindsBefore (meter : List ℕ) (place : ℕ) (entry : EntryRow)
     (content after : Content) : Type 0 where
   pub same : after ≡ content
@@ -44,7 +45,8 @@ pub record FindsBefore (meter : List ℕ) (place : ℕ) (entry : EntryRow)
   pub stands : StandsBefore meter place at content
   pub there : HasEntry meter at (Some entry) content
 
--- Queries found the next entry after `place` that is not voided, or None, and changed nothing.
+-- True if queries found the next meter entry after `place` that is not voided, or None, and changed
+-- nothing.
 pub record FindsAfter (meter : List ℕ) (place : ℕ) (found : Option EntryRow)
     (content after : Content) : Type 0 where
   pub same : after ≡ content
@@ -52,20 +54,21 @@ pub record FindsAfter (meter : List ℕ) (place : ℕ) (found : Option EntryRow)
   pub stands : StandsAfter meter place at content
   pub there : HasEntry meter at found content
 
--- Queries found an entry and the nearest entries that are not voided, and changed nothing.
+-- True if queries found a meter entry and the nearest entries that are not voided, and changed
+-- nothing.
 pub record AreNear (meter : List ℕ) (place : ℕ) (near : Neighbours)
     (content after : Content) : Type 0 where
   pub entry : FindsEntry meter place near.entry content after
   pub before : FindsBefore meter place near.before content after
   pub next : FindsAfter meter place near.next content after
 
--- A query found the time of the meter's opening, and changed nothing.
+-- True if a query found the time of the meter's opening, and changed nothing.
 pub record OpenedAt (meter : List ℕ) (opened : ℕ) (content after : Content) : Type 0 where
   pub opening : EntryRow
   pub moment : opened ≡ opening.moment
   pub finds : FindsEntry meter 1 opening content after
 
--- Queries found an entry, its neighbours, and the state of its meter, and changed nothing.
+-- True if queries found an entry, its neighbours, and the state of its meter, and changed nothing.
 pub record IsAround (meter : List ℕ) (place : ℕ) (found : Surroundings)
     (content after : Content) : Type 0 where
   pub standing : IsStanding meter found.standing content after

@@ -1,4 +1,4 @@
--- The tables after an entry was voided.
+-- Definitions of the tables after a meter entry was voided.
 use Rattle.std.specs.Prelude.{◌≡◌, ℕ, false, List, Option, Some, None}
 use Rattle.energy_core.specs.declared.entries.Step.{Step}
 use Rattle.interval_core.specs.Share.{shares_of}
@@ -11,39 +11,39 @@ use Rattle.office_store.specs.declared.bookings.corrections.Correction.{Correcti
 use Rattle.office_store.specs.declared.bookings.corrections.Rejoined.{Rejoined}
 use Rattle.office_store.specs.Bookings.MeterState.{Settles}
 
--- The entries of all meters, with the rollovers of the next entry set to those of the rejoined
--- entry.
+-- The rows of `entries` after a void set the rollovers of the next entry.
 abbrev pub rolled_next : (meter : List ℕ) → Option Rejoined → List Entered → List Entered
 rolled_next meter None rows = rows
 rolled_next meter (Some next) rows =
     changed_where (is_entry meter next.rollover.place) (rolled next.rollover.rolls) rows
 
--- The next entry gets the rollovers of the rejoined entry. Without a next entry nothing changes.
+-- The effect of a void on the rollovers of the next meter entry. If no next entry exists, nothing
+-- changes.
 abbrev pub RollsNext : (meter : List ℕ) → Option Rejoined → Content → Content → Type 0
 RollsNext meter next = Edits entries entry_columns (rolled_next meter next)
 
--- The energy of the step to the next entry is subtracted from the interval rows. Without a next
--- entry nothing changes.
+-- The effect of subtracting the energy from the voided meter entry to the next entry from
+-- `intervals`. If no next entry exists, nothing changes.
 abbrev pub TakesNext : (meter : List ℕ) → Option Rejoined → Content → Content → Type 0
 TakesNext meter None content after = after ≡ content
 TakesNext meter (Some next) content after = TakesShares meter (shares_of next.out) content after
 
--- The energy of the new step to the next entry is added to the interval rows. Without a next entry
--- nothing changes.
+-- The effect of adding to `intervals` the energy from the meter entry before the voided entry to
+-- the next entry. If no next entry exists, nothing changes.
 abbrev pub PutsNext : (meter : List ℕ) → Option Rejoined → Content → Content → Type 0
 PutsNext meter None content after = after ≡ content
 PutsNext meter (Some next) content after = BooksShares meter (shares_of next.put) content after
 
--- The energy of two steps is subtracted from the interval rows: the step to the next entry, and the
--- step to the voided entry.
+-- The effect of subtracting two energies from `intervals`: from the voided meter entry to the next
+-- entry, and from the previous entry to the voided entry.
 pub record TakesSteps (meter : List ℕ) (step : Step) (joined : Option Rejoined)
     (content after : Content) : Type 0 where
   pub one : Content
   pub next : TakesNext meter joined content one
   pub out : TakesShares meter (shares_of step) one after
 
--- In the interval rows, the step past the voided entry replaces the steps to and from it. Rows that
--- start after the last entry are deleted.
+-- The effect of a void on `intervals`. The step past the voided entry replaces the two steps to and
+-- from the voided entry. Rows that start at or after the meter's last entry are deleted.
 pub record ExchangesRows (meter : List ℕ) (made : Correction) (content after : Content) : Type 0
   where
     pub one : Content
@@ -52,15 +52,15 @@ pub record ExchangesRows (meter : List ℕ) (made : Correction) (content after :
     pub put : PutsNext meter made.next one two
     pub gone : DropsRows meter made.from two after
 
--- The row of the void is added, and the next entry gets its new rollovers.
+-- The effect of inserting the row of a void, and of setting the rollovers of the next meter entry.
 pub record MarksVoid (meter : List ℕ) (place moment : ℕ) (joined : Option Rejoined)
     (content after : Content) : Type 0 where
   pub one : Content
   pub void : Edits voids voided_columns (with_row (voided_at meter place moment)) content one
   pub next : RollsNext meter joined one after
 
--- The void of a meter's entry is stored: its row, the next entry's rollovers, the interval rows,
--- and the meter's new state.
+-- The effect of storing the void of a meter's entry: its row, the next entry's rollovers, the
+-- energy by quarter hours, and the meter's new state.
 pub record EntersVoid (meter : List ℕ) (place moment : ℕ) (made : Correction)
     (content after : Content) : Type 0 where
   pub one : Content

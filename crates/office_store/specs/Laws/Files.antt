@@ -14,25 +14,25 @@ use Rattle.store_files.specs.Upgrade.{IsFile, IsBrought}
 use Rattle.store_facts.specs.Tables.{AreOf}
 use Rattle.store_facts.specs.Holding.{HasFacts}
 
--- Theorem: the tables of a new file have no records.
+-- Theorem: if a file was just created, its tables encode no records.
 abbrev pub NewFilesHaveNone : Type 0
 NewFilesHaveNone = (zone : List ℕ) (content : Content) → IsNew zone content → AreOf zone [] content
 
 -- ---- the records of a file of any version
 
--- The opening's counter rolls over at 2^32.
+-- True if the counter of an opening has 2^32 values.
 abbrev pub HasFullRange : Opening → Type 0
 HasFullRange opening = opening.range ≡ 2 ^ 32
 
--- The records need no table that the layout lacks. Without the table `ranges`, each counter rolls
--- over at 2^32. Without the table `voids`, no entry is voided.
+-- True if the records need no table that the layout lacks. If the layout lacks `ranges`, each
+-- counter rolls over at 2^32. If it lacks `voids`, no meter entry is voided.
 abbrev pub FitIn : Layout → List Fact → Type 0
 FitIn First facts = All HasFullRange (openings_in facts) × (voids_in facts ≡ [])
 FitIn Second facts = voids_in facts ≡ []
 FitIn Third facts = ⊤
 
--- A file of this layout has these records. Each of its tables except `meta` has the rows that
--- version 3 has for the records.
+-- True if a file of this layout encodes the records. Each of its tables except `meta` has the rows
+-- that version 3 has for the records.
 pub record HasFactsIn (layout : Layout) (zone : List ℕ) (facts : List Fact)
     (db : Database) : Type 0
   where
@@ -43,19 +43,20 @@ pub record HasFactsIn (layout : Layout) (zone : List ℕ) (facts : List Fact)
     pub same : (t : ℕ) → HasTree (schema_of layout).tables t → t ≢ meta → content t ≡ newest t
     pub fit : FitIn layout facts
 
--- Theorem: after a file was opened and upgraded, its tables have the same records.
+-- Theorem: after a file was opened and upgraded, its tables encode the same records.
 abbrev pub OpenedFilesKeepTheirs : Type 0
 OpenedFilesKeepTheirs = (layout : Layout) (zone : List ℕ) (facts : List Fact) (db : Database)
     → (it : HasFactsIn layout zone facts db) (after : Content)
     → IsBrought layout zone it.content after → AreOf zone facts after
 
--- Theorem: a file of version 3 has records if and only if its tables are those of the records.
+-- Theorem: a file of version 3 encodes a list of records if and only if its tables are those of the
+-- records.
 abbrev pub NewestFilesHaveTheirs : Type 0
 NewestFilesHaveTheirs = (zone : List ℕ) (facts : List Fact) (db : Database)
     → (HasFactsIn Third zone facts db) ↔ (HasFacts zone facts db)
 
--- Theorem: a database that an open finds with the same trees has the same records, because the
--- trees of a database determine its schema.
+-- Theorem: if two databases have the same B-trees, they encode the same records, because the
+-- B-trees of a database determine its schema.
 abbrev pub FoundFilesKeepTheirs : Type 0
 FoundFilesKeepTheirs = (layout : Layout) (zone : List ℕ) (facts : List Fact) (db found : Database)
     → HasFactsIn layout zone facts db → IsDatabase found → found.trees ≡ db.trees

@@ -9,22 +9,22 @@ use Rattle.store_tables.specs.Content.{Content}
 use Rattle.store_facts.specs.Tables.{AreOf}
 use Rattle.store_facts.specs.Holding.{HasFacts, IsLeft}
 
--- Theorem: two lists of records with the same tables are equal up to order, and have the same time
--- zone.
+-- Theorem: if two lists of records have the same tables, they are equal up to order, and have the
+-- same time zone.
 abbrev pub TablesTellTheirFacts : Type 0
 TablesTellTheirFacts = (zone others_zone : List ℕ) (facts others : List Fact) (content : Content)
     → AreOf zone facts content → AreOf others_zone others content
     → AreSame facts others × (zone ≡ others_zone)
 
--- Theorem: two lists of records in the same database are equal up to order, and have the same time
--- zone.
+-- Theorem: if one database encodes two lists of records, they are equal up to order, and have the
+-- same time zone.
 abbrev pub DatabasesTellTheirFacts : Type 0
 DatabasesTellTheirFacts = (zone others_zone : List ℕ) (facts others : List Fact) (db : Database)
     → HasFacts zone facts db → HasFacts others_zone others db
     → AreSame facts others × (zone ≡ others_zone)
 
--- Theorem: the next open after a crash finds the records that the crash left, because the trees of
--- a database determine its schema.
+-- Theorem: the next open after a crash finds the records that the crash left, because the B-trees
+-- of a database determine its schema.
 abbrev pub LeftFactsAreFound : Type 0
 LeftFactsAreFound = (zone : List ℕ) (left : List (List Fact)) (trees : Trees) (db : Database)
     → (it : IsLeft zone left trees) → IsDatabase db → db.trees ≡ trees → HasFacts zone it.facts db

@@ -1,4 +1,4 @@
--- The files of a database after a crash.
+-- Definitions about the records in the files of a database after a crash.
 use Rattle.std.specs.Prelude.{◌≡◌, ℕ, List, IsTrue}
 use Rattle.sqlite_disk.specs.declared.Disk.{Ghosts}
 use Rattle.sqlite_wal.specs.Recovery.{Image}
@@ -12,32 +12,33 @@ use Rattle.sqlite.specs.Start.{FindsIn}
 use Rattle.office_events.specs.declared.facts.Fact.{Fact}
 use Rattle.store_facts.specs.Holding.{HasFacts, IsLeft, IsOneOf}
 
--- A database has the records of one of the lists in `left`.
+-- True if a database encodes the records of one of the lists in `left`.
 pub record HasOneOf (zone : List ℕ) (left : List (List Fact)) (db : Database) : Type 0 where
   pub facts : List Fact
   pub one : IsOneOf left facts
   pub has : HasFacts zone facts db
 
--- `db` is the database that an open finds in these files: a database file and its write-ahead log.
+-- True if `db` is the database that SQLite finds in a database file and its write-ahead log.
 pub record IsFoundIn (image : Image) (db : Database) : Type 0 where
   pub sound : IsDatabase db
   pub holds : (trees : Trees) → HoldsDatabase image trees → db.trees ≡ trees
 
 module _ {D : Type 0} (g : Ghosts D) where
-  -- After a crash that these files allow, the next open finds the records of one of the lists in
-  -- `left`.
+  -- True if the next open finds the records of one of the lists in `left` after any crash that
+  -- these files allow.
   abbrev pub LeaveInFiles : List ℕ → List (List Fact) → FileStore D g → Type 0
   LeaveInFiles zone left it = (image : Image) (db : Database) → (store_state it).may_leave image
       → IsFoundIn image db → ∥ HasOneOf zone left db ∥₁
 
-  -- Theorem: suppose that each database that the store may recover has the records of one of some
-  -- lists. Then the next open finds the records of one of these lists.
+  -- Theorem about given lists of records. If every database that SQLite may recover from the files
+  -- encodes one of the lists, the next open finds the records of one of the lists.
   abbrev pub StopsLeaveFacts : Type 0
   StopsLeaveFacts = (zone : List ℕ) (left : List (List Fact)) (it : FileStore D g)
       → IsTrue (view it).is_numbered
       → ((trees : Trees) → recovers it trees → IsLeft zone left trees) → LeaveInFiles zone left it
 
-  -- Theorem: an open of files finds what a connection to them has committed.
+  -- Theorem: if the files of a database are opened, the new connection finds the tables that the
+  -- earlier connection committed.
   abbrev pub OpenedFilesAreFound : Type 0
   OpenedFilesAreFound = (image : Image) (h : Held (FileStore D g)) → IsOpened h
       → FindsIn image (file_state h) → IsFoundIn image (file_state h).committed

@@ -1,4 +1,4 @@
-//! Writing several records in one transaction.
+//! Writes several records in one transaction.
 ghost use Rattle.std.specs.Prelude.{◌≡◌, ℕ, List, false};
 ghost use Rattle.sqlite.specs.Held.{state};
 ghost use Rattle.store_tables.specs.Steps.{IsSameBorrow};
@@ -75,8 +75,9 @@ fn commit_facts<S: Alter>(
     Ok(())
 }
 
-/// Stores records, if they may follow the known records: all of them or none, even after a crash.
-/// The commit is the last call of the database. Without records there is no call.
+/// Appends records to the stored records, if the rules accept them. Stores either all records or
+/// none, even after a crash. The commit is the last call of the database. If the list is empty,
+/// makes no call.
 pub fn book_facts<S: Alter>(
     alloc: Global,
     conn: &mut Connection<S>,

@@ -1,4 +1,4 @@
-//! The changes that the void of an entry makes to its meter.
+//! Computes the changes that voiding an entry makes to its meter.
 ghost use Rattle.std.specs.Prelude.{◌≡◌, ◌≤◌, ◌+◌, IfOk, IfSome};
 ghost use Rattle.energy_core.specs.Account.{step_to};
 ghost use Rattle.meter_journal.specs.Journal.{with_rolls};
@@ -16,15 +16,16 @@ use energy_core::{Entry, Last, MAX_TOTAL, Ranged, Step, Terms};
 use store_facts::{counter_after, is_scale, last_row};
 use store_tables::{EntryKind, EntryRow, GREATEST_PLACE, LATEST_MOMENT, LastRow, RowFault};
 
-/// The rollovers of a counter between the entry at index `place` and the entry before it.
+/// The number of rollovers of a counter between the meter entry at index `place` and the entry
+/// before it.
 #[derive(Clone, Copy, Debug, PartialEq, Eq)]
 pub struct Rollover {
     pub place: u64,
     pub rolls: u8,
 }
 
-/// The next entry that is not voided, joined to the entry before the voided one. It has new
-/// rollovers, the step `out` to remove, and the step `put` that replaces it.
+/// The next meter entry after a voided entry, joined to the entry before the voided entry. The next
+/// entry gets new rollovers, and the step `put` replaces the step `out`.
 #[derive(Clone, Copy, Debug, PartialEq, Eq)]
 pub struct Rejoined {
     pub rollover: Rollover,
@@ -32,9 +33,10 @@ pub struct Rejoined {
     pub put: Step,
 }
 
-/// The changes that a void makes. The step `out` to the voided entry is removed. The entry in
-/// `next` is joined to the entry before the voided one. The meter's last entry becomes `last`.
-/// Interval rows with starts of at least `from` are deleted.
+/// The changes that voiding an entry makes to its meter. The step `out` (the energy up to the
+/// voided entry) is removed, and `next` joins the next entry to the entry before the voided entry.
+/// The meter's last entry becomes `last`, and rows of `intervals` that start at `from` or later are
+/// deleted.
 #[derive(Clone, Copy, Debug, PartialEq, Eq)]
 pub struct Correction {
     pub out: Step,
@@ -43,8 +45,8 @@ pub struct Correction {
     pub from: u64,
 }
 
-/// Returns the journal entry of a reading. Any other kind is damage: a voided entry and the next
-/// entry after it are readings.
+/// Returns the journal entry of a reading. Reports any other kind as damage, because a voided entry
+/// and the next entry are readings.
 fn reading(entry: &EntryRow) -> Result<Entry, RowFault>
     ensures { IfOk result (IsReadingOf entry.now) }
 {
@@ -62,8 +64,8 @@ fn reading(entry: &EntryRow) -> Result<Entry, RowFault>
     }
 }
 
-/// Computes the step from a state of the counter to an entry. An entry that may not follow this
-/// state is damage.
+/// Computes the step (the energy between two meter entries) from a state of the counter to an
+/// entry. Reports an entry that may not follow the state as damage.
 fn step_from(range: u64, last: &Last, entry: &Entry) -> Result<Step, RowFault>
     ensures step { IfOk result (λ step. step ≡ step_to range last.now entry.now) }
     ensures shared { IfOk result CanBeShared }
@@ -87,7 +89,7 @@ fn step_from(range: u64, last: &Last, entry: &Entry) -> Result<Step, RowFault>
     Ok(step)
 }
 
-/// Returns a reading with the rollovers that follow from this state of the counter.
+/// Returns a reading with its rollovers counted from the counter's state `last`.
 fn rolled(last: &Last, entry: &Entry) -> Entry
     ensures { result ≡ with_rolls last.now entry.now }
 {
@@ -101,7 +103,8 @@ fn rolled(last: &Last, entry: &Entry) -> Entry
     }
 }
 
-/// Returns how often the counter rolled over before an entry: 0 for a change.
+/// Returns how often the counter rolled over between the previous meter entry and this one. The
+/// number is 0 if this meter entry is a reset or a rescale.
 fn rolls(entry: &Entry) -> u8
     ensures { result ≡ rolls_of entry.now }
 {
@@ -130,8 +133,8 @@ fn rejoin(range: u64, before: &Last, voided: &Last, next: &EntryRow) -> Result<R
     Ok(Rejoined { rollover, out, put })
 }
 
-/// Joins the next entry to the counter's state before the voided entry. None if there is no next
-/// entry.
+/// Joins the next meter entry to the counter's state before the voided entry. Returns None if there
+/// is no next entry.
 fn rejoin_next(
     range: u64,
     before: &Last,
@@ -147,8 +150,8 @@ fn rejoin_next(
     }
 }
 
-/// Computes the total energy of a meter, without the removed steps and with the step that replaces
-/// them. A negative energy, or more than a meter's greatest total, is damage.
+/// Computes the total energy of a meter without the removed steps, and with the step that replaces
+/// them. Reports a negative total, or more than the greatest total of a meter, as damage.
 fn total_after(total: u64, out: &Step, next: &Option<Rejoined>) -> Result<u64, RowFault>
     requires total { total ≤ greatest_total }
     requires out { CanBeShared out.now }
@@ -168,8 +171,8 @@ fn total_after(total: u64, out: &Step, next: &Option<Rejoined>) -> Result<u64, R
     Ok(whole - gone)
 }
 
-/// Returns the new last entry of a meter. If the voided entry was the last, this is the entry
-/// before it. Otherwise the last entry is unchanged.
+/// Returns the new last entry of a meter. If the voided entry was the last, the entry before it
+/// becomes the last. Otherwise the last entry is unchanged.
 fn stands_then(
     found: &Surroundings,
     before: Last,
@@ -196,8 +199,8 @@ fn stands_then(
     Ok(last_row(last, total))
 }
 
-/// Returns the start from which interval rows are deleted: the time of the meter's last entry, or 0
-/// if it is the opening.
+/// Returns the start from which a void deletes rows of `intervals`: the time of the meter's last
+/// entry, or 0 if this entry is the opening.
 fn end_of_rows(opened: u64, last: &LastRow) -> u64
     requires { last.now.moment ≤ latest_moment }
     ensures end { result ≡ gone_from opened last.now.moment }
@@ -210,8 +213,8 @@ fn end_of_rows(opened: u64, last: &LastRow) -> u64
     }
 }
 
-/// Computes the changes that a void makes, from the entries around the voided entry. An entry that
-/// may not be voided, or steps that may not follow one another, are damage.
+/// Computes the changes of a void from the entries around the voided entry. Reports an entry that
+/// may not be voided, or steps that may not follow one another, as damage.
 pub fn correct(found: &Surroundings) -> Result<Correction, RowFault>
     requires { found.now.standing.last.total ≤ greatest_total }
     ensures corrects { IfOk result (Corrects found.now) }

@@ -1,4 +1,4 @@
-//! Writing devices.
+//! Writes devices to the tables.
 ghost use Rattle.sqlite.specs.Held.{state};
 ghost use Rattle.store_tables.specs.Steps.{IsSameBorrow};
 ghost use Rattle.office_events.specs.declared.facts.Fact.TheVariants as fact;
@@ -12,7 +12,7 @@ use store_devices::insert_device;
 use store_facts::{device_row, text};
 use store_tables::RowFault;
 
-/// Writes a device, at the index after the last.
+/// Writes a device with the index after the last device.
 pub fn enter_device<S: Alter>(tx: &mut Transaction<'_, S>, device: &Device) -> Result<(), RowFault>
     ensures same_reference { IsSameBorrow tx.old.conn tx.new.conn }
     ensures does { Goes (state S.Store tx.old.conn.now) (state S.Store tx.new.conn.now) result

@@ -1,4 +1,4 @@
-//! Writing point lists of devices.
+//! Writes the point lists of devices to the tables.
 ghost use Rattle.sqlite.specs.Held.{state};
 ghost use Rattle.store_tables.specs.Steps.{IsSameBorrow};
 ghost use Rattle.office_events.specs.declared.facts.Fact.TheVariants as fact;

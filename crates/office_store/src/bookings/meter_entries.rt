@@ -1,4 +1,4 @@
-//! Writing entries of meters.
+//! Writes entries of meters to the tables.
 ghost use Rattle.std.specs.Prelude.{◌≤◌, ◌<◌, IsTrue, IfOk, OnOk};
 ghost use Rattle.sqlite.specs.Held.{state};
 ghost use Rattle.energy_core.specs.Account.{intervals_touched, moment_of};
@@ -25,15 +25,15 @@ use store_tables::{
     EntryRow, LATEST_MOMENT, LastRow, RowFault, end_installation, insert_entry, update_last,
 };
 
-/// The last entry of a meter after one more entry was added, with the total energy, and the step to
-/// that entry.
+/// The last entry of a meter after one more entry was added, with the meter's total energy. Also
+/// has the step to the last entry: the energy since the previous entry.
 #[derive(Clone, Copy, Debug, PartialEq, Eq)]
 pub struct Advance {
     pub last: LastRow,
     pub step: Step,
 }
 
-/// Returns whether the tables allow a counter's timestamp and scale factor.
+/// Returns true if the tables allow the timestamp and the scale factor of a counter.
 pub fn is_sound(last: &Last) -> bool
     ensures moment { IsTrue result → last.now.at ≤ latest_moment }
     ensures scale { IsTrue result → IsTrue (is_within 3 last.now.sf) }
@@ -41,7 +41,7 @@ pub fn is_sound(last: &Last) -> bool
     last.at <= LATEST_MOMENT && is_scale(last.sf)
 }
 
-/// Returns whether the tables allow the timestamp of an entry.
+/// Returns true if the tables allow the timestamp of a meter entry.
 fn is_in_time(entry: &Entry) -> bool
     ensures { IsTrue result → moment_of entry.now ≤ latest_moment }
 {
@@ -50,7 +50,7 @@ fn is_in_time(entry: &Entry) -> bool
     }
 }
 
-/// Computes a meter's state after one more entry. An entry that may not follow is damage.
+/// Computes a meter's state after one more entry. Reports an entry that may not follow as damage.
 fn go_on(standing: &Standing, entry: &Entry) -> Result<Advance, RowFault>
     requires { IsSoundLast standing.now.last }
     ensures advances { IfOk result (Advances standing.now entry.now) }
@@ -91,7 +91,8 @@ fn go_on(standing: &Standing, entry: &Entry) -> Result<Advance, RowFault>
     })
 }
 
-/// Updates a meter's last entry and total energy, and whether it was closed.
+/// Updates a meter's last entry and total energy, and marks the meter as closed if the entry is a
+/// closing.
 pub fn settle<S: Alter>(
     tx: &mut Transaction<'_, S>,
     meter: &str,
@@ -135,8 +136,8 @@ fn book_entry<S: Alter>(
     settle(tx, meter, advance.last, is_closing)
 }
 
-/// Writes an entry of a meter after its other entries: the row, the energy of its step by quarter
-/// hours, and the meter's new state.
+/// Writes an entry of a meter after its other entries. Writes the row, the energy of its step by
+/// quarter hours, and the meter's new state.
 pub fn enter_entry<S: Alter>(
     tx: &mut Transaction<'_, S>,
     booked: &BookedEntry,

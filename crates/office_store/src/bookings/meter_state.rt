@@ -25,7 +25,7 @@ pub struct Standing {
     pub range: u64,
 }
 
-/// Returns the last entry of a meter, with its total energy. A missing meter is damage.
+/// Returns the last entry of a meter, with its total energy. Reports a missing meter as damage.
 fn last_of<S: Alter>(tx: &mut Transaction<'_, S>, meter: &str) -> Result<LastRow, RowFault>
     ensures same_reference { IsSameBorrow tx.old.conn tx.new.conn }
     ensures sound { IfOk result IsSoundLast }
@@ -43,7 +43,7 @@ fn last_of<S: Alter>(tx: &mut Transaction<'_, S>, meter: &str) -> Result<LastRow
     }
 }
 
-/// Returns how many values the counter of a meter has. A missing range is damage.
+/// Returns how many values the counter of a meter has. Reports a missing range as damage.
 pub fn range_of<S: Alter>(tx: &mut Transaction<'_, S>, meter: &str) -> Result<u64, RowFault>
     ensures same_reference { IsSameBorrow tx.old.conn tx.new.conn }
     ensures sound { IfOk result IsRange }

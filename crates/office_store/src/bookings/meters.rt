@@ -1,4 +1,4 @@
-//! Writing meters that are installed.
+//! Writes the installations of meters to the tables.
 ghost use Rattle.sqlite.specs.Held.{state};
 ghost use Rattle.store_tables.specs.Steps.{IsSameBorrow};
 ghost use Rattle.office_events.specs.declared.facts.Fact.TheVariants as fact;
@@ -12,8 +12,8 @@ use sqlite::{Alter, Transaction};
 use store_facts::{begun_row, is_sound_opening, opening_row, text};
 use store_tables::{RowFault, insert_entry, insert_installation, insert_range};
 
-/// Writes the opening of a meter: its installation at the index after the last, its range, and its
-/// first entry.
+/// Writes the opening of a meter. Inserts its installation with the index after the last
+/// installation, its counter's range, and its first entry.
 pub fn enter_opening<S: Alter>(
     tx: &mut Transaction<'_, S>,
     opening: &Opening,

@@ -1,4 +1,4 @@
-//! The index of the next row of a table.
+//! Computes the index of the next row of a table.
 ghost use Rattle.std.specs.Prelude.{◌≡◌, IfOk};
 ghost use Rattle.sqlite.specs.Held.{state};
 ghost use Rattle.store_tables.specs.Answer.{every};
@@ -21,7 +21,8 @@ use sqlite::{Alter, Row, Transaction};
 use store_devices::{last_device_rows, last_hold_rows, last_register_rows};
 use store_tables::{GREATEST_PLACE, RowFault, last_entry_rows, last_installation_rows, whole};
 
-/// Returns the index after that in a row. An index past the greatest is damage.
+/// Returns the index that follows the index in a row. Reports an index past the greatest index as
+/// damage.
 fn following(row: &Row) -> Result<u64, RowFault>
     ensures next { result ≡ following_place row.now }
     ensures sound { IfOk result IsPlace }
@@ -34,7 +35,7 @@ fn following(row: &Row) -> Result<u64, RowFault>
     }
 }
 
-/// Returns the index after that of the first of these rows, or 1 if there are no rows.
+/// Returns the index that follows the index in a result's first row, or 1 if the result has no row.
 fn next_place(rows: &[Row]) -> Result<u64, RowFault>
     ensures next { result ≡ next_in rows.now }
     ensures sound { IfOk result IsPlace }

@@ -1,4 +1,4 @@
-//! Writing polls, their outcomes, rejected readings and kept requests.
+//! Writes polls, their outcomes, rejected readings and stored requests to the tables.
 ghost use Rattle.sqlite.specs.Held.{state};
 ghost use Rattle.store_tables.specs.Steps.{IsSameBorrow};
 ghost use Rattle.office_events.specs.declared.facts.Fact.TheVariants as fact;
@@ -27,7 +27,7 @@ pub fn enter_poll<S: Alter>(tx: &mut Transaction<'_, S>, poll: &Poll) -> Result<
     Ok(())
 }
 
-/// Writes how a poll ended.
+/// Writes the outcome of a poll.
 pub fn enter_outcome<S: Alter>(
     tx: &mut Transaction<'_, S>,
     ended: &EndedPoll,
@@ -43,7 +43,7 @@ pub fn enter_outcome<S: Alter>(
     Ok(())
 }
 
-/// Writes a rejected reading, at the index after the last.
+/// Writes a rejected reading with the index after the last rejected reading.
 pub fn enter_hold<S: Alter>(tx: &mut Transaction<'_, S>, held: &HeldReading) -> Result<(), RowFault>
     ensures same_reference { IsSameBorrow tx.old.conn tx.new.conn }
     ensures does { Goes (state S.Store tx.old.conn.now) (state S.Store tx.new.conn.now) result
@@ -59,7 +59,7 @@ pub fn enter_hold<S: Alter>(tx: &mut Transaction<'_, S>, held: &HeldReading) -> 
     Ok(())
 }
 
-/// Writes a kept request.
+/// Writes an accepted request under its idempotency key.
 pub fn enter_reply<S: Alter>(tx: &mut Transaction<'_, S>, reply: &Reply) -> Result<(), RowFault>
     ensures same_reference { IsSameBorrow tx.old.conn tx.new.conn }
     ensures does { Goes (state S.Store tx.old.conn.now) (state S.Store tx.new.conn.now) result

@@ -1,4 +1,4 @@
-//! Writing accounting registers.
+//! Writes accounting registers to the tables.
 ghost use Rattle.std.specs.Prelude.{◌≡◌, true};
 ghost use Rattle.sqlite.specs.Held.{state};
 ghost use Rattle.office_events.specs.declared.facts.Fact.TheVariants as fact;
@@ -15,7 +15,7 @@ use store_devices::insert_register;
 use store_facts::{is_scale, register_row, text};
 use store_tables::RowFault;
 
-/// Returns whether the table allows this scale of an accounting register.
+/// Returns true if the table `registers` allows the scale of an accounting register.
 fn is_sound_scale(source: ScaleSource) -> bool
     ensures { result ≡ true → IsSoundScale (scale_as source) }
 {
@@ -25,7 +25,7 @@ fn is_sound_scale(source: ScaleSource) -> bool
     }
 }
 
-/// Returns whether one Modbus read covers the counter of an accounting register and its scale.
+/// Returns true if one Modbus read covers the counter of an accounting register and its scale.
 fn is_narrow(register: &Register) -> bool
     ensures { result ≡ fits_a_read register.now.address (scale_as register.now.scale) }
 {
@@ -33,7 +33,7 @@ fn is_narrow(register: &Register) -> bool
     store_devices::fits_a_read(row.address, row.scale)
 }
 
-/// Writes an accounting register, at the index after the last.
+/// Writes an accounting register with the index after the last register.
 pub fn enter_register<S: Alter>(
     tx: &mut Transaction<'_, S>,
     register: &Register,

@@ -31,7 +31,7 @@ pub struct Surroundings {
     pub near: Neighbours,
 }
 
-/// Returns the entry of a meter at index `place`. A missing entry is damage.
+/// Returns the entry of a meter at index `place`. Reports a missing entry as damage.
 fn entry_there<S: Alter>(
     tx: &mut Transaction<'_, S>,
     meter: &str,
@@ -48,7 +48,7 @@ fn entry_there<S: Alter>(
     }
 }
 
-/// Returns the last entry before index `place` that is not voided. This may be the opening.
+/// Returns the last meter entry before index `place` that is not voided, which may be the opening.
 fn entry_before<S: Alter>(
     tx: &mut Transaction<'_, S>,
     meter: &str,
@@ -64,7 +64,7 @@ fn entry_before<S: Alter>(
     entry_there(tx, meter, before)
 }
 
-/// Returns the next entry after index `place` that is not voided, or None.
+/// Returns the next meter entry after index `place` that is not voided, or None.
 fn entry_after<S: Alter>(
     tx: &mut Transaction<'_, S>,
     meter: &str,
@@ -79,7 +79,7 @@ fn entry_after<S: Alter>(
     entry_at(tx, meter, next)
 }
 
-/// Returns the entry of a meter at index `place`, and its neighbours.
+/// Returns the entry of a meter at index `place`, and the nearest entries that are not voided.
 fn neighbours_of<S: Alter>(
     tx: &mut Transaction<'_, S>,
     meter: &str,
@@ -112,7 +112,7 @@ fn opened_at<S: Alter>(tx: &mut Transaction<'_, S>, meter: &str) -> Result<u64, 
 }
 
 /// Returns an entry with its neighbours, and the state of its meter. Reads no other entry of the
-/// meter, and only the voids of the entries in between.
+/// meter, and only the voids of the entries between the neighbours.
 pub fn surroundings_of<S: Alter>(
     tx: &mut Transaction<'_, S>,
     meter: &str,

@@ -1,4 +1,4 @@
-//! Writing voids of entries.
+//! Writes voids of meter entries to the tables.
 ghost use Rattle.std.specs.Prelude.{◌≤◌, IfSome};
 ghost use Rattle.sqlite.specs.Held.{state};
 ghost use Rattle.office_events.specs.declared.facts.Fact.TheVariants as fact;
@@ -22,7 +22,8 @@ use sqlite::{Alter, Transaction};
 use store_facts::{book_step, drop_rows_from, take_step, text};
 use store_tables::{GREATEST_PLACE, LATEST_MOMENT, RowFault, insert_void, set_rolls};
 
-/// Sets the rollovers of the next entry to those of the rejoined entry, if there is a next entry.
+/// Sets the rollovers of the next meter entry to the new rollovers in `next`. If there is no next
+/// entry, makes no call.
 fn roll_next<S: Alter>(
     tx: &mut Transaction<'_, S>,
     meter: &str,
@@ -40,8 +41,8 @@ fn roll_next<S: Alter>(
     Ok(())
 }
 
-/// Subtracts the energy of the step to the next entry from the interval rows, if there is a next
-/// entry.
+/// Subtracts the energy between the voided meter entry and the next entry from `intervals`. If
+/// there is no next entry, makes no call.
 fn take_next<S: Alter>(
     tx: &mut Transaction<'_, S>,
     meter: &str,
@@ -59,8 +60,8 @@ fn take_next<S: Alter>(
     Ok(())
 }
 
-/// Adds the energy of the new step to the next entry to the interval rows, if there is a next
-/// entry.
+/// Adds to `intervals` the energy between the meter entry before the voided entry and the next
+/// entry. If there is no next entry, makes no call.
 fn put_next<S: Alter>(
     tx: &mut Transaction<'_, S>,
     meter: &str,
@@ -78,8 +79,8 @@ fn put_next<S: Alter>(
     Ok(())
 }
 
-/// Subtracts the energy of two steps from the interval rows: the step to the next entry, and the
-/// step to the voided entry.
+/// Subtracts two energies from `intervals`: the energy from the voided meter entry to the next
+/// entry, and the energy from the previous entry to the voided entry.
 fn take_steps<S: Alter>(
     tx: &mut Transaction<'_, S>,
     meter: &str,
@@ -97,7 +98,8 @@ fn take_steps<S: Alter>(
     Ok(())
 }
 
-/// Replaces the energy of the removed steps in the interval rows by that of the new step.
+/// Replaces the energy around a voided meter entry in `intervals` by the energy that is computed
+/// without the voided entry.
 fn exchange_rows<S: Alter>(
     tx: &mut Transaction<'_, S>,
     meter: &str,
@@ -114,7 +116,7 @@ fn exchange_rows<S: Alter>(
     Ok(())
 }
 
-/// Writes the row of a void, and the new rollovers of the next entry.
+/// Writes the row of a void, and the new rollovers of the next meter entry.
 fn mark_void<S: Alter>(
     tx: &mut Transaction<'_, S>,
     meter: &str,
@@ -153,10 +155,11 @@ fn book_void<S: Alter>(
     settle(tx, meter, made.last, false)
 }
 
-/// Writes the void of a meter's entry. The entry's row stays, and a row of `voids` marks it. The
-/// next entry that is not voided gets the rollovers that follow from its new predecessor. The
-/// meter's total energy and interval rows become those of the entries that are not voided. The cost
-/// grows with the number of quarter hours between the neighbours of the voided entry.
+/// Writes the void of a meter's entry. The entry's row remains, and a row of `voids` cancels it.
+/// The next entry that is not voided gets the rollovers that follow from the entry now before it.
+/// The meter's total energy and its rows of `intervals` become those of the entries that are not
+/// voided. The cost grows with the number of quarter hours between the neighbours of the voided
+/// entry.
 pub fn enter_void<S: Alter>(
     tx: &mut Transaction<'_, S>,
     voided: &VoidedEntry,

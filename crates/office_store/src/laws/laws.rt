@@ -1,4 +1,4 @@
-//! Theorems about the tables of an office's store.
+//! Theorems about the tables of a store of metering records.
 ghost use Rattle.office_store.specs.Laws.Files.{NewFilesHaveNone, OpenedFilesKeepTheirs};
 ghost use Rattle.office_store.specs.Laws.Files.{NewestFilesHaveTheirs, FoundFilesKeepTheirs};
 ghost use Rattle.office_store.specs.Laws.Laws.{DatabasesTellTheirFacts, LeftFactsAreFound, TablesTellTheirFacts};
@@ -28,7 +28,7 @@ pub fn left_facts_are_found()
     ensures { LeftFactsAreFound }
 {}
 
-/// Theorem: a new file has no records.
+/// Theorem: if a file was just created, its tables encode no records.
 pub fn new_files_have_none()
     ensures { NewFilesHaveNone }
 {}
@@ -38,14 +38,15 @@ pub fn opened_files_keep_theirs()
     ensures { OpenedFilesKeepTheirs }
 {}
 
-/// Theorem: a file of version 3 has records if and only if its tables are those of the records.
+/// Theorem: a file of version 3 encodes a list of records if and only if its tables are those of
+/// the records.
 pub fn newest_files_have_theirs()
     ensures { NewestFilesHaveTheirs }
 {
     opened_files_keep_theirs();
 }
 
-/// Theorem: the next open of a file of any version finds the file's records.
+/// Theorem: the next open of a file of any version finds the records of the file.
 pub fn found_files_keep_theirs()
     ensures { FoundFilesKeepTheirs }
 {}

@@ -1,4 +1,4 @@
-//! Closing a connection to files.
+//! Closes the connection of a store to its database files.
 ghost use Rattle.std.specs.Prelude.{ℕ, List};
 ghost use Rattle.sqlite.specs.Files.{over_files};
 ghost use Rattle.sqlite_store.specs.FileStore.{view};
@@ -11,9 +11,9 @@ use crate::stops::laws::stops_leave_facts;
 use sqlite::{Connection, FileStore};
 use sqlite_disk::Disk;
 
-/// Ends a connection to files, and returns their store. Suppose that a crash of the connection
-/// leaves the records of one of some lists. Then the next open finds the records of one of those
-/// lists, after a crash before or after this call.
+/// Closes a connection to files, and returns the store of the files. If a crash of the connection
+/// leaves the records of one of some lists, the next open finds the records of one of the lists.
+/// The crash may come before or after the connection is closed.
 pub fn end<D: Disk + Drop>(connection: Connection<FileStore<D>>) -> FileStore<D>
     ensures before { IsClean (view result) → (zone : List ℕ) (left : List (List Fact))
         → LeavesFacts over_files zone connection left

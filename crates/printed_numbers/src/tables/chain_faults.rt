@@ -1,4 +1,4 @@
-//! The faults of a device's chain of SunSpec models.
+//! The meanings of the faults of a device's chain of SunSpec models.
 ghost use Rattle.printed_numbers.specs.Numbers.{Answers};
 ghost use Rattle.printed_numbers.specs.declared.kind.Kind.TheVariants.{ChainFault};
 
@@ -37,7 +37,7 @@ static TOO_MANY_MODELS: Meaning = Meaning {
     remedy: "compare the words at the last models with the device",
 };
 
-/// Returns the meaning of a number that says why a device has no valid chain of models.
+/// Returns the meaning of the fault with the given number in a device's chain of SunSpec models.
 pub fn chain_fault(number: u32) -> Option<&'static Meaning>
     ensures { Answers ChainFault number result }
 {

@@ -1,4 +1,4 @@
-//! The exception codes of devices (MODBUS Application Protocol V1.1b3, section 7).
+//! The meanings of the exception codes of devices (MODBUS Application Protocol V1.1b3, section 7).
 ghost use Rattle.printed_numbers.specs.Numbers.{Answers};
 ghost use Rattle.printed_numbers.specs.declared.kind.Kind.TheVariants.{Exception};
 

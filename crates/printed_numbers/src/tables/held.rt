@@ -1,4 +1,4 @@
-//! The causes for which the office rejects a reading.
+//! The meanings of the causes for which the program rejects a meter reading.
 ghost use Rattle.printed_numbers.specs.Numbers.{Answers};
 ghost use Rattle.printed_numbers.specs.declared.kind.Kind.TheVariants.{Held};
 
@@ -69,7 +69,7 @@ static NOT_BELOW_RANGE: Meaning = Meaning {
     remedy: "exchange the meter for itself under a new name, with the right RANGE",
 };
 
-/// Returns the meaning of a number that says why a reading was rejected.
+/// Returns the meaning of the cause with the given number for rejecting a meter reading.
 pub fn hold(number: u32) -> Option<&'static Meaning>
     ensures { Answers Held number result }
 {

@@ -1,4 +1,4 @@
-//! The faults of HTTP requests, by the status of the response.
+//! The meanings of the faults of HTTP requests, by the status of the response.
 ghost use Rattle.printed_numbers.specs.Numbers.{Answers};
 ghost use Rattle.printed_numbers.specs.declared.kind.Kind.TheVariants.{HttpFault};
 
@@ -77,7 +77,7 @@ static TAKES_NO_COMMAND: Meaning = Meaning {
     remedy: "read what the run printed on standard error, then restart it with a larger --most-kept, or with its files in place",
 };
 
-/// Returns the meaning of an HTTP fault. Its number is the status of the response.
+/// Returns the meaning of the HTTP fault whose number is the given response status.
 pub fn http_fault(number: u32) -> Option<&'static Meaning>
     ensures { Answers HttpFault number result }
 {

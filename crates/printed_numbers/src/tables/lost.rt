@@ -1,4 +1,4 @@
-//! The causes for which a poll was lost.
+//! The meanings of the causes for which a poll is lost.
 ghost use Rattle.printed_numbers.specs.Numbers.{Answers};
 ghost use Rattle.printed_numbers.specs.declared.kind.Kind.TheVariants.{Lost};
 
@@ -37,7 +37,7 @@ static RESTART: Meaning = Meaning {
     remedy: "nothing: the next round polls again",
 };
 
-/// Returns the meaning of a number that says why a poll was lost.
+/// Returns the meaning of the cause with the given number for losing a poll.
 pub fn loss(number: u32) -> Option<&'static Meaning>
     ensures { Answers Lost number result }
 {

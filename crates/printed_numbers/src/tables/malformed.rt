@@ -1,4 +1,4 @@
-//! The ways in which a response can be malformed.
+//! The meanings of the faults for which a device's response counts as malformed.
 ghost use Rattle.printed_numbers.specs.Numbers.{Answers};
 ghost use Rattle.printed_numbers.specs.declared.kind.Kind.TheVariants.{Malformed};
 
@@ -45,7 +45,7 @@ static WRONG_UNIT: Meaning = Meaning {
     remedy: "compare the unit identifier with the device's settings: it is often 1, 126 or 255",
 };
 
-/// Returns the meaning of a number that says how a response was malformed.
+/// Returns the meaning of the fault with the given number in a device's malformed response.
 pub fn malformation(number: u32) -> Option<&'static Meaning>
     ensures { Answers Malformed number result }
 {

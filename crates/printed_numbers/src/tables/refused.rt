@@ -1,4 +1,5 @@
-//! The reasons for which the office refuses a line, a request or an event.
+//! The meanings of the reasons for which the program refuses a script line, a request or a device
+//! event.
 ghost use Rattle.printed_numbers.specs.Numbers.{Answers};
 ghost use Rattle.printed_numbers.specs.declared.kind.Kind.TheVariants.{Refused};
 
@@ -141,7 +142,8 @@ static NOT_PLAUSIBLE: Meaning = Meaning {
     remedy: "void the later wrong reading first",
 };
 
-/// Returns the meaning of a number that says why the office refused a line, a request or an event.
+/// Returns the meaning of the reason with the given number for refusing a script line, a request or
+/// a device event.
 pub fn refusal(number: u32) -> Option<&'static Meaning>
     ensures { Answers Refused number result }
 {

@@ -1,4 +1,4 @@
-//! The faults of rows in a point list.
+//! The meanings of the faults of rows in a point list.
 ghost use Rattle.printed_numbers.specs.Numbers.{Answers};
 ghost use Rattle.printed_numbers.specs.declared.kind.Kind.TheVariants.{RowFault};
 
@@ -101,7 +101,7 @@ static TOO_MANY_ROWS: Meaning = Meaning {
     remedy: "remove the points that aren't needed",
 };
 
-/// Returns the meaning of a number that says what is wrong with a row of a point list.
+/// Returns the meaning of the fault with the given number in a row of a point list.
 pub fn row_fault(number: u32) -> Option<&'static Meaning>
     ensures { Answers RowFault number result }
 {

@@ -1,4 +1,4 @@
-//! The exit statuses of the program.
+//! The meanings of the program's exit statuses.
 ghost use Rattle.printed_numbers.specs.Numbers.{Answers};
 ghost use Rattle.printed_numbers.specs.declared.kind.Kind.TheVariants.{Status};
 

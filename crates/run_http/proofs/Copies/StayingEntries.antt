@@ -1,4 +1,5 @@
--- Lemmas on which journal lines leave a meter's entries before a sequence number unchanged.
+-- Lemmas: journal lines that void no entry before a sequence number leave the entries before it
+-- unchanged.
 use Rattle.std.proofs.Common.{◌≡◌, ℕ, ◌+◌, ◌<◌, ◌≤◌, ◌==◌, nat_lt, true, false, ◌&&◌, List, [], ◌∷◌, ◌++◌, length, refl, sym, ap, ◌∙◌, inl, inr, Some, arith}
 use Rattle.std.proofs.lemmas.Bool.{cases_Bool, cond-true, cond-false, eqb-true}
 use Rattle.std.proofs.lemmas.Bool.Decides.{nat_tests}
@@ -15,7 +16,7 @@ use Rattle.meter_journal.proofs.AsEntered.{rows_stand}
 use Rattle.meter_journal.proofs.Keeping.{mapped_some}
 use Rattle.run_http.specs.Copies.{entries_before}
 
--- Each void among the lines names an entry with sequence number `place` or higher.
+-- Each void among the journal lines names an entry with sequence number `place` or higher.
 abbrev pub LinesFrom : (place : ℕ) → Journal → Type 0
 LinesFrom place [] = Unit {0}
 LinesFrom place (Entered k e ∷ lines) = LinesFrom place lines
@@ -28,7 +29,8 @@ not_below n place le = grind (arith, nat_tests, le)
 is_below : (n place : ℕ) → n < place → nat_lt n place ≡ true
 is_below n place lt = grind (arith, nat_tests, lt)
 
--- An entry with sequence number `place` or higher is not among the entries before `place`.
+-- If an entry has the sequence number `place` or a higher number, then it is not among the entries
+-- before `place`.
 dropped : (place : ℕ) (row : EntryRow) (rows : List EntryRow) → place ≤ row.place → entries_before place (row ∷ rows) ≡ entries_before place rows
 dropped place row rows le = cond-false _ _ _ (not_below row.place place le)
 
@@ -39,7 +41,7 @@ rolled_place last row =
       | inr e ↦ ap (λ (r : EntryRow). r.place) (cond-false _ _ _ e)
     ]
 
--- The sequence number of an existing entry is below the next free one.
+-- If an entry exists, then its sequence number is below the next unused sequence number.
 place_below : (named : ℕ) (rows : List EntryRow) (a : Around) → AreNumbered rows → row_at named rows ≡ Some a → named < length rows + 2
 place_below named [] a h there = absurd (cc)
 place_below named (row ∷ rows) a h there =
@@ -50,7 +52,7 @@ place_below named (row ∷ rows) a h there =
           let rest = place_below named rows found.0 h.1 found.1 in omega (arith, rest)
     ]
 
--- A void leaves the entries with lower sequence numbers unchanged.
+-- If an entry is voided, then all entries with lower sequence numbers are unchanged.
 void_leaves : (opening : Last) (place named : ℕ) (rows : List EntryRow) (a : Around) → place ≤ named → AreNumbered rows
     → row_at named rows ≡ Some a → entries_before place (with_void opening named rows) ≡ entries_before place rows
 void_leaves opening place named [] a le h there = absurd (cc)
@@ -81,8 +83,8 @@ below_fit : (meter : Installed) (more lines : Journal) → AreFitting meter (mor
 below_fit meter [] lines h = h
 below_fit meter (line ∷ more) lines h = below_fit meter more lines h.1
 
--- Lines that void no entry before `place` leave the entries before `place` unchanged. `place` is at
--- most the sequence number of the next entry.
+-- Journal lines that void no entry before the sequence number `place` leave the entries before
+-- `place` unchanged. `place` exists or is the next sequence number.
 pub entries_stay : (meter : Installed) (place : ℕ) (more lines : Journal) → IsWellInstalled meter → AreFitting meter (more ++ lines)
     → place ≤ entered_count lines + 2 → LinesFrom place more
     → entries_before place (rows_of meter.opening (more ++ lines)) ≡ entries_before place (rows_of meter.opening lines)
@@ -99,7 +101,7 @@ entries_stay meter place (Voided named ∷ more) lines well h le from =
     void_leaves meter.opening place named rows h.0.around from.0 (rows_stand meter (more ++ lines) well h.1).places h.0.there
     ∙ entries_stay meter place more lines well h.1 le from.1
 
--- ---- The entries before a sequence number are the first ones.
+-- ---- The entries before a sequence number are the first entries.
 
 pub all_below : (place : ℕ) (rows : List EntryRow) → AreNumbered rows → length rows + 1 < place → entries_before place rows ≡ rows
 all_below place [] h lt = refl

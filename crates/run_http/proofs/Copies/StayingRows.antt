@@ -1,5 +1,5 @@
--- Later records leave the quarter hours of a meter before that of an entry, if they void nothing
--- before that entry.
+-- Lemmas: later records that void nothing before an entry leave the quarter hours of the meter
+-- before that entry's quarter hour unchanged.
 use Rattle.std.proofs.Common.{◌≡◌, ℕ, ◌+◌, ◌≤◌, cond, List, [], ◌∷◌, ◌++◌, length, map, sym, ap, subst, ◌∙◌, Some, None, arith}
 use Rattle.std.specs.Prelude.{All}
 use Rattle.std.proofs.lemmas.Bool.{cond-false}
@@ -38,19 +38,20 @@ use Rattle.run_http.specs.Copies.{rows_before, entries_before, next_place, quart
 use Rattle.run_http.proofs.Copies.StayingEntries.{LinesFrom, entries_stay, all_below, first_ones}
 use Rattle.run_http.proofs.Copies.StayingShares.{entries_leave, before_earlier, rows_part, all_before}
 
--- ---- Journals.
+-- ---- Quarter hours that further lines of a meter's journal leave unchanged.
 
 entries_joined : (newer older : List EntryRow) → journal.entries_in (newer ++ older) ≡ journal.entries_in newer ++ journal.entries_in older
 entries_joined newer older =
     let own : EntryRow → Entry = λ row. row.entry in
     ap (map own) (filter-append (λ (row : EntryRow). row.stands) newer older) ∙ map-append own (journal.standing newer) (journal.standing older)
 
--- The quarter hour of the last entry before `place` that is not voided.
+-- The quarter hour of the last valid entry before the sequence number `place`.
 abbrev pub quarter_before : Installed → (place : ℕ) → journal.Journal → ℕ
 quarter_before meter place lines =
     quarter_of (last_after meter (journal.entries_in (entries_before place (journal.rows_of meter.opening lines)))).at
 
--- The rows before that quarter hour follow from the entries before `place` alone.
+-- The entries before `place` determine all rows before the quarter hour of the last valid entry
+-- before `place`.
 rows_of_first : SharesAddUp → (meter : Installed) (place : ℕ) (lines : journal.Journal) → IsWellInstalled meter → AreFitting meter lines
     → let base = journal.entries_in (entries_before place (journal.rows_of meter.opening lines)) in
     rows_before (quarter_of (last_after meter base).at) (interval_rows meter lines)
@@ -107,13 +108,13 @@ stay_in_journal law meter place more lines own h le void =
           rows_part from till told rising before ∙ ap (λ rs. rs ++ rows_within (Between from till) told) (earlier from upto);
     }
 
--- ---- Records.
+-- ---- Quarter hours that further records of the store leave unchanged.
 
 moments_bounded : (facts : List Fact) → AreLawful facts → latest_in facts ≤ moment_limit
 moments_bounded [] h = omega arith
 moments_bounded (f ∷ facts) h = omega (arith, h.0.1, moments_bounded facts h.1)
 
--- A meter with an opening entry keeps it when records are added.
+-- If records are added to the store, then the opening entry of a meter is unchanged.
 still_opened : (further facts : List Fact) (meter : List ℕ) (opening : Opening) → AreLawful (further ++ facts) → opening_of facts meter ≡ Some opening
     → opening_of (further ++ facts) meter ≡ Some opening
 still_opened [] facts meter o h there = there
@@ -133,7 +134,7 @@ still_opened (fact.Poll p ∷ further) facts meter o h there = still_opened furt
 still_opened (fact.Outcome e ∷ further) facts meter o h there = still_opened further facts meter o h.1 there
 still_opened (fact.Reply r ∷ further) facts meter o h there = still_opened further facts meter o h.1 there
 
--- The journal of a meter after a record: one more line, or no more.
+-- A record adds one line or no line to the journal of a meter.
 one_more : (place : ℕ) (line : journal.Line) (lines : journal.Journal) (meter m : List ℕ) → LinesFrom place lines
     → (meter ≡ m → LinesFrom place (line ∷ lines)) → LinesFrom place (cons_option (cond (same meter m) (Some line) None) lines)
 one_more place line lines meter m rest here =
@@ -161,7 +162,8 @@ lines_from (fact.Poll p ∷ further) meter place h = lines_from further meter pl
 lines_from (fact.Outcome e ∷ further) meter place h = lines_from further meter place (All-tail (VoidsFrom meter place) (fact.Outcome e) further h)
 lines_from (fact.Reply r ∷ further) meter place h = lines_from further meter place (All-tail (VoidsFrom meter place) (fact.Reply r) further h)
 
--- `StaysBefore` for a meter, by its own opening entry.
+-- If later records void no entry before `place`, then they satisfy `StaysBefore` for the meter with
+-- this opening entry.
 stays_before : SharesAddUp → (further facts : List Fact) (o : Opening) (place : ℕ) → AreLawful (further ++ facts) → opening_of facts o.meter ≡ Some o
     → place ≤ next_place facts o → All (VoidsFrom o.meter place) further → StaysBefore further facts o.meter o place
 stays_before law further facts o place h there le void =

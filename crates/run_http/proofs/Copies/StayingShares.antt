@@ -1,4 +1,4 @@
--- Lemmas on what the steps of later entries change of the rows of earlier ones.
+-- Lemmas: the energy of later entries leaves earlier quarter hours unchanged.
 use Rattle.std.proofs.Common.{◌≡◌, ℕ, ◌+◌, ◌<◌, ◌≤◌, ◌==◌, nat_lt, nat_le, Bool, true, false, cond, ◌&&◌, List, [], ◌∷◌, ◌++◌, refl, sym, ap, ◌∙◌, inl, inr, arith}
 use Rattle.std.specs.Prelude.{All}
 use Rattle.std.proofs.lemmas.Bool.{cases_Bool, cond-true, cond-false, eqb-true}
@@ -20,7 +20,7 @@ use Rattle.office_books.specs.Spans.{rows_within}
 use Rattle.office_books.specs.declared.spans.Span.TheVariants.{Between}
 use Rattle.run_http.specs.Copies.{rows_before, quarter_of}
 
--- All rows start at `moment` or later.
+-- All rows start at the time `moment` or later.
 abbrev pub StartFrom : (moment : ℕ) → List Share → Type 0
 StartFrom moment [] = Unit {0}
 StartFrom moment (share ∷ shares) = (moment ≤ share.start) × StartFrom moment shares
@@ -41,7 +41,8 @@ joined_after moment row share shares true e h =
 joined_after moment row share shares false e h =
     ap (λ rs. cond (nat_lt row.start moment) (row ∷ rs) rs) (none_before moment (share ∷ shares) h)
 
--- If all shares start at `moment` or later, adding them leaves the rows before `moment` unchanged.
+-- If added interval rows all start at the time `moment` or later, then the rows before `moment` are
+-- unchanged.
 shares_leave : (moment : ℕ) (rows shares : List Share) → StartFrom moment shares → rows_before moment (with_shares rows shares) ≡ rows_before moment rows
 shares_leave moment [] shares h = none_before moment shares h
 shares_leave moment (row ∷ []) [] h = refl
@@ -53,7 +54,8 @@ all_from : (moment : ℕ) (shares : List Share) → ((s : ℕ) → Among s share
 all_from moment [] h = tt
 all_from moment (share ∷ shares) h = (h share.start (inl refl), all_from moment shares (λ s there. h s (inr there)))
 
--- If a step begins at `moment` or later, its shares start at the quarter hour of `moment` or later.
+-- If the time span `step` between two entries begins at `moment` or later, then its rows start at
+-- the quarter hour of `moment` or later.
 shares_start : SharesAddUp → (step : Step) (moment : ℕ) → step.from < step.till → moment ≤ step.from → StartFrom (quarter_of moment) (shares_of step)
 shares_start law step moment forward le =
     all_from (quarter_of moment) (shares_of step) (λ s there.
@@ -65,7 +67,8 @@ pub last_later : (meter : Installed) (es base : List Entry) → AllFollow meter.
 last_later meter [] base h = omega arith
 last_later meter (e ∷ es) base h = omega (arith, h.0.later, last_moment meter e (es ++ base), last_later meter es base h.1)
 
--- Later entries leave the rows before the quarter hour of the last entry unchanged.
+-- If entries are added after a meter's last entry, then the rows before the quarter hour of that
+-- last entry are unchanged.
 pub entries_leave : SharesAddUp → (meter : Installed) (es base : List Entry) → AllFollow meter.range meter.opening (es ++ base)
     → let moment = quarter_of (last_after meter base).at in
     rows_before moment (rows_of_steps (steps_after meter (es ++ base))) ≡ rows_before moment (rows_of_steps (steps_after meter base))
@@ -86,20 +89,20 @@ before_row moment from row rows le =
           ap (rows_before from) (cond-false _ _ _ e) ∙ sym (cond-false _ _ _ (not_before from row.start (omega (arith, ge, le))))
     ]
 
--- The rows before an earlier time, taken from those before a later time.
+-- Selecting the rows before a time from the rows before a later time loses no row.
 pub before_earlier : (moment from : ℕ) (rows : List Share) → from ≤ moment → rows_before from (rows_before moment rows) ≡ rows_before from rows
 before_earlier moment from [] le = refl
 before_earlier moment from (row ∷ rows) le =
     before_row moment from row (rows_before moment rows) le
     ∙ ap (λ rs. cond (nat_lt row.start from) (row ∷ rs) rs) (before_earlier moment from rows le)
 
--- ---- Rows in order are those before a time, and then the others.
+-- ---- Rows in order split at a time into earlier and later rows.
 
 pub none_start : (moment start : ℕ) (rows : List Share) → moment ≤ start → Above start rows → StartFrom moment rows
 none_start moment start [] le h = tt
 none_start moment start (row ∷ rows) le h = (omega (arith, le, h.0), none_start moment start rows le h.1)
 
--- All rows start before `till`.
+-- All rows start before the time `till`.
 abbrev pub StartBefore : (till : ℕ) → List Share → Type 0
 StartBefore till [] = Unit {0}
 StartBefore till (row ∷ rows) = (row.start < till) × StartBefore till rows

@@ -1,4 +1,4 @@
--- Lemmas on a request for all quarter hours of a meter.
+-- Lemmas on requests for all quarter hours of a meter.
 use Rattle.std.proofs.Common.{◌≡◌, ℕ, List, Option, Ok, refl, sym, subst, arith}
 use Rattle.http_answer.specs.Offices.{Office}
 use Rattle.http_answer.specs.Replies.{lines_reply, question_reply, reply_bytes}
@@ -20,7 +20,7 @@ use Rattle.http_request.specs.declared.routing.targets.Found.{Found}
 use Rattle.interval_core.specs.Lines.{intervals_text}
 use Rattle.run_http.specs.OfficeRequests.{AsksAllRows}
 
--- The request of a query has no body.
+-- If the head of a query (GET) is complete, then the query is complete, since it has no body.
 whole : (table : Table) (bytes : List ℕ) (at : Head) (found : Found) → IsHeadAt bytes at → TestsHead table (start_at bytes at) (Ok (Question found))
     → IsWhole table bytes at
 whole table bytes at found head tests = record {

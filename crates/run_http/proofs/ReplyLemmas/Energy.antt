@@ -1,4 +1,4 @@
--- Lemmas on the days that a report received, and on the text of the report.
+-- Lemmas on the days in an energy report, and on the text of the report.
 use Rattle.std.proofs.Common.{◌≡◌, ℕ, Bool, Option, Some, List, [], ◌∷◌, ◌++◌, Result, Ok, Err, IsErr, sym, subst, ap, ◌∙◌, append-nil, append_assoc}
 use Rattle.std.specs.Prelude.{OnOk}
 use Rattle.std.specs.Io.KnownBytes.{Appends}
@@ -19,7 +19,7 @@ use Rattle.office_events.specs.declared.refusals.Refusal.{Refusal}
 use Rattle.office_rules.specs.History.{History, facts_of}
 use Rattle.run_http.specs.RegisterReplies.{AsksEnergy, IsReport, PutsLast, RepliesEnergy, TellsDaysReport, with_energy_reply}
 
--- Days that were received one by one were all received.
+-- If a report receives some days and then more days, then it has received all these days in order.
 taken_all : {W : Type 0} (contents : W → Option (List ℕ)) (days more : List DayTotal) (from at to : ReportRows W)
     → HasTaken contents days from at → TakesAll (TakesDay contents) at more to → HasTaken contents (days ++ more) from to
 taken_all {W} contents days [] from at to has took =
@@ -31,7 +31,7 @@ taken_all contents days (day ∷ more) from at to has took =
     subst P (append_assoc days (day ∷ []) more)
     (taken_all contents (days ++ day ∷ []) more from took.0 to (took.1.taken from days has) took.2)
 
--- The report on the received days was written.
+-- After the program's answer and the rest of the report, the output has the complete report.
 written : {W : Type 0} (E : Type 0) (contents : W → Option (List ℕ)) (zone : Zone) (past : History) (register : Option (List ℕ)) (form : ReportForm)
     (before after : Failures) (from to left : ReportRows W) (output : W) (answer told : Result (Unit {0}) Refusal)
     → IsFresh contents form output from
@@ -48,7 +48,7 @@ written {W} E contents zone past register form before after from to left output 
     (days, hands.whole.are, rw (sym fresh.output) (subst Q text got))
 written E contents zone past register form before after from to left output (Err why) told fresh hands last = tt
 
--- The office is queried, and in the end the writer has the complete report.
+-- After one query of the store, the output has the complete energy report, or the call has failed.
 pub tells : {B W E : Type 0} (ledger : B → Ledger) (contents : W → Option (List ℕ)) (old new : Office B) (register : Option (List ℕ)) (form : ReportForm)
     (from to left : ReportRows W) (output holds : W) (answer : Result (Unit {0}) Refusal) (result : Result (Result (Unit {0}) Refusal) E)
     → IsFresh contents form output from → TellsDaysWithin (TakesDay contents) ledger old new from to answer register form.range
@@ -64,15 +64,15 @@ tells {E = E} ledger contents old new register form from to left output holds an
     }
 tells ledger contents old new register form from to left output holds answer (Err fault) fresh days last end = tt
 
--- The report still has the writer that it began with.
+-- If a report receives days, then its writer is unchanged.
 pub taken_by : {W : Type 0} (contents : W → Option (List ℕ)) (days : List DayTotal) (from to : ReportRows W)
     → TakesAll (TakesDay contents) from days to → to.output.ghost_name ≡ from.output.ghost_name
 taken_by {W} contents [] from to took = ap (λ (rows : ReportRows W). rows.output.ghost_name) took
 taken_by contents (day ∷ more) from to took = taken_by contents more took.0 to took.2 ∙ took.1.output
 
--- ---- The response.
+-- ---- The response with an energy report.
 
--- If the buffer was empty before, it has only the report.
+-- If the output was empty before the report was written, then it now has only the report.
 alone : (zone : Zone) (past : History) (register : Option (List ℕ)) (form : ReportForm) (had holds : List ℕ) (answer : Result (Unit {0}) Refusal)
     → had ≡ [] → OnOk answer (IsReport zone past register form (Appends (Some had) (Some holds)))
     → OnOk answer (IsReport zone past register form (λ text. holds ≡ text))
@@ -100,7 +100,7 @@ replied ledger old new register form had holds from to told (Err why) asked none
   puts = tt;
 }
 
--- The response if memory ran out for the report.
+-- If memory ran out for the report, the call fails as `RepliesEnergy` allows.
 pub lacked : {B E F : Type 0} (ledger : B → Ledger) (old new : Office B) (register : Option (List ℕ)) (form : ReportForm) (had holds : Option (List ℕ))
     (from to : List ℕ) (asked : Result (Result (Unit {0}) Refusal) F) (result : Result (Unit {0}) E)
     → AsksEnergy ledger old new register form had holds asked → IsErr result → RepliesEnergy ledger old new register form from to result

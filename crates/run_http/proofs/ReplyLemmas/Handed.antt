@@ -1,4 +1,4 @@
--- Lemmas on the effect of a call of the office's HTTP over a new link.
+-- Lemmas on a call of `office_http` over a new link in memory.
 use Rattle.std.proofs.Common.{◌≡◌, ℕ, List, [], Option, Some, Result, subst, ap, sym, ◌∙◌}
 use Rattle.mb_wire.specs.declared.link.LastTake.{LastTake}
 use Rattle.office_books.specs.Ledgers.{Ledger}

@@ -1,4 +1,4 @@
--- Lemmas on responses that are streamed in chunks.
+-- Lemmas on responses with quarter hours that are streamed in chunks.
 use Rattle.std.proofs.Common.{◌≡◌, inl, inr, ℕ, ◌+◌, ◌<◌, ◌≤◌, max, min, List, [], ◌∷◌, ◌++◌, length, Option, Some, Result, Ok, Err, true, refl, sym, ap, subst, ◌∙◌, append_assoc, length-append, zero-add, arith}
 use Rattle.std.specs.Prelude.{IsErr, OnOk, flat_map}
 use Rattle.std.specs.Option.{option_map, option_and_then}
@@ -41,13 +41,14 @@ use Rattle.run_http.proofs.Copies.Parts.{a_piece, all_parts, none_between, rows_
 use Rattle.office_core.proofs.SeveralAsked.{asked, asked_after, now_as, refused_as}
 use Rattle.run_http.proofs.ReplyLemmas.Voids.{mapped}
 
--- ---- Texts.
+-- ---- The text lines of interval rows in a response.
 
--- The text of rows after `told` earlier ones.
+-- The lines of the rows, and the last line, which also counts `told` earlier rows.
 abbrev text_of : (told : ℕ) → List Share → List ℕ
 text_of told rows = flat_map share_line rows ++ end_line (told + length rows)
 
--- The text of a chunk, followed by the text that is left, is the text that was left before.
+-- The text that remains before a chunk equals the lines of the chunk, followed by the text that
+-- remains after the chunk.
 pub told_on : (from to : List ℕ) (piece others : List Share) (told later : ℕ) → to ≡ from ++ flat_map share_line piece → later ≡ told + length piece
     → to ++ text_of later others ≡ from ++ text_of told (piece ++ others)
 told_on from to piece others told later put counted =
@@ -58,12 +59,12 @@ told_on from to piece others told later put counted =
     ∙ ap (λ t. from ++ (t ++ end_line (later + length others))) (sym (flat_map-append share_line piece others))
     ∙ ap (λ n. from ++ (flat_map share_line (piece ++ others) ++ end_line n)) count
 
--- ---- The beginning of a response.
+-- ---- The beginning of a streamed response.
 
 end_settled : (first till last end : ℕ) → end ≡ max first (min till last) → first < end → end ≤ last
 end_settled first till last end is lt = omega (arith, is, lt)
 
--- The answer to a query for rows, without the rows.
+-- The result of a query for rows, without the rows themselves.
 abbrev without_rows : Result (Vec Share Global) Refusal → Result (Unit {0}) Refusal
 without_rows (Ok rows) = Ok tt
 without_rows (Err why) = Err why
@@ -73,7 +74,8 @@ module _ {B : Type 0} (ledger : B → Ledger) (old new : Office B) where
   asks_without (Ok rows) asks = now_as ledger old new rows tt asks
   asks_without (Err why) asks = refused_as ledger old new why asks
 
-  -- A meter that was installed is found, and `it` is its row.
+  -- If a meter is installed, then it has an opening entry, and `it` is the meter as the program
+  -- reports it.
   found : (facts : List Fact) (it : Installation) (meter : List ℕ) → meter_of facts meter ≡ Some it
       → (o : Opening) × (opening_of facts meter ≡ Some o) × (installation_of facts o ≡ it)
   found facts it meter there = mapped (installation_of facts) (opening_of facts meter) it there
@@ -110,7 +112,7 @@ module _ {B : Type 0} (ledger : B → Ledger) (old new : Office B) where
             subst (λ (i : Option Installation). left.till ≤ last_quarter i) (sym known) (omega (arith, upto, high));
       }
 
-  -- A meter that was installed is found, so only a failure refuses its rows.
+  -- If the program refuses a query for rows of an installed meter, then the store or memory failed.
   failed : (facts : List Fact) (it : Installation) (from till : ℕ) (before after : Failures) (why : Refusal) → meter_of facts it.opening.meter ≡ Some it
       → IsListed (intervals_within facts (Some it.opening.meter) (Between from till)) before after (Err why) → IsOutside ⊥ before after why
   failed facts it from till before after why there listed =
@@ -118,7 +120,7 @@ module _ {B : Type 0} (ledger : B → Ledger) (old new : Office B) where
       subst (λ (o : Option Opening). IsListed (option_map (rows_within (Between from till)) (option_map (rows_of_opening facts) o)) before after (Err why))
       meter_is.1 listed
 
-  -- The rows that were listed are those of the office's answer.
+  -- The rows that a query returns are the rows that the store's records define.
   listed_as : {F : Type 0} (says : List Fact → Option (List Share)) (told : Result (Vec Share Global) Refusal) → AsksRows ledger old new says {E = F} (Ok told)
       → After ledger old new (λ past. IsListed (says (facts_of past)) (failures_of ledger old) (failures_of ledger new) told)
   listed_as says told asked = λ past stands clean.
@@ -164,14 +166,14 @@ module _ {B : Type 0} (ledger : B → Ledger) (old new : Office B) where
     );
   }
 
-  -- The beginning of a response if memory ran out for its rows.
+  -- If memory ran out for the rows, the call fails as `BeginsReply` allows.
   pub begins_lacked : {E F : Type 0} (it : Installation) (from till end : ℕ) (fault : F) (result : Result (Result RowsLeft Refusal) E)
       → AsksRows ledger old new (λ facts. intervals_within facts (Some it.opening.meter) (Between end till)) (Err fault) → IsErr result
       → BeginsReply ledger old new it from till intervals_text [] result
   begins_lacked it from till end fault (Ok told) asked is = cc is
   begins_lacked it from till end fault (Err why) asked is = record { answer = without_rows asked.answer; asks = asks_without asked.answer asked.asks; begins = tt }
 
-  -- ---- The chunks of a response.
+  -- ---- The chunks of a streamed response.
 
   pub tells_on : {E F : Type 0} (left later : RowsLeft) (seconds till : ℕ) (from to : List ℕ) (rows : Vec Share Global) (shown : List Share) → SharesAddUp
       → FactsAreLawful → (left.from ≤ left.till → left.from ≤ till) → till ≤ left.till → (left.till ≤ left.from → till ≡ left.till)
@@ -214,13 +216,13 @@ module _ {B : Type 0} (ledger : B → Ledger) (old new : Office B) where
       → TellsOn ledger old new left later seconds from to {E = E} (Ok (Err why))
   tells_refused left later seconds till from to why asked = record { answer = asked.answer; asks = asked.asks; tells = sym asked.gives }
 
--- ---- Sizes.
+-- ---- The size of a streamed response.
 
 failed_some : (before after : Failures) (why : Refusal) → IsRowFound {T = Unit {0}} (Some tt) before after (Err why) → IsOutside ⊥ before after why
 failed_some before after why (inl is) = cc is.0
 failed_some before after why (inr fault) = fault
 
--- If all lines were measured row by row, the sizes are those of all rows.
+-- If rows are measured one by one, then the result is the sizes of all rows.
 all_sized : (old new : RowSizes) (rows : List Share) → TakesAll SizesRow old rows new → new.is_whole ≡ true
     → (old.is_whole ≡ true) × (new.sizes.bytes ≡ old.sizes.bytes + length (flat_map share_line rows)) × (new.sizes.count ≡ old.sizes.count + length rows)
 all_sized old new [] is whole = (
@@ -235,7 +237,7 @@ all_sized old new (row ∷ rows) (next, first, rest) whole =
     length-append (share_line row) (flat_map share_line rows) in
     (one.0, omega (arith, later.1, one.1, line), omega (arith, later.2, one.2))
 
--- The size of a response's body follows from the sizes of the rows that are still to be queried.
+-- The computed size of a response's body equals the size of the remaining text.
 body_is : (facts : List Fact) (left : RowsLeft) (sizes : Sizes) → AreSizes sizes (rows_between facts left.meter left.from left.till)
     → body_size left sizes ≡ length (text_left facts left)
 body_is facts left sizes are =
@@ -298,19 +300,20 @@ module _ {B : Type 0} (ledger : B → Ledger) (old mid new : Office B) where
     sizes = (refl, λ past stands clean. (tells past stands clean).answer);
   }
 
-  -- The sizes if memory ran out for a line.
+  -- If memory ran out for a line, the call fails as `SizesRows` allows.
   pub sizes_none : {E : Type 0} (left : RowsLeft) (answer : Result (Unit {0}) Refusal) (result : Result (Result Sizes Refusal) E)
       → OnlyAsks ledger mid new answer → IsErr result → SizesRows ledger mid new left result
   sizes_none left answer (Ok told) asks is = cc is
   sizes_none left answer (Err why) asks is = record { answer = answer; asks = asks; sizes = tt }
 
-  -- ---- A response that reports its size.
+  -- ---- A response whose head contains the size of its body.
 
   first_asks : {E : Type 0} (it : Installation) (from till : ℕ) (reply : List Share → List ℕ) (put : List ℕ) (left : RowsLeft)
       → BeginsReply ledger old mid it from till reply put {E = E} (Ok (Ok left)) → OnlyAsks {T = Unit {0}} ledger old mid (Ok tt)
   first_asks it from till reply put left begins = subst (λ (a : Result (Unit {0}) Refusal). OnlyAsks ledger old mid a) begins.begins.0 begins.asks
 
-  -- A query that follows the first query of a response.
+  -- If the call queries the store a second time, then the response still begins as `BeginsReply`
+  -- states.
   pub then_asks : {E : Type 0} (it : Installation) (from till : ℕ) (reply : List Share → List ℕ) (put : List ℕ) (left : RowsLeft)
       (answer : Result (Unit {0}) Refusal) → BeginsReply ledger old mid it from till reply put {E = E} (Ok (Ok left)) → OnlyAsks ledger mid new answer
       → OnlyAsks ledger old new answer
@@ -362,7 +365,7 @@ module _ {B : Type 0} (ledger : B → Ledger) (old mid new : Office B) where
         );
       }
 
-  -- The beginning of a response if memory ran out while its rows were measured.
+  -- If memory ran out while rows were measured, the call fails as `BeginsReply` allows.
   pub sizes_lacked : {E F : Type 0} (it : Installation) (from till : ℕ) (text put : List ℕ) (left : RowsLeft) (answer : Result (Unit {0}) Refusal)
       (result : Result (Result RowsLeft Refusal) F) → BeginsReply ledger old mid it from till intervals_text [] {E = E} (Ok (Ok left))
       → OnlyAsks ledger mid new answer → IsErr result → BeginsReply ledger old new it from till (with_rows text) put result
@@ -370,7 +373,8 @@ module _ {B : Type 0} (ledger : B → Ledger) (old mid new : Office B) where
   sizes_lacked it from till text put left answer (Err why) begins asks is =
       record { answer = answer; asks = then_asks it from till intervals_text [] left answer begins asks; begins = tt }
 
--- A refusal or a lack of memory before anything was written is the same for any response.
+-- If the query is refused or memory runs out before any byte is written, then the call satisfies
+-- `BeginsReply` for any response.
 module _ {B : Type 0} (ledger : B → Ledger) (old new : Office B) where
   pub refused_so : {E F : Type 0} (it : Installation) (from till : ℕ) (reply other : List Share → List ℕ) (put text : List ℕ) (why : Refusal)
       → BeginsReply ledger old new it from till reply put {E = E} (Ok (Err why)) → BeginsReply ledger old new it from till other text {E = F} (Ok (Err why))
@@ -382,7 +386,7 @@ module _ {B : Type 0} (ledger : B → Ledger) (old new : Office B) where
   lacked_so it from till reply other put text fault (Ok told) begins is = cc is
   lacked_so it from till reply other put text fault (Err why) begins is = record { answer = begins.answer; asks = begins.asks; begins = tt }
 
-  -- The office's own response begins with the head of a text response.
+  -- The response with all quarter hours of a meter begins with a head without Content-Length.
   pub with_text_head : {E F : Type 0} (it : Installation) (from till : ℕ) (text put : List ℕ) (left : RowsLeft)
       → BeginsReply ledger old new it from till intervals_text [] {E = E} (Ok (Ok left)) → put ≡ text ++ text_head
       → BeginsReply ledger old new it from till (with_all_rows text) put {E = F} (Ok (Ok left))
@@ -404,7 +408,7 @@ module _ {B : Type 0} (ledger : B → Ledger) (old new : Office B) where
     );
   }
 
--- At the end, the kept rows and the number of all rows are written.
+-- The end of a response has the stored last rows and the number of all rows.
 rest_told : (left : RowsLeft) (from between to : List ℕ) (count : ℕ) → between ≡ from ++ flat_map share_line left.last.items → count ≡ left.told + length left.last.items
     → to ≡ between ++ end_line count → TellsRest left from to
 rest_told left from between to count lines counted put = λ facts le.
@@ -418,7 +422,7 @@ pub rest_on : {E : Type 0} (left : RowsLeft) (from between to : List ℕ) (count
 rest_on left from between to count (Ok x) lines counted put = rest_told left from between to count lines counted put
 rest_on left from between to count (Err why) lines counted put = tt
 
--- ---- Any later records.
+-- ---- Streamed responses with records that are added between their chunks.
 
 pub text_stays : SharesAddUp → TextStays
 text_stays law further facts meter o left h there named settled void =
@@ -431,8 +435,8 @@ text_stays law further facts meter o left h there named settled void =
     ∙ ap (λ m. rows_between facts m left.from left.till) (sym named) in
     ap (λ rs. text_of left.told (rs ++ left.last.items)) same
 
--- After one chunk, the rows still to be queried are settled as before, and belong to the same
--- meter.
+-- After a chunk, the rows still to be queried belong to the same meter as before. They start before
+-- the quarter hour of the meter's last entry.
 settled_on : (facts : List Fact) (left later : RowsLeft) (seconds : ℕ) → MovesOn left later seconds → IsSettled facts left → IsSettled facts later
 settled_on facts left later seconds moves settled = λ lt.
     let last : ℕ = last_quarter (option_and_then (meter_of facts) left.meter) in
@@ -444,7 +448,7 @@ settled_on facts left later seconds moves settled = λ lt.
     ] in
     omega (arith, upto, same, moves.till)
 
--- The state of a response after some chunks.
+-- The state of a streamed response after some chunks.
 record Goes (facts : List Fact) (meter : List ℕ) (left later : RowsLeft) (before after : List ℕ) : Type 0 where
   named : later.meter ≡ Some meter
   settled : IsSettled facts later

@@ -1,4 +1,4 @@
--- Bytes that are not UTF-8 spell no day.
+-- Lemmas: bytes that are not UTF-8 are not the text of a day.
 use Rattle.std.proofs.Common.{ℕ, zero, suc, ◌/◌, ◌%◌, ◌≤◌, ◌<◌, List, [], ◌∷◌, ◌++◌, None, subst, arith}
 use Rattle.std.specs.Prelude.{ℤ, pos, negsuc, ◌≤ℤ◌}
 use Rattle.std.specs.Str.{IsAscii, IsUtf8}

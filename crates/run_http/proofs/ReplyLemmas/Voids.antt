@@ -1,4 +1,4 @@
--- Lemmas on voided entries that are kept chunk by chunk.
+-- Lemmas: the voided entries of a meter are collected chunk by chunk.
 use Rattle.std.proofs.Common.{◌≡◌, ◌⊎◌, ℕ, ◌+◌, ◌<◌, true, Option, Some, None, List, ◌∷◌, [], ◌++◌, take, drop, length, get_or, refl, sym, ap, subst, ◌∙◌, append_assoc}
 use Rattle.std.specs.Prelude.{Ok, Err}
 use Rattle.std.specs.Option.{option_map, option_and_then}
@@ -28,9 +28,10 @@ use Rattle.run_http.specs.Voids.{is_voided, voided_in, voids_of}
 use Rattle.office_core.proofs.SeveralAsked.{answered_as, asked, asked_after, goes_on, kept_on, without_memory}
 use Rattle.office_books.proofs.Pieces.{last_piece, one_piece_more, piece_at}
 
--- ---- One chunk.
+-- ---- The entries of one chunk.
 
--- One more entry of the chunk was examined, and kept if it is voided.
+-- After one more entry of a chunk is examined, the collected entries include that entry if it is
+-- voided.
 pub one_more : (piece : List MeterEntry) (i : ℕ) (any : MeterEntry) (before mid after : List MeterEntry) → i < length piece
     → mid ≡ before ++ voided_in (take i piece) → after ≡ mid ++ voided_in (get_or piece i any ∷ []) → after ≡ before ++ voided_in (take (i + 1) piece)
 one_more piece i any before mid after lt kept more =
@@ -39,24 +40,25 @@ one_more piece i any before mid after lt kept more =
     more ∙ ap (λ front. front ++ voided_in (entry ∷ [])) kept ∙ append_assoc before (voided_in (take i piece)) (voided_in (entry ∷ []))
     ∙ ap (λ back. before ++ back) (sym (filter-append is_voided (take i piece) (entry ∷ [])) ∙ ap voided_in (sym next))
 
--- ---- Chunk by chunk.
+-- ---- The entries of several chunks, one chunk after another.
 
 some_same : {X : Type 0} (x y : X) → Some x ≡ Some y → x ≡ y
 some_same x y is = cc is
 
--- If `option_map f o` has a value, then `o` has one that `f` maps to it.
+-- If `option_map f o` has the value `y`, then `o` has a value that `f` maps to `y`.
 pub mapped : {X Y : Type 0} (f : X → Y) (o : Option X) (y : Y) → option_map f o ≡ Some y → (x : X) × (o ≡ Some x) × (f x ≡ y)
 mapped f None y is = absurd (cc is)
 mapped f (Some x) y is = (x, refl, some_same (f x) y is)
 
--- If one list for a meter is refused, another list for the same meter is refused too.
+-- If the query for one list of a meter is refused, the query for another list of that meter is
+-- refused for the same reason.
 refused_as : {X T U : Type 0} (f : X → List T) (g : X → List U) (o : Option X) (before mid after : Failures) (why : Refusal) → mid ≡ before
     → IsListed (option_map f o) mid after (Err why) → IsListed (option_map g o) before after (Err why)
 refused_as f g None before mid after why is listed = subst (λ was. ((why ≡ refusal.NotFound) × (after ≡ was)) ⊎ IsOutside ⊥ was after why) is listed
 refused_as f g (Some x) before mid after why is listed = subst (λ was. IsOutside ⊥ was after why) is listed
 
 module _ {B : Type 0} (ledger : B → Ledger) where
-  -- The voided entries among the first `n` entries of the meter are kept.
+  -- The list has the voided entries among the first `n` entries of the meter.
   abbrev pub AreKept : (a b : Office B) → (meter : Option (List ℕ)) → (n : ℕ) → List MeterEntry → Type 0
   AreKept a b meter n kept = After ledger a b (λ past. (opening : Opening)
       → option_and_then (opening_of (facts_of past)) meter ≡ Some opening
@@ -68,8 +70,8 @@ module _ {B : Type 0} (ledger : B → Ledger) where
   abbrev all_voided : List Fact → Opening → List MeterEntry
   all_voided facts opening = voided_in (entries_at facts (Some opening))
 
-  -- The voided entries of two consecutive chunks are those of the first, followed by those of the
-  -- second.
+  -- The voided entries of two consecutive chunks are the voided entries of the first chunk,
+  -- followed by the voided entries of the second chunk.
   of_both : (es piece : List MeterEntry) (n : ℕ) (kept more : List MeterEntry) → more ≡ kept ++ voided_in piece → kept ≡ voided_in (take n es)
       → more ≡ voided_in (take n es ++ piece)
   of_both es piece n kept more took told =
@@ -105,7 +107,7 @@ module _ {B : Type 0} (ledger : B → Ledger) where
       ∙ ap voided_in (ap (λ (piece : List MeterEntry). take n es ++ piece) items ∙ last_piece n 65536 es last) in
       (ap (option_map (all_voided facts)) found.1 ∙ ap Some (sym all), known.1 ∙ keeps.failures)
 
-  -- ---- The answer.
+  -- ---- The complete list of voided entries.
 
   pub told : {E : Type 0} (a b d : Office B) (meter : Option (List ℕ)) (n : ℕ) (kept : List MeterEntry) (v w : Vec MeterEntry Global)
       → Keeps ledger a b → AreKept a b meter n kept → OnlyAsks ledger b d (Ok v)
@@ -132,7 +134,7 @@ module _ {B : Type 0} (ledger : B → Ledger) where
         (failures_of ledger d) why keeps.failures (lists past (keeps.stands past stands) clean);
   }
 
-  -- The response if memory ran out for the entries.
+  -- If memory ran out for the entries, the call fails as `AsksRows` allows.
   pub no_room : {E : Type 0} (a b : Office B) (meter : Option (List ℕ)) (fault : E) → (is_stopped a ≡ true → ⊥) → Keeps ledger a b
       → AsksRows ledger a b (λ facts. voids_of facts meter) (Err fault)
   no_room a b meter fault goes keeps = record {

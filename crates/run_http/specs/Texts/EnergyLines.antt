@@ -1,5 +1,5 @@
--- The energy of the open meters, in Prometheus's text format, version 0.0.4. Each definition from
--- `with_label` on appends to a text.
+-- The energy of the open meters as metrics, in Prometheus's text format, version 0.0.4. Each
+-- definition from `with_label` on appends to a text.
 use Rattle.std.specs.Prelude.{ℕ, ◌==◌, negsuc, List, [], ◌∷◌, ◌++◌, Option, Some, None, codes, decimal, if◌then◌else◌}
 use Rattle.std.specs.List.{flat_map}
 use Rattle.sun_points.specs.Decimal.{magnitude_text}
@@ -8,7 +8,8 @@ use Rattle.office_core.specs.declared.site.SiteRow.{SiteRow}
 use Rattle.run_http.specs.Texts.Families.{family_text}
 use Rattle.run_http.specs.declared.texts.families.MetricKind.TheVariants.{Counter, Gauge}
 
--- A byte of a label's value, escaped if it is a backslash (92), a quote (34) or a line feed (10).
+-- A byte of a Prometheus label's value, escaped if it is a backslash (92), a quote (34) or a line
+-- feed (10).
 abbrev pub label_byte : ℕ → List ℕ
 label_byte byte =
     if byte == 92 then codes "\\\\"
@@ -16,23 +17,23 @@ label_byte byte =
     else if byte == 10 then codes "\\n"
     else byte ∷ []
 
--- The value of a label, with its bytes escaped.
+-- The value of a Prometheus label, with its bytes escaped.
 abbrev pub label_text : List ℕ → List ℕ
 label_text value = flat_map label_byte value
 
--- The text `before` and the value of a label.
+-- The text with `before` and the value of a Prometheus label appended.
 abbrev pub with_label : List ℕ → (before value : List ℕ) → List ℕ
 with_label text before value = text ++ before ++ label_text value
 
--- The labels of a metric's value for one meter.
+-- The labels of a metric for one meter: meter, register and device.
 abbrev pub with_labels : List ℕ → (before : List ℕ) → SiteRow → Installation → List ℕ
 with_labels text before row meter =
     with_label (with_label (with_label text before meter.opening.meter)
     (codes "\",register=\"") row.register.name)
     (codes "\",device=\"") row.register.device
 
--- The total energy of a meter as a metric in Wh. Totals are in mWh, so the value has three
--- decimals.
+-- The total energy of a meter as a metric in Wh. The store has the energy in mWh, so the value has
+-- three decimals.
 abbrev pub with_energy : List ℕ → SiteRow → Installation → List ℕ
 with_energy text row meter =
     with_labels text (codes "\nsunreg_energy_watthours_total{meter=\"") row meter
@@ -44,24 +45,24 @@ with_entry text row meter =
     with_labels text (codes "\nsunreg_last_entry_timestamp_seconds{meter=\"") row meter
     ++ codes "\"} " ++ decimal meter.last.at
 
--- The energy metric of the meter at a register, if it is open. A register without an open meter has
--- no line.
+-- The energy metric of the meter at an accounting register, if the meter is open. A register
+-- without an open meter has no line.
 abbrev pub with_energy_of : List ℕ → SiteRow → Option Installation → List ℕ
 with_energy_of text row None = text
 with_energy_of text row (Some meter) = if meter.ended then text else with_energy text row meter
 
--- The time of the last entry of the meter at a register, if the meter is open. A register without
--- an open meter has no line.
+-- The metric with the time of the last entry of the meter at an accounting register, if the meter
+-- is open. A register without an open meter has no line.
 abbrev pub with_entry_of : List ℕ → SiteRow → Option Installation → List ℕ
 with_entry_of text row None = text
 with_entry_of text row (Some meter) = if meter.ended then text else with_entry text row meter
 
--- A line with the energy of each open meter.
+-- The metric lines with the energy of each open meter.
 abbrev pub with_energies : List ℕ → List SiteRow → List ℕ
 with_energies text [] = text
 with_energies text (row ∷ rows) = with_energies (with_energy_of text row row.meter) rows
 
--- A line with the time of the last entry of each open meter.
+-- The metric lines with the time of the last entry of each open meter.
 abbrev pub with_entries : List ℕ → List SiteRow → List ℕ
 with_entries text [] = text
 with_entries text (row ∷ rows) = with_entries (with_entry_of text row row.meter) rows

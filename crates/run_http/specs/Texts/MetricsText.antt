@@ -1,4 +1,4 @@
--- `/metrics`: the counts, the devices and the open meters, in Prometheus's text format, version
+-- The text of `/metrics`: counts, devices and open meters, in Prometheus's text format, version
 -- 0.0.4. Each definition appends to a text.
 use Rattle.std.specs.Prelude.{ℕ, Bool, true, false, List, [], ◌∷◌, ◌++◌, Option, Some, None, codes, decimal, slice_index}
 use Rattle.run_status.specs.declared.status.counts.Counts.{Counts}
@@ -49,26 +49,28 @@ with_causes text held =
     ++ codes "\nsunreg_held_readings_total{cause=\"not_below_range\"} "
     ++ decimal (slice_index held 7)
 
--- The value for whether a device is connected: 1 or 0.
+-- The value of the metric that says whether a device is connected: 1 or 0.
 abbrev pub with_state : List ℕ → Bool → List ℕ
 with_state text true = text ++ codes "\"} 1"
 with_state text false = text ++ codes "\"} 0"
 
--- A line for each device: whether it is connected.
+-- The metric lines that say for each device whether it is connected.
 abbrev pub with_states : List ℕ → List DeviceState → List ℕ
 with_states text [] = text
 with_states text (device ∷ devices) =
     with_states (with_state (with_name text (codes "\nsunreg_device_connected{device=\"") device)
     device.connected) devices
 
--- The line with the time of a device's latest reading. A device without a reading has none.
+-- The metric line with the time of a device's latest reading. A device without a reading has no
+-- line.
 abbrev pub with_moment : List ℕ → DeviceState → Option ℕ → List ℕ
 with_moment text device None = text
 with_moment text device (Some moment) =
     with_name text (codes "\nsunreg_last_reading_timestamp_seconds{device=\"") device
     ++ codes "\"} " ++ decimal moment
 
--- A line for each device with a reading: the time of the latest one.
+-- The metric lines with the time of each device's latest reading. A device without a reading has no
+-- line.
 abbrev pub with_moments : List ℕ → List DeviceState → List ℕ
 with_moments text [] = text
 with_moments text (device ∷ devices) = with_moments (with_moment text device device.latest) devices

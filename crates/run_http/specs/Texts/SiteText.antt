@@ -1,4 +1,5 @@
--- `/site`: the registers and their meters, as JSON. Each definition appends to a text.
+-- The JSON of `/site`: the accounting registers and their meters. Each definition appends to a
+-- text.
 use Rattle.std.specs.Prelude.{ℕ, List, [], ◌∷◌, ◌++◌, Option, Some, None, codes, decimal}
 use Rattle.std.specs.Fmt.{signed_decimal}
 use Rattle.office_events.specs.declared.questions.Installation.{Installation}
@@ -12,8 +13,8 @@ with_last text row =
     text ++ codes "\",\"at\":" ++ decimal row.last.at ++ codes ",\"last\":" ++ decimal row.last.raw
     ++ codes ",\"sf\":" ++ signed_decimal row.last.sf
 
--- The part of the energy that earlier files recorded, in mWh, as a string of digits. It is missing
--- if they do not have the meter.
+-- The part of a meter's energy that earlier files of the store recorded, in mWh, as a string of
+-- digits. It is missing if the earlier files do not have the meter.
 abbrev pub with_earlier : List ℕ → Option ℕ → List ℕ
 with_earlier text None = text
 with_earlier text (Some mwh) = text ++ codes "\",\"earlier\":\"" ++ decimal mwh
@@ -24,8 +25,8 @@ with_total text row earlier =
     with_earlier (text ++ codes ",\"total\":\"" ++ decimal row.total) earlier
     ++ codes "\",\"ended\":" ++ bool_text row.ended
 
--- The meter of a register as JSON, or `null`. Names consist of letters, digits, `_` and `-`, so
--- JSON need not escape them.
+-- The meter at an accounting register as JSON, or `null`. Names consist of letters, digits, `_` and
+-- `-`, so JSON need not escape them.
 abbrev pub with_meter : List ℕ → Option Installation → (earlier : Option ℕ) → List ℕ
 with_meter text None earlier = text ++ codes "\",\"meter\":null"
 with_meter text (Some row) earlier =
@@ -42,19 +43,19 @@ abbrev pub with_line : (before : List ℕ) → List ℕ → SiteLine → List �
 with_line before text line =
     with_meter (with_register before text line.row) line.row.meter line.earlier ++ codes "}"
 
--- Further registers as JSON, each with a comma before it.
+-- Accounting registers as JSON, each with a comma before it.
 abbrev pub with_more_lines : List ℕ → List SiteLine → List ℕ
 with_more_lines text [] = text
 with_more_lines text (line ∷ lines) =
     with_more_lines (with_line (codes ",{\"device\":\"") text line) lines
 
--- All registers as JSON, with commas between them.
+-- All accounting registers as JSON, with commas between them.
 abbrev pub with_lines : List ℕ → List SiteLine → List ℕ
 with_lines text [] = text
 with_lines text (line ∷ lines) =
     with_more_lines (with_line (codes "{\"device\":\"") text line) lines
 
--- The complete JSON: the time of the query, and the registers with their meters.
+-- The complete JSON of `/site`: the time of the query, and the registers with their meters.
 abbrev pub with_site : List ℕ → (at : ℕ) → List SiteLine → List ℕ
 with_site text at lines =
     with_lines (text ++ codes "{\"at\":" ++ decimal at ++ codes ",\"registers\":[") lines

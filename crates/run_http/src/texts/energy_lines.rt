@@ -1,4 +1,4 @@
-//! The energy of the open meters, in Prometheus's text format.
+//! Formats the energy of the open meters as metrics, in Prometheus's text format.
 ghost use Rattle.std.specs.Prelude.{◌≡◌, ℕ, ◌%◌, ◌++◌, negsuc, false, OnOk};
 ghost use Rattle.std.specs.Fmt.{digit_glyph};
 ghost use Rattle.sun_points.specs.Decimal.{low_digits, magnitude_text};
@@ -10,7 +10,7 @@ use office_events::{Installation, Name};
 use run_status::{put, put_number};
 use std::alloc::AllocError;
 
-// Appends a byte of a label's value, escaped if it must be.
+// Appends a byte of a Prometheus label's value, escaped if necessary.
 fn put_label_byte(text: &mut Vec<u8>, byte: u8) -> Result<(), AllocError>
     ensures { OnOk result (text.new.items ≡ text.old.items ++ energy.label_byte byte) }
 {
@@ -22,7 +22,7 @@ fn put_label_byte(text: &mut Vec<u8>, byte: u8) -> Result<(), AllocError>
     }
 }
 
-// Appends `before` and the value of a label.
+// Appends to a text the bytes `before` and the value of a Prometheus label.
 fn put_label(text: &mut Vec<u8>, before: &[u8], value: &Name) -> Result<(), AllocError>
     ensures { OnOk result (text.new.items
         ≡ energy.with_label text.old.items before.now value.now) }
@@ -34,7 +34,8 @@ fn put_label(text: &mut Vec<u8>, before: &[u8], value: &Name) -> Result<(), Allo
     Ok(())
 }
 
-// Appends `before` and the labels of a meter's value.
+// Appends to a text the bytes `before` and the three labels of a meter's metric: meter, register
+// and device.
 fn put_labels(
     text: &mut Vec<u8>,
     before: &[u8],
@@ -66,7 +67,7 @@ fn last_digits(number: u64) -> [u8; 3]
     ]
 }
 
-// Appends `before`, and a number divided by 1,000 with three decimals.
+// Appends to a text the bytes `before`, and a number divided by 1,000 with three decimals.
 fn put_thousandth(text: &mut Vec<u8>, before: &[u8], number: u64) -> Result<(), AllocError>
     ensures { OnOk result (text.new.items
         ≡ text.old.items ++ before.now ++ magnitude_text number (negsuc 2)) }
@@ -101,7 +102,7 @@ fn put_entry(text: &mut Vec<u8>, row: &SiteRow, meter: &Installation) -> Result<
     put_number(text, b"\"} ", meter.last.at)
 }
 
-// Appends the energy of the meter at a register, if it is open.
+// Appends the energy metric of the meter at an accounting register, if the meter is open.
 fn put_energy_of(text: &mut Vec<u8>, row: &SiteRow) -> Result<(), AllocError>
     ensures { OnOk result (text.new.items
         ≡ energy.with_energy_of text.old.items row.now row.now.meter) }
@@ -112,7 +113,8 @@ fn put_energy_of(text: &mut Vec<u8>, row: &SiteRow) -> Result<(), AllocError>
     }
 }
 
-// Appends the time of the last entry of the meter at a register, if it is open.
+// Appends the metric with the time of the last entry of the meter at an accounting register, if the
+// meter is open.
 fn put_entry_of(text: &mut Vec<u8>, row: &SiteRow) -> Result<(), AllocError>
     ensures { OnOk result (text.new.items
         ≡ energy.with_entry_of text.old.items row.now row.now.meter) }
@@ -141,8 +143,8 @@ fn put_entries(text: &mut Vec<u8>, rows: &[SiteRow]) -> Result<(), AllocError>
     Ok(())
 }
 
-/// Appends the energy of the open meters, and the time of the last entry of each. If memory runs
-/// out, a part of it remains.
+/// Appends the energy metrics of the open meters, and the time of each meter's last entry. If
+/// memory runs out, a part of the text remains.
 pub(crate) fn put_meters(text: &mut Vec<u8>, rows: &[SiteRow]) -> Result<(), AllocError>
     ensures { OnOk result (text.new.items ≡ energy.with_meters text.old.items rows.now) }
 {

@@ -1,16 +1,16 @@
-//! The description of a metric, in Prometheus's text format.
+//! Formats the description of a metric, in Prometheus's text format.
 ghost use Rattle.std.specs.Prelude.{◌≡◌, ◌++◌, OnOk, codes};
 ghost use Rattle.run_http.specs.Texts.Families as families;
 
 use run_status::{put, put_word};
 use std::alloc::AllocError;
 
-/// The type of a metric.
+/// The type of a Prometheus metric.
 #[derive(Clone, Copy, Debug, PartialEq, Eq)]
 pub(crate) enum MetricKind {
-    /// The values only grow while the program runs.
+    /// A metric whose values only increase while the program runs.
     Counter,
-    /// The values may grow and fall.
+    /// A metric whose values may increase and decrease.
     Gauge,
 }
 
@@ -23,7 +23,7 @@ fn kind_word(kind: MetricKind) -> &'static [u8]
     }
 }
 
-/// Appends the help and the type of a metric.
+/// Appends the `HELP` and `TYPE` lines of a metric.
 pub(crate) fn put_family(
     text: &mut Vec<u8>,
     name: &[u8],
@@ -39,7 +39,7 @@ pub(crate) fn put_family(
     put_word(text, b" ", kind_word(kind))
 }
 
-/// Appends the help and the type of a metric after the values of another.
+/// Appends a line feed, and the `HELP` and `TYPE` lines of the next metric.
 pub(crate) fn put_next_family(
     text: &mut Vec<u8>,
     name: &[u8],

@@ -1,4 +1,4 @@
-//! The rows of a meter, as lines.
+//! Formats the quarter hours and the entries of a meter as lines of text.
 ghost use Rattle.std.specs.Prelude.{◌≡◌, ◌++◌, OnOk, flat_map};
 ghost use Rattle.energy_core.specs.Account.{moment_of};
 ghost use Rattle.interval_core.specs.Lines.{end_line, intervals_text, share_line};
@@ -11,7 +11,7 @@ use office_books::MeterEntry;
 use run_status::{put, put_number, put_scale};
 use std::alloc::AllocError;
 
-/// Appends the line with the number of rows.
+/// Appends the last line of a report, with the number of rows.
 pub(crate) fn put_end(text: &mut Vec<u8>, count: usize) -> Result<(), AllocError>
     ensures { OnOk result (text.new.items ≡ text.old.items ++ end_line count) }
 {
@@ -19,7 +19,8 @@ pub(crate) fn put_end(text: &mut Vec<u8>, count: usize) -> Result<(), AllocError
     put(text, b"\n")
 }
 
-/// Appends the line of a quarter hour.
+/// Appends the line of a quarter hour: its start in seconds since 1970-01-01 UTC, and its energy in
+/// mWh.
 pub(crate) fn put_share(text: &mut Vec<u8>, row: &Share) -> Result<(), AllocError>
     ensures { OnOk result (text.new.items ≡ text.old.items ++ share_line row.now) }
 {
@@ -38,8 +39,8 @@ pub(crate) fn put_share_lines(text: &mut Vec<u8>, rows: &[Share]) -> Result<(), 
     Ok(())
 }
 
-/// Appends a line for each quarter hour of a meter, and a line with their number. If memory runs
-/// out, a part remains.
+/// Appends a line for each quarter hour of a meter, and a last line with their number. If memory
+/// runs out, a part of the text remains.
 pub fn put_shares(text: &mut Vec<u8>, rows: &[Share]) -> Result<(), AllocError>
     ensures { OnOk result (text.new.items ≡ text.old.items ++ intervals_text rows.now) }
 {
@@ -82,7 +83,7 @@ fn put_numbers(text: &mut Vec<u8>, entry: &Entry) -> Result<(), AllocError>
     }
 }
 
-// Appends whether an entry is valid (`stands`) or voided.
+// Appends the word that says whether a meter entry is valid (`stands`) or voided.
 fn put_standing(text: &mut Vec<u8>, stands: bool) -> Result<(), AllocError>
     ensures { OnOk result (text.new.items ≡ text.old.items ++ lines.standing_word stands) }
 {
@@ -131,8 +132,8 @@ fn put_entry_lines(text: &mut Vec<u8>, entries: &[MeterEntry]) -> Result<(), All
     Ok(())
 }
 
-/// Appends a line for each of these entries of a meter, and a line with their number. If memory
-/// runs out, a part remains.
+/// Appends a line for each entry of a meter, and a last line with their number. If memory runs out,
+/// a part of the text remains.
 pub fn put_entries(text: &mut Vec<u8>, entries: &[MeterEntry]) -> Result<(), AllocError>
     ensures { OnOk result (text.new.items ≡ text.old.items ++ lines.entries_text entries.now) }
 {
@@ -140,7 +141,7 @@ pub fn put_entries(text: &mut Vec<u8>, entries: &[MeterEntry]) -> Result<(), All
     put_end(text, entries.len())
 }
 
-// ---- voided entries
+// ---- The text lines of voided entries.
 
 fn moment(entry: &Entry) -> u64
     ensures { result ≡ moment_of entry.now }
@@ -151,7 +152,7 @@ fn moment(entry: &Entry) -> u64
     }
 }
 
-// Appends the line of a voided entry after the opening.
+// Appends the line of a voided meter entry other than the opening entry.
 fn put_voided_row(text: &mut Vec<u8>, row: &EntryRow) -> Result<(), AllocError>
     ensures { OnOk result (text.new.items ≡ text.old.items ++ lines.void_row_line row.now) }
 {
@@ -183,8 +184,8 @@ fn put_void_lines(text: &mut Vec<u8>, entries: &[MeterEntry]) -> Result<(), Allo
     Ok(())
 }
 
-/// Appends a line for each of these voided entries of a meter, and a line with their number. The
-/// line of an entry has its sequence number, its kind and its time. If memory runs out, a part
+/// Appends a line for each voided entry of a meter, and a last line with their number. The line of
+/// an entry has its sequence number, its kind and its time. If memory runs out, a part of the text
 /// remains.
 pub fn put_voids(text: &mut Vec<u8>, entries: &[MeterEntry]) -> Result<(), AllocError>
     ensures { OnOk result (text.new.items ≡ text.old.items ++ lines.voids_text entries.now) }

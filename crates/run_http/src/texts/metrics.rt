@@ -1,4 +1,4 @@
-//! `/metrics`: the counts, the devices and the open meters, in Prometheus's text format.
+//! Formats the counts, the devices and the open meters as `/metrics`, in Prometheus's text format.
 ghost use Rattle.std.specs.Prelude.{◌≡◌, OnOk};
 ghost use Rattle.run_http.specs.Texts.MetricsText as metrics;
 
@@ -180,8 +180,8 @@ fn put_devices(text: &mut Vec<u8>, devices: &[DeviceState]) -> Result<(), AllocE
     put(text, b"\n")
 }
 
-/// Appends the metrics. The totals of meters are in Wh, with three decimals, since totals are in
-/// mWh. If memory runs out, a part remains.
+/// Appends all metrics. The energy of meters is in Wh with three decimals, since the store has it
+/// in mWh. If memory runs out, a part of the text remains.
 pub fn put_metrics(
     text: &mut Vec<u8>,
     counts: &Counts,

@@ -1,4 +1,4 @@
-//! The meters at a register, as lines.
+//! Formats the meters at an accounting register as lines of text.
 ghost use Rattle.std.specs.Prelude.{◌≡◌, ◌++◌, OnOk, flat_map};
 ghost use Rattle.run_http.specs.Texts.RegisterLines as lines;
 
@@ -45,7 +45,8 @@ fn put_meter_lines(text: &mut Vec<u8>, rows: &[Installation]) -> Result<(), Allo
     Ok(())
 }
 
-/// Appends a line for each meter, and a line with their number. If memory runs out, a part remains.
+/// Appends a line for each meter, and a last line with their number. If memory runs out, a part of
+/// the text remains.
 pub fn put_register_meters(text: &mut Vec<u8>, rows: &[Installation]) -> Result<(), AllocError>
     ensures { OnOk result (text.new.items ≡ text.old.items ++ lines.meters_text rows.now) }
 {

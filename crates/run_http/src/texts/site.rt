@@ -1,4 +1,4 @@
-//! `/site`: the registers and their meters, as JSON.
+//! Formats the accounting registers and their meters as the JSON of `/site`.
 ghost use Rattle.std.specs.Prelude.{◌≡◌, ◌++◌, OnOk};
 ghost use Rattle.http_answer.specs.Rows.{bool_text};
 ghost use Rattle.run_http.specs.Texts.SiteText as json;
@@ -8,8 +8,8 @@ use office_events::Installation;
 use run_status::{put, put_number, put_scale, put_word};
 use std::alloc::AllocError;
 
-/// A register with its latest meter. `earlier` is the part of that meter's energy that earlier
-/// files recorded, in mWh, if they have the meter too.
+/// An accounting register with its latest meter. `earlier` is the part of the meter's energy in mWh
+/// that is in earlier files of the store, or `None` if they lack the meter.
 #[derive(Clone, Copy, Debug, PartialEq, Eq)]
 pub struct SiteLine {
     pub row: SiteRow,
@@ -34,7 +34,7 @@ fn put_last(text: &mut Vec<u8>, row: &Installation) -> Result<(), AllocError>
     put_scale(text, b",\"sf\":", row.last.sf)
 }
 
-// Appends the part of a meter's energy that earlier files recorded.
+// Appends the part of a meter's energy that earlier files of the store recorded.
 fn put_earlier(text: &mut Vec<u8>, earlier: Option<u64>) -> Result<(), AllocError>
     ensures { OnOk result (text.new.items ≡ json.with_earlier text.old.items earlier) }
 {
@@ -44,7 +44,7 @@ fn put_earlier(text: &mut Vec<u8>, earlier: Option<u64>) -> Result<(), AllocErro
     }
 }
 
-// Appends the energy of a meter, and whether it was closed.
+// Appends the energy of a meter as JSON, and whether the meter was closed.
 fn put_total(text: &mut Vec<u8>, row: &Installation, earlier: Option<u64>) -> Result<(), AllocError>
     ensures { OnOk result (text.new.items ≡ json.with_total text.old.items row.now earlier) }
 {
@@ -53,7 +53,7 @@ fn put_total(text: &mut Vec<u8>, row: &Installation, earlier: Option<u64>) -> Re
     put_bool(text, b"\",\"ended\":", row.ended)
 }
 
-// Appends the meter of a register, or `null` without a meter.
+// Appends the meter at an accounting register as JSON, or `null` if there is none.
 fn put_meter(
     text: &mut Vec<u8>,
     meter: &Option<Installation>,
@@ -86,7 +86,7 @@ fn put_line(text: &mut Vec<u8>, before: &[u8], line: &SiteLine) -> Result<(), Al
     put(text, b"}")
 }
 
-// Appends registers, each after a comma.
+// Appends accounting registers as JSON, each with a comma before it.
 fn put_more_lines(text: &mut Vec<u8>, lines: &[SiteLine]) -> Result<(), AllocError>
     ensures { OnOk result (text.new.items ≡ json.with_more_lines text.old.items lines.now) }
 {
@@ -108,8 +108,9 @@ fn put_lines(text: &mut Vec<u8>, lines: &[SiteLine]) -> Result<(), AllocError>
     }
 }
 
-/// Appends the registers and their meters as JSON. `moment` is the time of the query, in seconds
-/// since 1970-01-01 UTC, and totals are in mWh. If memory runs out, a part remains.
+/// Appends the JSON of `/site`: the accounting registers and their meters. `moment` is the time of
+/// the query in seconds since 1970-01-01 UTC, and energy is in mWh. If memory runs out, a part of
+/// the JSON remains.
 pub fn put_site(text: &mut Vec<u8>, moment: u64, lines: &[SiteLine]) -> Result<(), AllocError>
     ensures { OnOk result (text.new.items ≡ json.with_site text.old.items moment lines.now) }
 {

@@ -1,4 +1,4 @@
--- Lemmas on the bytes of responses in memory.
+-- Lemmas on the bytes of unread HTTP responses in memory.
 use Rattle.std.proofs.Common.{◌≡◌, ℕ, ◌-◌, ◌<◌, nat_lt, true, [], ◌∷◌, arith}
 use Rattle.std.proofs.lemmas.Bool.Decides.{nat_tests}
 use Rattle.run_schedule.specs.HttpPeers.HeldReplies.{Dropped, HoldsLittle, Made, held_after}

@@ -1,10 +1,11 @@
--- Lemmas on the share of responses in one turn.
+-- Lemmas on the limits of HTTP responses in one iteration of the main loop.
 use Rattle.std.proofs.Common.{◌≡◌, ℕ, ◌+◌, ◌-◌, ◌<◌, zero, suc, Bool, true, false, List, [], ◌∷◌, length, refl, arith}
 use Rattle.std.specs.Prelude.{◌==◌, ◌||◌, sum_by}
 use Rattle.std.proofs.lemmas.List.Sums.{sum_by-cons}
 use Rattle.run_schedule.specs.HttpPeers.TurnShares.{AreFew, MayReply, left_after}
 
--- What is left of a share after some responses, and after one more.
+-- After a response uses `one` of a limit, the rest of the limit equals the limit minus the sum of
+-- all uses.
 less : (left one all part total : ℕ) → left ≡ all - part → total ≡ one + part → left - one ≡ all - total
 less left one all part total same more = omega (arith, same, more)
 
@@ -26,7 +27,7 @@ left_milliseconds (one ∷ earlier) =
     less (left_after earlier).milliseconds one.1 20 (sum_by (λ (reply : ℕ × ℕ). reply.1) earlier) (sum_by (λ (reply : ℕ × ℕ). reply.1) (one ∷ earlier))
     (left_milliseconds earlier) (sum_by-cons (λ (reply : ℕ × ℕ). reply.1) one earlier)
 
--- If something of the share is left, the responses so far used less than all of it.
+-- If a limit is not used up, then the responses so far used less than the limit.
 below : (left all part : ℕ) → left ≡ all - part → 0 < left → part < all
 below left all part same some = omega (arith, same, some)
 

@@ -1,17 +1,17 @@
--- How many responses a run makes in one turn of its loop, and which client's slot comes first.
+-- Limits the HTTP responses in one iteration of the main loop, and orders the slots of clients.
 use Rattle.std.specs.Prelude.{◌≡◌, ℕ, ◌+◌, ◌-◌, ◌%◌, ◌<◌, ◌==◌, ◌||◌, Bool, false, List, [], ◌∷◌, length, sum_by}
 use Rattle.run_schedule.specs.declared.http_peers.turn_share.TurnShare.{TurnShare}
 
--- The share of responses in one turn: 64 requests, 256 KiB and 20 ms.
+-- The limits of one iteration of the main loop: 64 requests, 256 KiB and 20 ms of responses.
 abbrev pub whole : TurnShare
 whole = record { requests = 64; bytes = 262144; milliseconds = 20 }
 
--- One part of the share is used up, so no further response begins in this turn.
+-- True if one of the limits is used up. Then no further response begins in this iteration of the
+-- main loop.
 abbrev pub is_over : TurnShare → Bool
 is_over share = share.requests == 0 || share.bytes == 0 || share.milliseconds == 0
 
--- What is left of the share after a response with this many bytes, which took this many
--- milliseconds to make.
+-- What remains of the limits after a response of `bytes` bytes that took `milliseconds` to make.
 abbrev pub after : TurnShare → (bytes milliseconds : ℕ) → TurnShare
 after share bytes milliseconds = record {
   requests = share.requests - 1;
@@ -19,19 +19,19 @@ after share bytes milliseconds = record {
   milliseconds = share.milliseconds - milliseconds;
 }
 
--- What is left of a turn's share after some responses, the latest first. Each is a pair of bytes
--- and milliseconds.
+-- What remains of the limits of an iteration after some responses, the latest first. Each response
+-- is a pair of its bytes and the milliseconds to make it.
 abbrev pub left_after : List (ℕ × ℕ) → TurnShare
 left_after [] = whole
 left_after (one ∷ earlier) = after (left_after earlier) one.0 one.1
 
--- Each of these responses began while some of the turn's share was left.
+-- Each response in the list began before a limit of the iteration was used up.
 abbrev pub MayReply : List (ℕ × ℕ) → Type 0
 MayReply [] = Unit {0}
 MayReply (one ∷ earlier) = (is_over (left_after earlier) ≡ false) × MayReply earlier
 
--- There are at most 64 responses. All except the last have less than 256 KiB together, and took
--- less than 20 ms together.
+-- The list has at most 64 responses. All responses except the last have less than 256 KiB together,
+-- and took less than 20 ms together.
 abbrev pub AreFew : List (ℕ × ℕ) → Type 0
 AreFew [] = Unit {0}
 AreFew (one ∷ earlier) =
@@ -42,6 +42,7 @@ AreFew (one ∷ earlier) =
 abbrev pub place_at : (first step : ℕ) → ℕ
 place_at first step = (first + step) % 64
 
--- The number of slots that are served before `place`, in a turn that begins with slot `first`.
+-- The number of slots that are served before slot `place`, in an iteration that begins with slot
+-- `first`.
 abbrev pub before : (place first : ℕ) → ℕ
 before place first = (place + (64 - first)) % 64

@@ -1,4 +1,4 @@
--- Whether records continue in the active file or in a new one, and until when.
+-- Decides whether to record in the current file or to begin a new one, and when to decide again.
 use Rattle.std.specs.Prelude.{◌≡◌, ℕ, ◌+◌, ◌*◌, ◌/◌, ◌≤◌, min, nat_lt, Bool, if◌then◌else◌}
 use Rattle.std.specs.Prelude.{List, length, take, Option, Some, None}
 use Rattle.std.specs.Borrow.{Bor}
@@ -12,47 +12,48 @@ use Rattle.run_schedule.specs.Periods.Led.{number_in}
 use Rattle.run_schedule.specs.declared.periods.plans.Plan.{Plan}
 use Rattle.run_schedule.specs.declared.periods.plans.Plan.TheVariants.{Stay, StayAhead, Wait, Carry}
 
--- The first part of a period's text, as long as the shorter text: for a month beside a year, its
--- year.
+-- The text of a period, cut to the length of the text `other` if `other` is shorter. For comparison
+-- with a year, a month is cut to its year.
 abbrev pub as_far_as : (other text : List ℕ) → List ℕ
 as_far_as other text = take (min (length text) (length other)) text
 
--- The period of `text` is later than that of `other`, compared as far as both texts go.
+-- True if the period `text` is later than the period `other`. A month and a year are compared by
+-- year only.
 abbrev pub is_later : (text other : List ℕ) → Bool
 is_later text other = nat_lt (number_in (as_far_as text other)) (number_in (as_far_as other text))
 
--- The plan for a file whose period is over: it is rolled over, unless the clock is before its last
--- entry.
+-- The decision for a file whose period is over: roll over, unless the clock is before the file's
+-- last entry.
 abbrev pub plan_of_past : (last_entry now : ℕ) → Plan
 plan_of_past last_entry now = if nat_lt now last_entry then Wait else Carry
 
--- The plan for the active file. Records continue in it if its period is the current one, or a later
--- one. A file without a period is treated like one whose period is over.
+-- The decision for the current file. The program continues in the file if the file's period is the
+-- current period or a later period. A file without a period counts as a file whose period is over.
 abbrev pub plan_of : Option (Bor (List ℕ)) → (current : List ℕ) → (last_entry now : ℕ) → Plan
 plan_of None current last_entry now = plan_of_past last_entry now
 plan_of (Some led) current last_entry now =
     if bytes_eq led.now current then Stay
     else (if is_later led.now current then StayAhead else plan_of_past last_entry now)
 
--- If a file is rolled over, its period is not later than the current one, as far as both texts go.
--- No entry in it is later than the clock.
+-- If a file is rolled over, then the file's period is not later than the current period. No entry
+-- in the file is then later than the clock.
 abbrev pub NothingGoesBack : Type 0
 NothingGoesBack = (led : Bor (List ℕ)) (current : List ℕ) (last_entry now : ℕ)
     → plan_of (Some led) current last_entry now ≡ Carry
     → (number_in (as_far_as current led.now) ≤ number_in (as_far_as led.now current))
     × (last_entry ≤ now)
 
--- ---- Until when.
+-- ---- When to roll over.
 
--- The time until which records continue in the file of this period: its end, plus the time for the
--- round that is due then. None if the period has no end.
+-- The time at which the file of this period is rolled over: the period's end, plus up to 30 s for
+-- the last poll. None if the period has no end.
 abbrev pub IsPeriodUntil : Zone → Period → Date → (every now : ℕ) → Option ℕ → Type 0
 IsPeriodUntil zone period day every now (Some until) =
     (next : ℕ) × IsPeriodEnd zone period day now (Some next) × (until ≡ next + min (every / 2) 30)
 IsPeriodUntil zone period day every now None = IsPeriodEnd zone period day now None
 
--- The time of the next attempt after a rollover failed: the next full hour, plus the time for the
--- round that is due then.
+-- The time of the next attempt after a failed file rollover: the next full hour, plus up to 30 s
+-- for the poll at that time.
 abbrev pub next_try : (every now : ℕ) → Option ℕ
 next_try every now =
     if nat_lt LAST_MOMENT now then None

@@ -3,19 +3,19 @@ use Rattle.std.specs.Prelude.{ℕ, ◌-◌, max, nat_lt, not, ◌&&◌, Bool, Op
 use Rattle.run_schedule.specs.declared.timing.steady_clock.ClockReading.{ClockReading}
 use Rattle.run_schedule.specs.declared.timing.steady_clock.SteadyClock.{SteadyClock}
 
--- How many seconds the clock is behind the latest timestamp. It is reported only at the first
--- reading where the clock is behind.
+-- How many seconds the clock is before the latest timestamp. Given only at the first reading after
+-- the clock was set back.
 abbrev pub set_back_by : SteadyClock → ℕ → Option ℕ
 set_back_by steady_clock now =
     if nat_lt now steady_clock.latest && not steady_clock.is_back
     then Some (steady_clock.latest - now) else None
 
--- The latest timestamp, if the clock is more than 60 seconds ahead of it.
+-- The latest timestamp, if the clock is more than 60 seconds after it.
 abbrev pub ahead_by : (latest now : ℕ) → Option ℕ
 ahead_by latest now = if nat_lt 60 (now - latest) then Some latest else None
 
--- The reading when the clock shows `now`: its timestamp is that of the clock, or the latest one
--- while the clock is behind.
+-- The reading when the clock shows `now`. Its timestamp is the clock's time or the latest
+-- timestamp, whichever is later.
 abbrev pub read_by : SteadyClock → ℕ → ClockReading
 read_by steady_clock now = record {
   moment = max steady_clock.latest now;

@@ -1,52 +1,54 @@
--- When a device needs attention: to be connected, or because a deadline has passed.
+-- Decides when to connect to a device, and when a connection attempt or a polling round has timed
+-- out.
 use Rattle.std.specs.Prelude.{◌≡◌, ℕ, ◌+◌, ◌-◌, ◌*◌, ◌^◌, ◌<◌, ◌≤◌, max, min, nat_le, Bool, false}
 use Rattle.run_schedule.specs.Timing.Pauses as pauses
 use Rattle.run_schedule.specs.declared.timing.timing.Phase.{Phase}
 use Rattle.run_schedule.specs.declared.timing.timing.Phase.TheVariants.{Resting, Connecting, Polling}
 use Rattle.run_schedule.specs.declared.timing.timing.Timing.{Timing}
 
--- The pause in seconds after one more failed connection.
+-- The pause in seconds after one more failed connection attempt.
 abbrev pub pause_after : ℕ → ℕ
 pause_after before = pauses.pause_after before
 
--- `at` is the first multiple of `every` after `now`.
+-- `at` is the first multiple of the polling interval `every` after `now`.
 pub record IsDue (every now at : ℕ) : Type 0 where
   pub later : now < at
   pub grid : (k : ℕ) × (at ≡ k * every)
   pub first : (k : ℕ) → now < k * every → at ≤ k * every
 
--- `at` is when a failed device is retried: after the pause, but no later than when the device is
--- next due.
+-- `at` is when to reconnect to a failed device: after the pause, but no later than at its next
+-- poll.
 pub record IsRetried (every now pause at : ℕ) : Type 0 where
   pub due : ℕ
   pub is_due : IsDue every now due
   pub is : at ≡ min (min (now + pause) (2 ^ 64 - 1)) due
 
--- The device has no connection, and its time `at` has come.
+-- True if the device has no connection, and `at`, the time of the next attempt, has come.
 abbrev pub due_in : Phase → (at now : ℕ) → Bool
 due_in Resting at now = nat_le at now
 due_in Connecting at now = false
 due_in Polling at now = false
 
--- The device is connecting or being polled, and its deadline `at` has passed.
+-- True if the connection attempt or the polling round of a device has passed its deadline `at`.
 abbrev pub over_in : Phase → (at now : ℕ) → Bool
 over_in Resting at now = false
 over_in Connecting at now = nat_le at now
 over_in Polling at now = nat_le at now
 
--- The device must be connected now.
+-- True if the device has no connection, and the time of its next connection attempt has come.
 abbrev pub is_due : (now : ℕ) → Timing → Bool
 is_due now timing = due_in timing.phase timing.at now
 
--- The connection attempt or the round of the device has passed its deadline.
+-- True if the connection attempt or the polling round of the device has passed its deadline.
 abbrev pub is_over : (now : ℕ) → Timing → Bool
 is_over now timing = over_in timing.phase timing.at now
 
--- The state of a device that begins to connect. Its deadline is five seconds later.
+-- The state of a device whose connection attempt begins. Its deadline is five seconds later.
 abbrev pub begun : (now : ℕ) → Timing → Timing
 begun now timing =
     record { phase = Connecting; at = min (now + 5) (2 ^ 64 - 1); pause = timing.pause }
 
--- The state of a device whose round begins. Its deadline is `every` seconds later, at least 60.
+-- The state of a device whose polling round begins. Its deadline is `every` seconds later, at least
+-- 60.
 abbrev pub stands : (every now : ℕ) → Timing
 stands every now = record { phase = Polling; at = min (now + max every 60) (2 ^ 64 - 1); pause = 0 }

@@ -1,4 +1,4 @@
-//! The slot for a new connection.
+//! Chooses the slot for a new HTTP connection.
 ghost use Rattle.std.specs.Prelude.{◌≡◌, position};
 ghost use Rattle.std.specs.Option.{option_map};
 ghost use Rattle.run_schedule.specs.HttpPeers.Places as specs;
@@ -6,8 +6,8 @@ ghost use Rattle.run_schedule.specs.HttpPeers.Places.{IsChosen, IsOldest};
 
 use crate::http_peers::place::Place;
 
-// Returns the idle connection with the earliest deadline, out of the best so far and that of slot
-// `i`. Each is a slot with its deadline.
+// Returns the idle connection with the earlier deadline: `best` or the connection in slot `i`. The
+// result and `best` are pairs of a slot and its deadline.
 fn older(best: Option<(usize, u64)>, i: usize, place: Place) -> Option<(usize, u64)>
     ensures { result ≡ specs.older best i place }
 {
@@ -25,7 +25,7 @@ fn older(best: Option<(usize, u64)>, i: usize, place: Place) -> Option<(usize, u
     }
 }
 
-// Returns the slot and the deadline of the idle connection with the earliest deadline.
+// Returns the slot and the deadline of the idle HTTP connection with the earliest deadline.
 fn oldest_silent(places: &[Place]) -> Option<(usize, u64)>
     ensures { IsOldest places.now (option_map (λ best. best.0) result) }
 {
@@ -42,7 +42,7 @@ fn first_free(places: &[Place]) -> Option<usize>
     places.iter().position(|place| place.is_free())
 }
 
-/// Returns the slot for a new connection: the first free slot, otherwise that of the idle
+/// Returns the slot for a new HTTP connection: the first free slot, otherwise the slot of the idle
 /// connection with the earliest deadline. Returns `None` if all connections wait for a response.
 pub fn place_for(places: &[Place]) -> Option<usize>
     ensures { IsChosen places.now result }

@@ -1,19 +1,19 @@
-//! The slots of all connections.
+//! The slots of all HTTP connections.
 use crate::http_peers::choice::place_for;
 use crate::http_peers::place::Place;
 
-/// The most connections at the same time.
+/// The most HTTP connections that are open at the same time.
 pub const MOST_PEERS: usize = 64;
 
-/// The slot that a new connection got.
+/// The slot that a new HTTP connection got.
 #[derive(Clone, Copy, Debug, PartialEq, Eq)]
 pub struct Admission {
     pub place: usize,
-    /// Whether the slot was that of an idle connection, which the caller must drop.
+    /// Whether the slot had an idle connection. The caller must close that connection.
     pub drops: bool,
 }
 
-/// The slots of the connections that are served at the same time.
+/// The slots of the HTTP connections that are open at the same time.
 #[derive(Drop)]
 pub struct Peers {
     pub places: [Place; 64],
@@ -24,7 +24,7 @@ impl Peers {
     ghost use Rattle.run_schedule.specs.HttpPeers.Places as places;
     ghost use Rattle.run_schedule.specs.HttpPeers.Places.{Admits};
 
-    /// Makes slots that are all free.
+    /// Makes 64 free slots.
     pub fn new() -> Peers
         ensures { result.places ≡ replicate 64 Place.Free }
     {
@@ -33,8 +33,8 @@ impl Peers {
         }
     }
 
-    /// Gives a new connection a slot, if a slot is free or its connection is idle. The connection
-    /// may last for `seconds`.
+    /// Assigns a slot to a new connection, whose deadline is `seconds` after `now`. The slot is
+    /// free or has an idle connection; without such a slot the result is `None`.
     pub fn admit(&mut self, now: u64, seconds: u64) -> Option<Admission>
         ensures { Admits (min (now + seconds) (2 ^ 64 - 1)) self.old.places self.new.places result }
     {
@@ -47,7 +47,7 @@ impl Peers {
         Some(Admission { place, drops })
     }
 
-    /// Records that the connection of a slot sent a request.
+    /// Records that the client in a slot has sent its request.
     pub fn ask(&mut self, place: usize)
         requires { place < 64 }
         ensures { self.new.places ≡ places.asked_at place self.old.places }
@@ -55,8 +55,8 @@ impl Peers {
         self.places[place] = self.places[place].asked();
     }
 
-    /// Records that the connection of a slot got its response. It is idle from now on: its deadline
-    /// is `until`, and a new connection may replace it.
+    /// Records that the client in a slot got its response. The connection becomes idle with the
+    /// deadline `until`, and a new connection may replace it.
     pub fn linger(&mut self, place: usize, until: u64)
         requires { place < 64 }
         ensures { self.new.places ≡ slice_set self.old.places place (Place.Silent until) }
@@ -64,7 +64,7 @@ impl Peers {
         self.places[place] = Place::Silent(until);
     }
 
-    /// Frees a slot whose connection has ended.
+    /// Frees the slot of a connection that has ended.
     pub fn end(&mut self, place: usize)
         requires { place < 64 }
         ensures { self.new.places ≡ slice_set self.old.places place Place.Free }
@@ -72,8 +72,8 @@ impl Peers {
         self.places[place] = Place::Free;
     }
 
-    /// Closes a slot, so that no connection gets it. The slot is treated as if its connection
-    /// waited for a response without a deadline.
+    /// Closes a slot to new connections. The slot then looks like a connection that waits for its
+    /// response without a deadline.
     pub fn shut(&mut self, place: usize)
         requires { place < 64 }
         ensures { self.new.places ≡ slice_set self.old.places place (Place.Asked (2 ^ 64 - 1)) }
@@ -81,7 +81,7 @@ impl Peers {
         self.places[place] = Place::Asked(u64::MAX);
     }
 
-    /// Returns whether the deadline of a slot's connection has passed.
+    /// Returns whether the deadline of the connection in a slot has passed.
     pub fn is_over(&self, place: usize, now: u64) -> bool
         requires { place < 64 }
         ensures { result ≡ places.is_over_at place now self.now.places }

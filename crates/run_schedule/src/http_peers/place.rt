@@ -1,14 +1,14 @@
-//! The slot of a connection: free, idle, or waiting for a response.
+//! The state of a slot for HTTP connections: free, idle, or waiting for a response.
 
-/// The slot of a connection. Times are seconds of the run's time.
+/// The state of a slot for HTTP connections. Times are seconds since 1970-01-01 UTC.
 #[derive(Clone, Copy, Debug, PartialEq, Eq)]
 pub enum Place {
-    /// The slot has no connection.
+    /// The slot has no HTTP connection.
     Free,
-    /// The connection is idle: it sent no request yet, or got its response. It may last until this
-    /// time.
+    /// The slot's connection is idle: its client has sent no request yet, or got its response. The
+    /// value is the deadline.
     Silent(u64),
-    /// The connection sent a request and waits for its response. It may last until this time.
+    /// The slot's client sent a request and waits for the response. The value is the deadline.
     Asked(u64),
 }
 
@@ -38,7 +38,7 @@ impl Place {
         }
     }
 
-    /// Returns the state of the slot after its idle connection sent a request.
+    /// Returns the state of the slot after the client of its idle connection sent a request.
     pub fn asked(self) -> Place
         ensures { result ≡ places.asked self }
     {
@@ -49,7 +49,7 @@ impl Place {
         }
     }
 
-    /// Returns the deadline of the slot's connection, if it is idle.
+    /// Returns the deadline of the slot's connection if the connection is idle, otherwise `None`.
     pub fn silent_until(self) -> Option<u64>
         ensures { result ≡ places.silent_until self }
     {

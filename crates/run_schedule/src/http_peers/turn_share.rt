@@ -1,20 +1,21 @@
-//! How many responses a run makes in one turn of its loop, and which client's slot comes first.
+//! Limits the HTTP responses in one iteration of the main loop, and orders the slots of clients.
 ghost use Rattle.std.specs.Prelude.{◌≡◌, ◌<◌, ℕ, List};
 ghost use Rattle.run_schedule.specs.HttpPeers.TurnShares as shares;
 ghost use Rattle.run_schedule.specs.HttpPeers.TurnShares.{AreFew, MayReply};
 
 use crate::http_peers::peers::MOST_PEERS;
 
-/// The bytes of a turn's responses after which the other requests wait for the next turn. The rows
-/// of a meter over two years are a response of 1.8 MB, which takes 50 to 100 ms to make. So these
-/// bytes take some 10 ms. The response that exceeds them is the last of its turn.
+/// The limit in bytes for the responses of one iteration of the main loop. Further requests wait
+/// for the next iteration. The rows of a meter over two years are 1.8 MB and take 50 to 100 ms, so
+/// the limit amounts to some 10 ms. The response that exceeds the limit is still sent.
 const MOST_BYTES: usize = 262_144;
 
-/// The milliseconds of a turn's responses after which the other requests wait for the next turn.
-/// Energy by month has few bytes, but it is computed from as many rows.
+/// The limit in milliseconds for making the responses of one iteration of the main loop. A report
+/// by month has few bytes, but making it takes as long as a report on all its rows.
 const MOST_MILLISECONDS: u64 = 20;
 
-/// What is left of the share of responses in one turn.
+/// The requests, bytes and milliseconds that one iteration of the main loop may still use for HTTP
+/// responses.
 #[derive(Clone, Copy, Debug, PartialEq, Eq)]
 pub struct TurnShare {
     requests: usize,
@@ -23,7 +24,7 @@ pub struct TurnShare {
 }
 
 impl TurnShare {
-    /// Returns the share of a turn that begins.
+    /// Returns the full limits, for an iteration of the main loop that begins.
     pub fn whole() -> TurnShare
         ensures { result ≡ shares.whole }
     {
@@ -34,15 +35,16 @@ impl TurnShare {
         }
     }
 
-    /// Returns whether the share is used up, so that the other requests wait for the next turn.
+    /// Returns whether one of the limits is used up. Then all further requests wait for the next
+    /// iteration of the main loop.
     pub fn is_over(self) -> bool
         ensures { result ≡ shares.is_over self }
     {
         self.requests == 0 || self.bytes == 0 || self.milliseconds == 0
     }
 
-    /// Returns what is left after a response with this many bytes, which took this many
-    /// milliseconds to make.
+    /// Returns what remains of the limits after a response of `bytes` bytes that took
+    /// `milliseconds` to make.
     pub fn after(self, bytes: usize, milliseconds: u64) -> TurnShare
         ensures { result ≡ shares.after self bytes milliseconds }
     {
@@ -54,14 +56,14 @@ impl TurnShare {
     }
 }
 
-/// Theorem: if each response begins while some of the share is left, a turn has at most 64
-/// responses. All except the last have less than 256 KiB together, and took less than 20 ms
-/// together.
+/// Theorem: if each response begins before a limit is used up, an iteration has at most 64
+/// responses. All responses except the last have less than 256 KiB together, and took less than 20
+/// ms together.
 pub fn replies_are_few()
     ensures { (replies : List (ℕ × ℕ)) → MayReply replies → AreFew replies }
 {}
 
-/// Returns the slot that is `step` slots after `first`. Slot 0 follows the last slot.
+/// Returns the slot that is `step` slots after slot `first`. Slot 0 follows the last slot.
 pub fn place_at(first: usize, step: usize) -> usize
     ensures place { result < 64 }
     ensures round { first < 64 → step < 64 → result ≡ shares.place_at first step }
@@ -69,8 +71,8 @@ pub fn place_at(first: usize, step: usize) -> usize
     first.saturating_add(step) % MOST_PEERS
 }
 
-/// Theorem: a turn serves each slot. If another slot came before a waiting one, and the next turn
-/// begins after that other slot, fewer slots come before the waiting one.
+/// Theorem: each iteration of the main loop reaches every client slot. If the next iteration begins
+/// after a slot that came before a waiting slot, the waiting slot moves forward in the order.
 pub fn turns_go_round()
     ensures each { (first place : ℕ) → first < 64 → place < 64
         → shares.place_at first (shares.before place first) ≡ place }

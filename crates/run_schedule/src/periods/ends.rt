@@ -1,4 +1,4 @@
-//! When a period of the calendar ends.
+//! Computes when a calendar period (a day, month or year) ends in a time zone.
 ghost use Rattle.std.specs.Prelude.{◌≡◌, ◌≤◌, ◌<◌, ◌/◌, ◌≤ℤ◌, ◌<ℤ◌, ◌+ℤ◌, ◌-ℤ◌, ◌*ℤ◌, ℕ, pos, min, true, false};
 ghost use Rattle.jiff.specs.Words.{epoch_day};
 ghost use Rattle.interval_core.specs.Zone.{day_at};
@@ -11,14 +11,14 @@ use interval_core::{Day, LAST_MOMENT, Zone, day_of};
 /// The seconds of a day.
 const DAY: i64 = 86_400;
 
-/// The greatest UTC offset of a zone in seconds, ahead or back: 25:59:59.
+/// The greatest UTC offset of a time zone in seconds, east or west: 25:59:59.
 const MOST_OFFSET: i64 = 93_599;
 
-/// The most seconds for a round that is due as a period begins.
+/// The most seconds that the program waits after a period's end for the last poll of that period.
 const MOST_LAST_ROUND: u64 = 30;
 
-// Returns when the day after `last` begins by the earliest clock that a zone can have, in seconds
-// since 1970-01-01 UTC.
+// Returns the earliest time at which the day after `last` begins in any time zone, in seconds since
+// 1970-01-01 UTC. Negative before 1970.
 fn earliest_after(last: Day) -> i64
     ensures { result ≡ (epoch_day last +ℤ pos 1) *ℤ pos 86_400 -ℤ pos 93_599 }
 {
@@ -26,8 +26,8 @@ fn earliest_after(last: Day) -> i64
     (day + 1) * DAY - MOST_OFFSET
 }
 
-// Returns a time after `moment` from which to search. At no time between the two has a day after
-// `last` begun in any zone.
+// Returns the time after `moment` at which the search for the end of the day `last` starts. Before
+// this time, no day after `last` has begun in any time zone.
 fn search_from(last: Day, moment: u64) -> u64
     requires { moment ≤ LAST_MOMENT }
     ensures later { moment < result }
@@ -40,7 +40,7 @@ fn search_from(last: Day, moment: u64) -> u64
     }
 }
 
-// Returns whether a day after `last` has begun in the zone at the time `at`.
+// Returns whether a day after `last` has begun in the time zone at the time `at`.
 fn is_past(zone: &Zone, last: Day, at: u64) -> bool
     requires { at ≤ LAST_MOMENT }
     ensures later { result ≡ true → epoch_day last <ℤ day_at zone.now at }
@@ -52,7 +52,7 @@ fn is_past(zone: &Zone, last: Day, at: u64) -> bool
     }
 }
 
-// Returns the first time after `moment` at which a day after `last` has begun in the zone.
+// Returns the first time after `moment` at which a day after `last` has begun in the time zone.
 fn first_past(zone: &Zone, last: Day, moment: u64) -> Option<u64>
     requires { moment ≤ LAST_MOMENT }
     ensures { IsPastFrom zone.now (epoch_day last) moment result }
@@ -65,9 +65,9 @@ fn first_past(zone: &Zone, last: Day, moment: u64) -> Option<u64>
     None
 }
 
-/// Returns the first time after `moment` at which the period of `day` is over, by the clocks of a
-/// zone: a later day than the period's last has begun. Returns `None` if there is no such time up
-/// to the last timestamp.
+/// Returns the first time after `moment` at which the period that contains `day` is over in a time
+/// zone. A period is over when a day after its last day has begun. Returns `None` if the period
+/// does not end up to `LAST_MOMENT`.
 pub fn period_end(zone: &Zone, period: Period, day: Day, moment: u64) -> Option<u64>
     ensures { IsPeriodEnd zone.now period day moment result }
 {
@@ -77,8 +77,8 @@ pub fn period_end(zone: &Zone, period: Period, day: Day, moment: u64) -> Option<
     first_past(zone, period.last_day(day), moment)
 }
 
-/// Returns the seconds for a round that is due as a period begins, before the run changes the file:
-/// half of the polling interval, at most 30.
+/// Returns how many seconds after a period's end the program waits for a poll before it changes the
+/// file. The wait is half of the polling interval, at most 30 seconds.
 pub fn last_round(every: u64) -> u64
     ensures { result ≡ min (every / 2) 30 }
 {

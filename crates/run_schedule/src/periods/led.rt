@@ -1,4 +1,4 @@
-//! Finds the active file of a run, in which energy is recorded, by the periods in file names.
+//! Finds the current file, in which the program records energy, by the periods in file names.
 ghost use Rattle.std.specs.Prelude.{◌≡◌, ◌≤◌, ◌<◌, ◌*◌, ◌+◌, nat_lt};
 ghost use Rattle.run_schedule.specs.Periods.Led as numbers;
 ghost use Rattle.run_schedule.specs.Periods.Led.{IsToldBy};
@@ -14,7 +14,7 @@ fn pair(tens: u8, ones: u8) -> u32
     10 * u32::from(tens.saturating_sub(48)) + u32::from(ones.saturating_sub(48))
 }
 
-// Returns the year, month and day in the text of a period, each 0 if the text lacks it.
+// Returns the year, month and day in the text of a period such as `2026-11`. A missing part is 0.
 fn numbers_in(text: &[u8]) -> (u32, u32, u32)
     ensures year { result.0 ≡ numbers.year_in text.now }
     ensures month { result.1 ≡ numbers.month_in text.now }
@@ -37,7 +37,7 @@ fn numbers_in(text: &[u8]) -> (u32, u32, u32)
     }
 }
 
-/// Returns a number by which periods of one length are ordered.
+/// Returns a number that orders periods of one length: a later period has a greater number.
 pub(crate) fn number_in(text: &[u8]) -> u32
     ensures { result ≡ numbers.number_in text.now }
 {
@@ -63,7 +63,8 @@ fn rank(length: Period, text: &[u8]) -> u32
     2 * 512 * year + own + 32 * month + day
 }
 
-// Returns the period in a file name. It must have the run's own period length, or the other one.
+// Returns the period in a file name. The period has the configured length, or the alternative
+// length (`other_length`).
 fn told_by<'a>(file: &[u8], length: Period, name: &'a [u8]) -> Option<&'a [u8]>
     ensures { IsToldBy file.now length name.now result }
 {
@@ -79,8 +80,8 @@ fn is_before(length: Period, text: &[u8], other: &[u8]) -> bool
     rank(length, text) < rank(length, other)
 }
 
-/// The period of the active file among the names so far, as `2026-11` or `2026`. `None` if no name
-/// so far has a period.
+/// The period of the current file among the file names seen so far, such as `2026-11` or `2026`.
+/// `None` if no name so far has a period.
 #[derive(Drop)]
 pub struct LedPeriod {
     pub text: Option<Vec<u8>>,
@@ -90,14 +91,15 @@ impl LedPeriod {
     ghost use Rattle.std.specs.Prelude.{◌≡◌, [], OnOk, OnErr, None};
     ghost use Rattle.run_schedule.specs.Periods.Led.{SeesOneMore};
 
-    /// Makes the value for no names.
+    /// Makes the value before any file name was seen.
     pub fn none() -> LedPeriod
         ensures { result.text ≡ None }
     {
         LedPeriod { text: None }
     }
 
-    // Returns whether the file of this period outranks the active file so far.
+    // Returns whether the file of the period `text` outranks the current file among the names so
+    // far.
     fn gives_way_to(&self, length: Period, text: &[u8]) -> bool
         ensures { result ≡ numbers.gives_way self.now.text length text.now }
     {
@@ -107,10 +109,10 @@ impl LedPeriod {
         }
     }
 
-    /// Adds the name of a file beside the run's own file.
+    /// Adds the name of another file in the folder of the store.
     ///
-    /// The active file is that of the latest year. Within a year it is a file of the run's own
-    /// period length, if there is one. Of several, it is that of the latest month or day.
+    /// The current file is a file of the latest year. Within a year, a file of the configured
+    /// period length comes first. Among several such files, the latest month or day comes first.
     pub fn see(
         &mut self,
         alloc: Global,

@@ -1,4 +1,4 @@
-//! The names of the files that a run begins for each period.
+//! The names of the store's files, one file for each calendar period.
 ghost use Rattle.std.specs.Prelude.{◌≡◌, ◌≢◌, ◌++◌, ℕ, List, codes, IfOk};
 ghost use Rattle.std.specs.Option.{MatchOption};
 ghost use Rattle.run_schedule.specs.Periods.Names as named;
@@ -7,10 +7,11 @@ ghost use Rattle.run_schedule.specs.Periods.Names.{IsPeriodIn, file_of, stem_of,
 use energy_report::Period;
 use std::alloc::{AllocError, Global};
 
-/// The extension of a database file, which stays at the end of the name.
+/// The extension of a store file, which stays at the end of the name.
 const SUFFIX: &[u8] = b".db";
 
-// Splits the name of a file into its stem and its extension `.db`, which may be missing.
+// Splits a file name into its stem and the extension `.db`. Without that extension, the second part
+// is empty.
 fn parts_of(file: &[u8]) -> (&[u8], &[u8])
     ensures stem { result.0.now ≡ stem_of file.now }
     ensures suffix { result.1.now ≡ suffix_of file.now }
@@ -35,8 +36,8 @@ fn joined(alloc: Global, stem: &[u8], text: &[u8], suffix: &[u8]) -> Result<Vec<
     Ok(name)
 }
 
-/// Returns the name of the file of a period: for `office.db` and `2026-11` it is
-/// `office-2026-11.db`. A name without `.db` gets the period at its end.
+/// Returns the name of a period's file: `office.db` and `2026-11` give `office-2026-11.db`. If the
+/// name has no `.db`, the period follows at its end.
 pub fn file_of_period(alloc: Global, file: &[u8], text: &[u8]) -> Result<Vec<u8>, AllocError>
     ensures { IfOk result (λ name. name.items ≡ file_of file.now text.now) }
 {
@@ -70,7 +71,7 @@ fn is_year(a: u8, b: u8, c: u8, d: u8) -> bool
     is_digit(a) && is_digit(b) && is_digit(c) && is_digit(d)
 }
 
-// Returns whether a text has the form of a period, such as `2026-11` for a month.
+// Returns whether a text has the form of a period of this length, such as `2026-11` for a month.
 pub(crate) fn spells(period: Period, text: &[u8]) -> bool
     ensures { result ≡ named.spells period text.now }
 {
@@ -104,7 +105,7 @@ fn before<'a>(text: &'a [u8], end: &[u8]) -> Option<&'a [u8]>
     text.strip_suffix(end)
 }
 
-// Returns the part of a name between a stem with a hyphen and an extension.
+// Returns the part of `name` between `stem` with a hyphen and the extension `suffix`.
 fn between<'a>(name: &'a [u8], stem: &[u8], suffix: &[u8]) -> Option<&'a [u8]>
     ensures { MatchOption result
         ((text : List ℕ) → stem.now ++ codes "-" ++ text ++ suffix.now ≢ name.now)
@@ -119,7 +120,8 @@ fn between<'a>(name: &'a [u8], stem: &[u8], suffix: &[u8]) -> Option<&'a [u8]>
     }
 }
 
-/// Returns the period in a file name, if it is a name of `file` with a period of this length.
+/// Returns the period in `name`, if `name` is `file` with a period of this length, such as
+/// `office-2026-11.db`.
 pub fn period_of_file<'a>(file: &[u8], period: Period, name: &'a [u8]) -> Option<&'a [u8]>
     ensures { IsPeriodIn file.now period name.now result }
 {

@@ -1,4 +1,4 @@
-//! Whether records continue in the active file or in a new one, and until when.
+//! Decides whether to record in the current file or to begin a new one, and when to decide again.
 ghost use Rattle.std.specs.Prelude.{◌≡◌, ◌≤◌, min, length};
 ghost use Rattle.run_schedule.specs.Periods.Plans as specs;
 ghost use Rattle.run_schedule.specs.Periods.Plans.{IsPeriodUntil, NothingGoesBack};
@@ -11,21 +11,21 @@ use interval_core::{Day, LAST_MOMENT, Zone};
 /// The seconds of an hour.
 const HOUR: u64 = 3600;
 
-/// What to do with the active file, in which energy is recorded.
+/// The decision about the current file, in which energy is recorded.
 #[derive(Clone, Copy, Debug, PartialEq, Eq)]
 pub enum Plan {
-    /// Records continue in the file. It is that of the current period.
+    /// Continue in the file: its period is the current one.
     Stay,
-    /// Records continue in the file. Its period is later than that of the clock.
+    /// Continue in the file: its period is later than the clock's period.
     StayAhead,
-    /// Records continue in the file for a while. Its period is over, but its last entry is later
-    /// than the clock.
+    /// Continue in the file for now: its period is over, but its last entry is later than the
+    /// clock.
     Wait,
-    /// The file is rolled over into that of the current period.
+    /// Roll the file over into a new file for the current period.
     Carry,
 }
 
-// Returns the length of the shorter text.
+// Returns the length in bytes of the shorter of two texts.
 fn shared(text: &[u8], other: &[u8]) -> usize
     ensures is { result ≡ min (length text.now) (length other.now) }
     ensures within { result ≤ length text.now }
@@ -51,10 +51,10 @@ fn plan_of_past(last_entry: u64, now: u64) -> Plan
     }
 }
 
-/// Returns what to do with the active file. `led` is the text of its period, which a run's first
-/// file lacks.
+/// Decides what to do with the current file. `led` is the period in the file's name, or `None` if
+/// the name has no period.
 ///
-/// `current` is the text of the current period. Times are in seconds since 1970-01-01 UTC.
+/// `current` is the current period, such as `2026-11`. Times are in seconds since 1970-01-01 UTC.
 pub fn plan_of(led: Option<&[u8]>, current: &[u8], last_entry: u64, now: u64) -> Plan
     ensures { result ≡ specs.plan_of led.entry current.now last_entry now }
 {
@@ -72,15 +72,15 @@ pub fn plan_of(led: Option<&[u8]>, current: &[u8], last_entry: u64, now: u64) ->
     }
 }
 
-/// Theorem: no file is rolled over into that of an earlier period, or before the time of its last
-/// entry.
+/// Theorem: no file is rolled over into a file of an earlier period, or while its last entry is
+/// later than the clock.
 pub fn nothing_goes_back()
     ensures { NothingGoesBack }
 {}
 
-/// Returns until when records continue in the file of the period of `day`, by the clocks of a zone:
-/// its end, plus the time for the round that is due then. Devices are polled every `every` seconds.
-/// `None` is no end.
+/// Returns the time at which the file of the period that contains `day` is rolled over. This is the
+/// period's end in the time zone, plus up to 30 s for the last poll. `every` is the polling
+/// interval in seconds. Returns `None` if the period has no end.
 pub fn period_until(zone: &Zone, period: Period, day: Day, every: u64, now: u64) -> Option<u64>
     ensures { IsPeriodUntil zone.now period day every now result }
 {
@@ -90,8 +90,9 @@ pub fn period_until(zone: &Zone, period: Period, day: Day, every: u64, now: u64)
     }
 }
 
-/// Returns until when records continue in a file whose rollover failed: the next full hour, plus
-/// the time for the round that is due then. Returns `None` past the last timestamp.
+/// Returns when to retry a failed file rollover: at the next full hour, plus up to 30 s for the
+/// poll at
+/// that time. `every` is the polling interval in seconds. Returns `None` past `LAST_MOMENT`.
 pub fn next_try(every: u64, now: u64) -> Option<u64>
     ensures { result ≡ specs.next_try every now }
 {

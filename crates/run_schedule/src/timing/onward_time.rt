@@ -1,19 +1,20 @@
-//! The time of a clock over several runs, one after the other.
+//! A clock's time that does not go back between successive runs of the polling loop.
 
-/// The time of a clock that does not go back from one run to the next. So no run begins before a
-/// timestamp of the previous run, even if the clock was set back in between.
+/// A clock's time that does not go back between successive runs of the polling loop in one process.
+/// No run of that loop begins before a timestamp of its previous run, even if the clock was set
+/// back in between.
 #[derive(Clone, Copy, Debug, PartialEq, Eq)]
 pub struct OnwardTime {
-    /// The least time that is reported.
+    /// The earliest time that the clock reports, in seconds.
     pub least: u64,
-    /// The latest time that was reported.
+    /// The latest time that the clock has reported, in seconds.
     pub latest: u64,
 }
 
 impl OnwardTime {
     ghost use Rattle.std.specs.Prelude.{◌≡◌, max};
 
-    /// Makes a time that follows the clock.
+    /// Makes a time that follows the clock without a lower bound.
     pub fn new() -> OnwardTime
         ensures { result ≡ record { least = 0; latest = 0 } }
     {
@@ -23,7 +24,8 @@ impl OnwardTime {
         }
     }
 
-    /// Returns the time when the clock reads `now`.
+    /// Returns the time when the clock reads `now`: `now` or the lower bound `least`, whichever is
+    /// later.
     pub fn read(&mut self, now: u64) -> u64
         ensures told { result ≡ max now self.old.least }
         ensures least { self.new.least ≡ self.old.least }
@@ -34,7 +36,7 @@ impl OnwardTime {
         moment
     }
 
-    /// Makes the latest time so far the least time that later calls report.
+    /// Makes the latest reported time the lower bound for the next run of the polling loop.
     pub fn go_on(&mut self)
         ensures { self.new ≡ record { least = self.old.latest; latest = self.old.latest } }
     {

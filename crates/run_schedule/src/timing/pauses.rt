@@ -1,12 +1,13 @@
-//! The pauses between failed connections to a device.
+//! The pauses between attempts to connect to a device that fails.
 ghost use Rattle.std.specs.Prelude.{◌≡◌, ◌+◌, ◌-◌, ◌^◌, min};
 ghost use Rattle.run_schedule.specs.Timing.Pauses.{pause_after};
 
-/// The longest pause in seconds.
+/// The longest pause between connection attempts, in seconds.
 pub const MOST_PAUSE: u64 = 60;
 
-/// Returns the pause in seconds after one more failed connection: 1 at first, then twice the
-/// previous pause, at most 60. `before` is 0 after a successful connection.
+/// Returns the pause after one more failed connection attempt: 1 second at first, then twice the
+/// previous pause, at most 60 seconds. `before` is the previous pause, or 0 after a successful
+/// attempt.
 pub fn next_pause(before: u64) -> u64
     ensures { result ≡ pause_after before }
 {
@@ -16,8 +17,8 @@ pub fn next_pause(before: u64) -> u64
     before.saturating_mul(2).min(MOST_PAUSE)
 }
 
-/// Returns when to retry a device that failed now: after the pause, but no later than when the
-/// device is due.
+/// Returns when to reconnect to a device that failed at `now`: after the pause, but no later than
+/// at its next poll `due`.
 pub fn retry_at(now: u64, pause: u64, due: u64) -> u64
     ensures { result ≡ min (min (now + pause) (2 ^ 64 - 1)) due }
 {

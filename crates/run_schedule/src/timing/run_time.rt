@@ -1,21 +1,21 @@
-//! The time by which a run measures its waits.
+//! The time by which the program measures timeouts and waits.
 ghost use Rattle.std.specs.Prelude.{◌≡◌, ◌≤◌, ◌-◌, ◌/◌, ◌%◌};
 ghost use Rattle.run_schedule.specs.Timing.RunTimes.{time_by};
 
-/// The time of a run in milliseconds. It begins at a timestamp and continues by the monotonic
-/// clock, so setting the system's clock makes no wait longer or shorter.
+/// The program's own time in milliseconds. It begins at a timestamp and advances with the monotonic
+/// clock, so setting the system's clock changes no timeout.
 #[derive(Clone, Copy, Debug, PartialEq, Eq)]
 pub struct RunTime {
-    /// The time at the beginning, since 1970-01-01 UTC.
+    /// The time at the start, in milliseconds since 1970-01-01 UTC.
     pub base: u64,
-    /// The reading of the monotonic clock at the beginning.
+    /// The reading of the monotonic clock at the start, in milliseconds.
     pub began: u64,
-    /// The time at the last reading.
+    /// The time at the latest reading, in milliseconds since 1970-01-01 UTC.
     pub latest: u64,
 }
 
 impl RunTime {
-    /// Begins the time at `base`, when the monotonic clock reads `even`.
+    /// Starts the time at `base` milliseconds, while the monotonic clock reads `even` milliseconds.
     pub fn new(base: u64, even: u64) -> RunTime
         ensures { result ≡ record { base = base; began = even; latest = base } }
     {
@@ -26,7 +26,7 @@ impl RunTime {
         }
     }
 
-    /// Advances the time to the moment at which the monotonic clock reads `even`.
+    /// Advances the time to a new reading `even` of the monotonic clock, in milliseconds.
     pub fn read(&mut self, even: u64)
         ensures time { self.new ≡ record self.old { latest = time_by self.old even } }
         ensures on { self.old.latest ≤ self.new.latest }
@@ -35,14 +35,14 @@ impl RunTime {
         self.latest = self.latest.max(self.base.saturating_add(passed));
     }
 
-    /// Returns the time in whole seconds.
+    /// Returns the time in whole seconds since 1970-01-01 UTC.
     pub fn seconds(&self) -> u64
         ensures { result ≡ self.now.latest / 1000 }
     {
         self.latest / 1000
     }
 
-    /// Returns the milliseconds that are left of the current second, 1 to 1,000.
+    /// Returns the milliseconds to the next full second, 1 to 1,000.
     pub fn to_next_second(&self) -> u64
         ensures left { result ≡ 1000 - self.now.latest % 1000 }
         ensures some { 1 ≤ result }

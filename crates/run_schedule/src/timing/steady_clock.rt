@@ -2,23 +2,23 @@
 ghost use Rattle.std.specs.Prelude.{◌≡◌, ◌≤◌, false};
 ghost use Rattle.run_schedule.specs.Timing.SteadyClocks.{ahead_by, read_by, clock_after};
 
-/// The most seconds that the time may advance from one reading to the next without a report.
+/// The most seconds that the clock may advance between two readings without a message.
 const MOST_AHEAD: u64 = 60;
 
-/// A timestamp that never goes back.
+/// A timestamp that never goes back, and what to report about the clock that it comes from.
 #[derive(Clone, Copy, Debug, PartialEq, Eq)]
 pub struct ClockReading {
-    /// The timestamp of an event that arrives now: that of the clock, or the latest one if the
-    /// clock is before it.
+    /// The timestamp of an event that arrives now: the clock's time or the latest timestamp,
+    /// whichever is later.
     pub moment: u64,
-    /// How many seconds the clock is behind the latest timestamp, at the first reading where it is
-    /// behind.
+    /// How many seconds the clock is before the latest timestamp. Given only at the first reading
+    /// after the clock was set back.
     pub set_back: Option<u64>,
-    /// The previous timestamp, if the time advanced by more than a minute since then.
+    /// The previous timestamp, if the clock advanced by more than a minute since then.
     pub ahead_from: Option<u64>,
 }
 
-// Returns the latest timestamp, if the clock is more than a minute ahead of it.
+// Returns the latest timestamp, if the clock is more than a minute after it.
 fn ahead_from(latest: u64, now: u64) -> Option<u64>
     ensures { result ≡ ahead_by latest now }
 {
@@ -32,9 +32,9 @@ fn ahead_from(latest: u64, now: u64) -> Option<u64>
 /// The state of a clock that may be set back.
 #[derive(Clone, Copy, Debug, PartialEq, Eq)]
 pub struct SteadyClock {
-    /// The latest timestamp.
+    /// The latest timestamp, in seconds since 1970-01-01 UTC.
     pub latest: u64,
-    /// Whether the clock was before the latest timestamp at the last reading.
+    /// Whether the clock was before the latest timestamp at the previous reading.
     pub is_back: bool,
 }
 

@@ -1,4 +1,5 @@
-//! When a device needs attention: to be connected, or because a deadline has passed.
+//! Decides when to connect to a device, and when a connection attempt or a polling round has timed
+//! out.
 use crate::timing::grid::next_due;
 use crate::timing::limits::{CONNECT_SECONDS, round_until, until};
 use crate::timing::pauses::{next_pause, retry_at};
@@ -6,22 +7,23 @@ use crate::timing::pauses::{next_pause, retry_at};
 /// The state of the connection to a device.
 #[derive(Clone, Copy, Debug, PartialEq, Eq)]
 pub enum Phase {
-    /// There is no connection.
+    /// The device has no connection.
     Resting,
-    /// The connection is being made.
+    /// A connection attempt is in progress.
     Connecting,
-    /// The connection exists, and the device is polled.
+    /// The device is connected and being polled.
     Polling,
 }
 
-/// When a device needs attention next.
+/// The time at which a device needs attention next, and why.
 #[derive(Clone, Copy, Debug, PartialEq, Eq)]
 pub struct Timing {
     pub phase: Phase,
-    /// While the device rests, the time of the next attempt. Otherwise the deadline of the
-    /// connection or the round.
+    /// The time of the next connection attempt while the device has no connection. Otherwise the
+    /// deadline of the connection attempt or the polling round.
     pub at: u64,
-    /// The pause after the latest failed connection, or 0 after a successful one.
+    /// The pause in seconds after the latest failed connection attempt, or 0 after a successful
+    /// one.
     pub pause: u64,
 }
 
@@ -30,7 +32,7 @@ impl Timing {
     ghost use Rattle.run_schedule.specs.Timing.Timings as timings;
     ghost use Rattle.run_schedule.specs.Timing.Timings.{IsDue, IsRetried};
 
-    /// Makes a device without a connection, which is next due at a multiple of `every`.
+    /// Makes a device without a connection. It is due at the first multiple of `every` after `now`.
     pub fn new(every: u64, now: u64) -> Timing
         requires some { 0 < every }
         requires fits { now + every < 2 ^ 64 }
@@ -45,7 +47,7 @@ impl Timing {
         }
     }
 
-    /// Returns whether to connect to the device now.
+    /// Returns whether the time to connect to the device has come.
     pub fn is_due(&self, now: u64) -> bool
         ensures { result ≡ timings.is_due now self.now }
     {
@@ -56,7 +58,7 @@ impl Timing {
         }
     }
 
-    /// Returns whether the connection or the round has passed its deadline.
+    /// Returns whether the connection attempt or the polling round has passed its deadline.
     pub fn is_over(&self, now: u64) -> bool
         ensures { result ≡ timings.is_over now self.now }
     {
@@ -67,7 +69,7 @@ impl Timing {
         }
     }
 
-    /// Records that the connection is being made.
+    /// Records that a connection attempt to the device begins.
     pub fn begin(&mut self, now: u64)
         ensures { self.new ≡ timings.begun now self.old }
     {
@@ -75,7 +77,7 @@ impl Timing {
         self.at = until(now, CONNECT_SECONDS);
     }
 
-    /// Records that the connection was made, and the round begins.
+    /// Records that the connection attempt succeeded, so that the polling round begins.
     pub fn stand(&mut self, every: u64, now: u64)
         ensures { self.new ≡ timings.stands every now }
     {
@@ -84,8 +86,8 @@ impl Timing {
         self.pause = 0;
     }
 
-    /// Records that the connection failed. The device is retried after a growing pause, but no
-    /// later than when it is next due.
+    /// Records that the connection attempt failed. The next attempt follows after a growing pause,
+    /// but no later than at the next multiple of `every`.
     pub fn fail(&mut self, every: u64, now: u64)
         requires some { 0 < every }
         requires fits { now + every < 2 ^ 64 }
@@ -98,7 +100,8 @@ impl Timing {
         self.at = retry_at(now, self.pause, next_due(every, now));
     }
 
-    /// Records that the connection has ended. The device is next due at a multiple of `every`.
+    /// Records that the connection has ended. The device is due at the first multiple of `every`
+    /// after `now`.
     pub fn rest(&mut self, every: u64, now: u64)
         requires some { 0 < every }
         requires fits { now + every < 2 ^ 64 }

@@ -1,4 +1,4 @@
--- Lemmas on the bytes that wait to be sent to the device of a slot.
+-- Lemmas on the queues of bytes that wait to be sent to each device.
 use Rattle.std.proofs.Common.{◌≡◌, inl, inr, ℕ, ◌<◌, ◌≤◌, List, [], ◌++◌, length, set, get_or, map, Bool, true, false, cond, Some, None, sym, ap, ◌∙◌}
 use Rattle.std.proofs.lemmas.List.{append-nil, map-set}
 use Rattle.std.proofs.lemmas.Option.{slice_get-get_or, slice_get-map, slice_get_past}
@@ -8,13 +8,14 @@ use Rattle.std.specs.Option.{option_map}
 use Rattle.office_events.specs.declared.events.Event.{Event}
 use Rattle.run_status.specs.Monitor.Output.{IsPut, IsSentTo, kept, sent_in, sent_to, taken_at, taken_in}
 
--- All frames of an event are queued, or none of them.
+-- After the frames of an event are queued, the queue has all these frames, or none of them if
+-- memory ran out.
 pub put_or_not : (e : Event) (frames old left new : List ℕ) (done : Bool) → left ≡ kept e old
     → new ≡ cond done (left ++ frames) left → IsPut e frames old new
 put_or_not e frames old left new true was is = inl (is ∙ ap (λ xs. xs ++ frames) was)
 put_or_not e frames old left new false was is = inr (is ∙ was ∙ sym (append-nil (kept e old)))
 
--- An element of a list, mapped by f.
+-- The element at an index of a mapped list is the mapped element at that index.
 pub seen_at : {X : Type 0} (f : X → List ℕ) (xs : List X) (place : ℕ) (d : X) → place < length xs
     → slice_get (map f xs) place ≡ Some (f (get_or xs place d))
 seen_at f xs place d inside = slice_get-map f xs place ∙ ap (option_map f) (slice_get-get_or xs place d inside)
@@ -22,7 +23,8 @@ seen_at f xs place d inside = slice_get-map f xs place ∙ ap (option_map f) (sl
 pub seen_past : {X : Type 0} (f : X → List ℕ) (xs : List X) (place : ℕ) → length xs ≤ place → slice_get (map f xs) place ≡ None
 seen_past f xs place past = slice_get-map f xs place ∙ ap (option_map f) (slice_get_past xs place past)
 
--- Replacing the queue of a slot by a longer one queues the frames for its device.
+-- If frames are appended to the queue of a slot, then they wait to be sent to the device in that
+-- slot.
 pub sent_there : {X : Type 0} (f : X → List ℕ) (xs : List X) (place : ℕ) (x d : X) (e : Event) (frames : List ℕ) → place < length xs
     → f x ≡ kept e (f (get_or xs place d)) ++ frames → map f (set xs place x) ≡ sent_to place e frames (map f xs)
 sent_there f xs place x d e frames inside is =
@@ -34,7 +36,7 @@ pub sent_at : {X : Type 0} (f : X → List ℕ) (xs : List X) (place : ℕ) (x d
 sent_at f xs place x d e frames inside (inl is) = inl (sent_there f xs place x d e frames inside is)
 sent_at f xs place x d e frames inside (inr is) = inr (sent_there f xs place x d e [] inside is)
 
--- A slot number past the last slot changes no queue.
+-- If frames are sent to a slot that does not exist, then no queue changes.
 pub sent_nowhere : {X : Type 0} (f : X → List ℕ) (xs : List X) (place : ℕ) (e : Event) (frames : List ℕ) → length xs ≤ place
     → IsSentTo place e frames (map f xs) (map f xs)
 sent_nowhere f xs place e frames past =
@@ -47,7 +49,7 @@ taken_there f xs place d inside = ap taken_in (sym (seen_at f xs place d inside)
 pub taken_nowhere : {X : Type 0} (f : X → List ℕ) (xs : List X) (place : ℕ) → length xs ≤ place → [] ≡ taken_at place (map f xs)
 taken_nowhere f xs place past = ap taken_in (sym (seen_past f xs place past))
 
--- The queue of a slot is emptied.
+-- If the queue of a slot is emptied, then all other queues are unchanged.
 pub left_there : {X : Type 0} (f : X → List ℕ) (xs : List X) (place : ℕ) (x : X) → f x ≡ [] → map f (set xs place x) ≡ set (map f xs) place []
 left_there f xs place x is = map-set f xs place x ∙ ap (set (map f xs) place) is
 

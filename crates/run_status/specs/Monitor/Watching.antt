@@ -1,4 +1,4 @@
--- What a monitor keeps of each event: counts, device states and frames.
+-- What the observer records of each event: counts, device states and frames to send.
 use Rattle.std.specs.Prelude.{◌≡◌, ℕ, Bool, true, false, List, slice_get, slice_set, Option, Some, None, Result, Ok, Err, if◌then◌else◌}
 use Rattle.std.specs.List.{list_any}
 use Rattle.office_events.specs.declared.answers.Answer.{Answer}
@@ -18,19 +18,20 @@ use Rattle.run_status.specs.declared.monitor.run_monitor.RunMonitor.{RunMonitor}
 abbrev pub unconnected : (name : Option (List ℕ)) → DeviceState
 unconnected name = record { name = name; connected = false; latest = None }
 
--- The notification reports an accepted reading.
+-- True if the notification reports an accepted reading.
 abbrev pub is_reading : Note → Bool
 is_reading (note.Outcome poll outcome) = false
 is_reading (note.Reading meter raw rolls step) = true
 is_reading (note.Held meter raw cause) = false
 
--- Whether the device is connected after the answer to its connection: yes if the office accepted
--- it, otherwise as before.
+-- True if the device is connected after the program accepted or refused its connection. After a
+-- refusal, the value is the same as before.
 abbrev pub connected_by : (before : Bool) → Result Answer Refusal → Bool
 connected_by before (Ok given) = true
 connected_by before (Err why) = before
 
--- Whether the device is connected after this event.
+-- True if a device is connected after one of its events, given whether it was connected before that
+-- event.
 abbrev pub is_connected : (before : Bool) → Event → Result Answer Refusal → Bool
 is_connected before (event.Connected given) answer = connected_by before answer
 is_connected before (event.Bytes given piece) answer = before
@@ -39,7 +40,7 @@ is_connected before (event.Gone given closing) answer = false
 is_connected before (event.Command c) answer = before
 is_connected before (event.Asked asked) answer = before
 
--- The state of a device after this event.
+-- The state of a device after one of its events.
 abbrev pub followed : (at : ℕ) → Event → Result Answer Refusal → List Note → DeviceState
     → DeviceState
 followed at e answer notes state = record {
@@ -48,32 +49,32 @@ followed at e answer notes state = record {
   latest = if list_any is_reading notes then Some at else state.latest;
 }
 
--- The device states after this event at the device in slot `place`. They are unchanged if no device
--- has that slot.
+-- The device states after this event at the device in slot `place`. They are unchanged if slot
+-- `place` does not exist.
 abbrev pub followed_in : ℕ → Option DeviceState → (at : ℕ) → Event → Result Answer Refusal
     → List Note → List DeviceState → List DeviceState
 followed_in place None at e answer notes states = states
 followed_in place (Some state) at e answer notes states =
     slice_set states place (followed at e answer notes state)
 
--- The device states after this event at the device in the given slot.
+-- The device states after this event at the device in slot `place`.
 abbrev pub followed_at : ℕ → (at : ℕ) → Event → Result Answer Refusal → List Note → List DeviceState
     → List DeviceState
 followed_at place at e answer notes states =
     followed_in place (slice_get states place) at e answer notes states
 
--- The device states after this event. An event without a slot changes none.
+-- The device states after this event. An event without a slot changes no state.
 abbrev pub followed_for : Option ℕ → (at : ℕ) → Event → Result Answer Refusal → List Note
     → List DeviceState → List DeviceState
 followed_for None at e answer notes states = states
 followed_for (Some place) at e answer notes states = followed_at place at e answer notes states
 
--- The counts after an event: a refusal and each notification of the event are counted.
+-- The counts after an event, including its refusal and each of its notifications.
 abbrev pub counted : Result Answer Refusal → List Note → Counts → Counts
 counted (Ok given) notes counts = noted_all notes counts
 counted (Err why) notes counts = noted_all notes (refused counts)
 
--- What a monitor keeps of this event: the counts, the device states and the frames to send.
+-- What the observer records of an event: the counts, the device states and the frames to send.
 pub record Keeps (old : RunMonitor) (shown : Shown) (new : RunMonitor) : Type 0 where
   pub counts : new.counts ≡ counted shown.answer shown.notes old.counts
   pub states : new.states.items

@@ -1,4 +1,4 @@
--- How notifications of the office are counted.
+-- How the program counts polls, readings and refusals for `/status`.
 use Rattle.std.specs.Prelude.{◌-◌, List, [], ◌∷◌, replicate, slice_index, slice_set}
 use Rattle.energy_core.specs.Verdict.{cause_number}
 use Rattle.energy_core.specs.declared.verdicts.Cause.{Cause}
@@ -30,7 +30,7 @@ ended Silent counts = record counts { silent = one_more counts.silent }
 ended (Malformed wrong) counts = record counts { malformed = one_more counts.malformed }
 ended (Lost cause) counts = record counts { lost = one_more counts.lost }
 
--- The counts after a reading was rejected for this cause. The index of a cause is its number less
+-- The counts after a reading was rejected for this cause. The index of a cause is its number minus
 -- one.
 abbrev pub held_for : Cause → Counts → Counts
 held_for cause counts =
@@ -39,18 +39,18 @@ held_for cause counts =
           (one_more (slice_index counts.held (cause_number cause - 1)));
     }
 
--- The counts after this notification.
+-- The counts after one notification: an ended poll, an accepted reading or a rejected reading.
 abbrev pub noted : Note → Counts → Counts
 noted (note.Outcome poll outcome) counts = ended outcome counts
 noted (note.Reading meter raw rolls step) counts =
     record counts { readings = one_more counts.readings }
 noted (note.Held meter raw cause) counts = held_for cause counts
 
--- The counts after these notifications, in order.
+-- The counts after a list of notifications, in order.
 abbrev pub noted_all : List Note → Counts → Counts
 noted_all [] counts = counts
 noted_all (one ∷ notes) counts = noted_all notes (noted one counts)
 
--- The counts after one more refusal.
+-- The counts after the program refused another event.
 abbrev pub refused : Counts → Counts
 refused counts = record counts { refusals = one_more counts.refusals }

@@ -1,4 +1,5 @@
-//! What the devices of a run lack in the store.
+//! Finds what a polled device lacks in the store: its entry, a point list, a register or an open
+//! meter.
 ghost use Rattle.std.specs.Prelude.{◌≡◌};
 ghost use Rattle.std.specs.Option.{option_map};
 ghost use Rattle.office_books.specs.Ledgers.{Finds, OnlyReads};
@@ -10,37 +11,39 @@ use office_events::{Device, Installation, Name, PlannedList, Register};
 use read_plan::PlannedRead;
 use std::alloc::AllocError;
 
-/// What a device lacks.
+/// Something that a device lacks in the store, so that no energy of the device is recorded.
 #[derive(Clone, Copy, Debug, PartialEq, Eq)]
 pub enum Lack {
-    /// The store has no device of this name.
+    /// The store has no device with the name.
     NoDevice,
     /// The device has no point list in the store.
     NoList,
     /// The device has no accounting register in the store.
     NoRegister,
-    /// No read of the point list covers both the counter and the scale of this accounting register.
+    /// No read of the device's point list covers both the counter and the scale of this accounting
+    /// register.
     NotInList(Register),
     /// No meter is open at this accounting register.
     NoMeter(Register),
 }
 
-/// A device that the command line names, and one thing that it lacks.
+/// A device named on the command line, and one thing that the device lacks in the store.
 #[derive(Clone, Copy, Debug, PartialEq, Eq)]
 pub struct DeviceLack {
     pub device: Option<Name>,
     pub lack: Lack,
 }
 
-// Returns whether one of these reads covers the counter and the scale of the register.
+// Returns whether one of the planned reads covers the counter and the scale of the accounting
+// register.
 fn is_read(reads: &[PlannedRead], register: &Register) -> bool
     ensures { result ≡ specs.is_read reads.now register.now }
 {
     reads.iter().any(|read| is_read_by(read.span, register))
 }
 
-// Returns whether a read of the point list covers the register. Without a list it returns true,
-// because `NoList` is reported then.
+// Returns whether a read of the point list covers the accounting register. Returns true without a
+// point list, because `NoList` is reported then.
 fn is_in_list(list: &Option<PlannedList>, register: &Register) -> bool
     ensures { result ≡ specs.is_in_list list.now register.now }
 {
@@ -81,7 +84,7 @@ fn has_device<B: Books>(books: &mut B, name: &Name) -> Result<bool, BooksFault>
     Ok(has_name(&books.devices()?, name))
 }
 
-// Adds this lack of the device if `is_lacking` is true.
+// Adds `lack` of the device to the list if `is_lacking` is true.
 fn add(
     lacks: &mut Vec<DeviceLack>,
     device: &Name,
@@ -136,7 +139,7 @@ fn add_of_registers<B: Books>(
     Ok(())
 }
 
-// Adds everything that a device of the store lacks.
+// Adds everything that a device lacks, for a device that the store has.
 fn add_of_device<B: Books>(
     lacks: &mut Vec<DeviceLack>,
     books: &mut B,
@@ -153,7 +156,8 @@ fn add_of_device<B: Books>(
     add_of_registers(lacks, books, device, &list, &registers)
 }
 
-// Adds everything that the device of this name lacks, or that the store has no such device.
+// Adds everything that the device `name` lacks, or `NoDevice` if the store has no device with that
+// name.
 fn add_of_name<B: Books>(
     lacks: &mut Vec<DeviceLack>,
     books: &mut B,
@@ -170,16 +174,16 @@ fn add_of_name<B: Books>(
     Ok(())
 }
 
-/// Adds what a device lacks by the records of the store.
+/// Adds to a list what a device lacks, according to the records of the store.
 ///
-/// A device lacks nothing if it meets these conditions:
+/// A device lacks nothing if it meets these conditions.
 ///
-/// - the store knows it;
-/// - it has a point list and a register;
-/// - each of its registers lies in a read of the list and has an open meter.
+/// - The store has the device.
+/// - The device has a point list and an accounting register.
+/// - Each of its accounting registers lies in a read of the list and has an open meter.
 ///
-/// `None` is a name that no device can have. If the store or memory fails, a part may have been
-/// added.
+/// The device is `None` for a name that is not valid. If the store fails or memory runs out, the
+/// list may be incomplete.
 pub fn add_lacks<B: Books>(
     lacks: &mut Vec<DeviceLack>,
     books: &mut B,

@@ -1,4 +1,4 @@
-//! Sentences for people: what is missing or wrong, and what to do.
+//! Messages for operators: what is missing or wrong, and what to do about it.
 ghost use Rattle.std.specs.Prelude.{◌≡◌, ◌≤◌, ◌-◌, ◌^◌, OnOk};
 ghost use Rattle.run_status.specs.Advice.Sentences as sentences;
 
@@ -9,7 +9,7 @@ use office_events::{Command, Event, Name, Refusal, Register, ScaleSource};
 use printed_numbers::{Kind, Meaning, meaning_of};
 use std::alloc::AllocError;
 
-// Appends the name of a device, or `-` if the message concerns no single device.
+// Appends the device's name to a message, or `-` if the message concerns no single device.
 fn put_subject(text: &mut Vec<u8>, device: &Option<Name>) -> Result<(), AllocError>
     ensures { OnOk result (text.new.items ≡ sentences.with_subject device.now text.old.items) }
 {
@@ -19,7 +19,7 @@ fn put_subject(text: &mut Vec<u8>, device: &Option<Name>) -> Result<(), AllocErr
     }
 }
 
-// Returns the first Modbus address that a reading of the register needs.
+// Returns the first Modbus address that a reading of the accounting register needs.
 fn first_needed(register: &Register) -> u64
     ensures { result ≡ sentences.first_needed register.now }
 {
@@ -30,7 +30,7 @@ fn first_needed(register: &Register) -> u64
     }
 }
 
-// Returns the last Modbus address that a reading of the register needs.
+// Returns the last Modbus address that a reading of the accounting register needs.
 fn last_needed(register: &Register) -> u64
     ensures { result ≡ sentences.last_needed register.now }
 {
@@ -41,7 +41,7 @@ fn last_needed(register: &Register) -> u64
     }
 }
 
-// Appends the name of the device whose point list lacks the register.
+// Appends to a message the name of the device whose point list lacks an accounting register.
 fn put_list_of(text: &mut Vec<u8>, device: &Option<Name>) -> Result<(), AllocError>
     ensures { OnOk result (text.new.items ≡ sentences.with_list_of device.now text.old.items) }
 {
@@ -51,7 +51,8 @@ fn put_list_of(text: &mut Vec<u8>, device: &Option<Name>) -> Result<(), AllocErr
     }
 }
 
-// Appends that no read of the point list covers a register, and which addresses such a read needs.
+// Appends the message that no read of the point list covers an accounting register, with the Modbus
+// addresses to add.
 fn put_unread(
     text: &mut Vec<u8>,
     device: &Option<Name>,
@@ -102,8 +103,8 @@ fn put_unlisted(text: &mut Vec<u8>, device: &Option<Name>) -> Result<(), AllocEr
     put(text, b"/list\n")
 }
 
-/// Appends a line that says what a device lacks, and what to do. If memory runs out, a part of it
-/// remains.
+/// Appends a message that says what a device lacks and what to do. If memory runs out, a part of
+/// the message remains.
 pub fn put_lack(text: &mut Vec<u8>, lack: &DeviceLack) -> Result<(), AllocError>
     ensures { OnOk result (text.new.items ≡ sentences.with_lack lack.now text.old.items) }
 {
@@ -129,7 +130,7 @@ pub fn put_lack(text: &mut Vec<u8>, lack: &DeviceLack) -> Result<(), AllocError>
     }
 }
 
-// Appends the meaning of a number, and what to do.
+// Appends to a message the text `before`, the meaning of a printed number, and what to do.
 fn put_meaning(text: &mut Vec<u8>, before: &[u8], meaning: &Meaning) -> Result<(), AllocError>
     ensures { OnOk result (text.new.items
         ≡ sentences.with_meaning before.now meaning.now text.old.items) }
@@ -139,8 +140,8 @@ fn put_meaning(text: &mut Vec<u8>, before: &[u8], meaning: &Meaning) -> Result<(
     put(text, b"\n")
 }
 
-// Returns what the device lacks by this refusal of its event. `None` if the number of the refusal
-// says more.
+// Returns what the device lacks, if that is why the program refused the device's event. Returns
+// `None` if a message should explain the refusal's number instead.
 fn lack_by(event: &Event, why: Refusal) -> Option<Lack>
     ensures { result ≡ sentences.lack_by event.now why }
 {
@@ -151,8 +152,8 @@ fn lack_by(event: &Event, why: Refusal) -> Option<Lack>
     }
 }
 
-/// Appends a line that explains why an event of a device was refused, and what to do. If memory
-/// runs out, a part of it remains.
+/// Appends a message that explains why the program refused a device's event, and what to do. If
+/// memory runs out, a part of the message remains.
 pub fn put_refusal(
     text: &mut Vec<u8>,
     device: &Option<Name>,
@@ -179,8 +180,8 @@ pub fn put_refusal(
     }
 }
 
-/// Appends a line that explains why a reading of a meter was rejected, and what to do. If memory
-/// runs out, a part of it remains.
+/// Appends a message that explains why the program rejected a meter's reading, and what to do. If
+/// memory runs out, a part of the message remains.
 pub fn put_held(text: &mut Vec<u8>, meter: &Name, cause: Cause) -> Result<(), AllocError>
     ensures { sentences.PutsHeld meter.now cause text.old.items text.new.items result }
 {

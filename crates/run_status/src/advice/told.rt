@@ -1,21 +1,21 @@
-//! The numbers that were last reported to people.
+//! Remembers the last reported problem of each device and meter, so that no message repeats.
 ghost use Rattle.std.specs.Prelude.{◌≡◌};
 ghost use Rattle.run_status.specs.Advice.Told as specs;
 
 use office_events::Name;
 use std::alloc::{AllocError, Global};
 
-/// The most devices and meters for which the last number is kept.
+/// The most devices and meters whose last reported number is remembered.
 pub const MOST_TOLD: usize = 512;
 
-/// What a number is about.
+/// The subject of a reported number.
 #[derive(Clone, Copy, Debug, PartialEq, Eq)]
 pub enum Topic {
-    /// Why the connection of a device was refused.
+    /// The number says why the program refused a device's connection.
     Connection,
-    /// Why another event was refused, of a device or of no single device.
+    /// The number says why the program refused another event of a device, or of no single device.
     Round,
-    /// Why a reading of a meter was rejected.
+    /// The number says why the program rejected a meter's reading.
     Meter,
 }
 
@@ -23,7 +23,7 @@ impl Topic {
     ghost use Rattle.std.specs.Prelude.{◌≡◌};
     ghost use Rattle.run_status.specs.Advice.Told.{topic_number};
 
-    // The number by which topics are compared.
+    // Returns the number of a topic, by which two topics are compared.
     fn number(self) -> u8
         ensures { result ≡ topic_number self }
     {
@@ -35,7 +35,7 @@ impl Topic {
     }
 }
 
-/// The number that was last reported about a device or a meter, or 0 for none.
+/// The number that was last reported about a device or a meter; 0 if none was reported.
 #[derive(Clone, Copy, Debug, PartialEq, Eq)]
 pub struct ToldNumber {
     pub topic: Topic,
@@ -43,7 +43,7 @@ pub struct ToldNumber {
     pub number: u8,
 }
 
-// Compares two names. Two missing names are the same.
+// Returns whether two optional names are equal. Two missing names are equal.
 fn is_same_name(a: &Option<Name>, b: &Option<Name>) -> bool
     ensures { result ≡ specs.is_same_name a.now b.now }
 {
@@ -59,7 +59,7 @@ impl ToldNumber {
     ghost use Rattle.std.specs.Prelude.{◌≡◌};
     ghost use Rattle.run_status.specs.Advice.Told as specs;
 
-    // Returns whether both entries have the same topic, and the same device or meter.
+    // Returns whether two entries have the same topic and the same device or meter.
     fn is_of_same(&self, other: &ToldNumber) -> bool
         ensures { result ≡ specs.are_of_same self.now other.now }
     {
@@ -67,8 +67,8 @@ impl ToldNumber {
     }
 }
 
-/// The last reported number of each device and meter. With it, no number is reported twice in a
-/// row.
+/// The last reported number of each device and meter. A number is reported only if it differs from
+/// the last reported number.
 #[derive(Drop)]
 pub struct Told {
     pub numbers: Vec<ToldNumber>,
@@ -78,7 +78,7 @@ impl Told {
     ghost use Rattle.std.specs.Prelude.{◌≡◌, [], is_ok};
     ghost use Rattle.run_status.specs.Advice.Told as specs;
 
-    /// Makes a record without any number.
+    /// Makes a list without any reported number.
     pub fn new(alloc: Global) -> Told
         ensures { result.numbers.items ≡ [] }
     {
@@ -87,14 +87,14 @@ impl Told {
         }
     }
 
-    // Returns the index of the entry with the same topic, and the same device or meter.
+    // Returns the index of the entry with the same topic and the same device or meter as `told`.
     fn place_of(&self, told: &ToldNumber) -> Option<usize>
         ensures { result ≡ specs.place_of told.now self.now.numbers.items }
     {
         self.numbers.iter().position(|one| one.is_of_same(told))
     }
 
-    // Adds an entry for a device or meter, if there is memory.
+    // Adds an entry for a device or meter if memory suffices.
     fn push(&mut self, topic: Topic, name: Option<Name>, number: u8) -> Result<(), AllocError>
         ensures { self.new.numbers.items
             ≡ specs.pushed (is_ok result) (specs.told_number topic name number)
@@ -108,14 +108,15 @@ impl Told {
         Ok(())
     }
 
-    // Adds an entry for a device or meter. Returns whether there was room.
+    // Adds an entry for a device or meter, and returns whether the list had room.
     fn add(&mut self, told: ToldNumber) -> bool
         ensures { specs.Adds told self.old.numbers.items self.new.numbers.items result }
     {
         self.numbers.len() < MOST_TOLD && self.push(told.topic, told.name, told.number).is_ok()
     }
 
-    // Replaces the number of the entry at an index. Returns whether the number is a different one.
+    // Replaces the number of the entry at an index, and returns whether the new number is
+    // different.
     fn change(&mut self, place: usize, told: ToldNumber) -> bool
         ensures { specs.Changes place told self.old.numbers.items self.new.numbers.items result }
     {
@@ -129,10 +130,10 @@ impl Told {
         true
     }
 
-    /// Records a number about a device or meter, and returns whether to report it.
+    /// Records a number about a device or meter, and returns whether to report the number.
     ///
-    /// The number is reported if the last one on the same topic was different, or there was none.
-    /// Nothing is reported about a device or meter for which there is no room.
+    /// A number is reported if it differs from the last number on the same topic. If the list has
+    /// no room for a device or meter, then no number about that device or meter is reported.
     pub fn tell(&mut self, told: ToldNumber) -> bool
         ensures { specs.TellsNumber told self.old.numbers.items self.new.numbers.items result }
     {
@@ -142,7 +143,8 @@ impl Told {
         }
     }
 
-    /// Records that a device or meter works, so that its next problem is reported again.
+    /// Records that a device or meter works. Its next problem is then reported even if the number
+    /// of that problem equals the last number.
     pub fn forget(&mut self, topic: Topic, name: Option<Name>)
         ensures { specs.Forgets topic name self.old.numbers.items self.new.numbers.items }
     {

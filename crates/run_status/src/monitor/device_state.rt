@@ -1,4 +1,5 @@
-//! The state of a device after an event at it.
+//! The state of a device after each of its events: whether it is connected, and when it was last
+//! read.
 ghost use Rattle.std.specs.Prelude.{◌≡◌};
 ghost use Rattle.std.specs.List.{list_any};
 ghost use Rattle.run_status.specs.Monitor.Watching as watching;
@@ -6,7 +7,7 @@ ghost use Rattle.run_status.specs.Monitor.Watching as watching;
 use crate::status::DeviceState;
 use office_events::{Answer, Event, Name, Note, Refusal};
 
-/// Returns the state of a device that is not connected.
+/// Returns the state of a device that is not connected and has no reading.
 pub(crate) fn unconnected(name: Option<Name>) -> DeviceState
     ensures { result ≡ watching.unconnected name }
 {
@@ -47,7 +48,7 @@ fn is_connected(before: bool, event: &Event, answer: Result<Answer, Refusal>) ->
     }
 }
 
-/// Returns the state of a device after an event at it.
+/// Returns the state of a device after one of its events.
 pub(crate) fn followed(
     state: DeviceState,
     at: u64,

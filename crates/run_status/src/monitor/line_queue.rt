@@ -1,22 +1,22 @@
-//! A queue of lines to write.
+//! A bounded queue of log lines that are still to be written.
 ghost use Rattle.std.specs.Prelude.{◌≡◌, OnOk};
 ghost use Rattle.run_status.specs.Monitor.Queues as queues;
 
 use crate::status::{put, put_number};
 use std::alloc::{AllocError, Global};
 
-/// The most bytes in the queue. A single text may be longer if the queue is empty.
+/// The most bytes in the queue. A longer text is accepted if the queue is empty.
 pub const MOST_WAITING: usize = 65_536;
 
-/// A queue of lines to write. If there is no room, it drops and counts lines until all waiting ones
-/// are written.
+/// A bounded queue of log lines. After the queue dropped a line because it was full, the queue
+/// drops and counts all lines until the waiting lines are written.
 #[derive(Drop)]
 pub struct LineQueue {
-    /// The bytes that were added since the queue was last empty.
+    /// The bytes that were added to the queue since it was last empty.
     pub bytes: Vec<u8>,
-    /// How many of these bytes were written.
+    /// The number of bytes of `bytes` that were already written.
     pub written: usize,
-    /// How many lines were dropped and not yet reported.
+    /// The number of lines that were dropped and not yet reported.
     pub dropped: u64,
 }
 
@@ -26,7 +26,7 @@ fn count_lines(text: &[u8]) -> u64
     text.iter().filter(|byte| **byte == b'\n').count() as u64
 }
 
-// Appends the line that reports how many lines were dropped up to the time `at`.
+// Appends the line that says how many lines were dropped up to the time `at`.
 fn put_dropped(text: &mut Vec<u8>, at: u64, dropped: u64) -> Result<(), AllocError>
     ensures { OnOk result (text.new.items ≡ queues.with_dropped at dropped text.old.items) }
 {
@@ -63,7 +63,7 @@ impl LineQueue {
         self.bytes.len() <= self.written
     }
 
-    // Empties the queue if all its bytes were written.
+    // Clears the queue if all its bytes were written.
     fn empty(&mut self)
         ensures { queue_of self.new ≡ queues.emptied (queue_of self.old) }
     {
@@ -79,8 +79,8 @@ impl LineQueue {
         self.dropped = self.dropped.saturating_add(count_lines(lines));
     }
 
-    // Returns whether there is room for lines. After a drop there is none until the drop is
-    // reported.
+    // Returns whether the queue has room for lines. After lines were dropped, the queue has no room
+    // until their number is reported.
     fn has_room(&self, lines: &[u8]) -> bool
         ensures { result ≡ queues.has_room lines.now (queue_of self.now) }
     {
@@ -88,7 +88,7 @@ impl LineQueue {
         self.dropped == 0 && (self.bytes.is_empty() || fits)
     }
 
-    // Adds lines at the end, or counts them as dropped.
+    // Adds lines at the end of the queue, or drops and counts them.
     fn put_after(&mut self, lines: &[u8])
         ensures { queues.PutsAfter lines.now (queue_of self.old) (queue_of self.new) }
     {
@@ -102,8 +102,8 @@ impl LineQueue {
         }
     }
 
-    /// Adds complete lines. If there is no room for all of them, or no memory, they are dropped and
-    /// counted.
+    /// Adds complete lines to the queue. If room or memory does not suffice for all of them, the
+    /// queue drops and counts all of them.
     pub fn put(&mut self, lines: &[u8])
         ensures { queues.Puts lines.now (queue_of self.old) (queue_of self.new) }
     {
@@ -111,8 +111,8 @@ impl LineQueue {
         self.put_after(lines);
     }
 
-    /// Once all waiting lines were written, adds a line with the number of lines that were dropped
-    /// up to the time `at`. If there is no memory for that line, a later call adds it.
+    /// Adds the line that says how many lines were dropped up to the time `at`, once all waiting
+    /// lines were written. If memory runs out, a later call adds that line.
     pub fn tell_dropped(&mut self, at: u64)
         ensures { queues.TellsDropped at (queue_of self.old) (queue_of self.new) }
     {
@@ -126,14 +126,14 @@ impl LineQueue {
         }
     }
 
-    /// Returns the bytes to write.
+    /// Returns the bytes of the queue that are still to be written.
     pub fn waiting(&self) -> &[u8]
         ensures { result.now ≡ queues.waiting_in (queue_of self.now) }
     {
         self.bytes.get(self.written..).unwrap_or(&[])
     }
 
-    /// Records that `count` more bytes were written.
+    /// Records that `count` more bytes of the queue were written.
     pub fn advance(&mut self, count: usize)
         ensures bytes { self.new.bytes ≡ self.old.bytes }
         ensures written { self.new.written ≡ min (self.old.written + count) (2 ^ 64 - 1) }

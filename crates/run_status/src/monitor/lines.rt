@@ -1,4 +1,4 @@
-//! The lines that a run prints for people.
+//! Formats the log lines that the program prints for operators.
 ghost use Rattle.std.specs.Prelude.{◌≡◌, OnOk};
 ghost use Rattle.run_status.specs.Monitor.Lines as lines;
 
@@ -7,8 +7,8 @@ use office_events::{Answer, Event, Name, Note, Refusal};
 use poll_core::Closing;
 use std::alloc::AllocError;
 
-/// Appends a timestamp and a name, or `-` for a name that no device can have. If memory runs out, a
-/// part of the text remains.
+/// Appends the beginning of a log line: a timestamp and a device's name, or `-` for a name that is
+/// not valid. If memory runs out, a part of the text remains.
 pub fn put_head(text: &mut Vec<u8>, at: u64, name: &Option<Name>) -> Result<(), AllocError>
     ensures { OnOk result (text.new.items ≡ lines.with_head at name.now text.old.items) }
 {
@@ -19,7 +19,7 @@ pub fn put_head(text: &mut Vec<u8>, at: u64, name: &Option<Name>) -> Result<(), 
     }
 }
 
-// Appends the line of a connection that began or ended.
+// Appends the log line of a connection that began or ended.
 fn put_event(
     text: &mut Vec<u8>,
     at: u64,
@@ -49,7 +49,7 @@ fn put_event(
     }
 }
 
-// Appends the line of a device's event that was accepted or refused.
+// Appends the log line of a device's event that the program accepted or refused.
 fn put_answered(
     text: &mut Vec<u8>,
     at: u64,
@@ -70,7 +70,7 @@ fn put_answered(
     }
 }
 
-// Appends the line of a rejected reading, with its cause.
+// Appends the log line of a rejected reading, with the cause of the rejection.
 fn put_note(text: &mut Vec<u8>, at: u64, name: &Option<Name>, note: &Note) -> Result<(), AllocError>
     ensures { OnOk result (text.new.items ≡ lines.with_note at name.now note.now text.old.items) }
 {
@@ -102,10 +102,10 @@ fn put_notes(
     Ok(())
 }
 
-/// Appends the lines of an event of a device.
+/// Appends the log lines of one event of a device.
 ///
-/// There is a line for a connection that began or ended, for a refusal, and for each rejected
-/// reading. A poll has no line. If memory runs out, a part of the text remains.
+/// A connection that began or ended, a refusal, and each rejected reading have a line. A poll has
+/// no line. If memory runs out, a part of the text remains.
 pub fn put_lines(
     text: &mut Vec<u8>,
     at: u64,
@@ -121,8 +121,8 @@ pub fn put_lines(
     put_notes(text, at, name, notes)
 }
 
-/// Appends the line of a round: how many of its polls were answered, timed out (`silent`), or ended
-/// otherwise (`failed`).
+/// Appends the log line of a polling round: how many of its polls were answered, timed out
+/// (`silent`), or ended otherwise (`failed`).
 pub fn put_sum(
     text: &mut Vec<u8>,
     at: u64,

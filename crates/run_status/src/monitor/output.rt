@@ -1,4 +1,4 @@
-//! The frames to send to a device.
+//! Queues the Modbus frames that are to be sent to a device.
 ghost use Rattle.std.specs.Prelude.{◌≡◌};
 ghost use Rattle.run_status.specs.Monitor.Output as sending;
 
@@ -17,7 +17,8 @@ fn is_end(event: &Event) -> bool
     }
 }
 
-/// Queues frames, if there is memory. The end of a connection drops those that were not sent.
+/// Queues frames for a device if memory suffices. The end of a connection first drops the frames
+/// that were not sent.
 #[tactic(auto, using(crate::proofs::MonitorLemmas::Queues::put_or_not))]
 pub(crate) fn put_frames(queue: &mut Vec<u8>, event: &Event, frames: &[u8])
     ensures { sending.IsPut event.now frames.now queue.old.items queue.new.items }

@@ -1,4 +1,4 @@
-//! The observer of a run's events.
+//! The observer of the program's events.
 use crate::monitor::device_state::{followed, unconnected};
 use crate::monitor::output::put_frames;
 use crate::status::{Counts, DeviceState};
@@ -6,14 +6,14 @@ use office_events::{Answer, Event, Name, Note, Observer, Refusal};
 use std::alloc::{AllocError, Global};
 use std::mem;
 
-/// An observer that keeps counts, the state of each device, and the frames to send.
+/// An observer of events that keeps counts, the state of each device, and the frames to send.
 #[derive(Drop)]
 pub struct RunMonitor {
     alloc: Global,
     pub counts: Counts,
-    /// The state of each device, by slot.
+    /// The state of each device, indexed by the device's slot.
     pub states: Vec<DeviceState>,
-    /// For each slot, the bytes to send to its device.
+    /// The bytes to send to each device, indexed by the device's slot.
     pub outgoing: Vec<Vec<u8>>,
 }
 
@@ -23,7 +23,7 @@ impl RunMonitor {
     ghost use Rattle.run_status.specs.Monitor.Output.{IsSentTo, queues_of, taken_at};
     ghost use Rattle.run_status.specs.Monitor.Watching.{unconnected};
 
-    /// Makes a monitor for devices of these names. None of them is connected.
+    /// Makes an observer for devices with these names, none of them connected.
     pub fn new(alloc: Global, names: &[Option<Name>]) -> Result<RunMonitor, AllocError>
         ensures counts { IfOk result (λ monitor. monitor.counts ≡ nothing) }
         ensures states { IfOk result (λ monitor. monitor.states.items ≡ map unconnected names.now) }
@@ -43,8 +43,8 @@ impl RunMonitor {
         })
     }
 
-    /// Removes and returns the bytes to send to the device of a slot, in order. If memory ran out
-    /// for frames, they are missing, and their polls time out.
+    /// Removes and returns the bytes to send to the device in a slot, in order. Frames for which
+    /// memory ran out are missing, and their polls time out.
     #[tactic(auto, using(crate::proofs::MonitorLemmas::Queues::taken_there, crate::proofs::MonitorLemmas::Queues::taken_nowhere))]
     pub fn take_outgoing(&mut self, place: usize) -> Vec<u8>
         ensures taken { result.items ≡ taken_at place (queues_of self.old) }
@@ -58,7 +58,7 @@ impl RunMonitor {
         Vec::new(self.alloc)
     }
 
-    // Queues frames for the device of a slot.
+    // Queues the frames of an event for the device in a slot.
     #[tactic(auto, using(crate::proofs::MonitorLemmas::Queues::sent_at, crate::proofs::MonitorLemmas::Queues::sent_nowhere))]
     fn send(&mut self, place: usize, event: &Event, frames: &[u8])
         ensures counts { self.new.counts ≡ self.old.counts }
@@ -76,7 +76,7 @@ impl RunMonitor {
     ghost use Rattle.std.specs.Prelude.{◌≡◌};
     ghost use Rattle.run_status.specs.Monitor.Watching.{counted, followed_at};
 
-    // Counts a refusal and the notifications of an event.
+    // Counts a refused event and the notifications of an event.
     fn count(&mut self, answer: Result<Answer, Refusal>, notes: &[Note])
         ensures counts { self.new.counts ≡ counted answer notes.now self.old.counts }
         ensures states { self.new.states ≡ self.old.states }
@@ -88,7 +88,7 @@ impl RunMonitor {
         self.counts.note_all(notes);
     }
 
-    // Updates the state of the device of a slot after an event.
+    // Updates the state of the device in a slot after an event.
     fn follow(
         &mut self,
         place: usize,

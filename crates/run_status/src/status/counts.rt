@@ -1,22 +1,23 @@
-//! The counts of a run: polls by outcome, readings, rejected readings by cause, refusals.
+//! The counts in `/status`: polls by outcome, accepted readings, rejected readings by cause, and
+//! refusals.
 use energy_core::Cause;
 use office_events::Note;
 use poll_core::Outcome;
 
-/// The counts of a run. Each stops at 2^64 - 1.
+/// The counts in `/status`. Each count stops at 2^64 - 1.
 #[derive(Clone, Copy, Debug, PartialEq, Eq)]
 pub struct Counts {
-    /// Polls that ended, by outcome.
+    /// The number of ended polls with each outcome.
     pub answered: u64,
     pub exceptions: u64,
     pub silent: u64,
     pub malformed: u64,
     pub lost: u64,
-    /// Accepted readings.
+    /// The number of accepted readings.
     pub readings: u64,
-    /// Rejected readings by cause. Index 0 is the cause with number 1.
+    /// The number of rejected readings for each cause. Index 0 belongs to the cause with number 1.
     pub held: [u64; 8],
-    /// Events that the office refused.
+    /// The number of refused events.
     pub refusals: u64,
 }
 
@@ -40,7 +41,7 @@ impl Counts {
         }
     }
 
-    // Counts a poll that ended.
+    // Counts a poll that ended with this outcome.
     fn end(&mut self, outcome: Outcome)
         ensures { self.new ≡ counting.ended outcome self.old }
     {
@@ -53,7 +54,7 @@ impl Counts {
         }
     }
 
-    // Counts a rejected reading.
+    // Counts a reading that was rejected for this cause.
     fn hold(&mut self, cause: Cause)
         ensures { self.new ≡ counting.held_for cause self.old }
     {
@@ -71,7 +72,7 @@ impl Counts {
         }
     }
 
-    /// Counts all notifications of the office.
+    /// Counts the outcomes and readings in a list of notifications.
     pub fn note_all(&mut self, notes: &[Note])
         ensures { self.new ≡ counting.noted_all notes.now self.old }
     {
@@ -80,7 +81,7 @@ impl Counts {
         }
     }
 
-    /// Counts an event that the office refused.
+    /// Counts an event that the program refused.
     pub fn refuse(&mut self)
         ensures { self.new ≡ counting.refused self.old }
     {

@@ -1,4 +1,4 @@
-//! What devices lack, as JSON of `/status`.
+//! Formats what devices lack in the store, as JSON of `/status`.
 ghost use Rattle.std.specs.Prelude.{◌≡◌, OnOk};
 ghost use Rattle.run_status.specs.Status.LackingText as json;
 
@@ -51,7 +51,7 @@ fn put_lack(text: &mut Vec<u8>, before: &[u8], lack: &DeviceLack) -> Result<(), 
     put_what(text, &lack.lack)
 }
 
-// Appends further lacks as JSON, each with a comma before it.
+// Appends devices and what they lack as JSON, each with a comma before it.
 fn put_more_lacks(text: &mut Vec<u8>, lacks: &[DeviceLack]) -> Result<(), AllocError>
     ensures { OnOk result (text.new.items ≡ json.with_more_lacks text.old.items lacks.now) }
 {
@@ -61,7 +61,7 @@ fn put_more_lacks(text: &mut Vec<u8>, lacks: &[DeviceLack]) -> Result<(), AllocE
     Ok(())
 }
 
-// Appends all lacks as JSON, with commas between them.
+// Appends devices and what they lack as JSON, with commas between them.
 fn put_each(text: &mut Vec<u8>, lacks: &[DeviceLack]) -> Result<(), AllocError>
     ensures { OnOk result (text.new.items ≡ json.with_each text.old.items lacks.now) }
 {
@@ -74,7 +74,7 @@ fn put_each(text: &mut Vec<u8>, lacks: &[DeviceLack]) -> Result<(), AllocError>
     }
 }
 
-/// Appends the JSON member `lacks` of the status.
+/// Appends the JSON member `lacks` of `/status`: what devices lack in the store.
 pub(crate) fn put_lacks(text: &mut Vec<u8>, lacks: &[DeviceLack]) -> Result<(), AllocError>
     ensures { OnOk result (text.new.items ≡ json.with_lacks text.old.items lacks.now) }
 {

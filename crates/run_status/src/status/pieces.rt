@@ -1,18 +1,18 @@
-//! Parts of a text.
+//! Appends bytes, numbers and words to a text.
 ghost use Rattle.std.specs.Prelude.{◌≡◌, ◌++◌, OnOk, decimal};
 ghost use Rattle.std.specs.Fmt.{signed_decimal};
 
 use itoa::Buffer;
 use std::alloc::AllocError;
 
-/// Appends bytes to a text. If memory runs out, a part of them remains.
+/// Appends bytes to a text. If memory runs out, the text may have only a part of the bytes.
 pub fn put(text: &mut Vec<u8>, bytes: &[u8]) -> Result<(), AllocError>
     ensures { OnOk result (text.new.items ≡ text.old.items ++ bytes.now) }
 {
     text.extend_from_slice(bytes)
 }
 
-/// Appends `before` and a number in decimal digits.
+/// Appends to a text the bytes `before`, and then a number in decimal digits.
 pub fn put_number(text: &mut Vec<u8>, before: &[u8], number: u64) -> Result<(), AllocError>
     ensures { OnOk result (text.new.items ≡ text.old.items ++ before.now ++ decimal number) }
 {
@@ -21,7 +21,7 @@ pub fn put_number(text: &mut Vec<u8>, before: &[u8], number: u64) -> Result<(), 
     put(text, buffer.format(number).as_bytes())
 }
 
-/// Appends `before` and a word.
+/// Appends to a text the bytes `before`, and then a word.
 pub fn put_word(text: &mut Vec<u8>, before: &[u8], word: &[u8]) -> Result<(), AllocError>
     ensures { OnOk result (text.new.items ≡ text.old.items ++ before.now ++ word.now) }
 {
@@ -29,7 +29,7 @@ pub fn put_word(text: &mut Vec<u8>, before: &[u8], word: &[u8]) -> Result<(), Al
     put(text, word)
 }
 
-/// Appends `before` and a scale exponent, which may be negative.
+/// Appends to a text the bytes `before`, and then a scale exponent, which may be negative.
 pub fn put_scale(text: &mut Vec<u8>, before: &[u8], sf: i16) -> Result<(), AllocError>
     ensures { OnOk result (text.new.items ≡ text.old.items ++ before.now ++ signed_decimal sf) }
 {

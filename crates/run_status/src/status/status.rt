@@ -1,4 +1,4 @@
-//! `/status`: the counts and the devices, as JSON.
+//! Formats the counts and the device states as the JSON of `/status`.
 ghost use Rattle.std.specs.Prelude.{◌≡◌, OnOk};
 ghost use Rattle.run_status.specs.Status.StatusText as json;
 
@@ -9,8 +9,8 @@ use crate::status::pieces::{put, put_number, put_word};
 use office_events::Name;
 use std::alloc::AllocError;
 
-/// The state of a device: whether it is connected, and the time of its latest accepted reading, in
-/// seconds since 1970-01-01 UTC.
+/// The state of a device: whether it is connected, and the timestamp of its latest accepted reading
+/// in seconds since 1970-01-01 UTC.
 #[derive(Clone, Copy, Debug, PartialEq, Eq)]
 pub struct DeviceState {
     pub name: Option<Name>,
@@ -18,7 +18,8 @@ pub struct DeviceState {
     pub latest: Option<u64>,
 }
 
-/// Appends `before` and the name of a device. A device without a valid name has none.
+/// Appends to a text the bytes `before` and the device's name. If the device's name is not valid,
+/// appends only `before`.
 pub fn put_name(text: &mut Vec<u8>, before: &[u8], device: &DeviceState) -> Result<(), AllocError>
     ensures { OnOk result (text.new.items ≡ json.with_name text.old.items before.now device.now) }
 {
@@ -50,7 +51,7 @@ fn put_device(text: &mut Vec<u8>, before: &[u8], device: &DeviceState) -> Result
     put(text, b"}")
 }
 
-// Appends further devices as JSON, each with a comma before it.
+// Appends device states as JSON, each with a comma before it.
 fn put_more_devices(text: &mut Vec<u8>, devices: &[DeviceState]) -> Result<(), AllocError>
     ensures { OnOk result (text.new.items ≡ json.with_more_devices text.old.items devices.now) }
 {
@@ -96,7 +97,7 @@ fn put_held(text: &mut Vec<u8>, held: &[u64; 8]) -> Result<(), AllocError>
     put_number(text, b",\"not_below_range\":", held[7])
 }
 
-/// Appends the status as JSON. If memory runs out, a part of it remains.
+/// Appends the JSON of `/status`. If memory runs out, a part of the JSON remains.
 pub fn put_status(
     text: &mut Vec<u8>,
     counts: &Counts,

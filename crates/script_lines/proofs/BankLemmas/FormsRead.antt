@@ -1,4 +1,5 @@
--- A line is parsed exactly if its words have a form.
+-- Proofs that the parser returns a setup line of a simulated device if and only if the words spell
+-- this setup line.
 use Rattle.std.proofs.Common.{◌≡◌, inl, inr, ℕ, ◌≤◌, true, List, [], ◌∷◌, Some, None, Option, refl, sym, ◌∙◌, subst, arith}
 use Rattle.std.specs.Prelude.{codes, nat_le}
 use Rattle.std.specs.Str.{bytes_eq}
@@ -22,7 +23,8 @@ nothing_spelled : (words : List (List ℕ)) (none : Unit {0}) → nothing_more w
 nothing_spelled [] none h = tt
 nothing_spelled (word ∷ words) none h = cc h
 
--- Words that are parsed have a form.
+-- If the parser returns a setup line of a simulated device, then the words spell the fields of this
+-- setup line.
 
 abbrev numbers_form : ℕ × ℕ → List Field
 numbers_form two = Of Number two.0 ∷ Of Number two.1 ∷ []
@@ -48,7 +50,8 @@ three_spelled (word ∷ words) v h =
     let two = bound (two_said words) _ v k.2 in
     subst (λ (v : Kind × ℕ × ℕ). Spell (word ∷ words) (three_form v)) (same _ v two.2) (kind_is word k.0 k.1, two_form words two.0 two.1)
 
--- The words spell this injected fault.
+-- States that the words spell the given injected fault. A fault that cuts a response must keep
+-- fewer bytes than a full frame has.
 abbrev IsTrick : List (List ℕ) → Trick → Type 0
 IsTrick words t = Spell words (trick_form t) × IsPart t
 
@@ -127,7 +130,8 @@ read_form (word ∷ words) said h =
           ]
     ]
 
--- Words that have a form are parsed.
+-- If the words spell the fields of a setup line of a simulated device, then the parser returns this
+-- setup line.
 
 kind_known : (k : Kind) → kind_of (kind_word k) ≡ Some k
 kind_known kind.Coil = refl
@@ -185,7 +189,8 @@ form_read words (line.Area a) h = area_read words a h.form
 form_read words (line.Set c) h = set_read words c h.form
 form_read words (line.Trick frame t) h = frame_read words frame t h.form h.can
 
--- The forms of a parsed line.
+-- If the parser returns a setup line of a simulated device, then the words spell this setup line
+-- and no other.
 
 pub only_line : (words : List (List ℕ)) (said : BankLine) → bank_said words ≡ Some said → (other : BankLine) → IsBankLine words other → other ≡ said
 only_line words said h other is = same other said (sym (form_read words other is) ∙ h)

@@ -1,4 +1,5 @@
--- Words that are pairs of hexadecimal digits, and words that are not.
+-- Lemmas on words of hexadecimal digits. The decoder accepts exactly the words that consist of
+-- pairs of digits.
 use Rattle.std.proofs.Common.{◌≡◌, ℕ, ◌≤◌, Option, ◌%◌, ◌&&◌, Bool, true, false, List, length, None, refl, sym, ◌∙◌, arith}
 use Rattle.std.specs.Prelude.{if◌then◌else◌, nat_le, IsSome, Result, Ok, Err}
 use Rattle.std.specs.List.{list_all}

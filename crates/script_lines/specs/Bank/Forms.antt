@@ -1,5 +1,5 @@
--- The form of each line that sets up a simulated device: a list of fields, which the words of the
--- line spell in order.
+-- Defines the form of each line that sets up a simulated device, which is a list of fields. The
+-- words of the line spell these fields in order.
 use Rattle.std.specs.Prelude.{ℕ, ◌≤◌, List, [], ◌∷◌, codes}
 use Rattle.mb_device.specs.declared.kinds.Kind.{Kind}
 use Rattle.mb_device.specs.declared.kinds.Kind.TheVariants as kind
@@ -9,14 +9,14 @@ use Rattle.script_lines.specs.declared.bank.bank.BankLine.TheVariants as line
 use Rattle.mb_device.specs.declared.trick.Trick.{Trick}
 use Rattle.mb_device.specs.declared.trick.Trick.TheVariants as trick
 
--- The name of a kind of Modbus addresses.
+-- The name of a kind of Modbus addresses, such as `coil` or `holding`.
 abbrev pub kind_word : Kind → List ℕ
 kind_word kind.Coil = codes "coil"
 kind_word kind.Discrete = codes "discrete"
 kind_word kind.Holding = codes "holding"
 kind_word kind.Input = codes "input"
 
--- The fields of an injected fault.
+-- The fields that spell an injected fault of a simulated device.
 abbrev pub trick_form : Trick → List Field
 trick_form trick.Drop = Word (codes "drop") ∷ []
 trick_form trick.Twice = Word (codes "twice") ∷ []
@@ -26,7 +26,7 @@ trick_form trick.Unit = Word (codes "unit") ∷ []
 trick_form trick.Garble = Word (codes "garble") ∷ []
 trick_form (trick.Cut count) = Word (codes "cut") ∷ Of Number count ∷ []
 
--- The fields of a line of a simulated device.
+-- The fields of a line that sets up a simulated device.
 abbrev pub bank_form : BankLine → List Field
 bank_form (line.Area area) =
     Word (codes "area") ∷ Word (kind_word area.kind) ∷ Of Number area.start ∷ Of Number area.count
@@ -36,18 +36,19 @@ bank_form (line.Set cell) =
     ∷ []
 bank_form (line.Trick frame trick) = Word (codes "trick") ∷ Of Number frame ∷ trick_form trick
 
--- A cut response keeps fewer bytes than the longest frame, which has 260. Other faults have no such
--- condition.
+-- States that an injected fault that cuts a response keeps at most 259 bytes, fewer than the
+-- longest Modbus TCP frame has. Other injected faults have no limit.
 abbrev pub IsPart : Trick → Type 0
 IsPart (trick.Cut count) = count ≤ 259
 IsPart trick = Unit {0}
 
--- If the line injects a fault, its number of kept bytes is in range.
+-- States that a setup line that injects a cut response keeps at most 259 bytes of the response.
+-- Other setup lines have no such limit.
 abbrev pub CanBe : BankLine → Type 0
 CanBe (line.Trick frame trick) = IsPart trick
 CanBe line = Unit {0}
 
--- The words spell this line of a simulated device.
+-- States that the words spell the given setup line of a simulated device.
 pub record IsBankLine (words : List (List ℕ)) (line : BankLine) : Type 0 where
   pub form : Spell words (bank_form line)
   pub can : CanBe line

@@ -1,7 +1,8 @@
-//! The lines of a simulated device. Numbers are as written, up to 2^63 - 1.
+//! The types of the lines that set up a simulated device. The numbers are at most 2^63 - 1, and may
+//! be out of the range of Modbus.
 use mb_device::{Kind, Trick};
 
-/// An area of the register map: `count` addresses of one kind, from `start` on.
+/// A range of the simulator's register map: `count` addresses of one kind, from `start` on.
 #[derive(Clone, Copy, Debug, PartialEq, Eq)]
 pub struct GivenArea {
     pub kind: Kind,
@@ -9,7 +10,7 @@ pub struct GivenArea {
     pub count: u64,
 }
 
-/// The value at an address.
+/// The value at a Modbus address of a simulated device.
 #[derive(Clone, Copy, Debug, PartialEq, Eq)]
 pub struct GivenCell {
     pub kind: Kind,
@@ -22,6 +23,6 @@ pub struct GivenCell {
 pub enum BankLine {
     Area(GivenArea),
     Set(GivenCell),
-    /// A fault to inject into the response to a frame. Frames are numbered from 1.
+    /// A fault to inject into the response to one Modbus frame. Frames are numbered from 1.
     Trick { frame: u64, trick: Trick },
 }

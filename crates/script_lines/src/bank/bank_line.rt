@@ -1,4 +1,4 @@
-//! Parses a line of a simulated device.
+//! Parses the lines that set up a simulated device.
 ghost use Rattle.std.specs.Prelude.{◌≡◌};
 ghost use Rattle.script_lines.specs.Bank.BankLine as said;
 ghost use Rattle.script_lines.specs.LineWords.Words.{words_of};
@@ -7,7 +7,7 @@ use crate::bank::bank::{BankLine, GivenArea, GivenCell};
 use crate::line_words::{Words, meaning_in, next_number, nothing_more};
 use mb_device::{Kind, Trick};
 
-/// The most bytes that a cut response keeps.
+/// The maximum number of bytes that a cut response keeps.
 const MOST_CUT: u64 = 259;
 
 const KINDS: &[(&str, Kind)] = &[
@@ -17,7 +17,7 @@ const KINDS: &[(&str, Kind)] = &[
     ("input", Kind::Input),
 ];
 
-// The injected faults whose name is one word.
+// The injected faults that have no argument, by name.
 const TRICKS: &[(&str, Trick)] = &[
     ("drop", Trick::Drop),
     ("twice", Trick::Twice),
@@ -30,7 +30,7 @@ const TRICKS: &[(&str, Trick)] = &[
 impl BankLine {
     ghost use Rattle.script_lines.specs.Bank.Seen.{ReadsBank};
 
-    /// Parses a line that sets up a simulated device.
+    /// Parses a line that sets up a simulated device, or returns `None` if it has no valid form.
     pub fn read(line: &[u8]) -> Option<BankLine>
         ensures { ReadsBank (words_of line.now) result }
     {
@@ -54,7 +54,8 @@ fn line_in(line: &[u8]) -> Option<BankLine>
     }
 }
 
-// Parses `KIND START COUNT`: an area.
+// Parses `KIND START COUNT`, the words after `area` in a line. They describe a range of Modbus
+// addresses.
 fn area(words: &mut Words<'_>) -> Option<BankLine>
     ensures { result ≡ said.area_said words.old }
 {
@@ -62,7 +63,8 @@ fn area(words: &mut Words<'_>) -> Option<BankLine>
     Some(BankLine::Area(GivenArea { kind, start, count }))
 }
 
-// Parses `KIND ADDRESS VALUE`: the value at an address.
+// Parses `KIND ADDRESS VALUE`, the words after `set` in a line. They describe the value at a Modbus
+// address.
 fn cell(words: &mut Words<'_>) -> Option<BankLine>
     ensures { result ≡ said.set_said words.old }
 {
@@ -74,7 +76,8 @@ fn cell(words: &mut Words<'_>) -> Option<BankLine>
     }))
 }
 
-// Parses `N KIND` or `N cut K`: a fault in the response to frame N.
+// Parses `N FAULT` or `N cut K`, the words after `trick` in a line. They describe a fault to inject
+// into the response to frame N.
 fn frame(words: &mut Words<'_>) -> Option<BankLine>
     ensures { result ≡ said.frame_said words.old }
 {
@@ -118,7 +121,8 @@ fn trick_in(words: &mut Words<'_>) -> Option<Trick>
     Some(trick)
 }
 
-// Parses `K`, 0 to 259: the bytes that a cut response keeps.
+// Parses `K`, the word after `cut` in a line. K is the number of bytes that a cut response keeps,
+// 0 to 259.
 fn cut(words: &mut Words<'_>) -> Option<Trick>
     ensures { result ≡ said.cut_said words.old }
 {

@@ -1,4 +1,4 @@
-//! The value of the next word of a line.
+//! Parses the next word of a line as a name, a number, a scale, a range or a timestamp.
 ghost use Rattle.std.specs.Prelude.{◌≡◌, option_map};
 ghost use Rattle.script_lines.specs.LineWords.Fields.{AnyName, Number, Signed, Scale, Range, Moment, first_value, nothing_more};
 ghost use Rattle.script_lines.specs.LineWords.Values.{name_of, scale_of, signed_of};
@@ -8,7 +8,7 @@ use crate::line_words::words::Words;
 use energy_core::MAX_RANGE;
 use office_events::{GivenScale, Name};
 
-// Parses any word that is not empty. The inner value is `None` if the office accepts no such name.
+// Parses a non-empty word as a name. The inner value is `None` if the word is not a valid name.
 fn any_name(word: &[u8]) -> Option<Option<Name>>
     ensures { result ≡ name_of word.now }
 {
@@ -18,7 +18,7 @@ fn any_name(word: &[u8]) -> Option<Option<Name>>
     }
 }
 
-// Parses an integer, with or without a `-` before it.
+// Parses an integer: digits, with or without a leading `-`.
 fn signed_number(word: &[u8]) -> Option<i64>
     ensures { result ≡ signed_of word.now }
 {
@@ -34,7 +34,8 @@ fn signed_number(word: &[u8]) -> Option<i64>
     }
 }
 
-// Parses a scale: `@` and the address of the Modbus register that holds it, or a fixed scale.
+// Parses a scale: a fixed power of ten, or `@` and the address of the Modbus register with the
+// scale.
 fn given_scale(word: &[u8]) -> Option<GivenScale>
     ensures { result ≡ scale_of word.now }
 {
@@ -44,28 +45,29 @@ fn given_scale(word: &[u8]) -> Option<GivenScale>
     }
 }
 
-/// Parses the next word as a name. The inner value is `None` if the office accepts no such name.
+/// Parses the next word as a name. The inner value is `None` if the word is not a valid name.
 pub fn next_name(words: &mut Words<'_>) -> Option<Option<Name>>
     ensures { option_map (λ name. (name, words.new)) result ≡ first_value AnyName words.old }
 {
     any_name(words.next_word()?)
 }
 
-/// Parses the next word as a number.
+/// Parses the next word as a number, at most 2^63 - 1.
 pub fn next_number(words: &mut Words<'_>) -> Option<u64>
     ensures { option_map (λ number. (number, words.new)) result ≡ first_value Number words.old }
 {
     number(words.next_word()?)
 }
 
-/// Parses the next word as an integer, with or without a `-` before it.
+/// Parses the next word as an integer: digits, with or without a leading `-`.
 pub fn next_signed(words: &mut Words<'_>) -> Option<i64>
     ensures { option_map (λ number. (number, words.new)) result ≡ first_value Signed words.old }
 {
     signed_number(words.next_word()?)
 }
 
-/// Parses the next word as a scale.
+/// Parses the next word as a scale: a fixed power of ten, or `@` and the address of the Modbus
+/// register with the scale.
 pub fn next_scale(words: &mut Words<'_>) -> Option<GivenScale>
     ensures { option_map (λ scale. (scale, words.new)) result ≡ first_value Scale words.old }
 {
@@ -93,7 +95,7 @@ pub fn next_moment(words: &mut Words<'_>) -> Option<Option<u64>>
     }
 }
 
-/// Succeeds if no word is left.
+/// Succeeds if and only if no word of the line is left.
 pub fn nothing_more(words: &mut Words<'_>) -> Option<()>
     ensures { result ≡ nothing_more words.old }
 {

@@ -1,8 +1,8 @@
-//! Tables of words with a meaning.
+//! Tables that map words of a script line, such as its verb, to their meanings.
 ghost use Rattle.std.specs.Prelude.{◌≡◌, map};
 ghost use Rattle.script_lines.specs.LineWords.Meanings.{entry_of, found_in, meaning_in};
 
-// Finds the meaning of a word in a table, by its first entry with the word.
+// Returns the meaning of a word in the first table entry that has the word.
 fn found_in<T: Copy>(table: &[(&'static str, T)], word: &[u8]) -> Option<T>
     ensures { result ≡ found_in table.now word.now }
 {
@@ -12,7 +12,7 @@ fn found_in<T: Copy>(table: &[(&'static str, T)], word: &[u8]) -> Option<T>
         .map(|entry| entry.1)
 }
 
-/// Returns the meaning of a word in a table, if the table has it.
+/// Returns the meaning of a word in a table, or `None` if the table has no entry for the word.
 pub(crate) fn meaning_in<T: Copy>(table: &[(&'static str, T)], word: &[u8]) -> Option<T>
     ensures { result ≡ meaning_in (map entry_of table.now) word.now }
 {

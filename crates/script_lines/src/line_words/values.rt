@@ -1,4 +1,4 @@
-//! The values that words spell.
+//! The numbers, bytes, names and scales that the words of a script line spell.
 ghost use Rattle.std.specs.Prelude.{◌≡◌, ◌≤◌, IfOk, IfSome, IsErr, IsSome};
 ghost use Rattle.std.specs.List.{list_all};
 ghost use Rattle.hex.specs.Hex.{is_hex_digit};
@@ -7,13 +7,13 @@ ghost use Rattle.script_lines.specs.LineWords.Values.{SpellsBytes, bytes_of, is_
 use std::alloc::{AllocError, Global};
 use sun_points::number_of_digits;
 
-/// The greatest number that a word may spell.
+/// The greatest number that a word of a script may spell: 2^63 - 1.
 const GREATEST: u64 = 9_223_372_036_854_775_807;
 
-/// The most digits of a number.
+/// The maximum number of decimal digits of a number in a script line.
 const MOST_DIGITS: usize = 19;
 
-/// The most hexadecimal digits of a word.
+/// The maximum number of hexadecimal digits in a word of a script line.
 const MOST_HEX_DIGITS: usize = 131_072;
 
 /// Parses a number of one to nineteen digits, up to 2^63 - 1.
@@ -25,7 +25,7 @@ pub fn number(word: &[u8]) -> Option<u64>
     if value <= GREATEST { Some(value) } else { None }
 }
 
-/// Parses hexadecimal digits of either case: 1 to 65,536 bytes.
+/// Parses a word of hexadecimal digits, in upper or lower case, that spells 1 to 65,536 bytes.
 #[tactic(auto, using(crate::proofs::LineWordsLemmas::HexWords::no_bytes, crate::proofs::LineWordsLemmas::HexWords::hex_spells))]
 pub fn hex_bytes(alloc: Global, word: &[u8]) -> Result<Option<Vec<u8>>, AllocError>
     ensures value { IfOk result (SpellsBytes word.now) }

@@ -1,13 +1,14 @@
-//! The words of a line.
+//! Splits a script line into words at single spaces.
 ghost use Rattle.std.specs.Prelude.{◌≡◌, ◌==◌, position};
 
 use std::marker::Model;
 
-/// The words of a line, one at a time. Each space ends a word. So there is an empty word between
-/// two adjacent spaces, and beside a space at either end of the line.
+/// An iterator over the words of a line. A single space separates two words, so two adjacent spaces
+/// enclose an empty word.
 #[derive(Debug, Drop)]
 pub struct Words<'a> {
-    // The rest of the line after the last word and its space. `None` after the last word.
+    // The unread rest of the line, after the last returned word and the space that follows it.
+    // `None` after the last word.
     rest: Option<&'a [u8]>,
 }
 
@@ -23,14 +24,15 @@ impl<'a> Model for Words<'a> {
 impl<'a> Words<'a> {
     ghost use Rattle.script_lines.specs.LineWords.Words.{TakesFirst, words_of};
 
-    /// Makes the words of a line.
+    /// Creates an iterator over the words of a line.
     pub fn of(line: &'a [u8]) -> Self
         ensures { result ≡ words_of line.now }
     {
         Words { rest: Some(line) }
     }
 
-    /// Removes and returns the first word, if a word is left.
+    /// Removes and returns the first remaining word of the line, or returns `None` if no word is
+    /// left.
     pub fn next_word(&mut self) -> Option<&'a [u8]>
         ensures { TakesFirst self.old result self.new }
     {

@@ -1,4 +1,4 @@
--- Lemmas on running the lines of a text in order.
+-- Lemmas on executing, in order, the lines that set up a simulated device.
 use Rattle.std.proofs.Common.{◌≡◌, inl, inr, ℕ, Option, List, [], ◌∷◌, ◌++◌, refl, sym, subst, append_assoc, append-nil}
 use Rattle.std.specs.Prelude.{Result, Ok, Err}
 use Rattle.std.specs.Io.KnownBytes.{Appends}
@@ -11,8 +11,8 @@ use Rattle.script_run.specs.Bank.Settings.{Setting, takes}
 use Rattle.script_run.specs.Bank.Texts.{SetUpBegins, SetsUp, taken_text}
 use Rattle.script_run.specs.Bank.Running.{LineRan, LineRuns, TextRuns}
 
--- The output of all lines is the output so far, followed by that of the remaining lines. The same
--- is true of an interrupted run.
+-- Loop invariant: the output of all setup lines is the output so far, followed by the output of the
+-- remaining setup lines. The same holds for a run that is interrupted.
 pub record SoFar (start : Setting) (all : List Line) (now : Setting) (lines : List Line) (printed : List ℕ) : Type 0 where
   pub prints : (rest : List ℕ) (ended : Result Setting ExitStatus) → SetsUp now lines rest ended → SetsUp start all (printed ++ rest) ended
   pub begins : (part : List ℕ) → SetUpBegins now lines part → SetUpBegins start all (printed ++ part)

@@ -1,4 +1,4 @@
--- Lemmas on the output of an interrupted run.
+-- Lemmas on the output of a run that a failed write or out of memory interrupts.
 use Rattle.std.proofs.Common.{inl, inr, ℕ, Bool, List, [], ◌++◌, Option, refl, sym, ◌∙◌, ap, append_assoc}
 use Rattle.std.specs.Prelude.{Result, Ok, Err, IsErr, true, false}
 use Rattle.std.specs.Io.KnownBytes.{Appends}
@@ -19,7 +19,8 @@ pub begins_as : (P Q : List ℕ → Type 0) (o o' : Option (List ℕ)) → ((pri
 begins_as P Q o o' turn (inl nothing) = inl nothing
 begins_as P Q o o' turn (inr (printed, prints, got)) = inr (printed, turn printed prints, got)
 
--- A text was written, and then a part of another.
+-- If a writer received the text `first` and then a beginning of the text `second`, then it received
+-- a beginning of `first ++ second`.
 pub part_after : (o m o' : Option (List ℕ)) (first second : List ℕ) → Appends o m first → GotPart second m o' → GotPart (first ++ second) o o'
 part_after o m o' first second appended (part, unwritten, whole, written) = (
   first ++ part,
@@ -28,19 +29,21 @@ part_after o m o' first second appended (part, unwritten, whole, written) = (
   Appends-trans o m o' first part appended written,
 )
 
--- A part of a text is a part of a longer text.
+-- If a writer received a beginning of a text, then it received a beginning of every longer text
+-- that begins with this text.
 pub part_of_longer : (o o' : Option (List ℕ)) (text more : List ℕ) → GotPart text o o' → GotPart (text ++ more) o o'
 part_of_longer o o' text more (part, unwritten, whole, written) =
     (part, unwritten ++ more, ap (λ (front : List ℕ). front ++ more) whole ∙ append_assoc part unwritten more, written)
 
--- If nothing was written, that is a part of any text.
+-- If a writer received no bytes, then it received a beginning of any text.
 pub part_of_none : (o o' : Option (List ℕ)) (text : List ℕ) → Appends o o' [] → GotPart text o o'
 part_of_none o o' text nothing = ([], text, refl, nothing)
 
 pub none_yet : (o : Option (List ℕ)) (text : List ℕ) → GotPart text o o
 none_yet o text = part_of_none o o text (Appends-nil o)
 
--- A failed call makes its caller fail, with the output so far.
+-- If a call returns an error after a beginning of the output was written, then the caller can
+-- return this error and satisfy its own contract.
 pub breaks : {X E : Type 0} (r : Result X E) (P : X → Stage → List ℕ → Stage → Type 0) (office office' : Office ListBooks)
     (o o' : Option (List ℕ)) → IsErr r
     → ((past : History) → Stands ledger_of past office → Begins (λ printed. (x : X) × (next : Stage) × P x (stage_of past office) printed next) o o')

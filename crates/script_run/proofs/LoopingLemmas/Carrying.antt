@@ -1,4 +1,4 @@
--- Lemmas on executing the lines of a loop.
+-- Lemmas on executing the lines of a script over simulated devices.
 use Rattle.std.proofs.Common.{◌≡◌, ◌⊎◌, inl, inr, ℕ, Bool, true, false, List, [], Option, refl, sym, subst}
 use Rattle.std.specs.Prelude.{Result, Ok, Err, IsErr}
 use Rattle.std.specs.Io.KnownBytes.{Appends}
@@ -26,7 +26,8 @@ use Rattle.script_run.specs.Looping.TextRun.{LineRuns}
 use Rattle.script_run.specs.Looping.Standings.{Begins, Carried, CarriedOut, Carries, CarriesOut, LoopState, LoopStage, loop_state, stage_on}
 use Rattle.script_run.proofs.LoopingLemmas.Breaking.{begins_as}
 
--- This text is the output of a line, and the office matches its history.
+-- States that a line was executed with the given text as its output, and that the office's store
+-- matches the office's new history.
 pub record Told (P : Stage → List ℕ → Stage → Type 0) (past : History) (office office' : Office ListBooks) (text : List ℕ) : Type 0 where
   pub after : History
   pub prints : P (stage_of past office) text (stage_of after office')
@@ -37,7 +38,8 @@ pub record ToldOut (P : LoopStage → List ℕ → LoopStage → Type 0) (past :
   pub prints : P (stage_on past from) text (stage_on after to)
   pub stands : Stands ledger_of after to.office
 
--- The output of a line was written, or a part of it if the write failed.
+-- If the text of a line is written completely, then the line was executed. If the write fails, then
+-- the writer received a beginning of the text.
 pub writing : (r : Result (Unit {0}) Error) (text : List ℕ) (office office' : Office ListBooks) (o o' : Option (List ℕ))
     (P : Stage → List ℕ → Stage → Type 0) → GotText r text o o'
     → ((past : History) → Stands ledger_of past office → Told P past office office' text)
@@ -60,7 +62,8 @@ writing_out (Err error) text from to P got told = λ past stands.
     let this = told past stands in
     inr (text, (tt, stage_on this.after to, this.prints), got)
 
--- The call changes only the script's part of the stage.
+-- If a call executes a line of a plain script and leaves the simulator unchanged, then it also
+-- executes this line in a script over simulated devices.
 pub out : (P : Stage → List ℕ → Stage → Type 0) (Q : LoopStage → List ℕ → LoopStage → Type 0) (past : History) (from to : LoopState)
     → Carried P past from.office to.office from.output to.output
     → ((printed : List ℕ) (after : History) → P (stage_of past from.office) printed (stage_of after to.office)
@@ -74,7 +77,8 @@ out P Q past from to done turn = record {
   stands = done.stands;
 }
 
--- A loop executes this line in the way of a script without a simulator.
+-- If a line does not use the simulator, then it has the same effect in a script with simulated
+-- devices as in a script without them.
 pub as_script : (P : Stage → List ℕ → Stage → Type 0) (past : History) (office office' : Office ListBooks) (ok : Unit {0})
     (o o' : Option (List ℕ)) → IsCarriedOut P past office office' (Ok ok) o o' → Carried P past office office' o o'
 as_script P past office office' ok o o' done = record {
@@ -90,7 +94,8 @@ pub as_script_may : (P : Stage → List ℕ → Stage → Type 0) (past : Histor
 as_script_may P past office office' ok o o' (inl done) = as_script P past office office' ok o o' done
 as_script_may P past office office' ok o o' (inr none) = absurd (let e = none.0 in cc)
 
--- A line that prints what another line prints.
+-- If a line was executed according to the specification `P`, then it was also executed according to
+-- every weaker specification `Q`.
 pub out_as : (P Q : LoopStage → List ℕ → LoopStage → Type 0) (past : History) (from to : LoopState)
     → ((now : LoopStage) (printed : List ℕ) (next : LoopStage) → P now printed next → Q now printed next)
     → CarriedOut P past from to → CarriedOut Q past from to
@@ -110,7 +115,8 @@ runs_as (Ok false) P Q Wrong Worse from to turn worse runs = (worse runs.0, runs
 runs_as (Err error) P Q Wrong Worse from to turn worse runs = λ past stands.
     begins_as _ _ from.output to.output (λ printed broken. (broken.0, turn (stage_on past from) printed broken.0 broken.1)) (runs past stands)
 
--- A loop executes this event in the way of a script without a simulator.
+-- If an event does not use the simulator, then it has the same effect in a script with simulated
+-- devices as in a script without them.
 pub plain_carried : (at : ℕ) (e : Event) (past : History) (office office' : Office ListBooks) (maps : Maps) (connected : Bool) (o o' : Option (List ℕ))
     → Carried (λ now printed next. EventPrints now at e printed next) past office office' o o'
     → CarriedOut (PlainPrints at e) past (loop_state office maps connected o) (loop_state office' maps connected o')
@@ -153,7 +159,8 @@ broken_alike said past office office' maps connected error o o' (inl done) =
     )
 broken_alike said past office office' maps connected error o o' (inr none) = inl none.1
 
--- A loop executes this line in the way of a script without a simulator.
+-- If a script line does not use the simulator, then it has the same effect in a script with
+-- simulated devices as in a script without them.
 pub alike : (r : Result (Unit {0}) Error) (said : ScriptLine) (office office' : Office ListBooks) (maps : Maps) (connected : Bool)
     (o o' : Option (List ℕ))
     → ((past : History) → Stands ledger_of past office
@@ -199,7 +206,8 @@ happens_connected at e device past office office' maps connected o o' is done =
     (loop_state office maps connected o) (loop_state office' maps true o') done
     (λ printed after prints. record { prints = prints; maps = refl; connected = refl }))
 
--- A loop executes this event in the way of a script, and its output was interrupted.
+-- If an event does not use the simulator and a failed write interrupts its line, then the writer
+-- received a beginning of the line's output.
 pub plain_begun : (at : ℕ) (e : Event) (past : History) (office : Office ListBooks) (maps : Maps) (connected : Bool) (o o' : Option (List ℕ))
     → Begins (λ printed. (done : Unit {0}) × (next : Stage) × EventPrints (stage_of past office) at e printed next) o o'
     → Begins (λ printed. (next : LoopStage) × PlainPrints at e (stage_on past (loop_state office maps connected o)) printed next) o o'
@@ -222,7 +230,8 @@ happens_begun at e device past office maps connected o o' is begun =
       record { prints = broken.2; maps = refl; connected = refl },
     )) begun)
 
--- A line that was executed, or is wrong.
+-- If a call returns `true`, then it executed its line, and the line's output and the office's new
+-- history satisfy the specification.
 pub line_done : (fine : Bool) (P : LoopStage → List ℕ → LoopStage → Type 0) (Wrong : Type 0) (from to : LoopState) → fine ≡ true
     → LineRuns (Ok fine) P Wrong from to → (past : History) → Stands ledger_of past from.office → CarriedOut P past from to
 line_done true P Wrong from to is runs = runs

@@ -1,4 +1,4 @@
--- Lemmas on events that are given to the office.
+-- Lemmas on events that a script over simulated devices passes to the office.
 use Rattle.std.proofs.Common.{◌≡◌, ◌⊎◌, ◌≤◌, ◌+◌, ◌++◌, append-nil, inl, inr, ℕ, Bool, true, false, List, [], ◌∷◌, Option, refl, sym, ap, ◌∙◌, subst, arith, length}
 use Rattle.std.specs.Prelude.{Result, Ok, Err, codes, is_ok}
 use Rattle.std.specs.Io.KnownBytes.{Appends}
@@ -31,7 +31,8 @@ use Rattle.script_run.specs.declared.looping.answers.Came.{Came}
 appended_none : (o m o' : Option (List ℕ)) (text : List ℕ) → Appends o m text → Appends m o' [] → Appends o o' text
 appended_none o m o' text first second = subst (λ (t : List ℕ). Appends o o' t) (append-nil text) (Appends-trans o m o' text [] first second)
 
--- The office has answered, and the script has its next stage.
+-- States that the office gave a reply that `IsReply` allows for an event, and that its store
+-- matches the new history.
 pub record Replied (past : History) (at : ℕ) (e : Event) (reply : Result Answer Refusal) (office office' : Office ListBooks)
     : Type 0 where
   pub is : IsReply (stage_of past office) at e reply
@@ -64,7 +65,8 @@ was_fed past at e reply office office' accepted text o o' replied accepts same a
   stands = replied.stands;
 }
 
--- Only a part of the answer's text was written.
+-- If only a part of the office's reply to an event was written, then the writer received a
+-- beginning of the output of the event's line.
 pub was_begun : (past : History) (at : ℕ) (e : Event) (reply : Result Answer Refusal) (office office' : Office ListBooks) (accepted : Bool)
     (text : List ℕ) (o o' : Option (List ℕ)) → Replied past at e reply office office' → accepted ≡ is_ok reply
     → text ≡ fed_text past at e reply → GotPart text o o'
@@ -89,7 +91,8 @@ was_printed past at e reply office office' text replied same = record {
   stands = replied.stands;
 }
 
--- Everything that arrived so far, in `takes` reads, was given to the office and accepted.
+-- Loop invariant: the office accepted everything that the first `takes` reads received from the
+-- simulator.
 pub record FedSoFar (takes : ℕ) (device : Option (List ℕ)) (at : ℕ) (past : History) (office office' : Office ListBooks)
     (o o' : Option (List ℕ)) : Type 0 where
   pub brought : List Came
@@ -144,7 +147,8 @@ fed_ok takes device at past office office' o m o' most so ok = record {
   stands = so.stands;
 }
 
--- Only a part of `ok` was written.
+-- If only a part of the closing line `ok` was written, then the writer received a beginning of the
+-- output for the simulator's responses.
 pub fed_part : (takes : ℕ) (device : Option (List ℕ)) (at : ℕ) (past : History) (office office' : Office ListBooks) (o m o' : Option (List ℕ))
     → takes ≤ most_takes → FedSoFar takes device at past office office' o m → GotPart (codes "ok\n") m o'
     → Begins (λ printed. (stays : Bool) × (next : Stage) × AnswersPrint device at (stage_of past office) printed next) o o'
@@ -161,7 +165,8 @@ fed_part takes device at past office office' o m o' most so got =
     } in
     inr (so.printed ++ codes "ok\n", (true, stage_of so.after office', prints), part_after o m o' so.printed (codes "ok\n") so.appended got)
 
--- All of `ok` was written, or a part of it.
+-- After a script has passed all responses of the simulator to the office, the script prints `ok`.
+-- If this write fails, the output is interrupted.
 pub fed_end : (r : Result Bool Error) (takes : ℕ) (device : Option (List ℕ)) (at : ℕ) (office office' : Office ListBooks) (o m o' : Option (List ℕ))
     → takes ≤ most_takes → ((past : History) → Stands ledger_of past office → FedSoFar takes device at past office office' o m)
     → GotText r (codes "ok\n") m o'
@@ -171,7 +176,8 @@ fed_end (Ok stays) takes device at office office' o m o' most so got = λ past s
 fed_end (Err error) takes device at office office' o m o' most so got = λ past stands.
     fed_part takes device at past office office' o m o' most (so past stands) got
 
--- Only a part of the output for what arrived was written.
+-- If a write fails while the output for one chunk of the simulator's response is printed, then all
+-- output for the responses ends there.
 pub fed_broken : (takes : ℕ) (device : Option (List ℕ)) (at : ℕ) (past : History) (came : Came) (e : Event) (office mid : Office ListBooks)
     (o m o' : Option (List ℕ)) → takes + 1 ≤ most_takes → (so : FedSoFar takes device at past office mid o m) → e ≡ fed device came
     → Begins (λ printed. (ok : Bool) × (next : Stage) × FedPrints (stage_of so.after mid) at e ok printed next) m o'
@@ -236,7 +242,7 @@ fed_refused takes device at past came e accepted office mid office' o m o' most 
       stands = done.stands;
     }
 
--- The output of a line that starts reads, if its responses print nothing yet.
+-- States that a failed write interrupted the output of a line that starts Modbus reads.
 abbrev pub StartBegins : (at : ℕ) → (device : Option (List ℕ)) → Event → History → Office ListBooks → Maps → Bool → (o o' : Option (List ℕ)) → Type 0
 StartBegins at device e past office maps connected o o' =
     Begins (λ printed. (done : Unit {0}) × (next : LoopStage)
@@ -254,7 +260,8 @@ answers_none device at now = record {
   text = refl;
 }
 
--- The output of a line that starts reads was written, or a part of it.
+-- If only a part of the office's reply to a line that starts Modbus reads was written, then the
+-- output of the line was interrupted.
 pub start_begun : (at : ℕ) (device : Option (List ℕ)) (e : Event) (given : Answer) (past : History) (office mid : Office ListBooks) (maps : Maps)
     (connected : Bool) (o o' : Option (List ℕ)) → Replied past at e (Ok given) office mid → GotPart (reply_text past at e (Ok given)) o o'
     → StartBegins at device e past office maps connected o o'
@@ -270,8 +277,8 @@ start_begun at device e given past office mid maps connected o o' replied got =
     } in
     inr (text, (tt, next, prints), part_of_longer o o' (reply_text past at e (Ok given)) (codes "ok\n") got)
 
--- The output of a line that starts reads was written, followed by a part of the output for its
--- responses.
+-- If the office's reply to a line that starts Modbus reads was written, but the output for the
+-- responses was interrupted, then the line's output was interrupted.
 start_broken : (at : ℕ) (device : Option (List ℕ)) (e : Event) (given : Answer) (past : History) (office mid : Office ListBooks) (maps maps' : Maps)
     (connected : Bool) (o m o' : Option (List ℕ)) → Replied past at e (Ok given) office mid → Appends o m (reply_text past at e (Ok given))
     → Exchanged maps maps'
@@ -293,7 +300,8 @@ start_broken at device e given past office mid maps maps' connected o m o' repli
     } in
     inr (text, (tt, end, prints), part_after o m o' (reply_text past at e (Ok given)) printed appended got)
 
--- The output of a line that starts reads was written, followed by the output for its responses.
+-- If the office's reply to a line that starts Modbus reads and the output for the responses were
+-- both written, then the line was executed.
 pub started : (at : ℕ) (device : Option (List ℕ)) (e : Event) (given : Answer) (office mid office' : Office ListBooks) (maps maps' : Maps)
     (connected : Bool) (o m o' : Option (List ℕ)) (r : Result (Unit {0}) Error)
     → ((past : History) → Stands ledger_of past office
@@ -331,7 +339,8 @@ not_started past at device e why office office' maps connected o o' replied = re
   stands = replied.stands;
 }
 
--- A device without a connection has no responses.
+-- If a device has no connection to the simulator, then the output for the device's responses is
+-- only the line `ok`.
 pub only_ok : (device : Option (List ℕ)) (at : ℕ) (office : Office ListBooks) (o o' : Option (List ℕ)) (r : Result (Unit {0}) Error)
     → GotText r (codes "ok\n") o o' → Carries r (λ done now printed next. AnswersPrint device at now printed next) office office o o'
 only_ok device at office o o' (Ok done) ok = λ past stands. fed_ok 0 device at past office office o o o' (omega arith) (none_fed device at past office o stands) ok

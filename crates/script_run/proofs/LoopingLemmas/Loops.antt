@@ -1,4 +1,4 @@
--- Lemmas on running the lines of a loop in order.
+-- Lemmas on executing the lines of a script over simulated devices in order.
 use Rattle.std.proofs.Common.{◌≡◌, ◌⊎◌, inl, inr, ℕ, Bool, false, Option, ap, ◌∙◌, List, [], ◌∷◌, ◌++◌, refl, sym, subst, append_assoc, append-nil, arith, ◌<◌, ◌≤◌, length}
 use Rattle.std.specs.Io.KnownBytes.{Appends}
 use Rattle.std.proofs.KnownBytes.{Appends-nil, Appends-trans}
@@ -29,13 +29,14 @@ use Rattle.script_run.specs.Replaying.Scripts.{no_office}
 use Rattle.script_run.specs.Replaying.TextRun.{Writes}
 use Rattle.sun_points.specs.Writing.{GotPart}
 
--- The output of all lines is the output so far, followed by that of the remaining lines. The same
--- is true of an interrupted run.
+-- Loop invariant: the output of all lines is the output so far, followed by the output of the
+-- remaining lines. The same holds for a run that is interrupted.
 pub record SoFar (begin : LoopStage) (all : List Line) (now : LoopStage) (lines : List Line) (printed : List ℕ) : Type 0 where
   pub prints : (rest : List ℕ) (status : ExitStatus) → LoopPrints now lines rest status → LoopPrints begin all (printed ++ rest) status
   pub begins : (part : List ℕ) → LoopBegins now lines part → LoopBegins begin all (printed ++ part)
 
--- Some lines were executed. This is their output, and the state of the loop afterwards.
+-- States that the lines of a script before `lines` were executed, with their output and the
+-- script's state after them.
 pub record Ran (begin : LoopStage) (all lines : List Line) (output : Option (List ℕ)) (here : LoopState) : Type 0 where
   pub printed : List ℕ
   pub past : History
@@ -97,7 +98,8 @@ begun_line : (begin : LoopStage) (all lines left : List Line) (first : Line) (ou
 begun_line begin all lines left first output here part at ran begins =
     ran.so_far.begins part (subst (λ (ls : List Line). LoopBegins (stage_on ran.past here) ls part) (sym at) (inl begins))
 
--- A wrong line ends a run.
+-- If a line is malformed or not allowed at its position, then the script prints `bad line N` and
+-- its run ends.
 pub stopped : (status : ExitStatus) (past : History) (all lines left : List Line) (bad : Line) (from here : LoopState) (m o' : Option (List ℕ))
     → lines ≡ bad ∷ left → AreWrong here.connected (words_of bad.text) × Appends here.output m [] → TellsText (bad_line bad.number) status m o'
     → Ran (stage_on past from) all lines from.output here
@@ -116,7 +118,8 @@ stopped Failed past all lines left bad from here m o' at wrong (part, unwritten,
       (inr (bad_line bad.number, (unwritten, whole), inl (wrong.0, refl))),
 )
 
--- An interrupted line ends a run.
+-- If a failed write interrupts a line, then the run of the script ends, and the writer received a
+-- beginning of the script's output.
 pub broken : (past : History) (all lines left : List Line) (first : Line) (from here : LoopState) (o' : Option (List ℕ))
     → lines ≡ first ∷ left → (ran : Ran (stage_on past from) all lines from.output here)
     → Begins (λ printed. (next : LoopStage) × WordsPrint (words_of first.text) (stage_on ran.past here) printed next) here.output o'
@@ -132,7 +135,8 @@ broken past all lines left first from here o' at ran (inr (printed, (next, print
   begun_line (stage_on past from) all lines left first from.output here part at ran (inr (printed, (unwritten, whole), inr (next, prints))),
 )
 
--- The run of a text, from its beginning.
+-- If all lines of a text are run over a new office and an empty register map, then the
+-- specification of a run is satisfied.
 pub text_from : (status : ExitStatus) (zone : Zone) (past : History) (text : List ℕ) (office : Office ListBooks) (maps : Maps) (o o' : Option (List ℕ))
     → AreUnset maps → stage_of past office ≡ beginning zone → Stands ledger_of past office → LinesRun status text (loop_state office maps false o) o'
     → TextRuns zone text status o o'
@@ -156,11 +160,12 @@ not_opened Refused why zone text o o' is told = (refused_line why, told, inl (ap
 not_opened Failed why zone text o o' is (part, unwritten, whole, written) =
     (part, written, inl (unwritten, ap refused_line (sym is) ∙ whole))
 
--- Nothing was written, and the run failed.
+-- If a run fails before it writes any bytes, then it satisfies the specification of a run.
 pub nothing_run : (zone : Zone) (text : List ℕ) (o : Option (List ℕ)) → TextRuns zone text Failed o o
 nothing_run zone text o = ([], Appends-nil o, inl (no_office, refl))
 
--- If the input is not too long, its output is that of its text.
+-- If an input is within the maximum length, then the output for the input is the output of its
+-- lines.
 short_prints : (zone : Zone) (input printed : List ℕ) (status : ExitStatus) → length input ≤ most_bytes → TextPrints zone input printed status
     → InputPrints zone input printed status
 short_prints zone input printed status short prints =
@@ -182,7 +187,8 @@ text_ran zone text input status o o' same short runs =
 none_begun : (zone : Zone) (input : List ℕ) → InputBegins zone input []
 none_begun zone input = record { long = λ long. (too_long, refl); text = λ short. inl (no_office, refl) }
 
--- The run of an input that could not be read.
+-- If the input of a run cannot be read, then the run prints `too long` or fails, as the
+-- specification of a run allows.
 pub unread_ran : (zone : Zone) (input : List ℕ) (status : ExitStatus) (o o' : Option (List ℕ)) → EndsUnread input status o o'
     → InputRuns zone input status o o'
 unread_ran zone input Fine o o' (inl long) = absurd long.1

@@ -1,4 +1,4 @@
--- Lemmas on output that is written through a buffer.
+-- Lemmas on a script's output that passes through a buffer to an inner writer.
 use Rattle.std.proofs.Common.{◌≡◌, ℕ, Option, Some, None, List, [], ◌++◌, refl, sym, ap, ◌∙◌, append_assoc, append-nil}
 use Rattle.std.specs.Io.KnownBytes.{Appends, Keeps, append_known}
 use Rattle.command_io.specs.declared.status.ExitStatus.{ExitStatus}
@@ -7,7 +7,7 @@ use Rattle.interval_core.specs.declared.zone.Zone.{Zone}
 use Rattle.script_run.specs.Replaying.TextRun.{HoldsPart, InputRuns, Replays}
 use Rattle.script_run.proofs.ReplayingLemmas.Scripts.{input_begun}
 
--- If the buffer is empty, the writer below it has all bytes.
+-- If the buffer is empty at the end of a run, then the inner writer received the complete text.
 pub given_out : (a b d : Option (List ℕ)) (buffered last text : List ℕ) → Appends a (append_known b buffered) text
     → Keeps (append_known b buffered) (append_known d last) → last ≡ [] → Appends a d text
 given_out None b d buffered last text wrote kept none = tt
@@ -16,7 +16,8 @@ given_out (Some x) (Some y) None buffered last text wrote kept none = absurd kep
 given_out (Some x) (Some y) (Some z) buffered last text wrote kept none =
     sym (append-nil z) ∙ sym (ap (λ (more : List ℕ). z ++ more) none) ∙ kept ∙ wrote
 
--- The writer below the buffer has a beginning of the text. Bytes in the buffer may be missing.
+-- If a text was written through the buffer, then the inner writer received a beginning of the text,
+-- because the buffer may still have the rest.
 pub buffered_part : (a b d : Option (List ℕ)) (buffered last text : List ℕ) → Appends a (append_known b buffered) text
     → Keeps (append_known b buffered) (append_known d last) → HoldsPart a d text
 buffered_part None b d buffered last text wrote kept = tt
@@ -30,7 +31,8 @@ from_empty (Some x) None buffered text none wrote = absurd wrote
 from_empty (Some x) (Some y) buffered text none wrote =
     wrote ∙ ap (λ (front : List ℕ). front ++ text) (ap (λ (more : List ℕ). x ++ more) none ∙ append-nil x)
 
--- The output of a run whose buffer was flushed at the end.
+-- If the buffer was flushed after a run, then the inner writer received the complete output of the
+-- run.
 pub run_whole : (zone : Zone) (input : List ℕ) (status : ExitStatus) (a b d : Option (List ℕ)) (first buffered last : List ℕ) → first ≡ []
     → InputRuns zone input status (append_known a first) (append_known b buffered) → Keeps (append_known b buffered) (append_known d last)
     → last ≡ [] → Replays zone input status a d
@@ -41,7 +43,8 @@ run_whole zone input Refused a b d first buffered last none runs kept given =
 run_whole zone input Failed a b d first buffered last none runs kept given =
     (runs.0, buffered_part a b d buffered last runs.0 (from_empty a _ first runs.0 none runs.1) kept, runs.2)
 
--- The output of a run whose buffer could not be flushed.
+-- If the buffer could not be flushed after a run, then the inner writer received a beginning of the
+-- run's output.
 pub run_part : (zone : Zone) (input : List ℕ) (status : ExitStatus) (a b d : Option (List ℕ)) (first buffered last : List ℕ) → first ≡ []
     → InputRuns zone input status (append_known a first) (append_known b buffered) → Keeps (append_known b buffered) (append_known d last)
     → Replays zone input Failed a d

@@ -1,4 +1,4 @@
--- Lemmas on running the lines of a script in order.
+-- Lemmas on executing the lines of a script in order.
 use Rattle.std.proofs.Common.{◌≡◌, ◌⊎◌, inl, inr, ℕ, Bool, false, Option, None, Some, List, [], ◌∷◌, ◌++◌, refl, sym, subst, append_assoc, append-nil, ap, ◌∙◌, arith}
 use Rattle.std.proofs.lemmas.List.Elements.{All-cons, All-nil}
 use Rattle.std.specs.Io.KnownBytes.{Appends}
@@ -33,8 +33,8 @@ use Rattle.script_run.specs.Replaying.TextRun.{InputRuns, LineRan, LineRuns, May
 use Rattle.script_run.specs.Replaying.Scripts.{ReplayBegins, ReplayPrints, ScriptBegins, ScriptPrints, TextBegins, TextPrints}
 use Rattle.script_run.specs.Replaying.Stages.{Fails, Stage, beginning}
 
--- The output of all lines is the output so far, followed by that of the remaining lines. The same
--- is true of an interrupted run.
+-- Loop invariant: the output of all lines is the output so far, followed by the output of the
+-- remaining lines. The same holds for a run that is interrupted.
 pub record SoFar (zone : Zone) (all : List Line) (now : Stage) (lines : List Line) (printed : List ℕ) : Type 0 where
   pub prints : (rest : List ℕ) (status : ExitStatus) → ScriptPrints now lines rest status
       → ScriptPrints (beginning zone) all (printed ++ rest) status
@@ -72,7 +72,8 @@ pub broken_off : (zone : Zone) (all : List Line) (now : Stage) (lines left : Lis
 broken_off zone all now lines left first printed part at begins so_far =
     so_far.begins part (subst (λ (ls : List Line). ScriptBegins now ls part) (sym at) (inl begins))
 
--- Some lines were executed. This is their output, and the office afterwards.
+-- States that the lines of a script before `lines` were executed, with their output and the
+-- office's state after them.
 pub record Ran (zone : Zone) (all lines : List Line) (office : Office ListBooks) (output output' : Option (List ℕ)) : Type 0 where
   pub printed : List ℕ
   pub past : History
@@ -91,7 +92,7 @@ from_start zone all lines now same at = record {
       (subst (λ (stage : Stage). ScriptBegins stage lines rest) at more);
 }
 
--- An empty store matches an office that has accepted no event.
+-- If a store is empty, then it matches the history of an office that has accepted no event.
 pub empty_books : (books : ListBooks) → AreListed books [] → BooksStand (ledger_of books) []
 empty_books books listed = record {
   is_past = record { accepted = tt; planned = tt };
@@ -99,7 +100,7 @@ empty_books books listed = record {
   leaves = record { left = [] ∷ []; may = inl listed; each = All-cons (MayBeLeft []) [] [] (inl refl) (All-nil (MayBeLeft [])) };
 }
 
--- If the office has not stopped, its only failure is that memory ran out.
+-- If an office with a store in memory has not stopped and fails, then memory ran out.
 memory_alone : (why : Refusal) → IsNotStopped why → Fails {T = Unit {0}} (Err why) → why ≡ refusal.Memory
 memory_alone refusal.NotFound goes fails = absurd fails
 memory_alone refusal.Exists goes fails = absurd fails
@@ -119,7 +120,7 @@ memory_alone refusal.Stopped goes fails = absurd goes
 memory_alone refusal.NotVoidable goes fails = absurd fails
 memory_alone (refusal.NotPlausible cause) goes fails = absurd fails
 
--- Opening the office over a store in memory fails only if memory runs out.
+-- If opening an office over an empty store in memory fails, then memory ran out.
 pub refused_for_memory : (why : Refusal) (old new : Ledger) → old.failures.count ≡ 0 → new.failures.count ≡ 0 → IsNotStopped why
     → IsNotOpened [] 0 old new why → why ≡ refusal.Memory
 refused_for_memory why old new before after goes not_opened = memory_alone why goes (fails_for not_opened.reason)
@@ -129,7 +130,8 @@ refused_for_memory why old new before after goes not_opened = memory_alone why g
     fails_for (inl refused) = absurd (let e : None ≡ Some why = refused.0 in cc)
     fails_for (inr outside) = fails_in_memory {T = Unit {0}} (opening_refusal_of (facts_of []) 0 ≡ None) old.failures new.failures (Err why) before after outside
 
--- A line ends a run.
+-- If a line returns an exit status, then it ends the run of the script, after the output of the
+-- earlier lines.
 pub stopped_by : (zone : Zone) (text : List ℕ) (past : History) (line : Line) (office office' : Office ListBooks) (status : ExitStatus)
     (lines left : List Line) (printed : List ℕ) (o m o' : Option (List ℕ)) → Appends o m printed → lines ≡ line ∷ left
     → SoFar zone (speaking_lines text) (stage_of past office) lines printed → LineRuns past line office office' (Err status) m o'
@@ -146,7 +148,8 @@ stopped_by zone text past line office office' Failed lines left printed o m o' b
   inr (broken_off zone (speaking_lines text) (stage_of past office) lines left line printed runs.0 at runs.2 so_far),
 )
 
--- A line that was executed, or interrupted.
+-- If a line was executed, or if memory ran out before the line had any output, then the
+-- specification of a line is satisfied.
 pub line_ran : (past : History) (line : Line) (said : ScriptLine) (office office' : Office ListBooks) (done : Unit {0})
     (o o' : Option (List ℕ)) → IsLine (words_of line.text) said
     → MayCarryOut (λ now printed next. LinePrints now said printed next) past office office' (Ok done) o o'
@@ -171,14 +174,16 @@ line_broken past line said office office' error o o' is (inl done) = (
 )
 line_broken past line said office office' error o o' is (inr none) = ([], none.1, inl refl)
 
--- A bad line whose output was written in part.
+-- If only a part of the text `bad line N` was written, then the output is a beginning of the
+-- malformed line's output.
 pub bad_broken : (past : History) (line : Line) (office : Office ListBooks) (o o' : Option (List ℕ))
     → ((said : ScriptLine) → IsLine (words_of line.text) said → ⊥) → GotPart (bad_line line.number) o o'
     → (part : List ℕ) × Appends o o' part × LineBegins (stage_of past office) line part
 bad_broken past line office o o' none got =
     (got.0, got.3, inr (bad_line line.number, (got.1, got.2), inl (record { none = none; text = refl })))
 
--- The complete output is also a beginning of it.
+-- If an output is the complete output of a script, then it also counts as a beginning of the
+-- script's output.
 script_begun : (now : Stage) (lines : List Line) (printed : List ℕ) (status : ExitStatus) → ScriptPrints now lines printed status
     → ScriptBegins now lines printed
 script_begun now [] printed status prints = prints.0
@@ -197,7 +202,7 @@ input_begun zone input printed status prints = record {
   text = λ short. text_begun zone input printed status (prints.text short);
 }
 
--- Nothing is a beginning of the output of any script.
+-- The empty text is a beginning of the output of every script.
 nothing_begins : (now : Stage) (lines : List Line) → ScriptBegins now lines []
 nothing_begins now [] = refl
 nothing_begins now (first ∷ lines) = inl (inl refl)
@@ -209,7 +214,8 @@ nothing_written zone input o o' none = (
   record { long = λ long. (too_long, refl); text = λ short. inr (nothing_begins (beginning zone) (speaking_lines input)) },
 )
 
--- If the input is not too long, its output is that of its text.
+-- If an input is within the maximum length, then the output for the input is the output of its
+-- lines.
 short_prints : (zone : Zone) (input printed : List ℕ) (status : ExitStatus) → length input ≤ most_bytes → TextPrints zone input printed status
     → ReplayPrints zone input printed status
 short_prints zone input printed status short prints =
@@ -239,7 +245,8 @@ long_told zone input Refused o o' long told =
 long_told zone input Failed o o' long told =
     (told.0, told.3, record { long = λ again. (told.1, told.2); text = λ short. absurd (omega (arith, short, long)) })
 
--- The run of an input that could not be read.
+-- If the input of a run cannot be read, then the run prints `too long` or fails, as the
+-- specification of a run allows.
 pub unread_ran : (zone : Zone) (input : List ℕ) (status : ExitStatus) (o o' : Option (List ℕ)) → EndsUnread input status o o'
     → InputRuns zone input status o o'
 unread_ran zone input status o o' (inl long) = long_told zone input status o o' long.0 long.1

@@ -1,4 +1,4 @@
--- Lemmas on rows that a sink wrote, and on the text that followed them.
+-- Lemmas on the text of a query's rows, and on the last line that a script prints after these rows.
 use Rattle.std.proofs.Common.{◌≡◌, ◌+◌, ◌≤◌, ℕ, true, false, Option, List, ◌++◌, length, sym, ap, subst, ◌∙◌, arith}
 use Rattle.std.specs.List.{flat_map}
 use Rattle.std.specs.Io.KnownBytes.{Appends}
@@ -10,7 +10,8 @@ use Rattle.energy_report.specs.RowLines.{counted}
 use Rattle.energy_report.specs.declared.row_lines.RowLines.{RowLines}
 use Rattle.energy_report.proofs.RowLinesLemmas.{Fits, TakesLine, all_written, longer}
 
--- The lines of the rows were written, followed by further text.
+-- If writing the rows of a query fails, then the writer received a beginning of the text of all
+-- rows and of the last line.
 pub got_part : {W T E : Type 0} (contents : W → Option (List ℕ)) (line : T → List ℕ) (rows : List T) (last : List ℕ)
     (from to : RowLines W) (error : E) (o o' : W) → from.failed ≡ false → from.count ≡ 0 → TakesAll (TakesLine contents line) from rows to
     → to.failed ≡ true → from.output.now ≡ o → o' ≡ to.output.now

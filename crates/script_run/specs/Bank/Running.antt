@@ -1,4 +1,5 @@
--- What running the lines of a setup text writes, and how the simulated device is set up afterwards.
+-- Defines the contract for executing the lines that set up a simulated device, with their output
+-- and the resulting configuration.
 use Rattle.std.specs.Prelude.{◌≡◌, ◌⊎◌, ℕ, List, [], Option, Ok, Err, IfSome}
 use Rattle.std.specs.Io.KnownBytes.{Appends}
 use Rattle.std.specs.declared.result.Result.{Result}
@@ -13,8 +14,8 @@ use Rattle.script_run.specs.Bank.Settings.{Setting, after_line, IsUnset, takes}
 use Rattle.script_run.specs.Bank.Texts.{InputBegins, InputSetsUp, IsBad, LineBegins, SetUpBegins, SetsUp, taken_text}
 use Rattle.sun_points.specs.Writing.{GotPart}
 
--- The line was executed and its output written. Otherwise memory or the writer failed, and at most
--- a part of the line's output was written.
+-- States that a setup line was executed and its output was written. Otherwise memory ran out or the
+-- writer failed, and at most a part of the output was written.
 abbrev pub Carries : Setting → BankLine → Result (Unit {0}) ExitStatus → Setting
     → (output output' : Option (List ℕ)) → Type 0
 Carries now said (Ok done) next output output' =
@@ -24,13 +25,13 @@ Carries now said (Err Refused) next output output' = ⊥
 Carries now said (Err Failed) next output output' =
     GotPart (taken_text (takes now.maps said)) output output'
 
--- The bytes that were written satisfy `Prints`.
+-- States that the writer received some text that satisfies `Prints`.
 pub record Writes (Prints : List ℕ → Type 0) (output output' : Option (List ℕ)) : Type 0 where
   pub printed : List ℕ
   pub appended : Appends output output' printed
   pub prints : Prints printed
 
--- The line spells a line of the simulator, and was executed.
+-- States that the line is a valid setup line of a simulated device, and was executed.
 pub record LineRan (now : Setting) (line : Line) (next : Setting)
     (output output' : Option (List ℕ)) : Type 0 where
   pub said : BankLine
@@ -38,7 +39,8 @@ pub record LineRan (now : Setting) (line : Line) (next : Setting)
   pub after : next ≡ after_line now said
   pub appended : Appends output output' (taken_text (takes now.maps said))
 
--- The line was executed; or it is bad or was interrupted, and the run ends.
+-- States that a setup line was executed, or that the line ends the run because it is malformed or
+-- was interrupted.
 abbrev pub LineRuns : Setting → Line → Result (Unit {0}) ExitStatus → Setting
     → (output output' : Option (List ℕ)) → Type 0
 LineRuns now line (Ok done) next output output' = LineRan now line next output output'
@@ -48,7 +50,7 @@ LineRuns now line (Err Refused) next output output' =
 LineRuns now line (Err Failed) next output output' =
     Writes (λ part. LineBegins now line part) output output'
 
--- All lines of the text were executed, or one of them ended the run.
+-- States that all setup lines of a text were executed, or that one of them ended the run.
 abbrev pub TextRuns : Setting → (text : List ℕ) → Result (Unit {0}) ExitStatus → Setting
     → (output output' : Option (List ℕ)) → Type 0
 TextRuns now text (Ok done) next output output' =
@@ -59,22 +61,23 @@ TextRuns now text (Err Refused) next output output' =
 TextRuns now text (Err Failed) next output output' =
     Writes (λ part. SetUpBegins now (speaking_lines text) part) output output'
 
--- The run of a complete input. At first the simulated device has no addresses and injects no
--- faults.
+-- States the result of executing a complete input. Before its first line, the simulated device has
+-- no addresses and no injected faults.
 pub record InputRuns (input : List ℕ) (ended : Result Setting ExitStatus)
     (output output' : Option (List ℕ)) : Type 0 where
   pub begun : Setting
   pub unset : IsUnset begun
   pub writes : Writes (λ printed. InputSetsUp begun input printed ended) output output'
 
--- The run of an input was interrupted by a failed write or for want of memory, and wrote only a
--- beginning of its output.
+-- States that out of memory or a failed write interrupted the run of an input. The writer then
+-- received only a beginning of the run's output.
 pub record InputBreaks (input : List ℕ) (output output' : Option (List ℕ)) : Type 0 where
   pub begun : Setting
   pub unset : IsUnset begun
   pub writes : Writes (λ part. InputBegins begun input part) output output'
 
--- The result of a run. A run that failed wrote nothing, or only a beginning of its output.
+-- States the result of setting up a simulated device from an input. A failed run wrote at most a
+-- beginning of its output.
 abbrev pub SetUp : (input : Option (List ℕ)) → Result Setting ExitStatus
     → (output output' : Option (List ℕ)) → Type 0
 SetUp input (Ok setup) output output' =

@@ -1,4 +1,4 @@
--- What the lines of a setup text configure, and what they print.
+-- Defines the output of the lines that set up a simulated device, and the resulting configuration.
 use Rattle.std.specs.Prelude.{◌≡◌, ◌⊎◌, ◌<◌, ◌≤◌, ℕ, Bool, true, false, List, [], ◌∷◌, ◌++◌, length, Ok, Err}
 use Rattle.std.specs.declared.result.Result.{Result}
 use Rattle.script_lines.specs.Bank.Forms.{IsBankLine}
@@ -13,17 +13,18 @@ use Rattle.script_lines.specs.LineWords.Words.{words_of}
 use Rattle.script_run.specs.Bank.Settings.{Setting, after_line, takes}
 use Rattle.script_run.specs.Replaying.Lines.{BeginsText}
 
--- The output of a line: nothing if the register map accepts it, otherwise a refusal.
+-- The output of a setup line. A line that the register map accepts prints nothing, and any other
+-- line prints a refusal.
 abbrev pub taken_text : Bool → List ℕ
 taken_text true = []
 taken_text false = refused_line Limit
 
--- The words of the line spell no line of the simulator.
+-- States that the words of a line spell no setup line of a simulated device.
 pub record IsBad (bad : Line) : Type 0 where
   pub none : (said : BankLine) → IsBankLine (words_of bad.text) said → ⊥
 
--- The lines are executed in order. A line that spells no line of the simulator prints its number,
--- and ends the run.
+-- States the output and the end of executing setup lines in order. A line that spells no setup line
+-- prints `bad line N`, and ends the run.
 abbrev pub SetsUp : Setting → List Line → (printed : List ℕ) → (ended : Result Setting ExitStatus)
     → Type 0
 SetsUp now [] printed ended = (printed ≡ []) × (ended ≡ Ok now)
@@ -33,7 +34,8 @@ SetsUp now (first ∷ lines) printed ended =
     × ((rest : List ℕ) × (printed ≡ taken_text (takes now.maps said) ++ rest)
     × SetsUp (after_line now said) lines rest ended))
 
--- The output of a line that was interrupted: nothing, or a beginning of its output.
+-- States that `part` is the output of an interrupted setup line, which is empty or a beginning of
+-- the line's output.
 abbrev pub LineBegins : Setting → Line → (part : List ℕ) → Type 0
 LineBegins now first part =
     (part ≡ [])
@@ -41,8 +43,8 @@ LineBegins now first part =
     ⊎ ((said : BankLine) × IsBankLine (words_of first.text) said
     × BeginsText part (taken_text (takes now.maps said))))
 
--- The output of an interrupted run: that of its first lines, followed by a beginning of the next
--- line's output.
+-- States that `part` is the output of an interrupted run. It consists of the output of the first
+-- setup lines and a beginning of the next line's output.
 abbrev pub SetUpBegins : Setting → List Line → (part : List ℕ) → Type 0
 SetUpBegins now [] part = part ≡ []
 SetUpBegins now (first ∷ lines) part =
@@ -51,13 +53,14 @@ SetUpBegins now (first ∷ lines) part =
     × ((rest : List ℕ) × (part ≡ taken_text (takes now.maps said) ++ rest)
     × SetUpBegins (after_line now said) lines rest))
 
--- The configuration and the output for an input. An input that is too long is not executed.
+-- States the configuration and the output after running an input. If the input is too long, none of
+-- its lines is executed.
 pub record InputSetsUp (now : Setting) (input printed : List ℕ)
     (ended : Result Setting ExitStatus) : Type 0 where
   pub long : most_bytes < length input → (printed ≡ too_long) × (ended ≡ Err Refused)
   pub lines : length input ≤ most_bytes → SetsUp now (speaking_lines input) printed ended
 
--- The output of an interrupted run over an input.
+-- States that `part` is the output of an interrupted run over an input.
 pub record InputBegins (now : Setting) (input part : List ℕ) : Type 0 where
   pub long : most_bytes < length input → BeginsText part too_long
   pub lines : length input ≤ most_bytes → SetUpBegins now (speaking_lines input) part

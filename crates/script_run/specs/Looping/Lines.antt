@@ -1,5 +1,5 @@
--- What each line of a loop prints, and the stage of the loop after it. A loop is a script whose
--- devices are simulated.
+-- Defines the output of each line of a loop (a script over simulated devices), and the loop's state
+-- after the line.
 use Rattle.std.specs.Prelude.{◌≡◌, ◌⊎◌, ◌++◌, ℕ, Bool, true, false, List, Option, Some, None, Result, Ok, Err, codes}
 use Rattle.script_lines.specs.Bank.Forms.{IsBankLine}
 use Rattle.script_lines.specs.declared.bank.bank.BankLine.{BankLine}
@@ -27,31 +27,34 @@ use Rattle.script_run.specs.Looping.Answers.{AnswersPrint}
 use Rattle.mb_device.specs.StandIn.Exchanges.{Exchanged}
 use Rattle.script_run.specs.Looping.Standings.{LoopStage}
 
--- The line of the simulator is allowed here. An area or a fault to inject must come before the
--- first line that connects a device.
+-- States that a loop (a script over simulated devices) allows a setup line at this position. Lines
+-- `area` and `trick` must precede the first line that connects a device.
 abbrev pub MayStand : (connected : Bool) → BankLine → Type 0
 MayStand connected (bank.Area area) = connected ≡ false
 MayStand connected (bank.Set cell) = Unit {0}
 MayStand connected (bank.Trick frame trick) = connected ≡ false
 
--- The line of the simulator is not allowed here: a line has already connected a device.
+-- States that a loop (a script over simulated devices) forbids a setup line at this position,
+-- because an earlier line has connected a device.
 abbrev pub MayNotStand : (connected : Bool) → BankLine → Type 0
 MayNotStand connected (bank.Area area) = connected ≡ true
 MayNotStand connected (bank.Set cell) = ⊥
 MayNotStand connected (bank.Trick frame trick) = connected ≡ true
 
--- The output of a line of the simulator: `ok` if the register map accepts it, otherwise a refusal.
+-- The output of a setup line in a loop (a script over simulated devices). It is `ok` if the
+-- register map accepts the line, otherwise a refusal.
 abbrev pub taken_text : Bool → List ℕ
 taken_text true = codes "ok\n"
 taken_text false = refused_line refusal.Limit
 
--- The register map after a line of the simulator. If the map refuses the line, it is unchanged.
+-- The register map after a setup line. If the map refuses the line, the map is unchanged.
 abbrev pub maps_with : Maps → BankLine → Maps
 maps_with maps (bank.Area area) = with_area maps area
 maps_with maps (bank.Set cell) = with_cell maps cell
 maps_with maps (bank.Trick frame trick) = maps
 
--- A line of the simulator prints whether the register map accepted it.
+-- States that a setup line in a loop (a script over simulated devices) prints whether the register
+-- map accepts the line, and changes the map if so.
 pub record BankPrints (said : BankLine) (now : LoopStage) (printed : List ℕ) (next : LoopStage)
     : Type 0 where
   pub stands : MayStand now.connected said
@@ -60,13 +63,14 @@ pub record BankPrints (said : BankLine) (now : LoopStage) (printed : List ℕ) (
   pub maps : next.maps ≡ maps_with now.maps said
   pub connected : next.connected ≡ now.connected
 
--- The line leaves the simulator unchanged.
+-- States that a line of a loop (a script over simulated devices) leaves the simulator and its
+-- connections unchanged.
 pub record StandsBy (now next : LoopStage) : Type 0 where
   pub maps : next.maps ≡ now.maps
   pub connected : next.connected ≡ now.connected
 
--- The output of a start that the office answered. If it was accepted, the started reads are
--- printed, their frames are sent to the simulator, and its responses are given to the office.
+-- States the output of a line that starts reads, given the office's reply. If the office accepted
+-- the start, its frames go to the simulator, and the responses go to the office.
 abbrev pub Started : Result Answer Refusal → (at : ℕ) → (device : Option (List ℕ)) → Event
     → (now : LoopStage)
     → (printed : List ℕ) → (next : LoopStage) → Type 0
@@ -78,7 +82,8 @@ Started (Err why) at device e now printed next =
     (printed ≡ refused_line why) × (next.script ≡ after_reply now.script at e (Err why))
     × (next.maps ≡ now.maps)
 
--- A line that starts reads prints the office's answer, and then the output for the responses.
+-- States that a line that starts reads prints the office's reply, and then the output for the
+-- responses.
 pub record StartsPrint (at : ℕ) (device : Option (List ℕ)) (e : Event) (now : LoopStage)
     (printed : List ℕ) (next : LoopStage) : Type 0 where
   pub reply : Result Answer Refusal
@@ -86,13 +91,15 @@ pub record StartsPrint (at : ℕ) (device : Option (List ℕ)) (e : Event) (now 
   pub started : Started reply at device e now printed next
   pub connected : next.connected ≡ now.connected
 
--- A line with any other event prints the office's answer.
+-- States that a line with an event that uses no connection prints the office's reply, and leaves
+-- the simulator unchanged.
 pub record PlainPrints (at : ℕ) (e : Event) (now : LoopStage) (printed : List ℕ) (next : LoopStage)
     : Type 0 where
   pub prints : EventPrints now.script at e printed next.script
   pub by : StandsBy now next
 
--- A line that connects a device prints the office's answer. From then on, `connected` is true.
+-- States that a line that connects a device prints the office's reply, and that `connected` is true
+-- afterwards.
 pub record ConnectPrints (at : ℕ) (e : Event) (now : LoopStage) (printed : List ℕ)
     (next : LoopStage)
     : Type 0 where
@@ -100,19 +107,20 @@ pub record ConnectPrints (at : ℕ) (e : Event) (now : LoopStage) (printed : Lis
   pub maps : next.maps ≡ now.maps
   pub connected : next.connected ≡ true
 
--- The name of the device whose round the command starts. None if the command starts no round.
+-- The name of the device for which a command starts a round of reads. `None` for any other command.
 abbrev pub round_of : Command → Option (Option (List ℕ))
 round_of (command.StartRound round) = Some round.device
 round_of other = None
 
--- A command prints the office's answer. If it starts a round, the output for the responses follows.
+-- States that a command prints the office's reply. A command that starts a round also prints the
+-- output for the responses.
 abbrev pub CommandPrints : (round : Option (Option (List ℕ))) → (at : ℕ) → Event → (now : LoopStage)
     → (printed : List ℕ) → (next : LoopStage) → Type 0
 CommandPrints (Some device) at e now printed next = StartsPrint at device e now printed next
 CommandPrints None at e now printed next = PlainPrints at e now printed next
 
--- A line with an event prints the office's answer. It may not have bytes of a device, because those
--- come from the simulator.
+-- States that a line with an event prints the office's reply. A line with bytes of a device is not
+-- allowed, because only the simulator sends bytes.
 abbrev pub HappensPrints : (at : ℕ) → Event → (now : LoopStage) → (printed : List ℕ)
     → (next : LoopStage) → Type 0
 HappensPrints at (event.Connected device) now printed next =
@@ -126,13 +134,13 @@ HappensPrints at (event.Command asked) now printed next =
 HappensPrints at (event.Asked asked) now printed next =
     PlainPrints at (event.Asked asked) now printed next
 
--- The event has bytes that a device sent.
+-- States that the event reports bytes that a device sent.
 abbrev pub IsBytes : Event → Type 0
 IsBytes (event.Bytes device piece) = Unit {0}
 IsBytes other = ⊥
 
--- A line that starts a read prints the started read if one read can cover its registers, otherwise
--- a refusal.
+-- States the output of a line that starts a read. If one read request can cover the Modbus
+-- registers, the line prints the office's reply, otherwise a refusal.
 abbrev pub ReadPrints : (at : ℕ) → GivenStart → (now : LoopStage) → (printed : List ℕ)
     → (next : LoopStage) → Type 0
 ReadPrints at start now printed next =
@@ -141,29 +149,31 @@ ReadPrints at start now printed next =
     ⊎ ((IsSpan start.function start.address start.count → ⊥)
     × IsRefused now.script printed next.script × StandsBy now next)
 
--- The line prints what it prints in a script without a simulator.
+-- States that a line of a loop (a script over simulated devices) has the same output as in a plain
+-- script, and leaves the simulator unchanged.
 pub record AlikePrints (said : ScriptLine) (now : LoopStage) (printed : List ℕ) (next : LoopStage)
     : Type 0 where
   pub prints : LinePrints now.script said printed next.script
   pub by : StandsBy now next
 
--- What a line of a script prints in a loop.
+-- States the output of a script line in a loop (a script over simulated devices), by the kind of
+-- line.
 abbrev pub SaidPrints : ScriptLine → (now : LoopStage) → (printed : List ℕ) → (next : LoopStage)
     → Type 0
 SaidPrints (line.Event at e) now printed next = HappensPrints at e now printed next
 SaidPrints (line.Start at start) now printed next = ReadPrints at start now printed next
 SaidPrints said now printed next = AlikePrints said now printed next
 
--- The line has bytes that a device sent.
+-- States that the script line has bytes that a device sent.
 abbrev pub SaysBytes : ScriptLine → Type 0
 SaysBytes (line.Event at e) = IsBytes e
 SaysBytes other = ⊥
 
--- The words spell no line of the simulator.
+-- States that the words spell no setup line of a simulated device.
 abbrev pub IsNoBankLine : List (List ℕ) → Type 0
 IsNoBankLine words = (said : BankLine) → IsBankLine words said → ⊥
 
--- The words spell a line of the simulator or of a script. The line was executed.
+-- States that the words spell a setup line or a script line, and that the line was executed.
 abbrev pub WordsPrint : List (List ℕ) → (now : LoopStage) → (printed : List ℕ) → (next : LoopStage)
     → Type 0
 WordsPrint words now printed next =
@@ -171,7 +181,8 @@ WordsPrint words now printed next =
     ⊎ (IsNoBankLine words × (said : ScriptLine) × IsLine words said
     × SaidPrints said now printed next)
 
--- The words spell no line, or a line that is not allowed here.
+-- States that the words spell no line, or spell a line that a loop (a script over simulated
+-- devices) forbids at this position.
 abbrev pub AreWrong : (connected : Bool) → List (List ℕ) → Type 0
 AreWrong connected words =
     ((said : BankLine) × IsBankLine words said × MayNotStand connected said)

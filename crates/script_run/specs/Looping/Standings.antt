@@ -1,4 +1,5 @@
--- The stage of a loop, and the bytes that it has written.
+-- Defines the state of a loop (a script over simulated devices), and the bytes that the loop has
+-- written.
 use Rattle.std.specs.Prelude.{◌≡◌, ◌⊎◌, ℕ, Bool, List, [], Option, Result, Ok, Err}
 use Rattle.std.specs.Io.KnownBytes.{Appends}
 use Rattle.mb_device.specs.Maps.{Maps}
@@ -11,32 +12,36 @@ use Rattle.script_run.specs.Replaying.TextRun.{stage_of}
 use Rattle.script_run.specs.Replaying.Stages.{Stage}
 use Rattle.sun_points.specs.Writing.{GotPart}
 
--- The stage of a loop: that of the script, the simulator's register map, and whether a line has
--- connected a device.
+-- The modeled state of a loop (a script over simulated devices). It has the state of the script,
+-- the simulator's register map, and whether a line has connected a device.
 pub record LoopStage : Type 0 where
   pub script : Stage
   pub maps : Maps
   pub connected : Bool
 
--- The state of a running loop, with the bytes that were written.
+-- The state of a running loop (a script over simulated devices): its office, its register map, and
+-- the bytes written so far.
 pub record LoopState : Type 0 where
   pub office : Office ListBooks
   pub maps : Maps
   pub connected : Bool
   pub output : Option (List ℕ)
 
--- The state of a running loop, from its parts.
+-- Builds the state of a running loop (a script over simulated devices) from its office, its
+-- register map and the bytes written so far.
 abbrev pub loop_state : Office ListBooks → Maps → (connected : Bool)
     → (output : Option (List ℕ)) → LoopState
 loop_state office maps connected output =
     record { office = office; maps = maps; connected = connected; output = output }
 
--- The stage of a loop whose office has this history.
+-- Builds the modeled state of a loop (a script over simulated devices) from its office's history
+-- and its running state.
 abbrev pub stage_on : History → LoopState → LoopStage
 stage_on past here =
     record { script = stage_of past here.office; maps = here.maps; connected = here.connected }
 
--- These bytes were printed as `Prints` says, and the office matches its history.
+-- States that a line printed an output that `Prints` allows, and that the office's store matches
+-- its new history.
 pub record CarriedOut (Prints : LoopStage → List ℕ → LoopStage → Type 0) (past : History)
     (from to : LoopState)
     : Type 0 where
@@ -46,14 +51,15 @@ pub record CarriedOut (Prints : LoopStage → List ℕ → LoopStage → Type 0)
   pub appended : Appends from.output to.output printed
   pub stands : Stands ledger_of after to.office
 
--- The output of an interrupted run: nothing, or a beginning of what `Prints` allows.
+-- States that an interrupted call wrote nothing, or wrote a beginning of an output that `Prints`
+-- allows.
 abbrev pub Begins : (Prints : List ℕ → Type 0) → (output output' : Option (List ℕ)) → Type 0
 Begins Prints output output' =
     Appends output output' []
     ⊎ ((printed : List ℕ) × Prints printed × GotPart printed output output')
 
--- For every history that the office matches, the call executed the line. Otherwise the writer,
--- memory or a connection failed, the line was interrupted, and the stage is undefined.
+-- States that a successful call executed its line, for every history that matches the office's
+-- store. A failed call wrote a beginning of the line's output, and the next state is unspecified.
 abbrev pub CarriesOut : {X E : Type 0} → Result X E → (X → LoopStage → List ℕ → LoopStage → Type 0)
     → (from to : LoopState) → Type 0
 CarriesOut (Ok x) Prints from to =
@@ -63,7 +69,8 @@ CarriesOut {X = X} (Err error) Prints from to =
     → Begins (λ printed. (x : X) × (next : LoopStage) × Prints x (stage_on past from) printed next)
     from.output to.output
 
--- `CarriedOut` for a call that changes only the script's part of the stage.
+-- States that a line printed an output that `Prints` allows, and changed the office but not the
+-- simulator.
 pub record Carried (Prints : Stage → List ℕ → Stage → Type 0) (past : History)
     (office office' : Office ListBooks) (output output' : Option (List ℕ)) : Type 0 where
   pub printed : List ℕ
@@ -72,7 +79,8 @@ pub record Carried (Prints : Stage → List ℕ → Stage → Type 0) (past : Hi
   pub appended : Appends output output' printed
   pub stands : Stands ledger_of after office'
 
--- `CarriesOut` for a call that changes only the script's part of the stage.
+-- States that a successful call executed its line, which may change the office but not the
+-- simulator. A failed call wrote a beginning of the line's output.
 abbrev pub Carries : {X E : Type 0} → Result X E → (X → Stage → List ℕ → Stage → Type 0)
     → (office office' : Office ListBooks) → (output output' : Option (List ℕ)) → Type 0
 Carries (Ok x) Prints office office' output output' =

@@ -1,4 +1,5 @@
--- What running a loop writes, and the stage afterwards.
+-- Defines the contract for running a loop (a script over simulated devices), with the output and
+-- the state afterwards.
 use Rattle.std.specs.Prelude.{◌≡◌, ℕ, Bool, true, false, List, [], Option, Result, Ok, Err}
 use Rattle.std.specs.Io.KnownBytes.{Appends}
 use Rattle.std.specs.declared.io.Error.{Error}
@@ -16,7 +17,8 @@ use Rattle.script_run.specs.Looping.Standings.{Begins, CarriedOut, CarriesOut, L
 use Rattle.script_run.specs.Replaying.TextRun.{Writes}
 use Rattle.sun_points.specs.Writing.{GotPart}
 
--- The outcome of a line: it was executed, it is wrong, or it was interrupted.
+-- States the outcome of a line in a loop (a script over simulated devices). The line was executed,
+-- was interrupted, or is malformed or forbidden.
 abbrev pub LineRuns : Result Bool Error → (Prints : LoopStage → List ℕ → LoopStage → Type 0)
     → (Wrong : Type 0)
     → (from to : LoopState) → Type 0
@@ -28,27 +30,28 @@ LineRuns (Err error) Prints Wrong from to =
     → Begins (λ printed. (next : LoopStage) × Prints (stage_on past from) printed next)
     from.output to.output
 
--- The outcome of a line with these words: executed, or wrong because they spell no line that is
--- allowed here.
+-- States the outcome of a line with the given words. The line was executed or interrupted, or the
+-- words spell no line that is allowed at this position.
 abbrev pub WordsRun : Result Bool Error → (words : List (List ℕ)) → (from to : LoopState) → Type 0
 WordsRun result words from to =
     LineRuns result (WordsPrint words) (AreWrong from.connected words) from to
 
--- The outcome of a line that starts reads. The start was refused, or the simulator's responses were
--- given to the office.
+-- States the outcome of a line that starts reads. The office refused the start, or received the
+-- simulator's responses.
 abbrev pub StartRuns : {X E : Type 0} → Result X E → (at : ℕ) → (device : Option (List ℕ)) → Event
     → (from to : LoopState) → Type 0
 StartRuns result at device e from to =
     CarriesOut result (λ done now printed next. StartsPrint at device e now printed next) from to
 
--- A last text was written, and ends the run with this status. If the writer failed, a part of the
--- text was written.
+-- States that a run ends with the output `text` and the given status. If the writer failed, only a
+-- part of `text` was written.
 abbrev pub TellsText : (text : List ℕ) → ExitStatus → (output output' : Option (List ℕ)) → Type 0
 TellsText text Fine output output' = ⊥
 TellsText text Refused output output' = Appends output output' text
 TellsText text Failed output output' = GotPart text output output'
 
--- The outcome of running the lines of a text from this state.
+-- States the outcome of running the lines of a loop (a script over simulated devices), from the
+-- given state on.
 abbrev pub LinesRun : ExitStatus → (text : List ℕ) → (from : LoopState)
     → (output' : Option (List ℕ)) → Type 0
 LinesRun status text from output' =
@@ -56,13 +59,15 @@ LinesRun status text from output' =
     → Writes (LoopPrints (stage_on past from) (speaking_lines text))
     (LoopBegins (stage_on past from) (speaking_lines text)) status from.output output'
 
--- The outcome of running a text.
+-- States the outcome of running a text. The writer received the run's output, or a beginning of
+-- this output if the run failed.
 abbrev pub TextRuns : Zone → (text : List ℕ) → ExitStatus
     → (output output' : Option (List ℕ)) → Type 0
 TextRuns zone text status output output' =
     Writes (TextPrints zone text) (TextBegins zone text) status output output'
 
--- The outcome of running an input.
+-- States the outcome of running an input. The writer received the run's output, or a beginning of
+-- this output if the run failed.
 abbrev pub InputRuns : Zone → (input : List ℕ) → ExitStatus → (output output' : Option (List ℕ))
     → Type 0
 InputRuns zone input status output output' =

@@ -1,4 +1,4 @@
--- What each query of a script prints. No query changes the script's stage.
+-- Defines the output of each query in a script. No query changes the state of the script's run.
 use Rattle.std.specs.Prelude.{◌≡◌, ◌⊎◌, ◌+◌, ℕ, List, [], ◌++◌, length, map, take, flat_map, Option, Result, Ok, Err, OnOk, OnErr}
 use Rattle.std.specs.Option.{option_and_then}
 use Rattle.interval_core.specs.Days.{account_of}
@@ -16,19 +16,19 @@ use Rattle.script_run.specs.Replaying.Stages.{Stage, Fails, TellsStop}
 use Rattle.script_text.specs.AnswerText.{meter_line, poll_line, refused_line}
 use Rattle.energy_report.specs.RowLines.{counted}
 
--- The office's reply to a query is the row that was found, or "not found". Otherwise the office
--- failed.
+-- States that the reply to a query is the row that was found, or the refusal "not found". Any other
+-- reply means that the office failed.
 pub record IsAnswered {T : Type 0} (now : Stage) (found : Option T) (reply : Result T Refusal)
     : Type 0 where
   pub answer : (reply ≡ or_not_found found) ⊎ Fails reply
   pub stops : TellsStop now reply
 
--- The text of the row, or that of the refusal.
+-- The output line for the reply to a query. It shows the row that the query found, or the refusal.
 abbrev pub row_text : {T : Type 0} → (T → List ℕ) → Result T Refusal → List ℕ
 row_text row_line (Ok row) = row_line row
 row_text row_line (Err why) = refused_line why
 
--- A query for one row prints the row or the refusal.
+-- States that a query for one row prints the line of the row or of the refusal.
 pub record RowPrints {T : Type 0} (now : Stage) (found : Option T) (row_line : T → List ℕ)
     (printed : List ℕ) (next : Stage) : Type 0 where
   pub reply : Result T Refusal
@@ -36,24 +36,25 @@ pub record RowPrints {T : Type 0} (now : Stage) (found : Option T) (row_line : T
   pub text : printed ≡ row_text row_line reply
   pub same : next ≡ now
 
--- What the query for a meter prints.
+-- States the output of the query `meter NAME`.
 abbrev pub MeterPrints : (name : Option (List ℕ)) → Stage → (printed : List ℕ) → (next : Stage)
     → Type 0
 MeterPrints name now printed next =
     RowPrints now (option_and_then (meter_of (facts_of now.past)) name) meter_line printed next
 
--- What the query for a poll prints: the poll with its outcome.
+-- States the output of the query `poll N`: the number of the poll and its outcome.
 abbrev pub PollPrints : (number : ℕ) → Stage → (printed : List ℕ) → (next : Stage) → Type 0
 PollPrints number now printed next =
     RowPrints now (poll_row_of (facts_of now.past) number) poll_line printed next
 
--- The last line of a query for rows: the number of rows, or the refusal that ended them.
+-- The last line of a query for rows: `end N` with the number of rows, or the refusal that ended the
+-- query.
 abbrev pub last_line : (count : ℕ) → Result (Unit {0}) Refusal → List ℕ
 last_line count (Ok done) = end_line count
 last_line count (Err why) = refused_line why
 
--- A query for rows prints a line for each row that the office returned. After them it prints the
--- number of rows, or the refusal that ended them.
+-- States that a query for rows prints one line for each returned row, and then the number of rows
+-- or a refusal.
 pub record RowsPrint {T : Type 0} (now : Stage) (there : Option (Unit {0}))
     (AreTold : List T → Result (Unit {0}) Refusal → Type 0) (row_line : T → List ℕ)
     (printed : List ℕ) (next : Stage) : Type 0 where
@@ -64,27 +65,28 @@ pub record RowsPrint {T : Type 0} (now : Stage) (there : Option (Unit {0}))
   pub text : printed ≡ flat_map row_line rows ++ last_line (counted (length rows)) reply
   pub same : next ≡ now
 
--- The rows are the meter's first interval rows; they are all of them unless the query failed.
+-- States that the rows are the first quarter hours of a meter with their energy. If the query
+-- succeeded, the rows are all quarter hours of the meter.
 pub record AreIntervals (facts : List Fact) (meter : Option (List ℕ)) (rows : List Share)
     (reply : Result (Unit {0}) Refusal) : Type 0 where
   pub begun : (n : ℕ) × (rows ≡ take n (rows_in (intervals_of facts meter)))
   pub whole : OnOk reply (rows ≡ rows_in (intervals_of facts meter))
 
--- What a query for the interval rows of a meter prints.
+-- States the output of the query `intervals METER`, the energy of a meter in each quarter hour.
 abbrev pub IntervalsPrint : Stage → (meter : Option (List ℕ)) → (printed : List ℕ) → (next : Stage)
     → Type 0
 IntervalsPrint now meter printed next =
     RowsPrint now (is_there (intervals_of (facts_of now.past) meter))
     (AreIntervals (facts_of now.past) meter) share_line printed next
 
--- The rows are all days of the register, in the script's time zone. If the query failed, there are
--- no rows.
+-- States that the rows are all days of an accounting register in the script's time zone. After a
+-- failed query there are no rows.
 pub record AreDaysTold (now : Stage) (register : Option (List ℕ)) (rows : List DayTotal)
     (reply : Result (Unit {0}) Refusal) : Type 0 where
   pub whole : OnOk reply (AreDaysNamed now.zone (facts_of now.past) register (map account_of rows))
   pub none : OnErr reply (rows ≡ [])
 
--- What a query for the days of a register prints.
+-- States the output of the query `days REGISTER`, the energy of an accounting register on each day.
 abbrev pub DaysPrint : Stage → (register : Option (List ℕ)) → (printed : List ℕ) → (next : Stage)
     → Type 0
 DaysPrint now register printed next =

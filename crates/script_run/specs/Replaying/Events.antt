@@ -1,4 +1,4 @@
--- What each event of a script prints.
+-- Defines the output of each event in a script.
 use Rattle.std.specs.Prelude.{◌≡◌, ◌≢◌, ◌⊎◌, ℕ, false, List, [], ◌++◌, flat_map, Result, Ok, Err}
 use Rattle.mb_wire.specs.Spans.{IsSpan, code_of}
 use Rattle.mb_wire.specs.declared.span.ReadSpan.{ReadSpan}
@@ -21,21 +21,22 @@ use Rattle.script_lines.specs.declared.script.GivenStart.{GivenStart}
 use Rattle.script_run.specs.Replaying.Stages.{Stage, Fails, TellsStop, after_reply}
 use Rattle.script_text.specs.AnswerText.{accepted_text, fault_line, refused_line}
 
--- The office's answer is the one that its definition gives, or the office failed. In an office that
--- has not stopped, an event that settles no poll never fails.
+-- States that the office replies to an event as `decision_of` defines, or fails. If the office has
+-- not stopped and the event ends no poll, the office does not fail.
 pub record IsReply (now : Stage) (at : ℕ) (e : Event) (reply : Result Answer Refusal) : Type 0 where
   pub answer : (reply ≡ decision_of now.past at e) ⊎ Fails reply
   pub stops : TellsStop now reply
   pub quiet : now.stopped ≡ false → SettlesNothing now.past at e → is_failure reply ≡ false
 
--- The text for the answer to an event: its notifications and its answer if it was accepted,
--- otherwise its refusal.
+-- The text that a script prints for the office's reply to an event. It is the notifications and the
+-- answer of an accepted event, or the line of a refusal.
 abbrev pub reply_text : History → (at : ℕ) → Event → Result Answer Refusal → List ℕ
 reply_text past at e (Ok given) =
     accepted_text given (notes_after past at e (Ok given)) (outgoing_after past at e (Ok given))
 reply_text past at e (Err why) = refused_line why
 
--- A line with an event prints the office's answer.
+-- States that a line with an event prints the office's reply, and that the script continues in the
+-- state after the reply.
 pub record EventPrints (now : Stage) (at : ℕ) (e : Event) (printed : List ℕ) (next : Stage)
     : Type 0 where
   pub reply : Result Answer Refusal
@@ -43,23 +44,23 @@ pub record EventPrints (now : Stage) (at : ℕ) (e : Event) (printed : List ℕ)
   pub text : printed ≡ reply_text now.past at e reply
   pub after : next ≡ after_reply now at e reply
 
--- The line's numbers give this span of Modbus registers.
+-- States that the numbers of a script line describe the given range of Modbus registers.
 pub record IsSpanOf (start : GivenStart) (span : ReadSpan) : Type 0 where
   pub function : code_of span.function ≡ start.function
   pub address : span.address ≡ start.address
   pub count : span.count ≡ start.count
 
--- The event that starts the line's read.
+-- The event that starts the Modbus read of a script line.
 abbrev pub start_event : GivenStart → ReadSpan → Event
 start_event start span = Command (StartPoll (record { device = start.device; span = span }))
 
--- The line prints a refusal, and the office is not asked.
+-- States that a line prints a refusal and changes nothing, because the office gets no event.
 pub record IsRefused (now : Stage) (printed : List ℕ) (next : Stage) : Type 0 where
   pub text : printed ≡ refused_line refusal.Limit
   pub same : next ≡ now
 
--- A line that starts a read prints the office's answer if one read can cover its registers,
--- otherwise a refusal.
+-- States the output of a line that starts a read. If one read request can cover the Modbus
+-- registers, the line prints the office's reply, otherwise a refusal.
 abbrev pub StartPrints : Stage → (at : ℕ) → GivenStart → (printed : List ℕ) → (next : Stage)
     → Type 0
 StartPrints now at start printed next =
@@ -67,26 +68,29 @@ StartPrints now at start printed next =
     × EventPrints now at (start_event start span) printed next)
     ⊎ ((IsSpan start.function start.address start.count → ⊥) × IsRefused now printed next)
 
--- The faulty rows of a point list's text.
+-- The faulty rows of a point list, from its CSV text.
 abbrev pub faults_of : List ℕ → List FaultyRow
 faults_of text = list_faults (rows_read text)
 
--- The command that stores this point list for the line's device.
+-- The command that stores the point list of a script line for the line's device.
 abbrev pub list_event : GivenList → Planned → Event
 list_event list planned = Command (PutList (record { device = list.device; list = planned }))
 
--- The text is this point list, and the list's reads are its plan: the fewest reads that cover it.
+-- States that the text spells the given point list, and that the list has a read plan with the
+-- fewest reads that cover all points.
 pub record IsListOf (text : List ℕ) (list : Planned) : Type 0 where
   pub points : SpellsList text list.points
   pub planned : IsPlanned list
 
--- The line prints each faulty row and the refusal of the list. The office is not asked.
+-- States that a line with a faulty point list prints each faulty row and a refusal, and that the
+-- office gets no event.
 pub record FaultsPrint (now : Stage) (text printed : List ℕ) (next : Stage) : Type 0 where
   pub some : faults_of text ≢ []
   pub lines : printed ≡ flat_map fault_line (faults_of text) ++ refused_line refusal.Limit
   pub same : next ≡ now
 
--- A line with a point list prints the office's answer, or each of the list's faulty rows.
+-- States that a line with a point list prints the office's reply, or one line for each faulty row
+-- of the point list.
 abbrev pub ListPrints : Stage → (at : ℕ) → GivenList → (printed : List ℕ) → (next : Stage) → Type 0
 ListPrints now at list printed next =
     ((planned : Planned) × IsListOf list.text planned

@@ -1,4 +1,4 @@
--- What each line of a script prints, and the script's stage afterwards.
+-- Defines the output of each line of a script, and the state of the script's run after the line.
 use Rattle.std.specs.Prelude.{◌≡◌, ◌⊎◌, ℕ, List, [], ◌++◌}
 use Rattle.command_io.specs.Lines.{Line}
 use Rattle.script_lines.specs.Forms.{IsLine}
@@ -10,7 +10,7 @@ use Rattle.script_run.specs.Replaying.Events.{EventPrints, ListPrints, StartPrin
 use Rattle.script_run.specs.Replaying.Asked.{DaysPrint, IntervalsPrint, MeterPrints, PollPrints}
 use Rattle.script_text.specs.AnswerText.{bad_line}
 
--- What a line of a script prints.
+-- States the output of a script line, by the kind of line.
 abbrev pub LinePrints : Stage → ScriptLine → (printed : List ℕ) → (next : Stage) → Type 0
 LinePrints now (line.Event at e) printed next = EventPrints now at e printed next
 LinePrints now (line.List at list) printed next = ListPrints now at list printed next
@@ -20,23 +20,24 @@ LinePrints now (line.Intervals name) printed next = IntervalsPrint now name prin
 LinePrints now (line.Days name) printed next = DaysPrint now name printed next
 LinePrints now (line.Poll number) printed next = PollPrints number now printed next
 
--- The words spell a line of a script, and the line was executed.
+-- States that the words spell a script line, and that the line was executed.
 pub record WordsPrint (now : Stage) (words : List (List ℕ)) (printed : List ℕ) (next : Stage)
     : Type 0 where
   pub said : ScriptLine
   pub is : IsLine words said
   pub prints : LinePrints now said printed next
 
--- A line whose words spell no line of a script prints its number.
+-- States that a line prints `bad line N`, because its words spell no script line.
 pub record BadPrints (bad : Line) (printed : List ℕ) : Type 0 where
   pub none : (said : ScriptLine) → IsLine (words_of bad.text) said → ⊥
   pub text : printed ≡ bad_line bad.number
 
--- `part` is a beginning of the text.
+-- States that `part` is a beginning of the text.
 abbrev pub BeginsText : (part text : List ℕ) → Type 0
 BeginsText part text = (rest : List ℕ) × (text ≡ part ++ rest)
 
--- The output of a line that was interrupted: nothing, or a beginning of its output.
+-- States that `part` is the output of an interrupted line, which is empty or a beginning of the
+-- line's output.
 abbrev pub LineBegins : Stage → Line → (part : List ℕ) → Type 0
 LineBegins now first part =
     (part ≡ []) ⊎ ((printed : List ℕ) × BeginsText part printed

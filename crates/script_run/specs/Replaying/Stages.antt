@@ -1,4 +1,5 @@
--- The stage of a script, and how an office over a store in memory can fail.
+-- Defines the state of a script's run between two lines, and the failures of an office whose store
+-- is in memory.
 use Rattle.std.specs.Prelude.{◌≡◌, ℕ, Bool, true, false, ◌||◌, ◌↔◌, ◌⊎◌, [], ◌∷◌, Result, Ok, Err}
 use Rattle.interval_core.specs.declared.zone.Zone.{Zone}
 use Rattle.office_events.specs.declared.answers.Answer.{Answer}
@@ -9,29 +10,29 @@ use Rattle.office_rules.specs.History.{History, Opened}
 use Rattle.office_rules.specs.Refusals.{with_answer}
 use Rattle.office_core.specs.Failing.{stops}
 
--- The stage of a script: the events that the office accepted, whether it has stopped, and the time
--- zone of its days.
+-- The state of a script's run. It has the events that the office accepted, whether the office has
+-- stopped, and the time zone of the script's days.
 pub record Stage : Type 0 where
   pub past : History
   pub stopped : Bool
   pub zone : Zone
 
--- The stage at which a script begins: its office was opened at timestamp 0 over an empty store.
+-- The state in which a script begins: an office that was opened at timestamp 0 over an empty store.
 abbrev pub beginning : Zone → Stage
 beginning zone = record { past = Opened 0 ∷ []; stopped = false; zone = zone }
 
--- The office failed: memory ran out, or it had stopped. Over a store in memory there are no other
--- failures.
+-- States that the office failed, because memory ran out or because the office had stopped. An
+-- office whose store is in memory has no other failures.
 abbrev pub Fails : {T : Type 0} → Result T Refusal → Type 0
 Fails (Err refusal.Memory) = Unit {0}
 Fails (Err refusal.Stopped) = Unit {0}
 Fails _ = ⊥
 
--- The reply is the refusal `Stopped` exactly if the office has stopped.
+-- States that the reply is the refusal `Stopped` if and only if the office has stopped.
 abbrev pub TellsStop : {T : Type 0} → Stage → Result T Refusal → Type 0
 TellsStop now reply = (reply ≡ Err refusal.Stopped) ↔ (now.stopped ≡ true)
 
--- The script's stage after the office answered this event.
+-- The state of a script's run after the office replied to an event.
 abbrev pub after_reply : Stage → (at : ℕ) → Event → Result Answer Refusal → Stage
 after_reply now at e reply =
     record {

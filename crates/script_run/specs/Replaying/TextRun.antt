@@ -1,4 +1,5 @@
--- What running a script writes, and the state of its office afterwards.
+-- Defines the contract for running a script, with the output and the state of the office
+-- afterwards.
 use Rattle.std.specs.Prelude.{◌≡◌, ◌⊎◌, ℕ, List, [], ◌++◌, Option, None, Some, Result, Ok, Err, IsErr, ⊤}
 use Rattle.std.specs.Io.KnownBytes.{Appends}
 use Rattle.std.specs.declared.io.Error.{Error}
@@ -17,13 +18,13 @@ use Rattle.script_run.specs.Replaying.Stages.{Stage}
 use Rattle.script_lines.specs.LineWords.Words.{words_of}
 use Rattle.sun_points.specs.Writing.{GotText}
 
--- The stage of a script whose office has this history.
+-- The state of a script's run, from its office and the office's history.
 abbrev pub stage_of : History → Office ListBooks → Stage
 stage_of past office =
     record { past = past; stopped = is_stopped office; zone = (ledger_of (books_in office)).zone }
 
--- The line's output was written, or a part of it if a write failed. The office matches its history
--- after the line.
+-- States that a line's output was written completely, or partly if a write failed. Also states that
+-- the office's store matches the history after the line.
 pub record IsCarriedOut (Prints : Stage → List ℕ → Stage → Type 0) (past : History)
     (office office' : Office ListBooks) (result : Result (Unit {0}) Error)
     (output output' : Option (List ℕ)) : Type 0 where
@@ -33,7 +34,8 @@ pub record IsCarriedOut (Prints : Stage → List ℕ → Stage → Type 0) (past
   pub got : GotText result printed output output'
   pub stands : Stands ledger_of after office'
 
--- The line was executed as `IsCarriedOut` says, or memory ran out before anything was written.
+-- States that a line was executed as `IsCarriedOut` requires, or that memory ran out before any
+-- output.
 abbrev pub MayCarryOut : (Stage → List ℕ → Stage → Type 0) → History
     → (office office' : Office ListBooks) → Result (Unit {0}) Error
     → (output output' : Option (List ℕ)) → Type 0
@@ -41,14 +43,14 @@ MayCarryOut Prints past office office' result output output' =
     IsCarriedOut Prints past office office' result output output'
     ⊎ (IsErr result × Appends output output' [])
 
--- For every history that the office matches, the call executed the line.
+-- States that a call executed its line, for every history that the office's store matches.
 abbrev pub CarriesOut : (Stage → List ℕ → Stage → Type 0) → (office office' : Office ListBooks)
     → Result (Unit {0}) Error → (output output' : Option (List ℕ)) → Type 0
 CarriesOut Prints office office' result output output' =
     (past : History) → Stands ledger_of past office
     → IsCarriedOut Prints past office office' result output output'
 
--- The words spell a line of a script, and it was executed.
+-- States that the words of a line spell a script line, and that the line was executed.
 pub record LineRan (past : History) (line : Line) (office office' : Office ListBooks)
     (output output' : Option (List ℕ)) : Type 0 where
   pub printed : List ℕ
@@ -58,8 +60,8 @@ pub record LineRan (past : History) (line : Line) (office office' : Office ListB
   pub appended : Appends output output' printed
   pub stands : Stands ledger_of after office'
 
--- The line was executed, or it ends the run: its words spell no line of a script, or it was
--- interrupted.
+-- States that a line was executed, or that the line ends the run because its words spell no script
+-- line or because the line was interrupted.
 abbrev pub LineRuns : History → Line → (office office' : Office ListBooks)
     → Result (Unit {0}) ExitStatus → (output output' : Option (List ℕ)) → Type 0
 LineRuns past line office office' (Ok done) output output' =
@@ -70,7 +72,8 @@ LineRuns past line office office' (Err Refused) output output' =
 LineRuns past line office office' (Err Failed) output output' =
     (part : List ℕ) × Appends output output' part × LineBegins (stage_of past office) line part
 
--- The bytes that were written are the complete output, or a beginning of it if the run failed.
+-- States that the writer received the complete output of a run. If the run failed, the writer
+-- received a beginning of the output.
 abbrev pub Writes : (Prints : List ℕ → ExitStatus → Type 0) → (Begins : List ℕ → Type 0)
     → ExitStatus → (output output' : Option (List ℕ)) → Type 0
 Writes Prints Begins Fine output output' =
@@ -80,25 +83,29 @@ Writes Prints Begins Refused output output' =
 Writes Prints Begins Failed output output' =
     (part : List ℕ) × Appends output output' part × Begins part
 
--- The outcome of running a text.
+-- States the outcome of running a text. The writer received the run's output, or a beginning of
+-- this output if the run failed.
 abbrev pub TextRuns : Zone → (text : List ℕ) → ExitStatus
     → (output output' : Option (List ℕ)) → Type 0
 TextRuns zone text status output output' =
     Writes (TextPrints zone text) (TextBegins zone text) status output output'
 
--- The outcome of running an input.
+-- States the outcome of running an input. The writer received the run's output, or a beginning of
+-- this output if the run failed.
 abbrev pub InputRuns : Zone → (input : List ℕ) → ExitStatus → (output output' : Option (List ℕ))
     → Type 0
 InputRuns zone input status output output' =
     Writes (ReplayPrints zone input) (ReplayBegins zone input) status output output'
 
--- The writer holds a beginning of this sequence: its earlier buffered bytes, followed by the text.
+-- States that a writer received a beginning of a longer text. The longer text is the bytes that
+-- were already in the writer's buffer, and then the given text.
 abbrev pub HoldsPart : (old new : Option (List ℕ)) → (text : List ℕ) → Type 0
 HoldsPart None new text = ⊤
 HoldsPart (Some buffered) None text = ⊥
 HoldsPart (Some buffered) (Some holds) text = (rest : List ℕ) × (buffered ++ text ≡ holds ++ rest)
 
--- What a run leaves in the writer that its caller gave it.
+-- States that the caller's writer received the complete output of a run. If the run failed, the
+-- writer received a beginning of the output.
 abbrev pub Replays : Zone → (input : List ℕ) → ExitStatus
     → (output output' : Option (List ℕ)) → Type 0
 Replays zone input Failed output output' =

@@ -1,4 +1,4 @@
-//! A simulated device that the lines of a setup text configure.
+//! A simulated Modbus device that the lines of a text configure.
 ghost use Rattle.std.specs.Prelude.{◌≡◌, IfOk, OnErr};
 ghost use Rattle.script_run.specs.Bank.Settings as setting;
 
@@ -22,16 +22,17 @@ impl Model for Setup {
     ghost view = { λ s. record { maps = s.bank; tricks = s.tricks.items } };
 }
 
-/// The parts of a simulated device.
+/// The register map and the injected faults of a simulated device.
 #[derive(Drop)]
 pub struct SetupParts {
     pub bank: Bank,
-    /// The faults to inject, each with the number of the frame whose response gets it. If two have
-    /// the same number, the first is injected.
+    /// The faults to inject, each with the number of a frame. A fault is injected into the response
+    /// to that frame. If two faults have the same number, only the first is injected.
     pub tricks: Vec<(u64, Trick)>,
 }
 
-// Returns the area with these numbers, if they are in range.
+// Returns the range of Modbus addresses that a setup line describes, or `None` if the line's
+// numbers are out of range.
 fn area_of(given: GivenArea) -> Option<Area>
     ensures { result ≡ setting.area_of given }
 {
@@ -50,7 +51,7 @@ fn area_of(given: GivenArea) -> Option<Area>
 impl Setup {
     ghost use Rattle.script_run.specs.Bank.Settings.{IsUnset, after_area, after_cell, after_line, takes, takes_area, takes_cell};
 
-    /// Makes a simulated device without addresses and without faults.
+    /// Creates a simulated device without addresses and without injected faults.
     pub fn new(alloc: Global) -> Result<Setup, AllocError>
         ensures { IfOk result IsUnset }
     {
@@ -61,7 +62,7 @@ impl Setup {
         })
     }
 
-    /// Splits the device into its parts.
+    /// Splits a simulated device into its register map and its injected faults.
     pub fn into_parts(self) -> SetupParts
         ensures bank { result.bank ≡ self.maps }
         ensures tricks { result.tricks.items ≡ self.tricks }
@@ -70,7 +71,8 @@ impl Setup {
         SetupParts { bank, tricks }
     }
 
-    // Adds an area, if the register map accepts it. Returns whether it does.
+    // Adds a range of addresses if the register map accepts the range. Returns whether the map
+    // accepts the range.
     fn add_area(&mut self, given: GivenArea) -> bool
         ensures taken { result ≡ takes_area self.old.maps given }
         ensures after { self.new ≡ after_area self.old given }
@@ -78,7 +80,8 @@ impl Setup {
         add_in(&mut self.bank, given)
     }
 
-    /// Stores a value. Returns whether the register map has the address and accepts the value.
+    /// Stores a value at a Modbus address. Returns whether the register map has the address and
+    /// accepts the value.
     pub fn set_cell(&mut self, given: GivenCell) -> bool
         ensures taken { result ≡ takes_cell self.old.maps given }
         ensures after { self.new ≡ after_cell self.old given }
@@ -94,8 +97,8 @@ impl Setup {
         Ok(())
     }
 
-    /// Executes a line. Returns whether the register map accepts it. A line that it refuses changes
-    /// nothing, and it accepts every fault to inject.
+    /// Executes a setup line. Returns whether the register map accepts the line. A refused line
+    /// changes nothing. Lines that inject faults are always accepted.
     pub fn carry_out(&mut self, line: &BankLine) -> Result<bool, AllocError>
         ensures taken { IfOk result (λ taken. taken ≡ takes self.old.maps line.now) }
         ensures after { IfOk result (λ taken. self.new ≡ after_line self.old line.now) }
@@ -112,7 +115,7 @@ impl Setup {
     }
 }
 
-/// Makes a register map without any address.
+/// Creates a register map without any address.
 pub fn empty_bank(alloc: Global) -> Result<Bank, AllocError>
     ensures { IfOk result setting.AreUnset }
 {
@@ -122,7 +125,8 @@ pub fn empty_bank(alloc: Global) -> Result<Bank, AllocError>
     }
 }
 
-/// Adds an area of values that are 0 to a register map. Returns whether the map accepts it.
+/// Adds a range of addresses with value 0 to a register map. Returns whether the map accepts the
+/// range.
 pub fn add_in(bank: &mut Bank, given: GivenArea) -> bool
     ensures taken { result ≡ setting.takes_area bank.old given }
     ensures after { bank.new ≡ setting.with_area bank.old given }

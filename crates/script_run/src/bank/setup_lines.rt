@@ -1,4 +1,4 @@
-//! Reads the lines that set up a simulated device.
+//! Executes the lines that set up a simulated device.
 ghost use Rattle.script_run.specs.Bank.Running as running;
 
 use crate::bank::setup::Setup;
@@ -9,7 +9,7 @@ use script_text::{write_bad_line, write_refusal};
 use std::alloc::Global;
 use std::io::{Read, Write};
 
-// Executes a line, and prints `refused 12` if the register map refuses it.
+// Executes a setup line, and prints `refused 12` if the register map refuses the line.
 fn carry_out<W: Write>(setup: &mut Setup, said: &BankLine, output: &mut W) -> Result<(), ExitStatus>
     ensures { running.Carries setup.old said.now result setup.new
         (W.contents output.old) (W.contents output.new) }
@@ -24,7 +24,7 @@ fn carry_out<W: Write>(setup: &mut Setup, said: &BankLine, output: &mut W) -> Re
     }
 }
 
-// Executes a line of a text, or returns the status that ends the run.
+// Parses and executes a setup line, or returns the exit status that ends the run.
 fn run_line<W: Write>(
     setup: &mut Setup,
     number: u64,
@@ -60,9 +60,9 @@ fn run_text<W: Write>(setup: &mut Setup, text: &[u8], output: &mut W) -> Result<
 /// Sets up a simulated device by the lines of an input, and prints `refused 12` for each line that
 /// the register map refuses.
 ///
-/// A line without a form prints `bad line N`, and an input of more than `MOST_BYTES` bytes prints
-/// `too long`. Both end the run as `Refused`. If the input or the output fails or memory runs out,
-/// the run ends as `Failed`.
+/// Prints `bad line N` for a malformed line, and `too long` for an input of more than `MOST_BYTES`
+/// bytes; both end the run as `Refused`. If the input or the output fails or memory runs out, the
+/// run ends as `Failed`.
 pub fn set_up<R: Read, W: Write>(
     alloc: Global,
     input: &mut R,

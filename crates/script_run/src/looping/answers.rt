@@ -1,4 +1,4 @@
-//! Gives the responses of the simulator to the office.
+//! Passes the responses of the simulator to the office.
 ghost use Rattle.std.specs.Prelude.{codes};
 ghost use Rattle.script_run.specs.Looping.Answers.{AnswersPrint, FedPrints};
 ghost use Rattle.script_run.specs.Looping.Standings.{Carries};
@@ -15,11 +15,12 @@ use std::alloc::{AllocError, Global};
 use std::io::{self, Write};
 use sun_points::Sink;
 
-/// What arrived on a device's connection to the simulator.
+/// The result of a read from a device's connection to the simulator: bytes, or the end of the
+/// connection.
 #[derive(Drop)]
 pub(crate) enum Came {
     Piece(Piece),
-    /// The connection ended.
+    /// The connection to the simulator ended.
     Over(Closing),
 }
 
@@ -44,7 +45,8 @@ impl Came {
     }
 }
 
-// Reads once from the device's end of a connection. Returns `None` after a timeout.
+// Reads once from the device's end of a connection to the simulator. Returns `None` after a
+// timeout.
 fn next_came<L: Link>(alloc: Global, near: &mut L) -> Result<Option<Came>, AllocError> {
     let mut piece = [0; MAX_ADU];
     match near.take(&mut piece) {
@@ -58,8 +60,8 @@ fn next_came<L: Link>(alloc: Global, near: &mut L) -> Result<Option<Came>, Alloc
     }
 }
 
-// Gives an event to the office, and prints its notifications or its refusal. Returns whether the
-// office accepted it.
+// Passes an event to the office, and prints the notifications or the refusal. Returns whether the
+// office accepted the event.
 fn feed<W: Write>(
     office: &mut Office<ListBooks>,
     at: u64,
@@ -82,9 +84,9 @@ fn feed<W: Write>(
     }
 }
 
-/// Gives everything that arrives at the device's end of its connection to the office, until a read
-/// times out. Prints the notifications and `ok`, or the first refusal. Returns whether the
-/// connection stays open.
+/// Passes everything that arrives on a device's connection to the office, until a read times out.
+/// Prints the notifications and `ok`, or the first refusal. Returns whether the connection stays
+/// open.
 pub(crate) fn feed_answers<L: Link, W: Write>(
     alloc: Global,
     office: &mut Office<ListBooks>,
@@ -113,7 +115,7 @@ pub(crate) fn feed_answers<L: Link, W: Write>(
     end_well(true, output)
 }
 
-// Prints `ok`. Returns whether the connection stays open.
+// Prints `ok`, and returns `stays`, which is true if the connection to the simulator stays open.
 fn end_well<W: Write>(stays: bool, output: &mut W) -> io::Result<bool>
     ensures { GotText result (codes "ok\n") (W.contents output.old) (W.contents output.new) }
 {

@@ -1,4 +1,4 @@
-//! Executes the lines of a loop.
+//! Executes the lines of a loop, a script over simulated devices.
 ghost use Rattle.std.specs.Prelude.{◌≡◌, true, false};
 ghost use Rattle.script_run.specs.Bank.Settings as setting;
 ghost use Rattle.script_run.specs.Looping.Lines as form;
@@ -23,17 +23,19 @@ use script_text::write_refusal;
 use std::alloc::Global;
 use std::io::{self, ErrorKind, Write};
 
-/// The state of a running loop.
+/// The state of a running loop (a script over simulated devices): the office, the simulator, and
+/// the connections between them.
 #[derive(Drop)]
 pub(crate) struct Run<'t, L: Link + Drop> {
     pub(crate) office: Office<ListBooks>,
     pub(crate) bank: Bank,
     pub(crate) wires: Wires<'t, L>,
-    /// Whether a line has connected a device.
+    /// True if an earlier line of the script has connected a device.
     pub(crate) connected: bool,
 }
 
-/// Executes a line. Returns whether it can be parsed and is allowed here.
+/// Executes a line of a loop (a script over simulated devices). Returns whether the line can be
+/// parsed and is allowed at this position.
 pub(crate) fn run_line<C: Connects, W: Write>(
     alloc: Global,
     run: &mut Run<'_, C::End>,
@@ -55,7 +57,8 @@ pub(crate) fn run_line<C: Connects, W: Write>(
     }
 }
 
-// Returns whether a line of the simulator is allowed here.
+// Returns whether a setup line is allowed at this position. The lines `area` and `trick` are
+// allowed only before a device is connected.
 fn may_stand(connected: bool, said: &BankLine) -> bool
     ensures yes { result ≡ true → form.MayStand connected said.now }
     ensures no { result ≡ false → form.MayNotStand connected said.now }
@@ -67,8 +70,8 @@ fn may_stand(connected: bool, said: &BankLine) -> bool
     }
 }
 
-// Offers a line to the register map, and returns whether the map accepts it. A fault to inject
-// changes nothing here, because connections inject faults from their start on.
+// Applies a setup line to the register map, and returns whether the map accepts the line. Lines
+// that inject faults are skipped, because each new connection gets these faults when it is opened.
 fn take_line(bank: &mut Bank, said: &BankLine) -> bool
     ensures taken { result ≡ setting.takes bank.old said.now }
     ensures after { bank.new ≡ form.maps_with bank.old said.now }
@@ -80,7 +83,7 @@ fn take_line(bank: &mut Bank, said: &BankLine) -> bool
     }
 }
 
-// Prints whether the register map accepted a line.
+// Prints `ok` or a refusal, depending on whether the register map accepted a setup line.
 fn tell_taken<W: Write>(taken: bool, output: &mut W) -> io::Result<()>
     ensures { GotText result (form.taken_text taken)
         (W.contents output.old) (W.contents output.new) }
@@ -92,7 +95,8 @@ fn tell_taken<W: Write>(taken: bool, output: &mut W) -> io::Result<()>
     }
 }
 
-// Executes a line of the simulator. Returns whether it is allowed here.
+// Executes a setup line in a loop (a script over simulated devices). Returns whether the line is
+// allowed at this position.
 fn run_bank_line<L: Link + Drop, W: Write>(
     run: &mut Run<'_, L>,
     said: &BankLine,
@@ -110,7 +114,8 @@ fn run_bank_line<L: Link + Drop, W: Write>(
     Ok(true)
 }
 
-// Executes a script line. Returns whether it is allowed here.
+// Executes a script line over simulated devices. Returns false for a line with bytes of a device,
+// because only the simulator may send bytes.
 fn run_script_line<C: Connects, W: Write>(
     alloc: Global,
     run: &mut Run<'_, C::End>,
@@ -148,7 +153,7 @@ fn run_script_line<C: Connects, W: Write>(
     }
 }
 
-// Executes a script line in the way of a script without a simulator.
+// Executes a script line that does not use the simulator.
 fn carry_alike<L: Link + Drop, W: Write>(
     alloc: Global,
     run: &mut Run<'_, L>,
@@ -162,7 +167,8 @@ fn carry_alike<L: Link + Drop, W: Write>(
     carry_out(alloc, &mut run.office, said, output)
 }
 
-// Executes an event. Returns whether it is allowed here.
+// Executes an event of a script over simulated devices. Returns false for an event with bytes of a
+// device, because only the simulator may send bytes.
 fn run_event<C: Connects, W: Write>(
     alloc: Global,
     run: &mut Run<'_, C::End>,
@@ -208,7 +214,8 @@ fn run_event<C: Connects, W: Write>(
     }
 }
 
-// Returns the name of the device whose round a command starts. `None` if it starts no round.
+// Returns the name of the device for which a command starts a round of reads, or `None` for any
+// other command.
 fn round_of(command: &Command) -> Option<Option<Name>>
     ensures { result ≡ form.round_of command.now }
 {
@@ -228,7 +235,8 @@ fn round_of(command: &Command) -> Option<Option<Name>>
     }
 }
 
-// Executes a command, which may start a round.
+// Executes a command of a script over simulated devices. A command that starts a round of reads
+// also exchanges frames with the simulator.
 fn run_command<L: Link + Drop, W: Write>(
     alloc: Global,
     run: &mut Run<'_, L>,
@@ -256,7 +264,7 @@ fn run_command<L: Link + Drop, W: Write>(
     }
 }
 
-// Starts a read, if one read can cover its Modbus registers.
+// Starts a Modbus read, or prints a refusal if one read request cannot cover the Modbus registers.
 fn run_start<L: Link + Drop, W: Write>(
     alloc: Global,
     run: &mut Run<'_, L>,

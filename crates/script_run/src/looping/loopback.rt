@@ -1,14 +1,14 @@
-//! Connections over the loopback network.
+//! Connections to the simulator over the loopback network interface.
 use crate::looping::wires::{Connects, Ends};
 use socket_link::SocketLink;
 use std::io;
 use std::net::{Net, OpenListener, OpenStream, SocketAddr, TcpListener, TcpStream};
 use std::time::Duration;
 
-/// The milliseconds after which a read times out.
+/// The timeout of a read from a loopback connection, in milliseconds.
 const WAIT: u64 = 20;
 
-/// A listener on the loopback network, and connections to it.
+/// A listener on the loopback network interface, which makes pairs of connected sockets.
 #[derive(Drop)]
 pub struct Loopback<'r, R: Net> {
     net: &'r R,
@@ -17,7 +17,7 @@ pub struct Loopback<'r, R: Net> {
 }
 
 impl<'r, R: Net> Loopback<'r, R> {
-    /// Opens a listener on a port that the system chooses.
+    /// Opens a listener on 127.0.0.1, at a port that the operating system chooses.
     pub fn new(net: &'r R) -> io::Result<Loopback<'r, R>> {
         let listener = TcpListener::bind(net, "127.0.0.1:0")?;
         let address = listener.local_addr()?;

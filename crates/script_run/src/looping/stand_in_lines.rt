@@ -1,4 +1,5 @@
-//! Executes the lines that use the simulator.
+//! Executes the lines of a loop (a script over simulated devices) that exchange data with the
+//! simulator.
 ghost use Rattle.std.specs.Prelude.{Bool};
 ghost use Rattle.office_events.specs.declared.events.Event.TheVariants as event;
 ghost use Rattle.script_run.specs.Looping.Answers.{AnswersPrint};
@@ -17,8 +18,8 @@ use script_text::{write_accepted, write_refusal};
 use std::alloc::Global;
 use std::io::{self, Write};
 
-/// Starts a read or a round. If the office accepts it, its frames are sent to the simulator, and
-/// the responses are given to the office.
+/// Starts a read or a round of reads. If the office accepts the start, the frames go to the
+/// simulator, and the responses go to the office.
 pub(crate) fn start<L: Link + Drop, W: Write>(
     alloc: Global,
     office: &mut Office<ListBooks>,
@@ -50,7 +51,7 @@ fn count_of(answer: &Answer) -> u64 {
     }
 }
 
-// Gives the responses on a device's connection to the office, if the device has a connection.
+// Passes the responses on a device's connection to the office, if the device has a connection.
 fn bring_answers<L: Link + Drop, W: Write>(
     alloc: Global,
     office: &mut Office<ListBooks>,
@@ -75,7 +76,7 @@ fn bring_answers<L: Link + Drop, W: Write>(
     }
 }
 
-/// Connects a device: gives the event to the office, and opens a connection to the simulator.
+/// Connects a device: passes the event to the office, and opens a connection to the simulator.
 pub(crate) fn connect<C: Connects, W: Write>(
     office: &mut Office<ListBooks>,
     wires: &mut Wires<'_, C::End>,
@@ -97,8 +98,8 @@ pub(crate) fn connect<C: Connects, W: Write>(
     }
 }
 
-/// Ends the connection of a device: gives the event to the office, and closes the connection to the
-/// simulator.
+/// Ends the connection of a device: passes the event to the office, and closes the connection to
+/// the simulator.
 pub(crate) fn leave<L: Link + Drop, W: Write>(
     office: &mut Office<ListBooks>,
     wires: &mut Wires<'_, L>,

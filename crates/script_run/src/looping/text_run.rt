@@ -21,13 +21,13 @@ use std::io::{Read, Write};
 
 /// Runs a script over an office in memory whose devices are all one simulator in this process.
 ///
-/// It executes lines as [`replay`](crate::replay) does, except for these:
+/// `loop_text` executes lines as [`replay`](crate::replay) does, with these differences:
 ///
-/// - Lines of a simulator may come between script lines. They print `ok`, or `refused 12` if the
-///   register map refuses them. `area` and `trick` must come before the first line that connects.
-/// - A line that connects a device also makes a connection to the simulator.
-/// - If a line starts reads, their frames are sent, answered and fed at once. The notifications and
-///   `ok` follow what was started.
+/// - Lines that set up the simulator may come between script lines. They print `ok`, or `refused
+///   12` if the register map refuses them. `area` and `trick` must precede the first `connect`.
+/// - A line that connects a device also opens a connection to the simulator.
+/// - A line that starts reads sends their frames to the simulator, and feeds the responses at once.
+///   The notifications and `ok` follow the line `started`.
 /// - A line with the bytes of a device is a bad line.
 pub fn loop_text<R: Read, C: Connects, W: Write>(
     alloc: Global,
@@ -45,7 +45,8 @@ pub fn loop_text<R: Read, C: Connects, W: Write>(
     }
 }
 
-// Returns the faults to inject: those that a text has before its first line that connects a device.
+// Returns the faults to inject, from the lines of a text before the first line that connects a
+// device.
 fn tricks_in(alloc: Global, text: &[u8]) -> Result<Vec<(u64, Trick)>, AllocError> {
     let mut tricks = Vec::new(alloc);
     let mut lines = InputLines::of(text);
@@ -71,7 +72,8 @@ fn connects_device(alloc: Global, line: &[u8]) -> Result<bool, AllocError> {
     }
 }
 
-// Runs the lines of a text over an office that is opened at timestamp 0.
+// Runs the lines of a loop (a script over simulated devices) over an office in memory, which is
+// opened at timestamp 0.
 fn run_text<C: Connects, W: Write>(
     alloc: Global,
     zone: Zone,
@@ -90,7 +92,8 @@ fn run_text<C: Connects, W: Write>(
     run_opened(alloc, zone, text, bank, &tricks, connects, output)
 }
 
-// Runs the lines with a register map without addresses.
+// Runs the lines of a loop (a script over simulated devices) over an office, with an empty register
+// map.
 fn run_opened<C: Connects, W: Write>(
     alloc: Global,
     zone: Zone,
@@ -117,7 +120,7 @@ fn run_opened<C: Connects, W: Write>(
     }
 }
 
-// Prints the refusal that explains why no office could be made.
+// Prints the refusal that explains why the office could not be created.
 fn tell_refused<W: Write>(why: Refusal, output: &mut W) -> ExitStatus
     ensures { TellsText (refused_line why) result (W.contents output.old) (W.contents output.new) }
 {

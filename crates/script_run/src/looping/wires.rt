@@ -8,27 +8,27 @@ use office_events::Name;
 use std::alloc::{AllocError, Global};
 use std::io;
 
-/// The most reads from a connection after one line that starts reads, and the most turns of the
-/// simulator.
+/// The maximum number of reads from a connection after a line that starts Modbus reads. Also the
+/// maximum number of times that the simulator reads and answers requests.
 pub(crate) const MOST_TAKES: u32 = 100_000;
 
-/// The two ends of a connection. Each reads what is written to the other.
+/// The two ends of a connection. Each end reads the bytes that are written to the other end.
 #[derive(Drop)]
 pub struct Ends<L: Link + Drop> {
     pub near: L,
     pub far: L,
 }
 
-/// Makes connections to the simulator.
+/// A source of connections between a device of the office and the simulator.
 pub trait Connects {
     type End: Link + Drop;
 
-    /// Makes a connection, and returns its two ends.
+    /// Opens a connection, and returns its two ends.
     fn connect(&mut self) -> io::Result<Ends<Self::End>>;
 }
 
-/// The connection of a device to the simulator, which injects its faults here. Without a far end,
-/// the simulator has closed the connection.
+/// The connection of a device to the simulator, with the faults that the simulator injects. If
+/// there is no far end, the simulator has closed the connection.
 #[derive(Drop)]
 pub(crate) struct Wire<'t, L: Link + Drop> {
     device: Option<Name>,
@@ -37,15 +37,15 @@ pub(crate) struct Wire<'t, L: Link + Drop> {
     server: Server<'t>,
 }
 
-/// The connections of all devices.
+/// The connections of all devices to the simulator.
 #[derive(Drop)]
 pub(crate) struct Wires<'t, L: Link + Drop> {
     tricks: &'t [(u64, Trick)],
     all: Vec<Wire<'t, L>>,
 }
 
-// Lets the simulator take a turn. Returns how many frames it answered, or `None` if it closes the
-// connection.
+// Lets the simulator read request bytes once, and answer each complete frame. Returns the number of
+// answered frames, or `None` if the simulator closes the connection.
 fn answer_turn<L: Link>(server: &mut Server<'_>, far: &mut L, bank: &mut Bank) -> Option<u64>
     ensures carried_out { Exchanged bank.old bank.new }
     ensures few { IfSome result (λ answered. answered ≤ 260) }
@@ -56,7 +56,7 @@ fn answer_turn<L: Link>(server: &mut Server<'_>, far: &mut L, bank: &mut Bank) -
     }
 }
 
-// Lets the simulator answer the frames at the far end, until it answered `count` of them or a read
+// Lets the simulator answer request frames. Stops after `count` answered frames, or when a read
 // times out. Returns whether the connection stays open.
 fn answer<L: Link>(server: &mut Server<'_>, far: &mut L, count: u64, bank: &mut Bank) -> bool
     ensures { Exchanged bank.old bank.new }
@@ -75,8 +75,8 @@ fn answer<L: Link>(server: &mut Server<'_>, far: &mut L, count: u64, bank: &mut 
 }
 
 impl<'t, L: Link + Drop> Wire<'t, L> {
-    // Sends frames to the simulator, which answers `count` of them. Closes the connection if that
-    // fails.
+    // Sends request frames to the simulator, and lets it answer `count` frames. If sending fails,
+    // closes the connection.
     fn send(&mut self, frames: &[u8], count: u64, bank: &mut Bank)
         ensures { Exchanged bank.old bank.new }
     {
@@ -94,7 +94,7 @@ impl<'t, L: Link + Drop> Wire<'t, L> {
 }
 
 impl<'t, L: Link + Drop> Wires<'t, L> {
-    /// Makes a value without connections.
+    /// Creates an empty set of connections.
     pub(crate) fn new(alloc: Global, tricks: &'t [(u64, Trick)]) -> Wires<'t, L> {
         Wires {
             tricks,
@@ -102,7 +102,7 @@ impl<'t, L: Link + Drop> Wires<'t, L> {
         }
     }
 
-    /// Gives a device a new connection. It replaces an earlier one.
+    /// Stores the new connection of a device, and drops the device's earlier connection.
     pub(crate) fn connect(
         &mut self,
         device: &Option<Name>,
@@ -119,28 +119,28 @@ impl<'t, L: Link + Drop> Wires<'t, L> {
         Ok(())
     }
 
-    /// Removes the connection of a device.
+    /// Closes and removes the connection of a device, if the device has one.
     pub(crate) fn drop_wire(&mut self, device: &Option<Name>) {
         if let Some(place) = self.place_of(device) {
             let _gone = self.all.swap_remove(place);
         }
     }
 
-    /// Returns the index of a device's connection, if it has one.
+    /// Returns the index of a device's connection, or `None` if the device has no connection.
     pub(crate) fn place_of(&self, device: &Option<Name>) -> Option<usize>
         ensures { IfSome result (λ place. place < length self.now.all.items) }
     {
         self.all.iter().position(|wire| wire.device == *device)
     }
 
-    /// Returns the device's end of a connection.
+    /// Returns the device's end of the connection with the given index.
     pub(crate) fn near(&mut self, place: usize) -> &mut L
         requires { place < length self.old.all.items }
     {
         &mut self.all[place].near
     }
 
-    /// Sends frames of a device to the simulator, which answers `count` of them.
+    /// Sends the request frames for a device to the simulator, and lets it answer `count` frames.
     pub(crate) fn send(&mut self, device: &Option<Name>, frames: &[u8], count: u64, bank: &mut Bank)
         ensures { Exchanged bank.old bank.new }
     {

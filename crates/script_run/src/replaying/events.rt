@@ -1,4 +1,4 @@
-//! Executes events and commands.
+//! Executes the events and commands of a script over a store in memory.
 ghost use Rattle.std.specs.Prelude.{◌++◌, flat_map};
 ghost use Rattle.office_events.specs.declared.refusals.Refusal.TheVariants as refusal;
 ghost use Rattle.memory_books.specs.Listed.{ledger_of};
@@ -18,7 +18,7 @@ use script_text::{write_accepted, write_faults, write_refusal};
 use std::alloc::Global;
 use std::io::{self, ErrorKind, Write};
 
-/// Gives an event to the office, and prints the office's answer.
+/// Passes an event to the office, and prints the office's reply.
 pub fn feed<W: Write>(
     office: &mut Office<ListBooks>,
     at: u64,
@@ -34,7 +34,7 @@ pub fn feed<W: Write>(
     }
 }
 
-/// Starts a read, if one read can cover its Modbus registers.
+/// Starts a Modbus read, or prints a refusal if one read request cannot cover the Modbus registers.
 pub(crate) fn feed_start<W: Write>(
     office: &mut Office<ListBooks>,
     at: u64,
@@ -59,7 +59,7 @@ pub(crate) fn feed_start<W: Write>(
     }
 }
 
-/// Stores a point list, if its rows have no faults.
+/// Stores a point list of a device, or prints the list's faulty rows.
 pub(crate) fn feed_list<W: Write>(
     alloc: Global,
     office: &mut Office<ListBooks>,
@@ -87,7 +87,7 @@ pub(crate) fn feed_list<W: Write>(
     }
 }
 
-// Prints a line for each faulty row, and the refusal of the list.
+// Prints one line for each faulty row of a point list, and then a refusal.
 fn refuse_list<W: Write>(rows: &[FaultyRow], output: &mut W) -> io::Result<()>
     ensures { GotText result (flat_map text.fault_line rows.now ++ text.refused_line refusal.Limit)
         (W.contents output.old) (W.contents output.new) }

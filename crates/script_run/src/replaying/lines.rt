@@ -1,4 +1,4 @@
-//! Executes a line of a script.
+//! Executes the lines of a script over a store in memory.
 ghost use Rattle.memory_books.specs.Listed.{ledger_of};
 ghost use Rattle.office_rules.specs.History.{History};
 ghost use Rattle.office_core.specs.Standing.{Stands};
@@ -15,7 +15,7 @@ use script_text::write_bad_line;
 use std::alloc::Global;
 use std::io::{self, Write};
 
-/// Executes a line, and prints its answer.
+/// Executes a parsed script line, and prints its output.
 pub fn carry_out<W: Write>(
     alloc: Global,
     office: &mut Office<ListBooks>,
@@ -37,7 +37,7 @@ pub fn carry_out<W: Write>(
     }
 }
 
-/// Executes a line of a text. If it ends the run, returns the exit status.
+/// Parses and executes a line of a script. Returns the exit status if the line ends the run.
 pub(crate) fn run_line<W: Write>(
     alloc: Global,
     office: &mut Office<ListBooks>,

@@ -1,4 +1,4 @@
-//! Executes queries.
+//! Executes the queries of a script.
 ghost use Rattle.script_run.specs.Replaying.Asked.{DaysPrint, IntervalsPrint, MeterPrints, PollPrints};
 ghost use Rattle.script_run.specs.Replaying.Asked.{last_line};
 ghost use Rattle.script_run.specs.Replaying.TextRun.{CarriesOut};
@@ -11,7 +11,7 @@ use office_events::{Name, Refusal};
 use script_text::{write_end, write_meter, write_poll, write_refusal};
 use std::io::{self, ErrorKind, Write};
 
-/// Prints the row of a meter.
+/// Prints the line of a meter, with its last count, its total energy, and whether it was closed.
 pub(crate) fn tell_meter<W: Write>(
     office: &mut Office<ListBooks>,
     name: &Option<Name>,
@@ -26,7 +26,7 @@ pub(crate) fn tell_meter<W: Write>(
     }
 }
 
-/// Prints the outcome of a poll.
+/// Prints the number and the outcome of a poll.
 pub(crate) fn tell_poll<W: Write>(
     office: &mut Office<ListBooks>,
     number: u64,
@@ -41,7 +41,7 @@ pub(crate) fn tell_poll<W: Write>(
     }
 }
 
-/// Prints the energy of a meter by quarter hour.
+/// Prints the energy of a meter in each quarter hour, in mWh.
 pub(crate) fn tell_intervals<W: Write>(
     office: &mut Office<ListBooks>,
     meter: &Option<Name>,
@@ -58,7 +58,7 @@ pub(crate) fn tell_intervals<W: Write>(
     write_last(told, rows.count, rows.output)
 }
 
-/// Prints the energy of a register by civil day.
+/// Prints the energy of an accounting register on each civil day of the script's time zone, in mWh.
 pub(crate) fn tell_days<W: Write>(
     office: &mut Office<ListBooks>,
     register: &Option<Name>,
@@ -75,7 +75,8 @@ pub(crate) fn tell_days<W: Write>(
     write_last(told, rows.count, rows.output)
 }
 
-// Prints the number of rows, or the refusal that ended them.
+// Prints the last line of a query: `end N` with the number of rows, or the refusal that ended the
+// query.
 fn write_last<W: Write>(told: Result<(), Refusal>, count: u64, output: &mut W) -> io::Result<()>
     ensures { GotText result (last_line count told)
         (W.contents output.old) (W.contents output.new) }

@@ -1,4 +1,4 @@
-//! Runs a script over an office in memory.
+//! Runs a script from a reader to a writer over a store in memory.
 ghost use Rattle.std.specs.Prelude.{IfSome};
 ghost use Rattle.script_run.specs.Replaying.TextRun.{Replays};
 
@@ -8,21 +8,21 @@ use interval_core::Zone;
 use std::alloc::Global;
 use std::io::{Read, Write};
 
-/// The exit status of a run, and the writer that it was given.
+/// The exit status of a run, and the writer with the run's output.
 #[derive(Drop)]
 pub struct Replayed<W> {
     pub status: ExitStatus,
     pub output: W,
 }
 
-/// Runs a script over an office in memory, and prints the answer of each line. The office is opened
-/// at timestamp 0, and its days are those of the zone.
+/// Runs a script over an office in memory, and prints the output of each line. The office is opened
+/// at timestamp 0, and its days are civil days in `zone`.
 ///
-/// `refused N` is an answer, and the script continues. A line without a form prints `bad line N`
-/// and ends the run. An input of more than 4,194,304 bytes prints only `too long`.
+/// The script continues after `refused N`. A malformed line prints `bad line N` and ends the run.
+/// An input of more than 4,194,304 bytes prints only `too long`.
 ///
-/// The complete input is read before its first line is executed. Output is written in pieces of
-/// some 8 KiB, and at the end.
+/// The complete input is read before the first line is executed. Output is written in chunks of
+/// about 8 KiB, and at the end of the run.
 pub fn replay<R: Read, W: Write>(alloc: Global, zone: Zone, input: &mut R, output: W) -> Replayed<W>
     ensures { IfSome (R.remaining input.old)
         (λ all. Replays zone all result.status (W.contents output) (W.contents result.output)) }

@@ -1,4 +1,4 @@
-//! Runs the lines of a text in order.
+//! Runs the lines of a script in order over a store in memory.
 ghost use Rattle.script_run.specs.Replaying.TextRun.{InputRuns, TextRuns};
 ghost use Rattle.std.specs.Prelude.{IfSome};
 
@@ -11,7 +11,7 @@ use script_text::write_refusal;
 use std::alloc::Global;
 use std::io::{Read, Write};
 
-// Runs the lines of a text over an office in memory, which is opened at timestamp 0.
+// Runs the lines of a script over a new office in memory, which is opened at timestamp 0.
 fn run_text<W: Write>(alloc: Global, zone: Zone, text: &[u8], output: &mut W) -> ExitStatus
     ensures { TextRuns zone text.now result (W.contents output.old) (W.contents output.new) }
 {
@@ -34,7 +34,7 @@ fn run_text<W: Write>(alloc: Global, zone: Zone, text: &[u8], output: &mut W) ->
     ExitStatus::Fine
 }
 
-/// Runs an input as a script.
+/// Reads an input, and runs it as a script.
 pub(crate) fn run_input<R: Read, W: Write>(
     alloc: Global,
     zone: Zone,

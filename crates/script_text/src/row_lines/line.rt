@@ -6,14 +6,14 @@ ghost use Rattle.jiff_fmt.specs.Text.{pad2};
 use itoa::{Buffer, Integer};
 use std::marker::Model;
 
-/// A text of at most `N` bytes, in a fixed buffer.
+/// A text of at most `N` bytes in an array of fixed size.
 #[derive(Clone, Drop)]
 pub struct Text<const N: usize> {
     room: [u8; N],
     filled: usize,
 }
 
-/// A line of at most 128 bytes.
+/// A text of at most 128 bytes, long enough for each line of a report.
 pub type Line = Text<128>;
 
 impl<const N: usize> Model for Text<N> {
@@ -25,7 +25,7 @@ impl<const N: usize> Model for Text<N> {
 }
 
 impl<const N: usize> Text<N> {
-    /// Creates an empty text.
+    /// Creates an empty text in a buffer of `N` bytes.
     pub fn new() -> Text<N>
         ensures { result ≡ [] }
     {
@@ -35,14 +35,14 @@ impl<const N: usize> Text<N> {
         }
     }
 
-    /// Returns the bytes of the text.
+    /// Returns the bytes that were appended to the text.
     pub fn bytes(&self) -> &[u8]
         ensures { result.now ≡ self.now }
     {
         &self.room[..self.filled]
     }
 
-    /// Appends bytes.
+    /// Appends bytes, for which the buffer must have room.
     pub fn push(&mut self, bytes: &[u8])
         requires { length self.old + length bytes.now ≤ N }
         ensures bytes { self.new ≡ self.old ++ bytes.now }
@@ -54,7 +54,7 @@ impl<const N: usize> Text<N> {
         self.filled = end;
     }
 
-    /// Appends a key, and a number after it.
+    /// Appends a key, and then a number in decimal.
     pub fn push_number<I: Integer>(&mut self, key: &[u8], number: I)
         requires { length self.old + length key.now + I.MAX_STR_LEN ≤ N }
         ensures bytes { self.new ≡ self.old ++ key.now ++ I.text number }
@@ -65,7 +65,7 @@ impl<const N: usize> Text<N> {
         self.push(buffer.format(number).as_bytes());
     }
 
-    /// Appends a number, with spaces before it up to the width, which is at most 24.
+    /// Appends a number right-aligned in `width` columns, at most 24.
     pub fn push_right<I: Integer>(&mut self, width: usize, number: I)
         requires narrow { width ≤ 24 }
         requires room { length self.old + width + I.MAX_STR_LEN ≤ N }
@@ -89,7 +89,7 @@ impl<const N: usize> Text<N> {
         self.push(&[b' '; 24][..count]);
     }
 
-    /// Appends a number below 100 in two digits.
+    /// Appends a number below 100 in two digits, with a leading zero if needed.
     pub fn push_pair(&mut self, number: u8)
         requires few { number < 100 }
         requires room { length self.old + 2 ≤ N }

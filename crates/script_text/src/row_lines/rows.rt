@@ -1,4 +1,4 @@
-//! Writes the lines of interval rows and days.
+//! Builds and writes the lines for quarter hours and days.
 ghost use Rattle.std.specs.Prelude.{◌≡◌, ◌≤◌, ◌<◌, ◌+◌, ◌++◌, codes, length};
 ghost use Rattle.jiff.specs.Words.{date_text};
 ghost use Rattle.jiff_core.specs.Calendar.{IsYear};
@@ -22,8 +22,8 @@ pub fn interval_line(row: Share) -> Line
     line
 }
 
-/// Returns the line `DAY COUNT MWH`: the day as `YYYY-MM-DD`, the number of its quarter hours, and
-/// its energy in mWh. The number is right-aligned in 3 columns, and the energy in 24.
+/// Returns the line `DAY COUNT MWH`: the day as `YYYY-MM-DD`, the number of its quarter hours in 3
+/// columns, and its energy in mWh in 24 columns. Both numbers are right-aligned.
 pub fn day_line(total: &DayTotal) -> Line
     ensures { result ≡ rows.day_line total.now }
 {
@@ -37,7 +37,7 @@ pub fn day_line(total: &DayTotal) -> Line
     line
 }
 
-/// Returns the line `end N`, which comes after `N` rows.
+/// Returns the line `end N`, which follows a report of N rows.
 pub fn end_line(count: u64) -> Line
     ensures { result ≡ rows.end_line count }
 {
@@ -47,7 +47,7 @@ pub fn end_line(count: u64) -> Line
     line
 }
 
-/// Appends a year in four digits. A year before 0 has a sign and six digits.
+/// Appends a year in four digits. A year before 0 gets a minus sign and six digits.
 pub fn push_year(line: &mut Line, year: i16)
     requires room { length line.old ≤ 64 }
     requires few { IsYear year }
@@ -62,7 +62,7 @@ pub fn push_year(line: &mut Line, year: i16)
     line.push_pair((number % 100) as u8);
 }
 
-// Appends a day as `YYYY-MM-DD`. A year before 0 has a sign and six digits.
+// Appends a day as `YYYY-MM-DD`. A year before 0 gets a minus sign and six digits.
 fn push_day(line: &mut Line, day: Day)
     requires { length line.old ≤ 64 }
     ensures bytes { line.new ≡ line.old ++ date_text day }
@@ -84,7 +84,7 @@ pub fn push_part(line: &mut Line, number: u8)
     line.push_pair(number);
 }
 
-/// Returns the month, from 1.
+/// Returns the month of a day, from 1 for January.
 pub fn month_of(day: Day) -> u8
     ensures value { result ≡ day.month }
     ensures few { result < 100 }
@@ -92,7 +92,7 @@ pub fn month_of(day: Day) -> u8
     day.month() as u8
 }
 
-/// Returns the day of the month, from 1.
+/// Returns the day of the month of a date, from 1.
 pub fn day_of_month(day: Day) -> u8
     ensures value { result ≡ day.day }
     ensures few { result < 100 }
@@ -100,21 +100,21 @@ pub fn day_of_month(day: Day) -> u8
     day.day() as u8
 }
 
-/// Writes the line of a quarter hour.
+/// Writes the line `START MWH` for the energy of a quarter hour, in mWh.
 pub fn write_interval<S: Sink>(row: Share, output: &mut S) -> io::Result<()>
     ensures { S.takes output.old (rows.share_line row) result output.new }
 {
     output.take_text(interval_line(row).bytes())
 }
 
-/// Writes the line of a day.
+/// Writes the line `DAY COUNT MWH` for the energy of a day, in mWh.
 pub fn write_day<S: Sink>(total: &DayTotal, output: &mut S) -> io::Result<()>
     ensures { S.takes output.old (rows.day_line total.now) result output.new }
 {
     output.take_text(day_line(total).bytes())
 }
 
-/// Writes the line that ends the rows, with their number.
+/// Writes the line `end N`, which follows a report of N rows.
 pub fn write_end<S: Sink>(count: u64, output: &mut S) -> io::Result<()>
     ensures { S.takes output.old (rows.end_line count) result output.new }
 {

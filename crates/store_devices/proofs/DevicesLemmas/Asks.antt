@@ -1,4 +1,4 @@
--- What the queries on `devices`, `points` and `registers` show.
+-- Proofs of what the queries on `devices`, `points` and `registers` return.
 use Rattle.std.proofs.Common.{ℕ, bytes_eq, List, [], ◌∷◌, refl}
 use Rattle.sqlite.specs.declared.types.Value.TheVariants.{Text}
 use Rattle.sqlite.specs.Order.{Row}

@@ -1,4 +1,5 @@
--- An answer has as many rows as pass the test.
+-- If a query selects the rows that pass a test, its answer has as many rows as pass the test in the
+-- table.
 use Rattle.std.proofs.Common.{◌≡◌, Bool, List, length, filter, ap, ◌∙◌}
 use Rattle.std.proofs.lemmas.List.{length-map}
 use Rattle.std.proofs.lemmas.List.Sorted.{length_permutation}

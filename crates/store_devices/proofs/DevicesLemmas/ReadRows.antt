@@ -1,4 +1,5 @@
--- The values that are read from the rows that the queries show.
+-- Proofs that the readers return the values in the result rows of `devices`, `points` and
+-- `registers`.
 use Rattle.std.proofs.Common.{◌≡◌, ◌==◌, inl, inr, ℕ, ℤ, Bool, true, false, if◌then◌else◌, Option, Some, None, Ok, refl, subst}
 use Rattle.std.proofs.lemmas.Bool.{cases_Bool}
 use Rattle.sqlite.specs.declared.types.Value.{Value}
@@ -13,7 +14,7 @@ use Rattle.store_devices.specs.declared.devices.rows.RegisterScale.{RegisterScal
 use Rattle.store_devices.specs.declared.devices.rows.RegisterScale.TheVariants.{Fixed, At}
 use Rattle.store_devices.specs.Devices.Rows.{IsSoundDevice, device_in, point_in, IsSoundPoint, IsSoundRegister, IsSoundScale, register_in, scale_of, fixed_by, at_by, fits_a_read, reached_from}
 
--- ---- what was read is sound
+-- ---- ranges of the values that the readers return
 
 pub sound_device : (row : Row) (a : DeviceRow) → device_in row ≡ Ok a → IsSoundDevice a
 sound_device row a is =
@@ -56,7 +57,8 @@ scale_sound kind v s is = elim (cases_Bool (kind == 0)) [
   | inr told ↦ at_sound (whole_in 0 65535 v) v s refl (rw told at is)
 ]
 
--- A scale that passes the check is the scale that the columns encode.
+-- True if the scale that a reader returned equals the scale in its columns, and one Modbus read
+-- covers the scale and the counter.
 pub record IsReached (address : ℕ) (told : Option RegisterScale) (s : RegisterScale) : Type 0 where
   pub scale : told ≡ Some s
   pub span : fits_a_read address s ≡ true

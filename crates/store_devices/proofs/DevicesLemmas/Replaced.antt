@@ -1,4 +1,5 @@
--- Points that are inserted one after another.
+-- Proofs about inserting the points of a device's point list into the table `points`, one after
+-- another.
 use Rattle.std.proofs.Common.{◌≡◌, ◌<◌, ◌+◌, ℕ, suc, List, [], ◌∷◌, ◌++◌, map, take, length, get_or, Result, Ok, sym, ap, subst, ◌∙◌, arith, IsPermutation}
 use Rattle.std.proofs.lemmas.List.{append_assoc, map-append}
 use Rattle.std.proofs.Math.Seq.{take-suc}
@@ -13,7 +14,7 @@ use Rattle.store_devices.specs.Devices.Rows.{Listed, listed_at, point_columns, i
 use Rattle.store_devices.specs.Devices.Trees.{points}
 
 module _ (device : List ℕ) where
-  -- These points were inserted.
+  -- True if the new table `points` has the rows of the old table and the points in a list.
   abbrev pub Came : List Point → Content → Content → Type 0
   Came ps = Edits points point_columns (with_points device ps)
 

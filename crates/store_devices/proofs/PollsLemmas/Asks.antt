@@ -1,4 +1,4 @@
--- What the queries on `polls`, `outcomes`, `holds` and `replies` show.
+-- Proofs of what the queries on `polls`, `outcomes`, `holds` and `replies` return.
 use Rattle.std.proofs.Common.{ℕ, ◌==◌, pos, List, [], ◌∷◌, refl}
 use Rattle.sqlite.specs.declared.types.Value.TheVariants.{Int, Text}
 use Rattle.sqlite.specs.Order.{Row}

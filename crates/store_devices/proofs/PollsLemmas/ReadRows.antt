@@ -1,4 +1,5 @@
--- The values that are read from the rows that the queries show.
+-- Proofs that the readers return the values in the result rows of `polls`, `outcomes`, `holds` and
+-- `replies`.
 use Rattle.std.proofs.lemmas.Bool.{cases_Bool}
 use Rattle.std.proofs.Common.{◌≡◌, ◌≢◌, ◌≤◌, ◌+◌, ◌==◌, inl, inr, if◌then◌else◌, ℕ, List, zero-le, Option, Some, None, Ok, Err, Result, Bool, true, false, bytes_eq, IfOk, refl, sym, ap, subst, ◌∙◌, arith}
 use Rattle.sqlite.specs.declared.types.Value.TheVariants.{Text}
@@ -22,12 +23,12 @@ use Rattle.office_events.specs.declared.answers.CommandKind.TheVariants as kind
 use Rattle.store_devices.specs.declared.polls.rows.Repeat.{Repeat}
 use Rattle.store_devices.specs.Polls.Rows.{number_shown, poll_number, poll_in, HasNumber, IsSoundPoll, IsSoundStarted, greatest_count, outcome_shown, outcome_in, malformation_of, lost_of, malformed_of, lost_by, outcome_of, IsOutcome, IsSoundOutcome, IsSoundHeld, kind_word, kind_in, reply_shown, repeat_in, repeat_as, IsRepeat, IsSoundKept, start_of, start_shown, HasStart, outcome_moment, outcome_moment_shown, HasOutcomeMoment, hold_moment, hold_moment_shown, HasHoldMoment, reply_moment, reply_moment_shown, HasReplyMoment}
 
--- ---- numbers
+-- ---- reading the number of a poll
 
 pub reads_poll_number : (row : Row) (r : Result ℕ RowFault) → r ≡ or_damaged (whole_in 1 greatest_place (column row 0)) → ReadsRow row number_shown HasNumber IsSoundStarted r
 reads_poll_number = reads_number 1 greatest_place number_shown poll_number IsSoundStarted (λ p. refl) (λ p is. is.row.number)
 
--- ---- timestamps
+-- ---- reading the latest timestamp of a table
 
 pub reads_start_moment : (row : Row) (r : Result ℕ RowFault) → r ≡ or_damaged (whole_in 0 latest_moment (column row 0)) → ReadsRow row start_shown HasStart IsSoundStarted r
 reads_start_moment = reads_number 0 latest_moment start_shown start_of IsSoundStarted (λ p. refl) (λ p is. (zero-le, is.row.started))
@@ -41,7 +42,7 @@ reads_hold_moment = reads_number 0 latest_moment hold_moment_shown hold_moment I
 pub reads_reply_moment : (row : Row) (r : Result ℕ RowFault) → r ≡ or_damaged (whole_in 0 latest_moment (column row 0)) → ReadsRow row reply_moment_shown HasReplyMoment IsSoundKept r
 reads_reply_moment = reads_number 0 latest_moment reply_moment_shown reply_moment IsSoundKept (λ k. refl) (λ k is. (zero-le, is))
 
--- ---- polls
+-- ---- reading the rows of the table `polls`
 
 room_of : (address count : ℕ) → address ≤ 65535 → count ≤ greatest_count address → (count ≤ 125) × (address + count ≤ 65536)
 room_of address count low room = (omega arith, omega arith)
@@ -69,7 +70,7 @@ sound_poll row a is =
       inside = room.1;
     })
 
--- ---- outcomes
+-- ---- reading the rows of the table `outcomes`
 
 outcome_back : (o : Outcome) → outcome_of (outcome_number o) (outcome_code o) ≡ Some o
 outcome_back Answered = refl
@@ -118,7 +119,7 @@ without_code : (b : Bool) (o : Outcome) (code : ℕ) → o ≢ Exception code �
 without_code true o code other e = other (let f : Some o ≡ Some (Exception code) = e in cc)
 without_code false o code other e = absurd (let f = e in cc)
 
--- The code of an exception is the code that was read.
+-- If the outcome in a row is a Modbus exception, its exception code equals the code in the row.
 exception_is : (number code read : ℕ) → outcome_of number read ≡ Some (Exception code) → code ≡ read
 exception_is number code read is = elim (cases_Bool (number == 1)) [
   | inl one ↦ absurd (without_code (read == 0) Answered code (λ e. absurd (let f = e in cc)) (rw one at is))
@@ -172,7 +173,7 @@ sound_outcome row (Ok a) is =
       code = code_bound number.value code.value outcome.value (whole_bounds 0 255 (column row 3) code.value code.is).1 outcome.is;
     })
 
--- ---- kept requests
+-- ---- reading the stored requests in the table `replies`
 
 kind_back : (k : CommandKind) → kind_in (Text (kind_word k)) ≡ Some k
 kind_back kind.Device = refl

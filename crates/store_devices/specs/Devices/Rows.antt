@@ -20,51 +20,51 @@ use Rattle.store_devices.specs.declared.devices.rows.Register.{Register}
 use Rattle.store_devices.specs.declared.devices.rows.RegisterScale.{RegisterScale}
 use Rattle.store_devices.specs.declared.devices.rows.RegisterScale.TheVariants as scale
 
--- ---- devices
+-- ---- rows of the table `devices`
 
--- A device of the office, with its name.
+-- A Modbus device, as a row of the table `devices`.
 pub record Added : Type 0 where
   pub name : List ℕ
   pub row : DeviceRow
 
--- The columns of a device in the table `devices`.
+-- All columns of a device's row in the table `devices`.
 abbrev pub device_columns : Added → Row
 device_columns d =
     Int (pos d.row.place) ∷ Null ∷ Text d.name ∷ Int (pos d.row.unit) ∷ Int (pos d.row.timeout)
     ∷ Int (pos d.row.window) ∷ []
 
--- The result row that shows a device, in queries of `devices`.
+-- The columns that a SELECT from `devices` returns for a device.
 abbrev pub device_shown : Added → Row
 device_shown d =
     Int (pos d.row.place) ∷ Text d.name ∷ Int (pos d.row.unit) ∷ Int (pos d.row.timeout)
     ∷ Int (pos d.row.window) ∷ []
 
--- The index of a device.
+-- The index of a device in the table `devices`.
 abbrev pub device_place : Added → ℕ
 device_place d = d.row.place
 
--- The result row of the query for the last device: the device's index.
+-- The result row of the query for the last device. The row has only the device's index.
 abbrev pub device_place_shown : Added → Row
 device_place_shown d = Int (pos d.row.place) ∷ []
 
--- Every number of a device is in its range.
+-- True if every number in a row of `devices` is in its range.
 pub record IsSoundDevice (d : DeviceRow) : Type 0 where
   pub place : IsPlace d.place
   pub unit : d.unit ≤ LAST_UNIT
   pub timeout : (1 ≤ d.timeout) × (d.timeout ≤ MAX_TIMEOUT)
   pub window : (1 ≤ d.window) × (d.window ≤ MAX_WINDOW)
 
--- Every number of a device is in its range, and its name is UTF-8.
+-- True if every number in a row of `devices` is in its range, and the device's name is UTF-8.
 pub record IsSoundAdded (d : Added) : Type 0 where
   pub row : IsSoundDevice d.row
   pub name : IsUtf8 d.name
 
--- The value read has the name and the numbers of the device.
+-- True if the device that a reader returned has the name and the numbers of the stored device.
 pub record IsDevice (d : Added) (a : Device) : Type 0 where
   pub name : string_bytes a.name ≡ d.name
   pub row : a.row ≡ d.row
 
--- The numbers of the device that a result row shows, or `Damaged` if one is out of its range.
+-- The numbers of a device in a result row, or `Damaged` if a number is out of its range.
 abbrev pub device_in : Row → Result DeviceRow RowFault
 device_in row =
     and_then (or_damaged (whole_in 1 greatest_place (column row 0))) (λ place.
@@ -73,9 +73,9 @@ device_in row =
     and_then (or_damaged (whole_in 1 MAX_WINDOW (column row 4))) (λ window.
     Ok (record { place = place; unit = unit; timeout = timeout; window = window })))))
 
--- ---- points
+-- ---- rows of the table `points`
 
--- A point of a device's list.
+-- A point of a device's point list, as a row of the table `points`.
 pub record Listed : Type 0 where
   pub device : List ℕ
   pub name : List ℕ
@@ -94,54 +94,54 @@ point_columns p =
     ∷ Int (pos p.row.area)
     ∷ Int (pos p.row.address) ∷ Text p.kind ∷ Text p.scale ∷ []
 
--- The result row that shows a point, in queries of `points`.
+-- The columns that a SELECT from `points` returns for a point.
 abbrev pub point_shown : Listed → Row
 point_shown p =
     Int (pos p.row.place) ∷ Text p.name ∷ Int (pos (code_of p.row.function)) ∷ Int (pos p.row.area)
     ∷ Int (pos p.row.address) ∷ Text p.kind ∷ Text p.scale ∷ []
 
--- Whether the point is in the list of this device.
+-- True if a point is in the point list of the device `device`.
 abbrev pub is_point_of : (device : List ℕ) → Listed → Bool
 is_point_of device p = bytes_eq p.device device
 
--- The index of a point in its list.
+-- The index of a point in the point list of its device.
 abbrev pub point_place : Listed → ℕ
 point_place p = p.row.place
 
--- Every number of a point is in its range.
+-- True if every number of a point is in its range.
 pub record IsSoundPoint (p : PointRow) : Type 0 where
   pub place : IsPlace p.place
   pub area : p.area ≤ 255
   pub address : p.address ≤ LAST_ADDRESS
 
--- Every number of a point is in its range, and its texts are UTF-8.
+-- True if every number of a point is in its range, and its texts are UTF-8.
 pub record IsSoundListed (p : Listed) : Type 0 where
   pub row : IsSoundPoint p.row
   pub name : IsUtf8 p.name
   pub kind : IsUtf8 p.kind
   pub scale : IsUtf8 p.scale
 
--- The value read has the texts and the numbers of the point.
+-- True if the point that a reader returned has the texts and the numbers of the stored point.
 pub record IsPoint (p : Listed) (a : Point) : Type 0 where
   pub name : string_bytes a.name ≡ p.name
   pub kind : string_bytes a.kind ≡ p.kind
   pub scale : string_bytes a.scale ≡ p.scale
   pub row : a.row ≡ p.row
 
--- The row of a point in the list of this device.
+-- The row of `points` for a point in the point list of the device `device`.
 abbrev pub listed_at : (device : List ℕ) → Point → Listed
 listed_at device p =
     listed_as device (string_bytes p.name) (string_bytes p.kind) (string_bytes p.scale) p.row
 
--- The rows of `points` after these points of a device were added.
+-- The rows of `points` after a list of points was added to the point list of the device `device`.
 abbrev pub with_points : (device : List ℕ) → List Point → List Listed → List Listed
 with_points device ps rows = map (listed_at device) ps ++ rows
 
--- The rows of `points` after a device's list was replaced by these points.
+-- The rows of `points` after a list of points replaced the point list of the device `device`.
 abbrev pub with_list : (device : List ℕ) → List Point → List Listed → List Listed
 with_list device ps rows = with_points device ps (without_where (is_point_of device) rows)
 
--- The numbers of the point that a result row shows, or `Damaged` if one is out of its range.
+-- The numbers of a point in a result row, or `Damaged` if a number is out of its range.
 abbrev pub point_in : Row → Result PointRow RowFault
 point_in row =
     and_then (or_damaged (whole_in 1 greatest_place (column row 0))) (λ place.
@@ -150,30 +150,30 @@ point_in row =
     and_then (or_damaged (whole_in 0 LAST_ADDRESS (column row 4))) (λ address.
     Ok (record { place = place; function = function; area = area; address = address })))))
 
--- ---- registers
+-- ---- rows of the table `registers`
 
--- The number of a scale's kind in the table: 0 for a fixed factor, 1 for the address of a factor.
+-- The number that encodes a scale's kind in `registers`: 0 for a fixed factor, 1 for an address.
 abbrev pub scale_kind : RegisterScale → ℕ
 scale_kind (scale.Fixed sf) = 0
 scale_kind (scale.At address) = 1
 
--- The number of a scale in the table: its fixed factor, or the address of its factor.
+-- The number that encodes a scale in `registers`: its fixed factor, or the address of its factor.
 abbrev pub scale_number : RegisterScale → ℤ
 scale_number (scale.Fixed sf) = sf
 scale_number (scale.At address) = pos address
 
--- A scale is sound: its fixed factor is from -3 to 3, or its address is that of a Modbus register.
+-- True if a fixed scale factor is from -3 to 3, or a scale's address is that of a Modbus register.
 abbrev pub IsSoundScale : RegisterScale → Type 0
 IsSoundScale (scale.Fixed sf) = IsTrue (is_within 3 sf)
 IsSoundScale (scale.At address) = address ≤ LAST_ADDRESS
 
--- How many Modbus registers a read needs to cover a counter and its scale. The counter has two
--- Modbus registers.
+-- How many Modbus registers one read needs to cover a counter at `address` and its scale. The
+-- counter has two Modbus registers.
 abbrev pub registers_spanned : (address : ℕ) → RegisterScale → ℕ
 registers_spanned address (scale.Fixed sf) = 2
 registers_spanned address (scale.At at) = max (address + 2) (at + 1) - min address at
 
--- Whether one read of at most 125 Modbus registers covers the counter and its scale.
+-- True if one read of at most 125 Modbus registers covers a counter at `address` and its scale.
 abbrev pub fits_a_read : (address : ℕ) → RegisterScale → Bool
 fits_a_read address scale = nat_le (registers_spanned address scale) MAX_READ_REGISTERS
 
@@ -193,44 +193,46 @@ register_columns r =
     ∷ Int (pos r.row.address)
     ∷ Int (pos (scale_kind r.row.scale)) ∷ Int (scale_number r.row.scale) ∷ []
 
--- The result row that shows an accounting register, in queries of `registers`.
+-- The columns that a SELECT from `registers` returns for an accounting register.
 abbrev pub register_shown : Registered → Row
 register_shown r =
     Int (pos r.row.place) ∷ Text r.name ∷ Text r.device ∷ Int (pos (code_of r.row.function))
     ∷ Int (pos r.row.address)
     ∷ Int (pos (scale_kind r.row.scale)) ∷ Int (scale_number r.row.scale) ∷ []
 
--- The index of an accounting register.
+-- The index of an accounting register in the table `registers`.
 abbrev pub register_place : Registered → ℕ
 register_place r = r.row.place
 
--- The result row of the query for the last accounting register: the register's index.
+-- The result row of the query for the last accounting register. The row has only the register's
+-- index.
 abbrev pub register_place_shown : Registered → Row
 register_place_shown r = Int (pos r.row.place) ∷ []
 
--- Whether the accounting register has this name.
+-- True if an accounting register has the name `name`.
 abbrev pub is_register : (name : List ℕ) → Registered → Bool
 is_register name r = bytes_eq r.name name
 
--- Whether the accounting register is a counter of this device.
+-- True if an accounting register is a counter of the device `device`.
 abbrev pub is_register_of : (device : List ℕ) → Registered → Bool
 is_register_of device r = bytes_eq r.device device
 
--- Every number of an accounting register is in its range, and one read covers its counter and its
--- scale.
+-- True if every number of an accounting register is in its range, and one read covers its counter
+-- and its scale.
 pub record IsSoundRegister (r : RegisterRow) : Type 0 where
   pub place : IsPlace r.place
   pub address : r.address ≤ LAST_COUNTER
   pub scale : IsSoundScale r.scale
   pub span : fits_a_read r.address r.scale ≡ true
 
--- The row of an accounting register is sound, and its names are UTF-8.
+-- True if the numbers of an accounting register are in their ranges, and its names are UTF-8.
 pub record IsSoundRegistered (r : Registered) : Type 0 where
   pub row : IsSoundRegister r.row
   pub name : IsUtf8 r.name
   pub device : IsUtf8 r.device
 
--- The value read has the names and the numbers of the accounting register.
+-- True if the accounting register that a reader returned has the names and the numbers of the
+-- stored accounting register.
 pub record IsRegister (r : Registered) (a : Register) : Type 0 where
   pub name : string_bytes a.name ≡ r.name
   pub device : string_bytes a.device ≡ r.device
@@ -244,16 +246,18 @@ abbrev pub at_by : Option ℕ → Option RegisterScale
 at_by None = None
 at_by (Some address) = Some (scale.At address)
 
--- The scale that a kind and a value encode, if they encode one.
+-- The scale that two columns of `registers` encode: the number of the scale's kind, and a value.
+-- None if the columns encode no scale.
 abbrev pub scale_of : (kind : ℕ) → Value → Option RegisterScale
 scale_of kind v = if kind == 0 then fixed_by (within 3 v) else at_by (whole_in 0 LAST_ADDRESS v)
 
--- The scale, if one read covers the scale and the counter at `address`.
+-- The given scale if one Modbus read covers it together with the counter at `address`, otherwise
+-- None.
 abbrev pub reached_from : (address : ℕ) → Option RegisterScale → Option RegisterScale
 reached_from address None = None
 reached_from address (Some scale) = if fits_a_read address scale then Some scale else None
 
--- The numbers of the accounting register that a result row shows, or `Damaged` if one is out of its
+-- The numbers of an accounting register in a result row, or `Damaged` if a number is out of its
 -- range.
 abbrev pub register_in : Row → Result RegisterRow RowFault
 register_in row =
@@ -264,6 +268,6 @@ register_in row =
     and_then (or_damaged (reached_from address (scale_of kind (column row 6)))) (λ scale.
     Ok (record { place = place; function = function; address = address; scale = scale }))))))
 
--- How many accounting registers a device has.
+-- True if a number is the count of the accounting registers of the device `device`.
 abbrev pub IsRegisterCount : (device : List ℕ) → List Registered → ℕ → Type 0
 IsRegisterCount device rows count = count ≡ length (filter (is_register_of device) rows)

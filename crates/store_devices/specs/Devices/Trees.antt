@@ -1,4 +1,4 @@
--- The tree numbers of the tables `devices`, `points` and `registers`.
+-- The numbers of the B-trees that store the tables `devices`, `points` and `registers`.
 use Rattle.std.specs.Prelude.{ℕ}
 
 abbrev pub devices : ℕ

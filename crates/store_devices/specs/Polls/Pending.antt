@@ -1,4 +1,4 @@
--- The pending polls: those without an outcome.
+-- Definitions about the pending polls, which have no outcome yet.
 use Rattle.std.specs.Prelude.{Bool, not, List, Result, MatchResult}
 use Rattle.std.specs.List.{list_any}
 use Rattle.sqlite.specs.Order.{Row}
@@ -14,12 +14,12 @@ use Rattle.store_devices.specs.declared.polls.rows.OutcomeRow.{OutcomeRow}
 use Rattle.store_devices.specs.Polls.Rows.{Started, poll_columns, poll_shown, poll_number, outcome_columns, is_outcome_of}
 use Rattle.store_devices.specs.Polls.Trees.{polls, outcomes}
 
--- Whether no outcome in the list is that of this poll.
+-- True if a poll is pending: no outcome in the list belongs to it.
 abbrev pub is_pending : List OutcomeRow → Started → Bool
 is_pending ended p = not (list_any (is_outcome_of p.row.number) ended)
 
--- An Ok answer shows the polls without an outcome, in order of their numbers. An error has one of
--- the causes of `IsStoreError`.
+-- True if an Ok answer has the rows of the polls without an outcome, ordered by poll number. Every
+-- error has a cause in `IsStoreError`.
 abbrev pub ShowsPending : {S A : Type 0} → Ghosts S → (old new : Held S)
     → (result : Result A Error) → (rows : A → List Row) → Type 0
 ShowsPending g old new result rows =

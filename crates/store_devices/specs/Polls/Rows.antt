@@ -25,28 +25,28 @@ use Rattle.office_events.specs.declared.answers.CommandKind.TheVariants as kind
 use Rattle.store_devices.specs.declared.polls.rows.Repeat.{Repeat}
 use Rattle.store_devices.specs.declared.polls.rows.Repeat.TheVariants.{Same, Other}
 
--- ---- polls
+-- ---- rows of the table `polls`
 
--- A poll of a device: one Modbus read that was started.
+-- A poll of a device, as a row of the table `polls`. A poll is one Modbus read that was started.
 pub record Started : Type 0 where
   pub device : List ℕ
   pub row : PollRow
 
--- The columns of a poll in the table `polls`.
+-- All columns of a poll's row in the table `polls`.
 abbrev pub poll_columns : Started → Row
 poll_columns p =
     Int (pos p.row.number) ∷ Null ∷ Text p.device ∷ Int (pos p.row.unit) ∷ Int (pos p.row.started)
     ∷ Int (pos p.row.id)
     ∷ Int (pos (code_of p.row.function)) ∷ Int (pos p.row.address) ∷ Int (pos p.row.count) ∷ []
 
--- The result row that shows a poll, in queries of `polls`.
+-- The columns that a SELECT from `polls` returns for a poll.
 abbrev pub poll_shown : Started → Row
 poll_shown p =
     Int (pos p.row.number) ∷ Text p.device ∷ Int (pos p.row.unit) ∷ Int (pos p.row.started)
     ∷ Int (pos p.row.id)
     ∷ Int (pos (code_of p.row.function)) ∷ Int (pos p.row.address) ∷ Int (pos p.row.count) ∷ []
 
--- The result row of the query for the last poll: the poll's number.
+-- The result row of the query for the last poll. The row has only the poll's number.
 abbrev pub number_shown : Started → Row
 number_shown p = Int (pos p.row.number) ∷ []
 
@@ -54,15 +54,15 @@ number_shown p = Int (pos p.row.number) ∷ []
 abbrev pub poll_number : Started → ℕ
 poll_number p = p.row.number
 
--- Whether the poll has this number.
+-- True if a poll has the number `number`.
 abbrev pub is_poll : (number : ℕ) → Started → Bool
 is_poll number p = p.row.number == number
 
--- The greatest count of Modbus registers in a read from this address.
+-- The greatest number of Modbus registers that one read from `address` can cover, at most 125.
 abbrev pub greatest_count : (address : ℕ) → ℕ
 greatest_count address = min 125 (65536 - address)
 
--- Every number of a poll is in its range, and the read ends at or below address 65535.
+-- True if every number of a poll is in its range, and the poll reads no address above 65535.
 pub record IsSoundPoll (p : PollRow) : Type 0 where
   pub number : IsPlace p.number
   pub unit : p.unit ≤ 255
@@ -72,21 +72,21 @@ pub record IsSoundPoll (p : PollRow) : Type 0 where
   pub count : (1 ≤ p.count) × (p.count ≤ 125)
   pub inside : p.address + p.count ≤ 65536
 
--- Every number of a poll is in its range, and its device's name is UTF-8.
+-- True if every number of a poll is in its range, and the name of its device is UTF-8.
 pub record IsSoundStarted (p : Started) : Type 0 where
   pub row : IsSoundPoll p.row
   pub device : IsUtf8 p.device
 
--- The value read has the device and the numbers of the poll.
+-- True if the poll that a reader returned has the device and the numbers of the stored poll.
 pub record IsStarted (p : Started) (a : Poll) : Type 0 where
   pub device : string_bytes a.device ≡ p.device
   pub row : a.row ≡ p.row
 
--- The value read is the number of the poll.
+-- True if the number that a look-up returned equals the number of a poll.
 abbrev pub HasNumber : Started → ℕ → Type 0
 HasNumber p number = number ≡ p.row.number
 
--- The numbers of the poll that a result row shows, or `Damaged` if one is out of its range.
+-- The numbers of a poll in a result row, or `Damaged` if a number is out of its range.
 abbrev pub poll_in : Row → Result PollRow RowFault
 poll_in row =
     and_then (or_damaged (whole_in 1 greatest_place (column row 0))) (λ number.
@@ -106,7 +106,7 @@ poll_in row =
       count = count;
     }))))))))
 
--- ---- outcomes
+-- ---- rows of the table `outcomes`
 
 -- The columns of an outcome in the table `outcomes`.
 abbrev pub outcome_columns : OutcomeRow → Row
@@ -114,31 +114,31 @@ outcome_columns o =
     Int (pos o.poll) ∷ Null ∷ Int (pos o.moment) ∷ Int (pos (outcome_number o.outcome))
     ∷ Int (pos (outcome_code o.outcome)) ∷ []
 
--- The result row that shows an outcome, in queries of `outcomes`.
+-- The columns that a SELECT from `outcomes` returns for the outcome of a poll.
 abbrev pub outcome_shown : OutcomeRow → Row
 outcome_shown o =
     Int (pos o.poll) ∷ Int (pos o.moment) ∷ Int (pos (outcome_number o.outcome))
     ∷ Int (pos (outcome_code o.outcome)) ∷ []
 
--- Whether the outcome is that of this poll.
+-- True if an outcome belongs to the poll with the number `poll`.
 abbrev pub is_outcome_of : (poll : ℕ) → OutcomeRow → Bool
 is_outcome_of poll o = o.poll == poll
 
--- The value read is equal to the outcome.
+-- True if the outcome that a look-up returned equals the stored outcome.
 abbrev pub IsOutcome : OutcomeRow → OutcomeRow → Type 0
 IsOutcome o a = a ≡ o
 
--- The code of an outcome is less than 256.
+-- True if the code of an outcome is less than 256. An example is a Modbus exception code.
 abbrev pub HasCode : Outcome → Type 0
 HasCode outcome = outcome_code outcome ≤ 255
 
--- Every value of an outcome is in its range.
+-- True if every value of a row of `outcomes` is in its range.
 pub record IsSoundOutcome (o : OutcomeRow) : Type 0 where
   pub poll : IsPlace o.poll
   pub moment : o.moment ≤ latest_moment
   pub code : HasCode o.outcome
 
--- The malformation that has this number in the store, if there is one.
+-- The kind of malformed response that a number in `outcomes` encodes, or None.
 abbrev pub malformation_of : ℕ → Option Malformation
 malformation_of n =
     if n == 1 then Some malformation.WrongFunction else
@@ -147,7 +147,7 @@ malformation_of n =
     if n == 4 then Some malformation.WrongEcho else
     if n == 5 then Some malformation.WrongUnit else None
 
--- The cause of a lost poll that has this number in the store, if there is one.
+-- The cause of a lost poll that a number in `outcomes` encodes, or None.
 abbrev pub lost_of : ℕ → Option LostCause
 lost_of n =
     if n == 1 then Some lost.Gone else
@@ -163,7 +163,7 @@ abbrev pub lost_by : Option LostCause → Option Outcome
 lost_by None = None
 lost_by (Some why) = Some (Lost why)
 
--- The outcome that a number and a code encode, if they encode one.
+-- The outcome of a poll that a number and a code in `outcomes` encode, or None.
 abbrev pub outcome_of : (number code : ℕ) → Option Outcome
 outcome_of number code =
     if number == 1 then (if code == 0 then Some Answered else None) else
@@ -172,7 +172,7 @@ outcome_of number code =
     if number == 4 then malformed_of (malformation_of code) else
     if number == 5 then lost_by (lost_of code) else None
 
--- The outcome that a result row shows, or `Damaged` if a column is out of its range.
+-- The outcome in a result row, or `Damaged` if a column is out of its range.
 abbrev pub outcome_in : Row → Result OutcomeRow RowFault
 outcome_in row =
     and_then (or_damaged (whole_in 1 greatest_place (column row 0))) (λ poll.
@@ -182,9 +182,9 @@ outcome_in row =
     and_then (or_damaged (outcome_of number code)) (λ outcome.
     Ok (record { poll = poll; moment = moment; outcome = outcome }))))))
 
--- ---- rejected readings
+-- ---- rejected readings of meters in the table `holds`
 
--- A rejected reading of a meter, with the meter's name.
+-- A rejected reading of a meter, as a row of the table `holds`.
 pub record Held : Type 0 where
   pub meter : List ℕ
   pub row : HoldRow
@@ -196,34 +196,35 @@ hold_columns h =
     ∷ Int (pos h.row.raw)
     ∷ Int h.row.sf ∷ Int (pos (cause_number h.row.cause)) ∷ []
 
--- The parameters of the INSERT statement of a rejected reading.
+-- The parameters of the INSERT statement for a rejected reading.
 abbrev pub hold_shown : Held → Row
 hold_shown h =
     Int (pos h.row.place) ∷ Text h.meter ∷ Int (pos h.row.poll) ∷ Int (pos h.row.moment)
     ∷ Int (pos h.row.raw)
     ∷ Int h.row.sf ∷ Int (pos (cause_number h.row.cause)) ∷ []
 
--- The index of a rejected reading.
+-- The index of a rejected reading in the table `holds`.
 abbrev pub hold_place : Held → ℕ
 hold_place h = h.row.place
 
--- The result row of the query for the last rejected reading: the reading's index.
+-- The result row of the query for the last rejected reading. The row has only the reading's index.
 abbrev pub hold_place_shown : Held → Row
 hold_place_shown h = Int (pos h.row.place) ∷ []
 
--- Every value of a rejected reading is in its range. The meter's name is not considered.
+-- True if every value of a rejected reading is in its range. The predicate does not check the name
+-- of the reading's meter.
 pub record IsSoundHold (h : HoldRow) : Type 0 where
   pub place : IsPlace h.place
   pub poll : IsPlace h.poll
   pub moment : h.moment ≤ latest_moment
 
--- Every value of a rejected reading is in its range.
+-- True if every value of a row of `holds` is in its range.
 abbrev pub IsSoundHeld : Held → Type 0
 IsSoundHeld h = IsSoundHold h.row
 
--- ---- kept requests
+-- ---- stored requests in the table `replies`
 
--- The word in the table `replies` that names a kind of command.
+-- The word that the table `replies` stores for a kind of command.
 abbrev pub kind_word : CommandKind → List ℕ
 kind_word kind.Device = codes "device"
 kind_word kind.List = codes "list"
@@ -237,7 +238,7 @@ kind_word kind.Close = codes "close"
 kind_word kind.Void = codes "void"
 kind_word kind.Start = codes "start"
 
--- The kind of command that a word in the table `replies` names, if it names one.
+-- The kind of command that a word in the table `replies` names, or None.
 abbrev pub kind_of : List ℕ → Option CommandKind
 kind_of word =
     if bytes_eq word (codes "device") then Some kind.Device else
@@ -252,8 +253,8 @@ kind_of word =
     if bytes_eq word (codes "void") then Some kind.Void else
     if bytes_eq word (codes "start") then Some kind.Start else None
 
--- An accepted request that is kept under its idempotency key, with the kind of its command and the
--- time of its response.
+-- An accepted request that is stored under its idempotency key, with the kind of its command and
+-- the time of its response.
 pub record Kept : Type 0 where
   pub caller : List ℕ
   pub number : ℕ
@@ -266,39 +267,41 @@ abbrev pub kept_under : (caller : List ℕ) → (number : ℕ) → (request : Li
 kept_under caller number request kind moment =
     record { caller = caller; number = number; request = request; kind = kind; moment = moment }
 
--- The columns of a kept request in the table `replies`.
+-- The columns of a stored request in the table `replies`.
 abbrev pub reply_columns : Kept → Row
 reply_columns k =
     Text k.caller ∷ Int (pos k.number) ∷ Blob k.request ∷ Text (kind_word k.kind)
     ∷ Int (pos k.moment)
     ∷ []
 
--- The result row that shows a kept request: its bytes, and the word of its command.
+-- The columns that a SELECT from `replies` returns: the bytes of the request, and the word for its
+-- command.
 abbrev pub reply_shown : Kept → Row
 reply_shown k = Blob k.request ∷ Text (kind_word k.kind) ∷ []
 
--- Whether the request is kept under this idempotency key: its caller and its number.
+-- True if a request is stored under the idempotency key that consists of `caller` and `number`.
 abbrev pub is_reply : (caller : List ℕ) → (number : ℕ) → Kept → Bool
 is_reply caller number k = bytes_eq k.caller caller && (k.number == number)
 
--- The number in an idempotency key is less than 2^63.
+-- True if a number can be part of an idempotency key: it is less than 2^63.
 abbrev pub IsCallNumber : ℕ → Type 0
 IsCallNumber number = number < 2 ^ 63
 
--- A request with the bytes of the kept request is a retry of its kind of command.
+-- How a request compares with the stored request: `Same` with the kind of its command if the bytes
+-- are equal, otherwise `Other`.
 abbrev pub repeat_as : CommandKind → (same : Bool) → Repeat
 repeat_as kind same = if same then Same kind else Other
 
--- `Same` with the kind of command if the request has the bytes of the kept request, otherwise
--- `Other`.
+-- True if the result of a comparison is `Same` for a request with the stored bytes, and `Other` for
+-- any other request.
 abbrev pub IsRepeat : (request : List ℕ) → Kept → Repeat → Type 0
 IsRepeat request k a = a ≡ repeat_as k.kind (bytes_eq k.request request)
 
--- The time of a kept request is in the range of the store's timestamps.
+-- True if the time of a stored request is at most the store's latest timestamp.
 abbrev pub IsSoundKept : Kept → Type 0
 IsSoundKept k = k.moment ≤ latest_moment
 
--- The kind of command whose word a value has, if there is one.
+-- The kind of command whose word is in a column, or None.
 abbrev pub kind_in : Value → Option CommandKind
 kind_in (Text word) = kind_of word
 kind_in (Int n) = None
@@ -306,7 +309,7 @@ kind_in Null = None
 kind_in (Real x) = None
 kind_in (Blob b) = None
 
--- Whether a column has these bytes, or None if the column is not a blob.
+-- Whether the blob in a column equals the given bytes. None if the column has no blob.
 abbrev pub same_bytes : List ℕ → Value → Option Bool
 same_bytes bytes (Blob b) = Some (bytes_eq b bytes)
 same_bytes bytes (Text word) = None
@@ -314,37 +317,38 @@ same_bytes bytes (Int n) = None
 same_bytes bytes Null = None
 same_bytes bytes (Real x) = None
 
--- The comparison of a request with the kept request that a result row shows, or `Damaged` if a
--- column is invalid.
+-- The comparison of a request with the stored request in a result row, or `Damaged` if a column is
+-- invalid.
 abbrev pub repeat_in : (request : List ℕ) → Row → Result Repeat RowFault
 repeat_in request row =
     and_then (or_damaged (same_bytes request (column row 0))) (λ same.
     and_then (or_damaged (kind_in (column row 1))) (λ kind.
     Ok (repeat_as kind same)))
 
--- ---- timestamps
+-- ---- reading the latest timestamp of a table
 
--- The start of a poll, in seconds since 1970-01-01 UTC.
+-- The time at which a poll started, in seconds since 1970-01-01 UTC.
 abbrev pub start_of : Started → ℕ
 start_of p = p.row.started
 
--- The result row of the query for the latest start: the poll's start.
+-- The result row of the query for the latest start of a poll. The row has only the poll's start.
 abbrev pub start_shown : Started → Row
 start_shown p = Int (pos p.row.started) ∷ []
 
--- The value read is the start of the poll.
+-- True if the time that a look-up returned equals the time at which a poll started.
 abbrev pub HasStart : Started → ℕ → Type 0
 HasStart p moment = moment ≡ p.row.started
 
--- The time of an outcome, in seconds since 1970-01-01 UTC.
+-- The time at which a poll ended, in seconds since 1970-01-01 UTC.
 abbrev pub outcome_moment : OutcomeRow → ℕ
 outcome_moment o = o.moment
 
--- The result row of the query for the latest outcome: the outcome's time.
+-- The result row of the query for the latest outcome. The row has only the time at which the poll
+-- ended.
 abbrev pub outcome_moment_shown : OutcomeRow → Row
 outcome_moment_shown o = Int (pos o.moment) ∷ []
 
--- The value read is the time of the outcome.
+-- True if the time that a look-up returned equals the time at which a poll ended.
 abbrev pub HasOutcomeMoment : OutcomeRow → ℕ → Type 0
 HasOutcomeMoment o moment = moment ≡ o.moment
 
@@ -352,22 +356,24 @@ HasOutcomeMoment o moment = moment ≡ o.moment
 abbrev pub hold_moment : Held → ℕ
 hold_moment h = h.row.moment
 
--- The result row of the query for the latest rejected reading: the reading's timestamp.
+-- The result row of the query for the latest rejected reading. The row has only the reading's
+-- timestamp.
 abbrev pub hold_moment_shown : Held → Row
 hold_moment_shown h = Int (pos h.row.moment) ∷ []
 
--- The value read is the timestamp of the rejected reading.
+-- True if the time that a look-up returned equals the timestamp of a rejected reading.
 abbrev pub HasHoldMoment : Held → ℕ → Type 0
 HasHoldMoment h moment = moment ≡ h.row.moment
 
--- The time of a kept request, in seconds since 1970-01-01 UTC.
+-- The time of the response to a stored request, in seconds since 1970-01-01 UTC.
 abbrev pub reply_moment : Kept → ℕ
 reply_moment k = k.moment
 
--- The result row of the query for the latest kept request: the request's time.
+-- The result row of the query for the latest stored request. The row has only the time of the
+-- request's response.
 abbrev pub reply_moment_shown : Kept → Row
 reply_moment_shown k = Int (pos k.moment) ∷ []
 
--- The value read is the time of the kept request.
+-- True if the time that a look-up returned equals the response time of a stored request.
 abbrev pub HasReplyMoment : Kept → ℕ → Type 0
 HasReplyMoment k moment = moment ≡ k.moment

@@ -1,4 +1,4 @@
--- The tree numbers of the tables `polls`, `holds`, `outcomes` and `replies`.
+-- The numbers of the B-trees that store the tables `polls`, `holds`, `outcomes` and `replies`.
 use Rattle.std.specs.Prelude.{ℕ}
 
 abbrev pub polls : ℕ

@@ -44,7 +44,7 @@ pub fn read_device(row: &Row) -> Result<Device, RowFault>
     Ok(Device { name, row: numbers })
 }
 
-/// Reads the numeric columns of a point.
+/// Reads the numeric columns of a point from a result row.
 fn point(row: &Row) -> Result<PointRow, RowFault>
     ensures { result ≡ point_in row.now }
 {
@@ -77,8 +77,8 @@ pub fn read_point(row: &Row) -> Result<Point, RowFault>
     })
 }
 
-/// Reads a scale of kind `kind` from the column at index `at`: a fixed factor, or the address of
-/// the factor.
+/// Reads a scale from the column at index `at`. By `kind`, the column has a fixed factor or the
+/// address of the factor.
 fn scale_at(row: &Row, kind: u64, at: usize) -> Result<RegisterScale, RowFault>
     ensures { result ≡ or_damaged (scale_of kind (column row.now at)) }
 {
@@ -103,8 +103,8 @@ pub fn fits_a_read(address: u16, scale: RegisterScale) -> bool
     }
 }
 
-/// Reads the scale of the counter at `address`. A scale that one read can't cover with the counter
-/// is damage.
+/// Reads the scale of the counter at `address`. Reports damage if one Modbus read can't cover the
+/// scale together with the counter.
 fn reached_scale(row: &Row, address: u16, kind: u64) -> Result<RegisterScale, RowFault>
     ensures { result ≡ or_damaged (reached_from address (scale_of kind (column row.now 6))) }
 {

@@ -48,7 +48,8 @@ pub fn device_rows<S: Alter>(conn: &mut Connection<S>) -> Result<Vec<Row>, Error
     )
 }
 
-/// Queries, inside a transaction, the index of the last device. The first column has the index.
+/// Queries, inside a transaction, the index of the last device. The first column of the result has
+/// the index.
 pub fn last_device_rows<S: Alter>(tx: &mut Transaction<'_, S>) -> Result<Vec<Row>, Error>
     ensures same_reference { IsSameBorrow tx.old.conn tx.new.conn }
     ensures asks { AsksInside S.Store tx.old.conn.now tx.new.conn.now result }

@@ -13,7 +13,8 @@ use crate::devices::rows::{Point, PointRow};
 use sqlite::{Alter, Connection, Error, Row, Transaction, params};
 use store_tables::number;
 
-/// Inserts a point into a device's list. The type and the scale are texts, as in the CSV list.
+/// Inserts a point into a device's point list. The point's type and scale are texts, as in the CSV
+/// file of a point list.
 fn insert_point<'a, S: Alter>(
     tx: &mut Transaction<'_, S>,
     device: &'a str,
@@ -44,7 +45,7 @@ fn insert_point<'a, S: Alter>(
     )
 }
 
-/// Deletes all points of a device's list.
+/// Deletes all points of a device's point list.
 fn drop_points<S: Alter>(tx: &mut Transaction<'_, S>, device: &str) -> Result<usize, Error>
     ensures same_reference { IsSameBorrow tx.old.conn tx.new.conn }
     ensures does { Steps (state S.Store tx.old.conn.now) (state S.Store tx.new.conn.now) result
@@ -53,7 +54,7 @@ fn drop_points<S: Alter>(tx: &mut Transaction<'_, S>, device: &str) -> Result<us
     tx.execute("DELETE FROM points WHERE device = ?1", params![device])
 }
 
-/// Inserts points into a device's list.
+/// Inserts points into a device's point list.
 fn insert_points<S: Alter>(
     tx: &mut Transaction<'_, S>,
     device: &str,
@@ -92,7 +93,7 @@ pub fn replace_points<S: Alter>(
     insert_points(tx, device, points)
 }
 
-/// Queries the points of a device's list in order. `read_point` reads each row.
+/// Queries the points of a device's point list in order. `read_point` reads each row.
 pub fn point_rows<S: Alter>(conn: &mut Connection<S>, device: &str) -> Result<Vec<Row>, Error>
     ensures asks { Asks S.Store conn.old conn.new }
     ensures shows { TellsRows S.Store conn.old conn.new trees.points point_columns result

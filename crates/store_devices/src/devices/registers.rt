@@ -20,7 +20,8 @@ use sqlite::types::Value;
 use sqlite::{Alter, Connection, Error, Row, Transaction, params};
 use store_tables::{RowFault, number, signed};
 
-/// Returns the number of a scale's kind in the table: 0 for a fixed factor, 1 for an address.
+/// Returns the number that encodes a scale's kind in `registers`: 0 for a fixed factor, 1 for an
+/// address.
 fn kind(scale: RegisterScale) -> u32
     ensures { result ≡ scale_kind scale }
 {
@@ -30,7 +31,8 @@ fn kind(scale: RegisterScale) -> u32
     }
 }
 
-/// Returns the value of a scale in the table: its fixed factor, or the address of its factor.
+/// Returns the value that encodes a scale in `registers`: its fixed factor, or the address of its
+/// factor.
 fn value(scale: RegisterScale) -> Value
     ensures { result ≡ Int (scale_number scale) }
 {
@@ -68,7 +70,7 @@ pub fn insert_register<S: Alter>(
     )
 }
 
-/// Queries the row of the accounting register with this name.
+/// Queries the row of the accounting register with the name `name`.
 fn rows_of<S: Alter>(conn: &mut Connection<S>, name: &str) -> Result<Vec<Row>, Error>
     ensures asks { Asks S.Store conn.old conn.new }
     ensures shows { TellsRows S.Store conn.old conn.new registers register_columns result
@@ -80,7 +82,8 @@ fn rows_of<S: Alter>(conn: &mut Connection<S>, name: &str) -> Result<Vec<Row>, E
     )
 }
 
-/// Returns the accounting register with this name, or None if there is none.
+/// Returns the accounting register with the name `name`, or None if no accounting register has the
+/// name.
 pub fn register_of<S: Alter>(
     conn: &mut Connection<S>,
     name: &str,
@@ -132,8 +135,8 @@ pub fn register_count<S: Alter>(conn: &mut Connection<S>, device: &str) -> Resul
     Ok(rows.len())
 }
 
-/// Queries, inside a transaction, the index of the last accounting register. The first column has
-/// the index.
+/// Queries, inside a transaction, the index of the last accounting register. The first column of
+/// the result has the index.
 pub fn last_register_rows<S: Alter>(tx: &mut Transaction<'_, S>) -> Result<Vec<Row>, Error>
     ensures same_reference { IsSameBorrow tx.old.conn tx.new.conn }
     ensures asks { AsksInside S.Store tx.old.conn.now tx.new.conn.now result }

@@ -1,31 +1,32 @@
-//! Devices, points and accounting registers as the tables have them.
+//! Devices, points and accounting registers, as the tables `devices`, `points` and `registers`
+//! store them.
 
 use mb_wire::ReadFunction;
 
-/// A device of the office, without its name.
+/// A Modbus device without its name, as the table `devices` stores it.
 #[derive(Clone, Copy, Debug, PartialEq, Eq)]
 pub struct DeviceRow {
     /// The index of the device, from 1.
     pub place: u64,
     /// The Modbus unit identifier.
     pub unit: u8,
-    /// After how many seconds a poll times out, 1 to 60.
+    /// The timeout of a poll in seconds, 1 to 60.
     pub timeout: u8,
-    /// How many polls may be pending at once, 1 to 16.
+    /// How many polls of the device may be pending at once, 1 to 16.
     pub window: u8,
 }
 
-/// A device of the office, with its name.
+/// A Modbus device with its name, as the table `devices` stores it.
 #[derive(Debug, Drop)]
 pub struct Device {
     pub name: String,
     pub row: DeviceRow,
 }
 
-/// A point of a device's list, without its texts.
+/// A point of a device's point list, without its texts.
 #[derive(Clone, Copy, Debug, PartialEq, Eq)]
 pub struct PointRow {
-    /// The index of the point in its list, from 1.
+    /// The index of the point in its point list, from 1.
     pub place: u64,
     pub function: ReadFunction,
     pub area: u8,
@@ -33,7 +34,8 @@ pub struct PointRow {
     pub address: u16,
 }
 
-/// A point of a list. Its type and its scale are texts, as in the CSV list.
+/// A point of a device's point list. The point's type and scale are texts, as in the CSV file of a
+/// point list.
 #[derive(Debug, Drop)]
 pub struct Point {
     pub name: String,
@@ -42,7 +44,7 @@ pub struct Point {
     pub row: PointRow,
 }
 
-/// Where the scale factor of an accounting register comes from.
+/// The source of an accounting register's scale factor: a fixed number, or a Modbus register.
 #[derive(Clone, Copy, Debug, PartialEq, Eq)]
 pub enum RegisterScale {
     /// A fixed scale factor, -3 to 3.
@@ -51,7 +53,7 @@ pub enum RegisterScale {
     At(u16),
 }
 
-/// An accounting register without its names.
+/// An accounting register without its name and the name of its device.
 #[derive(Clone, Copy, Debug, PartialEq, Eq)]
 pub struct RegisterRow {
     /// The index of the accounting register, from 1.

@@ -15,7 +15,7 @@ use sqlite::Row;
 use sqlite::types::ValueRef;
 use store_tables::{GREATEST_PLACE, LATEST_MOMENT, RowFault, function, text, whole};
 
-/// Returns the greatest count of a read from `address`: at most 125 Modbus registers, none past
+/// Returns how many Modbus registers one read from `address` can cover: at most 125, and none past
 /// address 65535.
 fn room(address: u16) -> u64
     ensures { result ≡ greatest_count address }
@@ -24,7 +24,7 @@ fn room(address: u16) -> u64
     if left < 125 { left } else { 125 }
 }
 
-/// Reads all columns of a poll except its device.
+/// Reads all columns of a poll except the name of its device.
 fn numbers(row: &Row) -> Result<PollRow, RowFault>
     ensures { result ≡ poll_in row.now }
 {
@@ -59,7 +59,7 @@ pub fn read_poll(row: &Row) -> Result<Poll, RowFault>
     })
 }
 
-/// Returns the malformation that has this number in the store, or None.
+/// Returns the kind of malformed response that a number in `outcomes` encodes, or None.
 fn malformation(number: u64) -> Option<Malformation>
     ensures { result ≡ malformation_of number }
 {
@@ -73,7 +73,7 @@ fn malformation(number: u64) -> Option<Malformation>
     }
 }
 
-/// Returns the cause of a lost poll that has this number in the store, or None.
+/// Returns the cause of a lost poll that a number in `outcomes` encodes, or None.
 fn loss(number: u64) -> Option<LostCause>
     ensures { result ≡ lost_of number }
 {
@@ -86,7 +86,8 @@ fn loss(number: u64) -> Option<LostCause>
     }
 }
 
-/// Returns the outcome that a number and a code encode, or None if they encode none.
+/// Returns the outcome of a poll that a number and a code encode, or None if they encode no
+/// outcome.
 fn ended(number: u64, code: u8) -> Option<Outcome>
     ensures { result ≡ outcome_of number code }
 {
@@ -136,7 +137,7 @@ pub(crate) fn outcome(row: &Row) -> Result<OutcomeRow, RowFault>
     }
 }
 
-/// Reads the kind of a kept request's command from the column at index `at`.
+/// Reads the kind of a stored request's command from the column at index `at`.
 fn kind(row: &Row, at: usize) -> Result<CommandKind, RowFault>
     ensures { result ≡ or_damaged (kind_in (column row.now at)) }
 {
@@ -149,7 +150,7 @@ fn kind(row: &Row, at: usize) -> Result<CommandKind, RowFault>
     }
 }
 
-/// Returns whether the column at index `at` has these bytes.
+/// Returns true if the blob in the column at index `at` equals `bytes`.
 fn has_bytes(row: &Row, at: usize, bytes: &[u8]) -> Result<bool, RowFault>
     ensures { result ≡ or_damaged (same_bytes bytes.now (column row.now at)) }
 {
@@ -159,7 +160,7 @@ fn has_bytes(row: &Row, at: usize, bytes: &[u8]) -> Result<bool, RowFault>
     }
 }
 
-/// Compares a request with the kept request that a row shows.
+/// Compares the bytes of a request with the stored request in a result row.
 pub(crate) fn repeat(row: &Row, request: &[u8]) -> Result<Repeat, RowFault>
     ensures { result ≡ repeat_in request.now row.now }
 {

@@ -1,4 +1,4 @@
-//! Statements on the table `holds`, the rejected readings.
+//! Statements on the table `holds`, which stores the rejected readings.
 ghost use Rattle.sqlite.specs.Held.{state};
 ghost use Rattle.store_tables.specs.Content.{Edits, with_row};
 ghost use Rattle.store_tables.specs.Steps.{Steps, IsSameBorrow};
@@ -40,8 +40,8 @@ pub fn insert_hold<S: Alter>(
     )
 }
 
-/// Queries, inside a transaction, the index of the last rejected reading. The first column has the
-/// index.
+/// Queries, inside a transaction, the index of the last rejected reading. The first column of the
+/// result has the index.
 pub fn last_hold_rows<S: Alter>(tx: &mut Transaction<'_, S>) -> Result<Vec<Row>, Error>
     ensures same_reference { IsSameBorrow tx.old.conn tx.new.conn }
     ensures asks { AsksInside S.Store tx.old.conn.now tx.new.conn.now result }

@@ -1,10 +1,10 @@
-//! The words that name kinds of commands in the table `replies`.
+//! The words that the table `replies` stores for the kinds of commands.
 ghost use Rattle.std.specs.Prelude.{◌≡◌};
 ghost use Rattle.store_devices.specs.Polls.Rows.{kind_word, kind_of};
 
 use office_events::CommandKind;
 
-/// Returns the kind of command that a word names, or None.
+/// Returns the kind of command that a word in the table `replies` names, or None.
 pub(crate) fn kind_spelled(word: &[u8]) -> Option<CommandKind>
     ensures { result ≡ kind_of word.now }
 {
@@ -35,7 +35,7 @@ pub(crate) fn kind_spelled(word: &[u8]) -> Option<CommandKind>
     }
 }
 
-/// Returns the word that names a kind of command in the table `replies`.
+/// Returns the word that the table `replies` stores for a kind of command.
 pub(crate) fn word_of(kind: CommandKind) -> &'static str
     ensures { result.now ≡ kind_word kind }
 {

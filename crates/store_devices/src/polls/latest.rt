@@ -1,5 +1,6 @@
-//! The latest timestamps of `polls`, `outcomes`, `holds` and `replies`, in seconds since 1970-01-01
-//! UTC. Each query scans its complete table. They run once, when an office is opened.
+//! Queries for the latest timestamps of `polls`, `outcomes`, `holds` and `replies`, in seconds
+//! since 1970-01-01 UTC. Each query scans a complete table. The queries run once, when a store is
+//! opened.
 ghost use Rattle.std.specs.Prelude.{◌≤◌, IfOk, IfSome};
 ghost use Rattle.store_tables.specs.Limits.{latest_moment};
 ghost use Rattle.store_tables.specs.Answer.{IsLast, LastFirst, every};
@@ -15,7 +16,7 @@ ghost use Rattle.store_devices.specs.Polls.Trees.{polls, outcomes, holds, replie
 use sqlite::{Alter, Connection, Error, Row};
 use store_tables::{LATEST_MOMENT, RowFault, first_whole};
 
-/// Queries the latest start of a poll.
+/// Queries the latest time at which a poll started.
 fn start_rows<S: Alter>(conn: &mut Connection<S>) -> Result<Vec<Row>, Error>
     ensures asks { Asks S.Store conn.old conn.new }
     ensures shows { TellsRows S.Store conn.old conn.new polls poll_columns result
@@ -27,7 +28,7 @@ fn start_rows<S: Alter>(conn: &mut Connection<S>) -> Result<Vec<Row>, Error>
     )
 }
 
-/// Returns the latest start of a poll, or None without polls.
+/// Returns the latest time at which a poll started, or None if no poll is stored.
 pub fn latest_start<S: Alter>(conn: &mut Connection<S>) -> Result<Option<u64>, RowFault>
     ensures finds { LooksUp S.Store conn.old conn.new polls poll_columns IsSoundStarted result
         (IsLast every HasStart start_of) }
@@ -37,7 +38,7 @@ pub fn latest_start<S: Alter>(conn: &mut Connection<S>) -> Result<Option<u64>, R
     first_whole(&rows, 0, LATEST_MOMENT)
 }
 
-/// Queries the latest timestamp of an outcome.
+/// Queries the latest timestamp of all outcomes of polls.
 fn outcome_rows<S: Alter>(conn: &mut Connection<S>) -> Result<Vec<Row>, Error>
     ensures asks { Asks S.Store conn.old conn.new }
     ensures shows { TellsRows S.Store conn.old conn.new outcomes outcome_columns result
@@ -49,7 +50,7 @@ fn outcome_rows<S: Alter>(conn: &mut Connection<S>) -> Result<Vec<Row>, Error>
     )
 }
 
-/// Returns the latest timestamp of an outcome, or None without outcomes.
+/// Returns the latest timestamp of all outcomes of polls, or None if no outcome is stored.
 pub fn latest_outcome<S: Alter>(conn: &mut Connection<S>) -> Result<Option<u64>, RowFault>
     ensures finds { LooksUp S.Store conn.old conn.new outcomes outcome_columns IsSoundOutcome result
         (IsLast every HasOutcomeMoment outcome_moment) }
@@ -59,7 +60,7 @@ pub fn latest_outcome<S: Alter>(conn: &mut Connection<S>) -> Result<Option<u64>,
     first_whole(&rows, 0, LATEST_MOMENT)
 }
 
-/// Queries the latest timestamp of a rejected reading.
+/// Queries the latest timestamp of all rejected readings.
 fn hold_rows<S: Alter>(conn: &mut Connection<S>) -> Result<Vec<Row>, Error>
     ensures asks { Asks S.Store conn.old conn.new }
     ensures shows { TellsRows S.Store conn.old conn.new holds hold_columns result
@@ -68,7 +69,7 @@ fn hold_rows<S: Alter>(conn: &mut Connection<S>) -> Result<Vec<Row>, Error>
     conn.query_all("SELECT moment FROM holds ORDER BY moment DESC LIMIT 1", &[])
 }
 
-/// Returns the latest timestamp of a rejected reading, or None if no reading was rejected.
+/// Returns the latest timestamp of all rejected readings, or None if no reading was rejected.
 pub fn latest_hold<S: Alter>(conn: &mut Connection<S>) -> Result<Option<u64>, RowFault>
     ensures finds { LooksUp S.Store conn.old conn.new holds hold_columns IsSoundHeld result
         (IsLast every HasHoldMoment hold_moment) }
@@ -78,7 +79,7 @@ pub fn latest_hold<S: Alter>(conn: &mut Connection<S>) -> Result<Option<u64>, Ro
     first_whole(&rows, 0, LATEST_MOMENT)
 }
 
-/// Queries the latest timestamp of a kept request.
+/// Queries the latest timestamp of all stored requests.
 fn reply_rows<S: Alter>(conn: &mut Connection<S>) -> Result<Vec<Row>, Error>
     ensures asks { Asks S.Store conn.old conn.new }
     ensures shows { TellsRows S.Store conn.old conn.new replies reply_columns result
@@ -90,7 +91,7 @@ fn reply_rows<S: Alter>(conn: &mut Connection<S>) -> Result<Vec<Row>, Error>
     )
 }
 
-/// Returns the latest timestamp of a kept request, or None if no request is kept.
+/// Returns the latest timestamp of all stored requests, or None if no request is stored.
 pub fn latest_reply<S: Alter>(conn: &mut Connection<S>) -> Result<Option<u64>, RowFault>
     ensures finds { LooksUp S.Store conn.old conn.new replies reply_columns IsSoundKept result
         (IsLast every HasReplyMoment reply_moment) }

@@ -1,4 +1,4 @@
-//! Statements on the table `outcomes`.
+//! Statements on the table `outcomes`, which stores how each poll ended.
 ghost use Rattle.std.specs.Prelude.{◌≤◌, IfOk, IfSome};
 ghost use Rattle.sqlite.specs.Held.{state};
 ghost use Rattle.store_tables.specs.Content.{Edits, with_row};
@@ -15,7 +15,7 @@ use crate::polls::rows::OutcomeRow;
 use sqlite::{Alter, Connection, Error, Row, Transaction, params};
 use store_tables::{RowFault, number};
 
-/// Records how a poll ended.
+/// Inserts the outcome of a poll into the table `outcomes`.
 pub fn insert_outcome<S: Alter>(
     tx: &mut Transaction<'_, S>,
     row: OutcomeRow,

@@ -45,7 +45,7 @@ pub fn insert_poll<S: Alter>(
     )
 }
 
-/// Queries the row of the poll with this number.
+/// Queries the row of the poll with the number `number`.
 fn rows_at<S: Alter>(conn: &mut Connection<S>, number: u64) -> Result<Vec<Row>, Error>
     requires place { number ≤ greatest_place }
     ensures asks { Asks S.Store conn.old conn.new }
@@ -59,7 +59,7 @@ fn rows_at<S: Alter>(conn: &mut Connection<S>, number: u64) -> Result<Vec<Row>, 
     )
 }
 
-/// Returns the poll with this number, or None if there is none.
+/// Returns the poll with the number `number`, or None if no poll has the number.
 pub fn poll_at<S: Alter>(conn: &mut Connection<S>, number: u64) -> Result<Option<Poll>, RowFault>
     requires place { number ≤ greatest_place }
     ensures finds { LooksUp S.Store conn.old conn.new polls poll_columns IsSoundStarted result
@@ -82,8 +82,8 @@ fn last_rows<S: Alter>(conn: &mut Connection<S>) -> Result<Vec<Row>, Error>
     conn.query_all("SELECT poll FROM polls ORDER BY poll DESC LIMIT 1", &[])
 }
 
-/// Returns the greatest number of a poll, or None without polls. The office numbers polls from 1
-/// without gaps, so the greatest number also counts the polls.
+/// Returns the greatest number of a poll, or None if no poll is stored. Polls are numbered from 1
+/// without gaps, so the greatest number is also the count of all polls.
 pub fn last_poll<S: Alter>(conn: &mut Connection<S>) -> Result<Option<u64>, RowFault>
     ensures finds { LooksUp S.Store conn.old conn.new polls poll_columns IsSoundStarted result
         (IsLast every HasNumber poll_number) }

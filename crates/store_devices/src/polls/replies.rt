@@ -1,4 +1,4 @@
-//! Statements on the table `replies`, the kept requests.
+//! Statements on the table `replies`, which stores accepted requests by idempotency key.
 ghost use Rattle.std.specs.Prelude.{◌≤◌};
 ghost use Rattle.sqlite.specs.Held.{state};
 ghost use Rattle.store_tables.specs.Content.{Edits, with_row};
@@ -42,7 +42,7 @@ pub fn insert_reply<S: Alter>(
     )
 }
 
-/// Queries the request that is kept under an idempotency key.
+/// Queries the request that is stored under an idempotency key.
 fn rows_of<S: Alter>(conn: &mut Connection<S>, caller: &str, number: u64) -> Result<Vec<Row>, Error>
     requires number { IsCallNumber number }
     ensures asks { Asks S.Store conn.old conn.new }
@@ -56,8 +56,8 @@ fn rows_of<S: Alter>(conn: &mut Connection<S>, caller: &str, number: u64) -> Res
     )
 }
 
-/// Compares a request with the request that is kept under its idempotency key. Returns None if no
-/// request is kept there.
+/// Compares a request with the request that is stored under its idempotency key. Returns None if
+/// the key has no stored request.
 pub fn repeat_of<S: Alter>(
     conn: &mut Connection<S>,
     caller: &str,

@@ -1,4 +1,4 @@
-//! Polls, outcomes, rejected readings and kept requests as the tables have them.
+//! The rows of polls, outcomes, rejected readings and stored requests, as their tables store them.
 ghost use Rattle.std.specs.Prelude.{◌≡◌};
 
 use energy_core::Cause;
@@ -13,35 +13,35 @@ pub struct PollRow {
     pub number: u64,
     /// The Modbus unit identifier of the request.
     pub unit: u8,
-    /// The time of the start, in seconds since 1970-01-01 UTC.
+    /// The time at which the poll started, in seconds since 1970-01-01 UTC.
     pub started: u64,
-    /// The transaction identifier of the request.
+    /// The Modbus TCP transaction identifier of the request.
     pub id: u16,
     pub function: ReadFunction,
     /// The address of the first Modbus register that the poll reads.
     pub address: u16,
-    /// How many Modbus registers the poll reads, 1 to 125, none past address 65535.
+    /// How many Modbus registers the poll reads: 1 to 125, and none past address 65535.
     pub count: u16,
 }
 
-/// A poll of a device: one Modbus read that was started.
+/// A poll of a device, as a row of the table `polls`. A poll is one Modbus read that was started.
 #[derive(Debug, Drop)]
 pub struct Poll {
     pub device: String,
     pub row: PollRow,
 }
 
-/// How a poll ended.
+/// The outcome of a poll: how the poll ended.
 #[derive(Clone, Copy, Debug, PartialEq, Eq)]
 pub struct OutcomeRow {
-    /// The number of the poll.
+    /// The number of the poll that ended.
     pub poll: u64,
-    /// The time of the end, in seconds since 1970-01-01 UTC.
+    /// The time at which the poll ended, in seconds since 1970-01-01 UTC.
     pub moment: u64,
     pub outcome: Outcome,
 }
 
-/// A rejected reading, without the name of its meter.
+/// A rejected reading of a meter, without the name of the meter.
 #[derive(Clone, Copy, Debug, PartialEq, Eq)]
 pub struct HoldRow {
     /// The index of the rejected reading, from 1.
@@ -50,18 +50,19 @@ pub struct HoldRow {
     pub poll: u64,
     /// The time of the reading, in seconds since 1970-01-01 UTC.
     pub moment: u64,
-    /// The counter's value.
+    /// The counter's value in the rejected reading.
     pub raw: u32,
-    /// The scale factor of the reading.
+    /// The scale factor of the counter's value: a power of ten.
     pub sf: i16,
     pub cause: Cause,
 }
 
-/// How a request compares with the request that is kept under its idempotency key.
+/// How a request compares with the request that is stored under its idempotency key.
 #[derive(Clone, Copy, Debug, PartialEq, Eq)]
 pub enum Repeat {
-    /// The same bytes: a retry of a request with this kind of command.
+    /// The request has the bytes of the stored request, so it is a retry. The variant has the kind
+    /// of the request's command.
     Same(CommandKind),
-    /// The request has other bytes than the kept request.
+    /// The request has other bytes than the stored request.
     Other,
 }

@@ -1,4 +1,4 @@
--- The value that a row of `holds` is read as.
+-- Proofs that a row of `holds` is read back as the rejected reading that it encodes.
 use Rattle.std.proofs.Common.{◌≡◌, ◌≤◌, zero-le, ℕ, ℤ, Bool, true, false, List, Option, Some, None, if◌then◌else◌, Ok, Result, IfOk, IfErr, IsTrue, refl, subst, arith}
 use Rattle.sqlite.specs.declared.types.Value.{Value}
 use Rattle.sqlite.specs.declared.types.Value.TheVariants.{Null, Int, Real, Text, Blob}
@@ -35,7 +35,7 @@ one_of_eight cause.TooFast = (omega arith, omega arith)
 one_of_eight cause.TotalFull = (omega arith, omega arith)
 one_of_eight cause.NotBelowRange = (omega arith, omega arith)
 
--- A 16-bit integer is read back.
+-- If a column has a signed 16-bit integer, the reader returns this integer.
 module _ {B : Type 0} (Sound : Type 0) (Is : B → Type 0) (next : ℤ → Result B RowFault) where
   tested : (b : Bool) (n : ℤ) → (Sound → b ≡ true) → IsFair Sound Is (next n) → IsFair Sound Is (and_then (or_damaged (if b then Some n else None)) next)
   tested true n sound rest = rest
@@ -56,7 +56,7 @@ fair_reading meter h =
     (fair_some S P _ (cause_of (cause_number h.row.cause)) h.row.cause (cause_back h.row.cause)
     (record { read = refl; fault = tt }))))))
 
--- ---- what was read is in its ranges
+-- ---- ranges of the values that the reader returns
 
 sixteen_if : (n m : ℤ) (b : Bool) → has_sixteen_bits n ≡ b → (if b then Some n else None) ≡ Some m → IsTrue (has_sixteen_bits m)
 sixteen_if n m true is e = let same : n ≡ m = cc in subst (λ k. IsTrue (has_sixteen_bits k)) same is
@@ -69,7 +69,7 @@ sixteen_bounds (Real x) n e = absurd (let f = e in cc)
 sixteen_bounds (Text t) n e = absurd (let f = e in cc)
 sixteen_bounds (Blob b) n e = absurd (let f = e in cc)
 
--- The reading of five columns.
+-- The rejected reading that five column values encode.
 abbrev of_columns : (meter : List ℕ) → (poll at raw : Option ℕ) → Option ℤ → (number : Option ℕ) → Result HeldReading RowFault
 of_columns meter poll at raw sf number =
     and_then (or_damaged poll) (λ p. and_then (or_damaged at) (λ a. and_then (or_damaged raw) (λ w. and_then (or_damaged sf) (λ s. and_then (or_damaged number) (λ n. and_then (or_damaged (cause_of n)) (λ c.

@@ -1,4 +1,4 @@
--- The rows that the queries find.
+-- The rows that the queries on `intervals` and `installations` return.
 use Rattle.std.proofs.Common.{◌≡◌, ◌<◌, ◌≤◌, ◌<ℤ◌, ◌⊎◌, ◌&&◌, nat_lt, inl, inr, pos, ℕ, List, [], ◌∷◌, ◌++◌, map, filter, flat_map, Bool, true, false, bytes_eq, if◌then◌else◌, Ordering, Less, Equal, Greater, is_gt, refl, sym, ap, ap₂, subst, ◌∙◌, arith, IsPermutation}
 use Rattle.std.specs.List.{AllByRecursion, list_all}
 use Rattle.std.specs.Ordering.{ordering_then, int_cmp, MatchOrdering}
@@ -37,13 +37,13 @@ use Rattle.store_facts.proofs.IntervalsLemmas.Texts as text
 use Rattle.store_facts.proofs.StreamsLemmas.Compared.{all_found, at_least_is, below_is}
 use Rattle.store_facts.proofs.StreamsLemmas.Shared.{Tells}
 
--- ---- tests one after another
+-- ---- two tests of a WHERE clause, joined by AND
 
 and_first : (a b c : Bool) → a && (b && c) ≡ (a && b) && c
 and_first true b c = refl
 and_first false b c = refl
 
--- ---- the rows of a meter
+-- ---- a meter's rows of `intervals`
 
 pub of_meter : (meter : List ℕ) (db : Database) (content : Content) (is : List Interval) (rows : List Row) → AreTables db content → HaveIntervals is content
     → IsAnswer (scan 14 text.meter_intervals_tests text.shares_project text.meter_intervals_order no_limit) (overlay db.trees []) (Text meter ∷ []) rows
@@ -68,7 +68,7 @@ of_meter_between meter from till db content is rows has have a =
     db.trees rows is (laid_from false interval_columns (db.trees intervals) (content intervals) is apart.keyed (has.rows intervals there) have) a in
     record { found = it.0; shows = it.2; are = (it.0, it.1, refl); sound = λ sound. all_found IsSoundInterval asked is it.0 it.1.all sound }
 
--- ---- the order of two numbers
+-- ---- the order of two integers
 
 ranked : (a b : ℕ) (o p : Ordering) → MatchOrdering o (pos a <ℤ pos b) (pos a ≡ pos b) (pos b <ℤ pos a) → is_gt (ordering_then o p) ≡ false → (a < b) ⊎ ((a ≡ b) × (is_gt p ≡ false))
 ranked a b Less p h le = inl (omega (arith, ints))
@@ -83,7 +83,7 @@ in_both a b c d le =
       | inr same ↦ inr (same.0, in_order c d same.1)
     ]
 
--- ---- the rows of a register
+-- ---- the rows of `intervals` for the meters at an accounting register
 
 map-pairs : {A B C D : Type 0} (f : A → C) (g : B → D) (xs : List A) (ys : List B) → map (λ (p : A × B). (f p.0, g p.1)) (pairs xs ys) ≡ pairs (map f xs) (map g ys)
 map-pairs {A} {B} {C} {D} f g [] ys = refl
@@ -96,12 +96,14 @@ pairs-permutation xs zs ys ws first second =
     IsPermutation-trans _ _ _ (IsPermutation-flat_map (λ x. map (λ y. (x, y)) ys) xs zs first)
     (IsPermutation-flat_map_each (λ x. map (λ y. (x, y)) ys) (λ x. map (λ y. (x, y)) ws) (λ x. IsPermutation-map (λ y. (x, y)) ys ws second) zs)
 
--- The shares of the pairs that pass, in order.
+-- True if a list has the energy of the quarter hours in the joined rows that pass a test, in the
+-- order of the rows.
 abbrev AreShown : (passes : Installed × Interval → Bool) → Lying → List Share → Type 0
 AreShown passes lying all =
     (found : List (Installed × Interval)) × AreFound passes ComesAfter (pairs lying.installed lying.rows) found × (all ≡ map (λ p. p.1.share) found)
 
--- A query of this form, with tests that these pairs pass.
+-- Proofs about a query that joins `installations` and `intervals`, with a WHERE clause that tests
+-- `passes`.
 module _ (params : Row) (tests : List Term) (passes : Installed × Interval → Bool)
     (tells : (p : Numbered Installed × Numbered Interval) → list_all (holds (params ∷ lay true installed_columns p.0 ∷ lay false interval_columns p.1 ∷ [])) tests ≡ passes (p.0.1, p.1.1)) where
   abbrev Pair : Type 0

@@ -1,4 +1,5 @@
--- The rows of `intervals` with any value in their last column, and the intervals that they encode.
+-- Stored rows of `intervals` with a value of any type in their last column, and the intervals that
+-- they encode.
 use Rattle.std.proofs.Common.{◌≡◌, ◌≤◌, ◌<◌, ◌^◌, ◌+◌, ◌==◌, inl, inr, ℕ, pos, List, [], ◌∷◌, map, Bool, ◌&&◌, bytes_eq, Some, refl, sym, ap, ap₂, subst, ◌∙◌, arith, if◌then◌else◌, IsPermutation}
 use Rattle.std.specs.List.{list_any}
 use Rattle.std.proofs.lemmas.Bool.{cases_Bool}
@@ -36,7 +37,7 @@ kept_of i = record { meter = i.meter; start = i.share.start; energy = Int (pos i
 abbrev pub is_kept : (meter : List ℕ) → (start : ℕ) → Kept → Bool
 is_kept meter start k = bytes_eq k.meter meter && (k.start == start)
 
--- The row after an update.
+-- A row of `intervals` after an UPDATE added energy in mWh.
 abbrev pub adds : (mwh : ℕ) → Kept → Kept
 adds mwh k = record { meter = k.meter; start = k.start; energy = cast Integer (binary (Arith Add) k.energy (Int (pos mwh))) }
 
@@ -45,7 +46,7 @@ upserted meter start mwh ks =
     if list_any (is_kept meter start) ks then changed_where (is_kept meter start) (adds mwh) ks
     else (record { meter = meter; start = start; energy = Int (pos mwh) }) ∷ ks
 
--- ---- sums
+-- ---- sums of energy in mWh
 
 fits : (n : ℕ) → n < 2 ^ 63 → if_fits (pos n) ≡ Some (pos n)
 fits n h = grind (arith, nat_tests)
@@ -54,7 +55,7 @@ sum_is : (a b : ℕ) → a + b < 2 ^ 63 → binary (Arith Add) (Int (pos a)) (In
 unfolding binary
 sum_is a b h = rw (fits (a + b) h)
 
--- ---- intervals
+-- ---- rows of `intervals` with added energy
 
 any_kept : (meter : List ℕ) (start : ℕ) (is : List Interval) → list_any (is_kept meter start) (map kept_of is) ≡ list_any (is_at meter start) is
 any_kept meter start [] = refl
@@ -81,7 +82,7 @@ added_share meter share is small = elim (cases_Bool (list_any (is_at meter share
   | inr none ↦ rw (any_kept meter share.start is, none) refl
 ]
 
--- ---- from the rows of the table to intervals
+-- ---- the intervals that stored rows of `intervals` encode
 
 columns_of : (is : List Interval) → map kept_columns (map kept_of is) ≡ map interval_columns is
 columns_of is = map-map kept_columns kept_of is

@@ -1,4 +1,4 @@
--- The value that a row of `intervals` is read as.
+-- Proofs that a row of `intervals` is read back as the energy that it encodes.
 use Rattle.std.proofs.Common.{◌≡◌, ◌≤◌, zero-le, ℕ, Option, Some, None, Ok, Result, IfOk, IfErr, refl}
 use Rattle.sqlite.specs.Order.{Row, column}
 use Rattle.interval_core.specs.declared.shares.Share.{Share}
@@ -18,7 +18,8 @@ fair_share i =
     (fair_whole S P _ 0 _ i.share.mwh (λ is. (zero-le, is.mwh))
     (record { read = refl; fault = tt }))
 
--- The share of two columns.
+-- The energy of a quarter hour that two column values encode: the start of the quarter hour, and
+-- its energy in mWh.
 abbrev share_of : (start mwh : Option ℕ) → Result Share RowFault
 share_of start mwh = and_then (or_damaged start) (λ s. and_then (or_damaged mwh) (λ m. Ok (let x : Share = record { start = s; mwh = m } in x)))
 
@@ -32,7 +33,8 @@ damage_of None mwh = refl
 damage_of (Some s) None = refl
 damage_of (Some s) (Some m) = tt
 
--- Every value that is read is in its ranges. A row that can't be read is damaged.
+-- If the energy of a quarter hour is read from a row of `intervals`, its values are in their
+-- ranges. The reader reports any other row as damaged.
 pub sound_share : (row : Row) → IfOk (share_in row) IsSoundShare
 sound_share row =
     sound_of (whole_in 0 latest_moment (column row 0)) (whole_in 0 greatest_total (column row 1)) (λ n is. (whole_bounds 0 latest_moment (column row 0) n is).1) (λ n is. (whole_bounds 0 greatest_total (column row 1) n is).1)

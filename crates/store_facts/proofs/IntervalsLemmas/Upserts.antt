@@ -1,4 +1,4 @@
--- The effect of the upsert.
+-- The effect of INSERT .. ON CONFLICT DO UPDATE on `intervals`.
 use Rattle.std.proofs.Common.{◌≡◌, ◌≢◌, inl, inr, ℕ, ◌==◌, ℤ, pos, List, [], ◌∷◌, map, filter, drop, Bool, true, false, not, ◌&&◌, ◌||◌, bytes_eq, Option, Some, None, Ok, Err, Result, OnOk, refl, sym, ap, subst, ◌∙◌, IsPermutation, eqb-true}
 use Rattle.std.specs.List.{list_any, AllByRecursion}
 use Rattle.std.specs.Ordering.{is_eq, is_ne}
@@ -57,7 +57,7 @@ use Rattle.store_facts.specs.Intervals.Trees.{intervals}
 use Rattle.store_facts.proofs.IntervalsLemmas.Kept.{Kept, kept_columns, is_kept, adds, upserted}
 use Rattle.store_facts.proofs.IntervalsLemmas.Texts as text
 
--- ---- tests
+-- ---- the test that finds the conflicting row of an upsert
 
 truth_back : (b : Bool) → is_true (from_truth (Some b)) ≡ b
 truth_back true = refl
@@ -92,9 +92,9 @@ differ_is : (a b : ℤ) → differ (Int a) (Int b) ≡ not (same_id a b)
 unfolding binary
 differ_is a b = truth_back _ ∙ (other_than _ ∙ ap (λ o. not (is_eq o)) (value_cmp-Int a b))
 
--- ---- rows by their rowids
+-- ---- rows of `intervals` with distinct rowids
 
--- Two rows with the same rowid are the same row.
+-- If two rows of `intervals` have equal rowids, they are the same row.
 same_row : (rows : List Row) → AreApart rows → (r s : Row) → Has rows r → Has rows s → same_id (id_of r) (id_of s) ≡ true → r ≡ s
 same_row [] apart r s has_r has_s same = absurd has_r
 same_row (x ∷ rows) apart r s (inl is_r) (inl is_s) same = is_r ∙ sym is_s
@@ -107,7 +107,7 @@ same_row (x ∷ rows) apart r s (inr in_r) (inl is_s) same =
 same_row (x ∷ rows) apart r s (inr in_r) (inr in_s) same =
     same_row rows (record { keyed = apart.keyed.1; distinct = IsDistinct-tail same_id (id_of x) (map id_of rows) apart.distinct }) r s in_r in_s same
 
--- ---- rows by meter and start
+-- ---- rows of `intervals` that conflict in their meter and their start
 
 agree_is : (m n : ℤ) (k l : Kept) → agree plain (1 ∷ 2 ∷ []) (laid false m (kept_columns k)) (1 ∷ 2 ∷ []) (laid false n (kept_columns l)) ≡ is_kept l.meter l.start k
 agree_is m n k l = rw (first_key-plain, text_is k.meter l.meter, number_is k.start l.start, and_true) refl
@@ -120,7 +120,7 @@ of_one_key meter start k l here there =
     let it = key_of meter start l there in
     subst (λ m. is_kept m l.start k ≡ true) (sym it.0) (subst (λ s. is_kept meter s k ≡ true) (sym it.1) here)
 
--- A stored row of the table encodes an interval.
+-- Every stored row of `intervals` encodes the energy of a meter in a quarter hour.
 laid_row : (all : List (Numbered Kept)) (r : Row) → Has (map (lay false kept_columns) all) r → (z : Numbered Kept) × (r ≡ lay false kept_columns z)
 laid_row [] r has = absurd has
 laid_row (z ∷ all) r (inl is) = (z, is)
@@ -162,7 +162,7 @@ module _ (meter : List ℕ) (start mwh : ℕ) where
   fresh_cast = simp (cast_null, cast_int)
 
   module _ (fresh : ℤ) where
-    -- The row to insert.
+    -- The row of `intervals` that an upsert tries to insert.
     abbrev new : Row
     new = Int fresh ∷ columns
 
@@ -172,7 +172,8 @@ module _ (meter : List ℕ) (start mwh : ℕ) where
     clashing_is : (n : ℤ) (k : Kept) → clashing (laid false n (kept_columns k)) ≡ is_kept meter start k
     clashing_is n k = rw (first_key-plain, text_is k.meter meter, number_is k.start start, and_true, or_false) refl
 
-    -- The input of the update: the parameters, the rowid of the existing row, and the excluded row.
+    -- The row on which the upsert's UPDATE is evaluated: the parameters, the rowid of the existing
+    -- row, and the row `excluded`.
     abbrev given : ℤ → Row
     given k = Text meter ∷ Int (pos start) ∷ Int (pos mwh) ∷ Int k ∷ Int fresh ∷ columns
 
@@ -204,7 +205,7 @@ module _ (meter : List ℕ) (start mwh : ℕ) where
       abbrev task : Task
       task = record { limit = limit; keys = Enforced; schema = books_schema; table = intervals_table; params = columns }
 
-      -- The tables after the write.
+      -- The state of the tables after the upsert wrote its row.
       record Done (w : Written) : Type 0 where
         keeps : AreApart (w.trees intervals)
         others : AllByRecursion (λ t. t.tree ≢ intervals → w.trees t.tree ≡ db t.tree) books_schema.tables
@@ -213,7 +214,8 @@ module _ (meter : List ℕ) (start mwh : ℕ) where
       some_is : (ks : List Kept) → IsLaid false kept_columns (db intervals) ks → list_any (is_kept meter start) ks ≡ list_any clashing (db intervals)
       some_is ks lies = sym (ap (list_any clashing) lies.rows ∙ (any_laid clashing (is_kept meter start) clashing_is lies.all ∙ list_any-IsPermutation (is_kept meter start) _ _ lies.same))
 
-      -- No row conflicts.
+      -- If no row of `intervals` has the meter and the start of the new row, the upsert inserts the
+      -- new row.
       puts : (w : Written) → ((r : Row) → Has (db intervals) r → clashing r ≡ true → ⊥) → Puts task new db (Ok w) → Done w
       puts w none h =
           let wrote = went h in
@@ -232,7 +234,8 @@ module _ (meter : List ℕ) (start mwh : ℕ) where
                 rw off more;
           }
 
-      -- A row conflicts.
+      -- If a row of `intervals` has the meter and the start of the new row, the upsert updates this
+      -- row.
       module _ (there : Row) (is_there : Has (db intervals) there) (clashes_it : clashing there ≡ true) where
         abbrev k : ℤ
         k = id_of there

@@ -1,4 +1,4 @@
--- The rows of a query, given to the sink one by one.
+-- Proofs about streaming the rows of a query to a sink one by one.
 use Rattle.std.proofs.Common.{◌≡◌, inl, inr, List, [], ◌∷◌, ◌++◌, length, length-append, ℕ, ◌+◌, ◌≤◌, false, Ok, Err, Result, OnErr, IsErrAnd, refl, sym, ap, subst, arith, ◌∙◌}
 use Rattle.sqlite.specs.declared.error.Error.{Error}
 use Rattle.sqlite.specs.declared.error.Error.TheVariants.{InvalidQuery}
@@ -31,7 +31,7 @@ read_more reads [] (t ∷ rows) row next zip is = absurd zip
 read_more reads (r ∷ given) [] row next zip is = absurd zip
 read_more reads (r ∷ given) (t ∷ rows) row next zip is = (zip.0, read_more reads given rows row next zip.1 is)
 
--- A query that is refused commits nothing.
+-- If SQLite refuses a query, the query commits nothing.
 pub refused_asks : {S X : Type 0} (g : Ghosts S) (sql : List ℕ) (params : Row) (old new : Held S) (r : Result X Error) (e : Error) → r ≡ Err e → OnErr r (IsRefused g sql params old r new) → IsPlain (understood books_schema sql) → Asks g old new
 refused_asks g sql params old new (Ok x) e is content plain = absurd (let f = is in cc)
 refused_asks {X = X} g sql params old new (Err d) e is content plain = asks {X = X} g sql params old new (Err d) (λ x. []) plain (λ clean. tt) content.err content.mode content.survives
@@ -45,7 +45,7 @@ refused_why g sql params old new (Ok x) e is content clean = absurd (let f = is 
 refused_why g sql params old new (Err d) e is content clean = subst (FailsToQuery sql params (state g old) (state g new)) (let f : d ≡ e = cc in f) (content.err clean)
 
 module _ {S K T : Type 0} (g : Ghosts S) (sql : List ℕ) (params : Row) (reads : Row → Result T RowFault) (IsRow : T → Type 0) (old : Held S) (takes : K → T → K → Type 0) (before : K) where
-  -- Some rows were read, and given to the sink.
+  -- The state of a stream after the first `count` rows were read and passed to the sink.
   pub record Stands (now : Held S) (after : K) (count : ℕ) : Type 0 where
     pub cleaned : HasCleanDisk (state g now) → HasCleanDisk (state g old)
     pub mode : old.in_transaction ≡ false → now.in_transaction ≡ false
@@ -88,7 +88,8 @@ module _ {S K T : Type 0} (g : Ghosts S) (sql : List ℕ) (params : Row) (reads 
         (it.0 ++ row ∷ [], given clean it.0 it.1, unchanged_then _ _ _ it.2 (same clean), read_more reads it.0 h.rows row next it.3 is);
   }
 
-  -- The query is refused.
+  -- If SQLite refuses the query of a stream, the stream returns the error, and passes no row to the
+  -- sink.
   pub not_begun : (new : Held S) (r : Result (Unit {0}) RowFault) (e : Error) → IsErrAnd r (λ d. d ≡ Sql e) → (state g old).faults ≤ (state g new).faults → FailsToQuery sql params (state g old) (state g new) e → HandsOnQuery g sql params reads old new takes before before r
   not_begun new (Ok x) e fails up why = absurd fails
   not_begun new (Err d) e fails up why = record {
@@ -104,7 +105,8 @@ module _ {S K T : Type 0} (g : Ghosts S) (sql : List ℕ) (params : Row) (reads 
   asked_on : (now : Held S) (given : List Row) → HasGiven g sql params now given → IsUnchanged (state g old) (state g now) → IsAsked g sql params old now given
   asked_on now given has same = (same, given_begin g sql params now given has)
 
-  -- The store fails while rows are read.
+  -- If the store fails during a stream, the stream returns the error after it passed the earlier
+  -- rows to the sink.
   pub fails_later : (r : Result (Unit {0}) RowFault) (e : Error) (now last new : Held S) (after : K) (count : ℕ) → new ≡ last → IsErrAnd r (λ d. d ≡ Sql e) → HasCleanDisk (state g now) → IsPlain (understood old.schema sql)
       → Stands now after count → (state g now).faults ≤ (state g last).faults → ((given : List Row) → HasGiven g sql params now given → FailsToQuery sql params (state g now) (state g last) e) → HandsOnQuery g sql params reads old new takes before after r
   fails_later (Ok x) e now last new after count ends fails clean plain h up why = absurd fails
@@ -120,7 +122,7 @@ module _ {S K T : Type 0} (g : Ghosts S) (sql : List ℕ) (params : Row) (reads 
         fault = subst (IsReadFault g sql params reads old new it.0 h.rows) (sym fails) (inl (record { asked = now; same = it.2.0.now_is; goes = went_on (state g old) (state g now) _ clean (h.survives plain); counts = subst (λ (k : Held S). (state g now).faults ≤ (state g k).faults) (sym ends) up; fails = subst (λ (k : Held S). FailsToQuery sql params (state g now) (state g k) e) (sym ends) (why it.0 it.1) }));
       }
 
-  -- The greatest count of rows was read.
+  -- If a stream has passed the greatest number of rows that it can count, it ends with an error.
   pub ends_late : (now new : Held S) (after : K) → HasCleanDisk (state g now) → IsPlain (understood old.schema sql) → Stands now after most_rows → HandsOnQuery g sql params reads old new takes before after (Err (Sql InvalidQuery))
   ends_late now new after clean plain h =
       let it = h.follows clean plain in
@@ -134,7 +136,7 @@ module _ {S K T : Type 0} (g : Ghosts S) (sql : List ℕ) (params : Row) (reads 
         fault = inr (refl, h.counted);
       }
 
-  -- All rows were read.
+  -- If a stream has read all rows of its query, it returns Ok.
   pub ends_well : (now last new : Held S) (after : K) (count : ℕ) → HasCleanDisk (state g now) → IsPlain (understood old.schema sql) → Stands now after count
       → ((given : List Row) → HasGiven g sql params now given → Shown sql params (state g now) (state g last) given) → HandsOnQuery g sql params reads old new takes before after (Ok tt)
   ends_well now last new after count clean plain h shown =
@@ -149,7 +151,7 @@ module _ {S K T : Type 0} (g : Ghosts S) (sql : List ℕ) (params : Row) (reads 
         fault = tt;
       }
 
-  -- A row can't be read.
+  -- If the reader of a stream can't read a row, the stream ends with a fault at this row.
   pub not_read : (r : Result (Unit {0}) RowFault) (f : RowFault) (now last new : Held S) (after : K) (count : ℕ) (row : Row) → IsErrAnd r (λ d. d ≡ f) → reads row ≡ Err f → f ≡ Damaged → HasCleanDisk (state g now) → IsPlain (understood old.schema sql)
       → Stands now after count → ((given : List Row) → HasGiven g sql params now given → HasGiven g sql params last (given ++ row ∷ [])) → IsUnchanged (state g now) (state g last) → HandsOnQuery g sql params reads old new takes before after r
   not_read (Ok x) f now last new after count row fails bad is clean plain h more same = absurd fails

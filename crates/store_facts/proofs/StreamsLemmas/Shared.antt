@@ -1,4 +1,4 @@
--- From the rows of a query to the rows that a sink took.
+-- Proofs that a sink receives the values of the rows that a query returns.
 use Rattle.std.proofs.Common.{◌≡◌, inl, inr, List, [], ◌∷◌, ◌++◌, length, take, map, ℕ, false, Ok, Err, Result, IfOk, IfErr, refl, sym, ap, ap₂, subst, ◌∙◌}
 use Rattle.std.specs.List.{AllByRecursion}
 use Rattle.sqlite.specs.declared.types.Value.TheVariants.{Null}
@@ -25,7 +25,7 @@ use Rattle.store_tables.proofs.ReadLemmas.{IsFair}
 use Rattle.store_tables.proofs.StepLemmas.{on_ok, plain_in}
 use Rattle.store_facts.specs.Handing.{TookSome, AreRead, IsAsked, HandsOn, HandsOnQuery, IsReadFault, IsStreamFault}
 
--- ---- one row
+-- ---- the value of one row
 
 if_read : {T : Type 0} (r : Result T RowFault) (P : T → Type 0) (t : T) → IfOk r P → r ≡ Ok t → P t
 if_read (Ok x) P t h is = let same : x ≡ t = cc in subst P same h
@@ -35,9 +35,9 @@ if_damaged : {T : Type 0} (Sound : Type 0) (r : Result T RowFault) → IfErr r (
 if_damaged Sound (Ok x) h is = absurd (let e = is in cc)
 if_damaged Sound (Err f) h is = subst (IsRowFault Sound) (let e : f ≡ Damaged = cc in e) h
 
--- ---- many
+-- ---- the values of several rows
 
--- The columns that a query shows of each row, and their reader.
+-- Proofs about the columns that a query returns for each row, and about the reader of the columns.
 module _ {X T : Type 0} (shown : X → Row) (of : X → T) (Sound : X → Type 0) (reads : Row → Result T RowFault) (fair : (x : X) → IsFair (Sound x) (λ t. t ≡ of x) (reads (shown x))) where
   read_as : (x : X) (row : Row) (t : T) → row ≡ shown x → reads row ≡ Ok t → t ≡ of x
   read_as x row t is read = if_read (reads (shown x)) (λ y. y ≡ of x) t (fair x).read (sym (ap reads is) ∙ read)
@@ -77,10 +77,10 @@ nothing reads takes before after [] [] is zip taken = taken
 nothing reads takes before after [] (t ∷ rows) is zip taken = absurd zip
 nothing reads takes before after (r ∷ given) rows is zip taken = absurd (let e = is in cc)
 
--- ---- a query whose answer is known
+-- ---- a query with a known answer
 
--- The answer of the query follows from rows of the tables, in order, and each row is sound if the
--- tables are.
+-- True if the result rows of a query encode the expected values in order. If the values in the
+-- tables are in their ranges, each result value is in its range.
 pub record Tells {X T Tables : Type 0} (shown : X → Row) (of : X → T) (Sound : X → Type 0) (Are : Tables → List T → Type 0) (AreSound : Tables → Type 0) (tables : Tables) (rows : List Row) : Type 0 where
   pub found : List X
   pub shows : rows ≡ map shown found

@@ -8,42 +8,42 @@ use Rattle.store_tables.specs.Limits.{latest_moment}
 use Rattle.store_tables.specs.Meters.Rows.{greatest_total}
 use Rattle.store_tables.specs.Columns.{whole_in, or_damaged, and_then}
 
--- The energy of a meter in a quarter hour, with the meter's name.
+-- The energy of a meter in a quarter hour, as a row of the table `intervals`.
 pub record Interval : Type 0 where
   pub meter : List ℕ
   pub share : Share
 
--- The columns of an interval row in the table `intervals`.
+-- The columns of the table `intervals` for a meter's energy in a quarter hour.
 abbrev pub interval_columns : Interval → Row
 interval_columns i = Text i.meter ∷ Int (pos i.share.start) ∷ Int (pos i.share.mwh) ∷ []
 
--- The result row that shows the energy of a quarter hour, in queries of `intervals`.
+-- The columns that a SELECT from `intervals` returns for the energy of a quarter hour.
 abbrev pub share_shown : Interval → Row
 share_shown i = Int (pos i.share.start) ∷ Int (pos i.share.mwh) ∷ []
 
--- Whether the interval row is of this meter.
+-- True if a row of `intervals` belongs to the meter `meter`.
 abbrev pub is_of : (meter : List ℕ) → Interval → Bool
 is_of meter i = bytes_eq i.meter meter
 
--- Whether the interval row is of this meter and of the quarter hour that begins at `start`.
+-- True if a row of `intervals` belongs to the meter `meter` and the quarter hour that begins at
+-- `start`.
 abbrev pub is_at : (meter : List ℕ) → (start : ℕ) → Interval → Bool
 is_at meter start i = bytes_eq i.meter meter && (i.share.start == start)
 
--- The start of the interval row's quarter hour, in seconds since 1970-01-01 UTC.
+-- The start of the quarter hour of a row of `intervals`, in seconds since 1970-01-01 UTC.
 abbrev pub start_of : Interval → ℕ
 start_of i = i.share.start
 
--- Every value of a quarter hour's energy is in its range.
+-- True if the start and the energy of a quarter hour are in their ranges.
 pub record IsSoundShare (share : Share) : Type 0 where
   pub start : share.start ≤ latest_moment
   pub mwh : share.mwh ≤ greatest_total
 
--- Every value of the row is in its range.
+-- True if every value of a row of `intervals` is in its range.
 abbrev pub IsSoundInterval : Interval → Type 0
 IsSoundInterval i = IsSoundShare i.share
 
--- The energy of the quarter hour that a result row shows, or `Damaged` if a column is out of its
--- range.
+-- The energy of a quarter hour in a result row, or `Damaged` if a column is out of its range.
 abbrev pub share_in : Row → Result Share RowFault
 share_in row =
     and_then (or_damaged (whole_in 0 latest_moment (column row 0))) (λ start.

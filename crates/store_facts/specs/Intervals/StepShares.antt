@@ -1,5 +1,5 @@
--- The interval rows after the energy of a step was added. A share is the part of a step in one
--- quarter hour.
+-- The rows of `intervals` after the energy of a step was added. A step is the energy between two
+-- consecutive entries of a meter. A share is the part of a step in one quarter hour.
 use Rattle.std.specs.Prelude.{◌≡◌, ◌≢◌, ℕ, ◌+◌, ◌≤◌, List, [], ◌∷◌, if◌then◌else◌}
 use Rattle.std.specs.List.{list_any, AllByRecursion}
 use Rattle.interval_core.specs.declared.shares.Share.{Share}
@@ -8,37 +8,38 @@ use Rattle.store_facts.specs.Intervals.Trees.{intervals}
 use Rattle.store_tables.specs.Meters.Rows.{greatest_total}
 use Rattle.store_facts.specs.Intervals.Rows.{Interval, interval_columns, is_at}
 
--- The interval row with `mwh` more energy, in mWh.
+-- A row of `intervals` with `mwh` more energy, in mWh.
 abbrev pub raised : (mwh : ℕ) → Interval → Interval
 raised mwh i = record i { share = record i.share { mwh = i.share.mwh + mwh } }
 
--- The interval rows with a meter's share added to the row of its quarter hour. If there is no such
--- row, the share becomes a new row.
+-- The rows of `intervals` after a share (the energy in one quarter hour) was added to the meter's
+-- row for this quarter hour. If no such row exists, the share becomes a new row.
 abbrev pub with_share : (meter : List ℕ) → Share → List Interval → List Interval
 with_share meter share rows =
     if list_any (is_at meter share.start) rows
     then changed_where (is_at meter share.start) (raised share.mwh) rows
     else (record { meter = meter; share = share }) ∷ rows
 
--- The interval rows with several shares of a meter added, one after another.
+-- The rows of `intervals` after several shares of a meter were added one after another. A share is
+-- the energy in one quarter hour.
 abbrev pub with_shares : (meter : List ℕ) → List Share → List Interval → List Interval
 with_shares meter [] rows = rows
 with_shares meter (share ∷ shares) rows = with_shares meter shares (with_share meter share rows)
 
--- No interval row has more energy than a meter's greatest total.
+-- True if no row of `intervals` has more energy than the greatest total of a meter.
 abbrev pub AreSmall : List Interval → Type 0
 AreSmall = AllByRecursion (λ i. i.share.mwh ≤ greatest_total)
 
--- The edit applies to the rows of `intervals`, if these rows have the property `May`. Every other
--- table is unchanged.
+-- The effect of a write on `intervals`, if the rows have the property `May`: `edit` applies to the
+-- rows. Every other table is unchanged.
 pub record EditsIf (May : List Interval → Type 0) (edit : List Interval → List Interval)
     (content after : Content) : Type 0 where
   pub rows : (is : List Interval) → HasRows intervals interval_columns is content → May is
       → HasRows intervals interval_columns (edit is) after
   pub others : (t : ℕ) → t ≢ intervals → after t ≡ content t
 
--- The shares of a meter are added to the interval rows, if no row gets more energy than a meter's
--- greatest total.
+-- The effect of adding a meter's shares of energy by quarter hours to `intervals`. It applies if no
+-- row gets more energy than the greatest total of a meter.
 abbrev pub BooksShares : (meter : List ℕ) → List Share → Content → Content → Type 0
 BooksShares meter shares =
     EditsIf (λ is. AreSmall (with_shares meter shares is)) (with_shares meter shares)

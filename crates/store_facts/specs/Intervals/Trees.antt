@@ -1,4 +1,4 @@
--- The tree number of the table `intervals`.
+-- The number of the B-tree that stores the table `intervals`.
 use Rattle.std.specs.Prelude.{ℕ}
 
 abbrev pub intervals : ℕ

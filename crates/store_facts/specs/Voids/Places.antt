@@ -1,4 +1,4 @@
--- What queries find about the entries of a meter and their voids, by index.
+-- Definitions of what queries by index return about the entries of a meter and their voids.
 use Rattle.std.specs.Prelude.{⊤, ◌≡◌, ◌⊎◌, ℕ, ◌<◌, ◌≤◌, ◌==◌, Bool, true, false, ◌&&◌, bytes_eq, List, Result, Ok, Err}
 use Rattle.std.specs.List.{list_any}
 use Rattle.sqlite.specs.Order.{Row}
@@ -6,38 +6,39 @@ use Rattle.store_tables.specs.Content.{Content}
 use Rattle.store_tables.specs.Entries.Rows.{Voided}
 use Rattle.store_facts.specs.Going.{Told}
 
--- A query changed nothing, and an Ok answer follows from the rows of one table.
+-- True if a query changed nothing, and an Ok answer follows from the rows of one table.
 abbrev pub TellsOf : {X A E : Type 0} → Result A E → (tree : ℕ) → (columns : X → Row)
     → (Answers : List X → A → Type 0) → Content → Content → Type 0
 TellsOf (Ok a) tree columns Answers = Told tree columns Answers a
 TellsOf (Err e) tree columns Answers = λ content after. ⊤
 
--- Whether the void is that of the meter's entry at index `place`.
+-- True if a void cancels the entry of the meter `meter` at index `place`.
 abbrev pub is_void : (meter : List ℕ) → (place : ℕ) → Voided → Bool
 is_void meter place v = bytes_eq v.meter meter && (v.place == place)
 
--- Whether one of the voids is that of the meter's entry at index `place`.
+-- True if one of the voids cancels the entry of the meter `meter` at index `place`.
 abbrev pub names : (meter : List ℕ) → (place : ℕ) → List Voided → Bool
 names meter place voids = list_any (is_void meter place) voids
 
--- The answer is whether the meter's entry at index `place` is voided.
+-- True if the answer of a query says whether the entry of the meter `meter` at index `place` is
+-- voided.
 abbrev pub TellsVoided : (meter : List ℕ) → (place : ℕ) → List Voided → Bool → Type 0
 TellsVoided meter place voids is = is ≡ names meter place voids
 
--- Each entry of the meter with an index between `low` and `high` is voided.
+-- True if every entry of the meter `meter` with an index between `low` and `high` is voided.
 abbrev pub AreVoided : (meter : List ℕ) → (low high : ℕ) → List Voided → Type 0
 AreVoided meter low high voids =
     (place : ℕ) → low < place → place < high → names meter place voids ≡ true
 
--- `before` is the index of the last entry before `place` that is not voided. It is 1 for the
--- opening, which is never voided.
+-- True if `before` is the index of the last meter entry before `place` that is not voided. The
+-- opening, at index 1, is never voided.
 pub record IsBefore (meter : List ℕ) (place : ℕ) (voids : List Voided) (before : ℕ) : Type 0 where
   pub opening : 1 ≤ before
   pub lower : before < place
   pub between : AreVoided meter before place voids
   pub stands : (before ≡ 1) ⊎ (names meter before voids ≡ false)
 
--- `next` is the first index after `place` that has no void.
+-- True if `next` is the first index after `place` for which the meter has no void.
 pub record IsAfter (meter : List ℕ) (place : ℕ) (voids : List Voided) (next : ℕ) : Type 0 where
   pub higher : place < next
   pub between : AreVoided meter place next voids

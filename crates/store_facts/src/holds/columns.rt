@@ -11,7 +11,7 @@ use sqlite::Row;
 use sqlite::types::ValueRef;
 use store_tables::{GREATEST_PLACE, LATEST_MOMENT, RowFault, whole};
 
-/// Returns the cause of a rejection that has this number in the store, or None.
+/// Returns the cause of a rejection that a number in `holds` encodes, or None.
 fn cause(number: u64) -> Option<Cause>
     ensures { result ≡ cause_of number }
 {
@@ -28,8 +28,8 @@ fn cause(number: u64) -> Option<Cause>
     }
 }
 
-/// Reads the column at index `at` as a signed 16-bit integer. A rejected reading can have any scale
-/// factor.
+/// Reads the column at index `at` as a signed 16-bit integer, because a rejected reading can have
+/// any scale factor.
 fn sixteen(row: &Row, at: usize) -> Result<i16, RowFault>
     ensures { result ≡ or_damaged (sixteen_in (column row.now at)) }
 {
@@ -67,7 +67,7 @@ fn read_reading(row: &Row, meter: &Name) -> Result<HeldReading, RowFault>
     }
 }
 
-/// A reader of the rows of a meter's rejected readings.
+/// A reader of rows of `holds` for one meter.
 #[derive(Drop)]
 pub(crate) struct ReadingsOf {
     pub(crate) meter: Name,

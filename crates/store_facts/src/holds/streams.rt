@@ -32,7 +32,7 @@ pub fn meter_holds<S: Alter, K: RowSink<HeldReading>>(
 }
 
 /// Streams the rejected readings of a meter whose timestamps are at least `from` and less than
-/// `till`. No other row reaches the sink.
+/// `till`. No other reading is passed to the sink.
 pub fn meter_holds_between<S: Alter, K: RowSink<HeldReading>>(
     conn: &mut Connection<S>,
     meter: &Name,

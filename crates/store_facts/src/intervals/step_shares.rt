@@ -1,4 +1,5 @@
-//! Adding the energy of a step to the table `intervals`.
+//! Adds the energy of a step to the table `intervals`. A step is the energy between two consecutive
+//! entries of a meter.
 ghost use Rattle.std.specs.Prelude.{◌<◌, ◌≤◌, [], ◌∷◌};
 ghost use Rattle.sqlite.specs.Held.{state};
 ghost use Rattle.store_tables.specs.Steps.{Steps, IsSameBorrow};
@@ -14,7 +15,8 @@ use interval_core::{Share, Shares, shares_add_up};
 use sqlite::{Alter, Error, Transaction, params};
 use store_tables::number;
 
-/// Adds a meter's share of a quarter hour to the row of that quarter hour, or inserts this row.
+/// Adds a meter's energy in one quarter hour to the row of `intervals` for this quarter hour, or
+/// inserts the row.
 fn add_share<S: Alter>(
     tx: &mut Transaction<'_, S>,
     meter: &str,
@@ -33,8 +35,8 @@ fn add_share<S: Alter>(
     )
 }
 
-/// Adds the energy of a step to the interval rows of a meter: one share for each quarter hour that
-/// the step touches, also shares of 0 mWh.
+/// Adds the energy between two consecutive entries of a meter to the meter's rows of `intervals`.
+/// Adds one share of the energy for each quarter hour between the entries, also a share of 0 mWh.
 pub fn book_step<S: Alter>(
     tx: &mut Transaction<'_, S>,
     meter: &str,

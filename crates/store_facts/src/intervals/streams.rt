@@ -13,7 +13,7 @@ use office_books::RowSink;
 use sqlite::{Alter, Connection, params};
 use store_tables::{RowFault, number};
 
-/// Streams the energy of a meter by quarter hours to `sink`, in order of their starts.
+/// Streams the energy of a meter by quarter hours to `sink`, ordered by their starts.
 pub fn meter_intervals<S: Alter, K: RowSink<Share>>(
     conn: &mut Connection<S>,
     meter: &str,
@@ -31,8 +31,8 @@ pub fn meter_intervals<S: Alter, K: RowSink<Share>>(
     )
 }
 
-/// Streams the energy of an accounting register by quarter hours to `sink`: one meter after
-/// another, in the order in which they were installed.
+/// Streams the energy of an accounting register by quarter hours to `sink`. The meters follow one
+/// another in the order of installation.
 pub fn register_intervals<S: Alter, K: RowSink<Share>>(
     conn: &mut Connection<S>,
     register: &str,
@@ -51,7 +51,7 @@ pub fn register_intervals<S: Alter, K: RowSink<Share>>(
 }
 
 /// Streams the energy of a meter to `sink`, by the quarter hours that start at `from` or later and
-/// before `till`, in order of their starts. No other row reaches the sink.
+/// before `till`, ordered by their starts. No other row is passed to the sink.
 pub fn meter_intervals_between<S: Alter, K: RowSink<Share>>(
     conn: &mut Connection<S>,
     meter: &str,
@@ -76,7 +76,7 @@ pub fn meter_intervals_between<S: Alter, K: RowSink<Share>>(
 }
 
 /// Streams the energy of an accounting register to `sink`, by the quarter hours that start at
-/// `from` or later and before `till`. The order is one meter after another, as they were installed.
+/// `from` or later and before `till`. The meters follow each other in the order of installation.
 pub fn register_intervals_between<S: Alter, K: RowSink<Share>>(
     conn: &mut Connection<S>,
     register: &str,

@@ -14,7 +14,7 @@ ghost use Rattle.store_facts.specs.Voids.Places.{TellsOf, is_void, TellsVoided};
 use sqlite::{Alter, Error, Row, Transaction, params};
 use store_tables::{EntryRow, RowFault, number, read_entry};
 
-/// Queries the row of a meter's entry at an index.
+/// Queries the row of `entries` for a meter's entry at an index.
 fn entry_rows_at<S: Alter>(
     tx: &mut Transaction<'_, S>,
     meter: &str,
@@ -33,7 +33,7 @@ fn entry_rows_at<S: Alter>(
     )
 }
 
-/// Queries the void of a meter's entry at an index.
+/// Queries the row of `voids` for a meter's entry at an index.
 fn void_rows_at<S: Alter>(
     tx: &mut Transaction<'_, S>,
     meter: &str,
@@ -52,7 +52,7 @@ fn void_rows_at<S: Alter>(
     )
 }
 
-/// Returns the entry of a meter at an index, or None if there is none.
+/// Returns the entry of a meter at an index, or None if the meter has no such entry.
 pub fn entry_at<S: Alter>(
     tx: &mut Transaction<'_, S>,
     meter: &str,
@@ -71,7 +71,7 @@ pub fn entry_at<S: Alter>(
     }
 }
 
-/// Returns whether the entry of a meter at an index was voided.
+/// Returns true if the entry of a meter at an index was voided.
 pub fn is_voided<S: Alter>(
     tx: &mut Transaction<'_, S>,
     meter: &str,

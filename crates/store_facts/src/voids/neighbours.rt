@@ -1,4 +1,4 @@
-//! The nearest entries before and after an entry that are not voided.
+//! Searches for the nearest meter entries before and after an entry that are not voided.
 ghost use Rattle.std.specs.Prelude.{◌≤◌, IfOk};
 ghost use Rattle.sqlite.specs.Held.{state};
 ghost use Rattle.store_tables.specs.Entries.Rows.{voided_columns};
@@ -12,8 +12,8 @@ use crate::voids::entries::is_voided;
 use sqlite::{Alter, Transaction};
 use store_tables::{GREATEST_PLACE, RowFault};
 
-/// Returns the index of the last entry before `place` that is not voided. Queries one index after
-/// another, downward from `place`.
+/// Returns the index of the last meter entry before `place` that is not voided. Queries one index
+/// after another, downward from `place`.
 pub fn place_before<S: Alter>(
     tx: &mut Transaction<'_, S>,
     meter: &str,

@@ -1,4 +1,5 @@
-//! Subtracting energy from the interval rows of a meter.
+//! Subtracts the energy of a step from the table `intervals`. A step is the energy between two
+//! consecutive entries of a meter.
 ghost use Rattle.std.specs.Prelude.{◌<◌, ◌≤◌, ◌^◌, [], ◌∷◌};
 ghost use Rattle.sqlite.specs.Held.{state};
 ghost use Rattle.energy_core.specs.Account.{intervals_touched};
@@ -14,7 +15,8 @@ use interval_core::{Share, Shares, shares_add_up};
 use sqlite::{Alter, Error, Transaction, params};
 use store_tables::number;
 
-/// Subtracts a meter's share of a quarter hour from the row of that quarter hour.
+/// Subtracts a meter's energy in one quarter hour from the row of `intervals` for this quarter
+/// hour.
 fn take_share<S: Alter>(
     tx: &mut Transaction<'_, S>,
     meter: &str,
@@ -33,8 +35,9 @@ fn take_share<S: Alter>(
     )
 }
 
-/// Subtracts the energy of a step from the interval rows of a meter: one share for each quarter
-/// hour that the step touches. A row whose energy becomes 0 remains.
+/// Subtracts the energy between two consecutive entries of a meter from the meter's rows of
+/// `intervals`. Subtracts one share of the energy for each quarter hour between the entries. If a
+/// row's energy becomes 0 mWh, the row remains.
 pub fn take_step<S: Alter>(
     tx: &mut Transaction<'_, S>,
     meter: &str,
@@ -56,7 +59,7 @@ pub fn take_step<S: Alter>(
     Ok(())
 }
 
-/// Deletes the interval rows of a meter that start at `from` or later.
+/// Deletes the rows of `intervals` for a meter that start at `from` or later.
 pub fn drop_rows_from<S: Alter>(
     tx: &mut Transaction<'_, S>,
     meter: &str,

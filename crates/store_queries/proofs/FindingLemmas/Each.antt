@@ -1,4 +1,5 @@
--- Two lists in a relation, element by element.
+-- Proofs about two lists of equal length, where a relation holds between the elements at each
+-- index.
 use Rattle.std.proofs.Common.{◌≡◌, ℕ, ◌+◌, ◌≤◌, Bool, true, false, cond, inl, inr, List, [], ◌∷◌, ◌++◌, map, filter, reverse, length, find, slice_get, Option, Some, None, refl, sym, ap, ap₂, subst, ◌∙◌, IsPermutation, arith}
 use Rattle.std.specs.List.{AllByRecursion}
 use Rattle.std.proofs.lemmas.Bool.{cases_Bool, cond-true, cond-false}
@@ -24,14 +25,15 @@ module _ {X A : Type 0} (Is : X → A → Type 0) where
   filter_step true p q x a xs vs e f is more = rw (e, f) (is, more)
   filter_step false p q x a xs vs e f is more = rw (e, f) more
 
-  -- Tests that agree on related elements select related lists.
+  -- If two tests agree on each pair of related elements, filtering two related lists by the tests
+  -- gives related lists.
   pub each_filter : (p : X → Bool) (q : A → Bool) → ((x : X) (a : A) → Is x a → p x ≡ q a) → (xs : List X) (vs : List A) → AreEach Is xs vs → AreEach Is (filter p xs) (filter q vs)
   each_filter p q agree [] [] h = tt
   each_filter p q agree [] (a ∷ vs) h = absurd h
   each_filter p q agree (x ∷ xs) [] h = absurd h
   each_filter p q agree (x ∷ xs) (a ∷ vs) h = filter_step (p x) p q x a xs vs refl (sym (agree x a h.0)) h.0 (each_filter p q agree xs vs h.1)
 
-  -- Values that were read from the same rows are in the relation `Same`.
+  -- If two lists of values were read from the same rows, `Same` relates the values at each index.
   pub each_same : {B : Type 0} (Seen : X → B → Type 0) (Same : A → B → Type 0) → ((x : X) (a : A) (b : B) → Is x a → Seen x b → Same a b)
       → (xs : List X) (vs : List A) (bs : List B) → AreEach Is xs vs → AreEach Seen xs bs → AreEach Same vs bs
   each_same Seen Same same [] [] [] h k = tt

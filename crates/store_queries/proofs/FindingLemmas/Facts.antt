@@ -1,4 +1,5 @@
--- What the tables of lawful records say about the records.
+-- Proofs about records that the rules accepted: names and numbers are unique, and the tables have a
+-- row for each record.
 use Rattle.std.proofs.Common.{◌≡◌, ◌≢◌, ℕ, Ok, Err, string_bytes, ◌+◌, ◌≤◌, ◌<◌, ◌==◌, ◌&&◌, Bool, true, false, cond, not, inl, inr, List, [], ◌∷◌, map, filter, reverse, length, find, Option, Some, None, refl, sym, ap, ap₂, subst, ◌∙◌, IsPermutation, arith, eqb}
 use Rattle.std.specs.List.{AllByRecursion, list_any}
 use Rattle.std.specs.Option.{option_map}
@@ -48,7 +49,7 @@ use Rattle.store_queries.proofs.FindingLemmas.ReadRows.{register_found, poll_fou
 use Rattle.store_tables.specs.Failing.{IsRowFault}
 use Rattle.store_tables.proofs.ReadLemmas.{less_sound}
 
--- ---- no duplicates
+-- ---- no duplicate names or numbers
 
 pub none_left : {X : Type 0} (p : X → Bool) (xs : List X) → find p xs ≡ None → filter p xs ≡ []
 none_left p [] h = refl
@@ -58,7 +59,7 @@ pub few_step : {X : Type 0} (b : Bool) (x : X) (rest : List X) → (b ≡ true �
 few_step true x rest none few = let e = ap length (none refl) in omega (arith, e)
 few_step false x rest none few = few
 
--- Registers have distinct names.
+-- If the rules accepted the records, no two accounting registers have equal names.
 pub few_registers : (facts : List Fact) (name : List ℕ) → AreLawful facts → length (filter (λ (r : Register). same r.name name) (registers_in facts)) ≤ 1
 few_registers [] name h = omega arith
 few_registers (fact.Device d ∷ facts) name h = few_registers facts name h.1
@@ -76,7 +77,7 @@ few_registers (fact.Poll p ∷ facts) name h = few_registers facts name h.1
 few_registers (fact.Outcome e ∷ facts) name h = few_registers facts name h.1
 few_registers (fact.Reply r ∷ facts) name h = few_registers facts name h.1
 
--- A poll ends once.
+-- If the rules accepted the records, no poll has more than one outcome.
 pub few_ends : (facts : List Fact) (number : ℕ) → AreLawful facts → length (ends_of facts number) ≤ 1
 few_ends [] number h = omega arith
 few_ends (fact.Device d ∷ facts) number h = few_ends facts number h.1
@@ -91,7 +92,7 @@ few_ends (fact.Outcome e ∷ facts) number h =
     few_step (e.poll == number) e (ends_of facts number) (λ is. subst (λ (n : ℕ). ends_of facts n ≡ []) (eqb-true e.poll number is) h.0.0.pending) (few_ends facts number h.1)
 few_ends (fact.Reply r ∷ facts) number h = few_ends facts number h.1
 
--- Polls are numbered from 1.
+-- If the rules accepted the records, the polls are numbered from 1 without gaps.
 pub numbered : (facts : List Fact) → AreLawful facts → AreNumbered (polls_in facts)
 numbered [] h = tt
 numbered (fact.Device d ∷ facts) h = numbered facts h.1
@@ -123,7 +124,7 @@ few_polls number (p ∷ polls) h =
     (all_weaker _ (λ (q : Poll). (q.number == number) ≡ false) (λ q lt. ne_eqb q.number number (λ e. absurd (omega (arith, lt, e, this)))) polls (below p.number polls h.1 (let n = h.0 in omega (arith, n)))))
     (few_polls number polls h.1)
 
--- ---- devices
+-- ---- rows of the table `devices`
 
 pub devices_shown : (facts : List Fact) (rows : List Row) → Shows every (FirstFirst device_place) device_shown (placed added (devices_in facts)) rows
     → rows ≡ map device_shown (reverse (placed added (devices_in facts)))
@@ -138,7 +139,7 @@ devices_read facts vs h =
     (reverse (placed added (devices_in facts))) (reverse (devices_in facts)) vs
     (each_reverse _ (placed added (devices_in facts)) (devices_in facts) (each_placed added (devices_in facts))) h)
 
--- ---- registers
+-- ---- rows of the table `registers`
 
 abbrev pub RegisterRowOf : Registered → Register → Type 0
 RegisterRowOf y r = (place : ℕ) × (y ≡ registered place r)
@@ -168,7 +169,7 @@ pub registers_counted : (facts : List Fact) (device : List ℕ) → length (filt
 registers_counted facts device =
     each_length RegisterRowOf _ _ (registers_are facts device) ∙ sym (length-reverse (filter (λ (r : Register). same r.device device) (registers_in facts)))
 
--- ---- polls
+-- ---- rows of the table `polls`
 
 pub polls_counted : (facts : List Fact) (last : Option ℕ) → AreLawful facts → IsLast every HasNumber poll_number (map started (polls_in facts)) last → next_place last ≡ length (polls_in facts) + 1
 polls_counted facts last lawful h = count (polls_in facts) (numbered facts lawful) h
@@ -213,7 +214,7 @@ pending_read facts vs h =
     each_equal _ vs
     (each_same (λ (y : Started) (p : Poll). y ≡ started p) IsPollOf (λ a b. b ≡ a) (λ y p v is seen. seen p is) (map started (pending_in facts)) (pending_in facts) vs (each_map started (pending_in facts)) h)
 
--- ---- the record with a name or a number
+-- ---- looking up a record by its name or its number
 
 register_only : (facts : List Fact) (name : List ℕ) (found : Option list_register.Register) → AreLawful facts
     → IsFound (is_register name) IsRegister (placed registered (registers_in facts)) found → IsOnly RegisterRowOf IsRegister (is_register name) (λ (r : Register). same r.name name) (registers_in facts) found
@@ -237,7 +238,7 @@ register_fault facts name row e is h =
     let it = found_sound IsRegister (is_register name) IsReadableRegister (placed registered (registers_in facts)) row h.1 in
     less_sound (HasReadableRegisters facts) (IsReadableRegister it.0) it.2 e (register_found row (Err e) (sym is) it.0 it.1).fault
 
--- ---- polls
+-- ---- rows of the table `polls`
 
 abbrev pub PollRowOf : Started → Poll → Type 0
 PollRowOf y p = y ≡ started p
@@ -280,7 +281,7 @@ no_poll_past facts number lawful past = sym (ap (option_map (poll_row facts)) (n
     none (fact.Outcome e ∷ facts) h = none facts h.1
     none (fact.Reply r ∷ facts) h = none facts h.1
 
--- ---- ends
+-- ---- looking up the outcome of a poll
 
 abbrev pub EndRowOf : OutcomeRow → EndedPoll → Type 0
 EndRowOf y e = y ≡ outcome_row e
@@ -300,7 +301,8 @@ this_end facts number row h =
     let it = end_only facts number (Some row) h.0 h.1 in
     ap (λ (o : OutcomeRow). Some (ended_from o)) (it.3 ∙ it.2) ∙ sym it.4
 
--- A poll with its outcome.
+-- If a look-up returns the poll with a number, it also returns the poll's outcome, or None if the
+-- poll is pending.
 pub poll_with_end : (facts : List Fact) (number : ℕ) (p : Poll) (end : Option EndedPoll) → Some p ≡ poll_of facts number → end ≡ end_of facts number
     → Some (let row : PollRow = record { poll = p; ended = end } in row) ≡ poll_row_of facts number
 poll_with_end facts number p end is ends =

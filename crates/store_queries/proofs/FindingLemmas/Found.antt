@@ -1,4 +1,4 @@
--- From one answer to another.
+-- Proofs that combine the answers of several queries into the answer of a look-up.
 use Rattle.std.proofs.Common.{◌≡◌, ℕ, List, map, Ok, Err, Result, IfOk, IfErr, IsErrAnd, refl, sym, subst, ◌∙◌, arith}
 use Rattle.std.specs.List.{AllByRecursion}
 use Rattle.sqlite.specs.Order.{Row}
@@ -17,7 +17,7 @@ use Rattle.store_queries.specs.Finding.Finding.{Finds, ReadsAll}
 use Rattle.store_queries.proofs.FindingLemmas.Looking.{holds_on, looks_then, stays}
 
 module _ {S : Type 0} (g : Ghosts S) (old new : Held S) where
-  -- A weaker answer.
+  -- If an answer satisfies a statement about the records, it also satisfies a weaker statement.
   pub answered : {A B : Type 0} (a : A) (b : B) (P : List Fact → A → Type 0) (Q : List Fact → B → Type 0) (s t : List Fact → Type 0)
       → Finds g old new (Ok a) P s → ((facts : List Fact) → P facts a → Q facts b) → Finds g old new (Ok b) Q t
   answered a b P Q s t one tells = record {
@@ -29,7 +29,8 @@ module _ {S : Type 0} (g : Ghosts S) (old new : Held S) where
   pub become : {A : Type 0} (o a : A) (P : List Fact → A → Type 0) (s : List Fact → Type 0) → o ≡ a → Finds g old new (Ok o) P s → Finds g old new (Ok a) P s
   become o a P s is one = subst (λ x. Finds g old new (Ok x) P s) is one
 
-  -- A look-up with a stronger postcondition about damage also has a weaker one.
+  -- If a look-up satisfies a postcondition about damage, it also satisfies a weaker postcondition
+  -- about damage.
   pub less_told : {A : Type 0} (r : Result A RowFault) (P : List Fact → A → Type 0) (s t : List Fact → Type 0) → ((facts : List Fact) → t facts → s facts) → Finds g old new r P s → Finds g old new r P t
   less_told r P s t weaker one = record {
     answer = one.answer;
@@ -37,7 +38,7 @@ module _ {S : Type 0} (g : Ghosts S) (old new : Held S) where
     looks = one.looks;
   }
 
-  -- The fault is passed on.
+  -- If the query of a look-up fails, the look-up may return the fault of the query.
   pub passed_on : {A B : Type 0} (e : RowFault) (r : Result B RowFault) (P : List Fact → A → Type 0) (Q : List Fact → B → Type 0) (s t : List Fact → Type 0)
       → Finds g old new (Err e) P s → ((facts : List Fact) → t facts → s facts) → IsErrAnd r (λ d. d ≡ e) → Finds g old new r Q t
   passed_on e (Ok b) P Q s t one weaker fails = absurd fails
@@ -48,7 +49,7 @@ module _ {S : Type 0} (g : Ghosts S) (old new : Held S) where
     looks = one.looks;
   }
 
-  -- No office can have the value that was found.
+  -- If no valid record can have the value that a query returned, the look-up may report `Damaged`.
   pub unread : {A B : Type 0} (a : A) (e : RowFault) (r : Result B RowFault) (P : List Fact → A → Type 0) (Q : List Fact → B → Type 0) (s t : List Fact → Type 0)
       → Finds g old new (Ok a) P s → ((facts : List Fact) → P facts a → IsRowFault (t facts) e) → IsErrAnd r (λ d. d ≡ e) → Finds g old new r Q t
   unread a e (Ok b) P Q s t one fair fails = absurd fails
@@ -59,7 +60,7 @@ module _ {S : Type 0} (g : Ghosts S) (old new : Held S) where
     looks = one.looks;
   }
 
-  -- The rows that were found are read.
+  -- If the rows of a query are read, the values that were read are the answer of the look-up.
   pub rows_read : {A T U X : Type 0} (found : U) (rows : List Row) (shown : X → Row) (IsSeen : X → A → Type 0) (IsSound : X → Type 0) (items : T → List A) (r : Result T RowFault)
       (stored : List Fact → List X) (P : List Fact → U → Type 0) (Q : List Fact → T → Type 0) (s t : List Fact → Type 0)
       → Finds g old new (Ok found) P s → ReadsAll rows shown IsSeen IsSound items r → ((facts : List Fact) → P facts found → rows ≡ map shown (stored facts))
@@ -78,12 +79,13 @@ module _ {S : Type 0} (g : Ghosts S) (old new : Held S) where
     looks = one.looks;
   }
 
--- No query ran.
+-- If a look-up runs no query, the database stays unchanged.
 pub not_asked : {S A : Type 0} (g : Ghosts S) (old : Held S) (r : Result A RowFault) (P : List Fact → A → Type 0) (s : List Fact → Type 0)
     → ((zone : List ℕ) (facts : List Fact) → IfOk r (P facts)) → ((facts : List Fact) → IfErr r (IsRowFault (s facts))) → Finds g old old r P s
 not_asked g old r P s tells fair = record { answer = λ zone facts holds clean. tells zone facts; fault = λ zone facts holds clean. on_err r (λ f why. row_fault (state g old) (state g old) (s facts) (s facts) f (λ is. is) why) (fair facts); looks = λ zone. stays g zone old }
 
--- Two look-ups, one after another.
+-- If a result satisfies a postcondition, it also satisfies any postcondition that follows from the
+-- first.
 both_ok : {B : Type 0} {P Q : B → Type 0} (r : Result B RowFault) → ((b : B) → P b → Q b) → IfOk r P → IfOk r Q
 both_ok (Ok b) f h = f b h
 both_ok (Err e) f h = tt
@@ -101,7 +103,7 @@ finds_then g old mid new a r P Q s t one two = record {
   looks = λ zone. looks_then g zone old mid new (one.looks zone) (two.looks zone);
 }
 
--- A name was not UTF-8, and no query ran.
+-- If a name is not UTF-8, a look-up of the name returns a fault and runs no query.
 pub unnamed : {S A : Type 0} (g : Ghosts S) (old : Held S) (e : RowFault) (r : Result A RowFault) (P : List Fact → A → Type 0) (Named : Type 0) (s : List Fact → Type 0)
     → ((facts : List Fact) → s facts → Named) → (e ≡ Damaged) × (¬ Named) → IsErrAnd r (λ d. d ≡ e) → Finds g old old r P s
 unnamed g old e (Ok a) P Named s named none fails = absurd fails
@@ -111,7 +113,7 @@ unnamed g old e (Err d) P Named s named none fails = record {
   looks = λ zone. stays g zone old;
 }
 
--- The second look-up fails. It is sound if the answer of the first is.
+-- If the second of two queries of a look-up fails, the look-up returns the fault of this query.
 pub fails_then : {S A B C : Type 0} (g : Ghosts S) (old mid new : Held S) (a : A) (e : RowFault) (r : Result C RowFault) (P : List Fact → A → Type 0) (Q : List Fact → B → Type 0) (R : List Fact → C → Type 0) (s t u : List Fact → Type 0)
     → Finds g old mid (Ok a) P s → Finds g mid new (Err e) Q t → ((facts : List Fact) → P facts a → u facts → t facts) → IsErrAnd r (λ d. d ≡ e) → Finds g old new r R u
 fails_then g old mid new a e (Ok c) P Q R s t u one two sound fails = absurd fails
@@ -126,14 +128,16 @@ fails_then g old mid new a e (Err d) P Q R s t u one two sound fails = record {
   looks = λ zone. looks_then g zone old mid new (one.looks zone) (two.looks zone);
 }
 
--- Two look-ups, the second with the answer of the first.
+-- If a second query uses the answer of a first query, both queries in sequence satisfy the contract
+-- of one look-up.
 pub found_then : {S A B : Type 0} (g : Ghosts S) (old mid new : Held S) (a : A) (r : Result B RowFault) (P : List Fact → A → Type 0) (Q R : List Fact → B → Type 0) (s t u : List Fact → Type 0)
     → Finds g old mid (Ok a) P s → Finds g mid new r Q t → ((facts : List Fact) → P facts a → u facts → t facts) → ((facts : List Fact) (b : B) → P facts a → Q facts b → R facts b) → Finds g old new r R u
 found_then g old mid new a (Ok b) P Q R s t u one two sound tells =
     answered g old new b b (λ facts x. P facts a × Q facts x) R t u (finds_then g old mid new a (Ok b) P Q s t one two) (λ facts h. tells facts b h.0 h.1)
 found_then g old mid new a (Err e) P Q R s t u one two sound tells = fails_then g old mid new a e (Err e) P Q R s t u one two sound refl
 
--- The value that was found is converted, or can't be.
+-- If a query returns a value, the look-up returns the converted value, or a fault if the value
+-- can't be converted.
 pub made : {S A C : Type 0} (g : Ghosts S) (old new : Held S) (a : A) (r : Result C RowFault) (P : List Fact → A → Type 0) (R : List Fact → C → Type 0) (s u : List Fact → Type 0)
     → Finds g old new (Ok a) P s → ((facts : List Fact) → P facts a → IfOk r (R facts)) → ((facts : List Fact) → P facts a → IfErr r (IsRowFault (u facts))) → Finds g old new r R u
 made g old new a r P R s u one tells fails = record {
@@ -142,7 +146,7 @@ made g old new a r P R s u one tells fails = record {
   looks = one.looks;
 }
 
--- Damage is reported of records that are not sound.
+-- If a result reports `Damaged` only for records with invalid values, its fault is permitted.
 pub if_damaged : {C : Type 0} (Sound : Type 0) (r : Result C RowFault) → IfErr r (λ e. (e ≡ Damaged) × (¬ Sound)) → IfErr r (IsRowFault Sound)
 if_damaged Sound (Ok c) h = tt
 if_damaged Sound (Err e) h = subst (IsRowFault Sound) (sym h.0) h.1

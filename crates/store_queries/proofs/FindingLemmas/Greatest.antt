@@ -1,4 +1,4 @@
--- The greatest of several timestamps.
+-- Proofs about the greatest of several timestamps.
 use Rattle.std.proofs.Common.{◌≡◌, ℕ, ◌+◌, ◌≤◌, max, List, [], ◌∷◌, map, filter, length, Option, Some, None, unwrap_or, refl, sym, ap, ap₂, subst, ◌∙◌, IsPermutation, arith}
 use Rattle.std.specs.List.{AllByRecursion}
 use Rattle.std.proofs.lemmas.List.Sorted.{IsPermutation-sym, All-permutation}
@@ -23,7 +23,8 @@ module _ {X : Type 0} (moment : X → ℕ) where
   pub below : (xs : List X) → AllByRecursion (λ x. moment x ≤ greatest moment xs) xs
   below xs = none_past xs (greatest moment xs) (omega arith)
 
-  -- The answer of a query for the greatest row, or 0 if there is no row.
+  -- The query for the row with the greatest timestamp returns this timestamp, or None if the table
+  -- has no row.
   pub last_greatest : (xs : List X) (found : Option ℕ) → IsLast every (λ x n. n ≡ moment x) moment xs found → unwrap_or found 0 ≡ greatest moment xs
   last_greatest xs None h = ap (greatest moment) (sym (sym (all_every xs) ∙ h))
   last_greatest xs (Some n) h =

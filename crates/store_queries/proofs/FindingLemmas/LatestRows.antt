@@ -1,4 +1,4 @@
--- What the tables say about the latest timestamps.
+-- Proofs that the latest timestamps in the tables equal the latest timestamps of the records.
 use Rattle.std.proofs.Common.{◌≡◌, ℕ, List, map, Option, unwrap_or, refl, ◌∙◌}
 use Rattle.office_events.specs.declared.facts.Fact.{Fact}
 use Rattle.office_events.specs.declared.facts.HeldReading.{HeldReading}
@@ -18,7 +18,8 @@ use Rattle.store_queries.proofs.FindingLemmas.Greatest.{permuted, last_greatest,
 use Rattle.store_queries.proofs.FindingLemmas.Moments.{by_meter, table_latest}
 use Rattle.store_queries.proofs.FindingLemmas.Looking.{IsTold}
 
--- The timestamp that was found, or 0 if none was.
+-- True if an optional timestamp equals the expected timestamp of the records, where None counts as
+-- 0.
 abbrev pub IsMoment : (List Fact → ℕ) → List Fact → Option ℕ → Type 0
 IsMoment latest facts found = unwrap_or found 0 ≡ latest facts
 

@@ -1,4 +1,4 @@
--- The points of a device's list, and the list.
+-- Proofs about the rows of a device's points and the point list that they encode.
 use Rattle.std.proofs.Common.{◌≡◌, ◌≢◌, ℕ, ◌+◌, ◌≤◌, ◌<◌, ◌==◌, Bool, true, false, ◌&&◌, cond, inl, inr, List, [], ◌∷◌, map, length, get_or, bytes_eq, Option, Some, None, Ok, Err, Result, IsTrue, IsSomeAnd, string_bytes, is_some, refl, sym, ap, ap₂, subst, ◌∙◌, IsPermutation, arith}
 use Rattle.std.specs.List.{AllByRecursion, All, find}
 use Rattle.std.specs.Option.{option_and_then}
@@ -42,7 +42,7 @@ use Rattle.store_queries.proofs.FindingLemmas.Each.{each_same, each_equal}
 use Rattle.store_queries.proofs.FindingLemmas.Ordered.{Rises, one_order}
 use Rattle.store_queries.proofs.FindingLemmas.ReadRows.{fair_if, fair_ok}
 
--- ---- indices in order
+-- ---- points of a point list in order of index
 
 module _ {X Y : Type 0} (row : ℕ → X → Y) where
   each_on : (P : X → Type 0) (before : ℕ) (xs : List X) → AllByRecursion P xs → AreEach (λ y x. (place : ℕ) × (y ≡ row place x) × P x) (placed_on row before xs) xs
@@ -58,7 +58,7 @@ module _ {X Y : Type 0} (row : ℕ → X → Y) where
     on_rises before [] = tt
     on_rises before (x ∷ xs) = (on_above (key (row (before + 1) x)) (before + 1) xs (let is = keyed (before + 1) x in omega (arith, is)), on_rises (before + 1) xs)
 
--- ---- the texts of points
+-- ---- the texts in rows of `points`
 
 suits_of : (points : List ListedPoint) (point : ListedPoint) (scale : PointScale) → HasLawfulScale points point scale → Suits point.kind scale
 suits_of points point Unscaled h = tt
@@ -69,7 +69,7 @@ some_there : {X : Type 0} (o : Option X) (P : X → Type 0) → IsSomeAnd o P �
 some_there None P h = absurd h
 some_there (Some x) P h = refl
 
--- The name of a scale's point is a name.
+-- If a point's scale names another point, the name is a valid name of a point.
 name_step : (a b : Bool) (p : ListedPoint) (name : List ℕ) (rest : Option ListedPoint) → IsTrue (is_name p.name) → bytes_eq p.name name ≡ b → (is_some rest ≡ true → is_name name ≡ true)
     → is_some (cond (a && b) (Some p) rest) ≡ true → is_name name ≡ true
 name_step true true p name rest named is later h = subst (λ (bytes : List ℕ). is_name bytes ≡ true) ((bytes_eq-Decides p.name name).0 is) named
@@ -92,7 +92,7 @@ all_spelled points l = recursion_from_All IsSpelled points (λ k d below.
           (some_there (scale_point points name) (IsGroup p) (subst (λ (scale : PointScale). HasLawfulScale points p scale) is scaled).1))).0;
     })
 
--- ---- one point
+-- ---- one point and the row of `points` that encodes it
 
 never : {A : Type 0} (S : Type 0) (Is : A → Type 0) → (S → ⊥) → IsFair S Is (Err Damaged)
 never S Is none = record { read = tt; fault = none }
@@ -134,7 +134,7 @@ point_found a r is x seen =
     subst (IsFair (IsReadablePoint x) (IsPointOf x)) (sym (is ∙ (λ i. point_with (seen.name i) (seen.kind i) (seen.scale i) (seen.row i))))
     (fair_parts x (type_of x.kind) (scale_spelled x.scale) refl refl)
 
--- ---- the list of a device
+-- ---- the complete point list of a device
 
 pub points_shown : (facts : List Fact) (device : List ℕ) (content : Content) (rows : List Row) (a : ArePoints facts content) → Shows (is_point_of device) (FirstFirst point_place) point_shown a.rows rows
     → rows ≡ map point_shown (placed_on (listed device) 0 (points_of facts device))
@@ -166,7 +166,7 @@ all_found P p (y ∷ ys) x all is = found_step P (p y) y x (find p ys) all.0 (al
 put_of : List Fact → (device : List ℕ) → Option DeviceList
 put_of facts device = find (λ (put : DeviceList). same put.device device) (lists_in facts)
 
--- The list of a device that has points.
+-- True if the records have a point list of a device, and the list has the given points.
 pub record HasList (facts : List Fact) (device : List ℕ) (points : List ListedPoint) : Type 0 where
   pub list : Planned
   pub is : list_of facts device ≡ Some list
@@ -218,7 +218,7 @@ points_read facts device vs lawful h =
     (each_same (λ (y : Listed) (p : ListedPoint). (place : ℕ) × (y ≡ listed device place p) × IsSpelled p) IsPointOf (λ a b. b ≡ a) (λ y p v is seen. seen device is.0 p is.2 is.1)
     (placed_on (listed device) 0 (points_of facts device)) (points_of facts device) vs (each_on (listed device) IsSpelled 0 (points_of facts device) spelled) h)
 
--- The recorded points make a list.
+-- If a point list is recorded, its points satisfy the rules of point lists.
 pub list_fault : (facts : List Fact) (device : List ℕ) (points : List ListedPoint) → AreLawful facts → points ≡ points_of facts device → points ≢ [] → IsPointList points
 list_fault facts device points lawful are some = let has = has_list facts device points lawful are some in subst IsPointList has.points_are has.planned.points
 

@@ -1,4 +1,4 @@
--- A query after the check that the database is open, and one look-up after another.
+-- Proofs about a query after `check_open`, and about several look-ups in sequence.
 use Rattle.std.proofs.Common.{◌≡◌, ◌⊎◌, inl, inr, ℕ, List, false, Ok, Err, Result, IfOk, IfErr, OnOk, IsErrAnd, IsTrue, refl, sym, subst, ◌∙◌, arith}
 use Rattle.std.specs.List.{AllByRecursion}
 use Rattle.sqlite.specs.Order.{Row}
@@ -20,7 +20,7 @@ use Rattle.store_facts.specs.Tables.{AreOf}
 use Rattle.store_facts.specs.Holding.{HasFacts, HoldsFacts, OnlyLooks}
 use Rattle.store_queries.specs.Finding.Finding.{Finds, OfLawful}
 
--- ---- look-ups, one after another
+-- ---- several look-ups in sequence
 
 module _ {S : Type 0} (g : Ghosts S) (zone : List ℕ) where
   pub holds_on : (old new : Held S) (facts : List Fact) → OnlyLooks g zone old new → HoldsFacts g zone old facts → HoldsFacts g zone new facts
@@ -47,22 +47,23 @@ module _ {S : Type 0} (g : Ghosts S) (zone : List ℕ) where
     goes = λ facts holds clean. still_goes (state g a);
   }
 
--- ---- a query after the check that the database is open
+-- ---- a query after `check_open`
 
--- The check was Ok: the visible rows are the committed rows.
+-- The state of a connection after `check_open` returned Ok. Queries then see the committed rows.
 pub record Touched {S : Type 0} (g : Ghosts S) (old mid : Held S) : Type 0 where
   pub mode : mid.in_transaction ≡ false
   pub opened : HasCleanDisk (state g mid) → IsTrue (state g mid).is_open × ((state g mid).now ≡ (state g mid).committed)
   pub kept : HasCleanDisk (state g mid) → KeepsCommit (state g old) (state g mid)
   pub survives : Survives (state g old) (state g mid) (λ _. ⊥)
 
--- The visible tables are those of the records.
+-- True if the tables that queries see encode the records.
 pub record HasSeen {S : Type 0} (g : Ghosts S) (zone : List ℕ) (mid : Held S) (facts : List Fact) : Type 0 where
   pub content : Content
   pub tables : AreTables (state g mid).now content
   pub are : AreOf zone facts content
 
--- The rows of one table answer for the records, and can be read if the records' rows can.
+-- True if the rows of one table determine an answer about the records. If the rows of the records
+-- can be read, so can the rows of the table.
 pub record IsTold {A X : Type 0} (facts : List Fact) (content : Content) (tree : ℕ) (columns : X → Row) (IsSound : X → Type 0) (Answers : List X → A → Type 0) (Says : List Fact → A → Type 0) (AreSound : List Fact → Type 0) : Type 0 where
   pub rows : List X
   pub there : HasRows tree columns rows content
@@ -91,7 +92,7 @@ module _ {S : Type 0} (g : Ghosts S) (old mid : Held S) where
     goes = λ facts holds clean. went_on (state g old) (state g mid) (λ _. ⊥) clean survives;
   }
 
-  -- The check failed.
+  -- If `check_open` fails, its error is the fault of the look-up.
   pub not_touched : {A : Type 0} (e : Error) (r : Result A RowFault) (Says : List Fact → A → Type 0) (AreSound : List Fact → Type 0)
       → mid.in_transaction ≡ false → (HasCleanDisk (state g mid) → KeepsCommit (state g old) (state g mid)) → Survives (state g old) (state g mid) (λ _. ⊥)
       → (HasCleanDisk (state g mid) → IsStoreError (state g old) (state g mid) e) → IsErrAnd r (λ d. d ≡ Sql e) → Finds g old mid r Says AreSound
@@ -137,13 +138,14 @@ module _ {S : Type 0} (g : Ghosts S) (old mid : Held S) where
                 goes_then (state g old) (state g mid) (state g new) (first.goes facts holds (asks.clean clean)) (went_on (state g mid) (state g new) (λ _. ⊥) clean (asks.survives s.content s.tables));
           }
 
-      -- A fault of the query is a fault of both calls.
+      -- If the query after `check_open` has a permitted fault, the fault is also permitted for both
+      -- calls together.
       pub since : (zone : List ℕ) (facts : List Fact) → HoldsFacts g zone old facts → HasCleanDisk (state g new) → (Sound : Type 0) (f : RowFault) → IsFault (state g mid) (state g new) Sound f → IsFault (state g old) (state g new) Sound f
       since zone facts holds clean Sound f why =
           let s = seen zone facts holds (asks.clean clean) in
           later_fault (state g old) (state g mid) (state g new) Sound f ((looks_touched zone).goes facts holds (asks.clean clean)) (asks.survives s.content s.tables).counts why
 
-      -- The query was Ok.
+      -- If the query after `check_open` is Ok, its answer is the answer of the look-up.
       pub asked : {A : Type 0} (a : A) (Says : List Fact → A → Type 0) (AreSound : List Fact → Type 0)
           → (HasCleanDisk (state g new) → (content : Content) → AreTables (state g mid).now content → (zone : List ℕ) (facts : List Fact) → AreOf zone facts content → Says facts a)
           → Finds g old new (Ok a) Says AreSound
@@ -153,7 +155,7 @@ module _ {S : Type 0} (g : Ghosts S) (old mid : Held S) where
         looks = looks_asked;
       }
 
-      -- The query failed.
+      -- If the query after `check_open` fails, its error is the fault of the look-up.
       pub not_asked : {A : Type 0} (e : Error) (r : Result A RowFault) (Says : List Fact → A → Type 0) (AreSound : List Fact → Type 0)
           → (HasCleanDisk (state g new) → (content : Content) → AreTables (state g mid).now content → (zone : List ℕ) (facts : List Fact) → AreOf zone facts content → IsStoreError (state g mid) (state g new) e)
           → IsErrAnd r (λ d. d ≡ Sql e) → Finds g old new r Says AreSound
@@ -166,7 +168,8 @@ module _ {S : Type 0} (g : Ghosts S) (old mid : Held S) where
         looks = looks_asked;
       }
 
-    -- A look-up in the rows of one table.
+    -- If a look-up runs `check_open` and then a query on one table, it satisfies the contract of a
+    -- look-up.
     pub looked_up : {A X : Type 0} (new : Held S) (tree : ℕ) (columns : X → Row) (IsSound : X → Type 0) (r : Result A RowFault) (Answers : List X → A → Type 0)
         → LooksUp g mid new tree columns IsSound r Answers → (stored : List Fact → List X)
         → ((zone : List ℕ) (facts : List Fact) (content : Content) → AreOf zone facts content → HasRows tree columns (stored facts) content)
@@ -181,7 +184,8 @@ module _ {S : Type 0} (g : Ghosts S) (old mid : Held S) where
       looks = looks_asked new it.asks;
     }
 
-    -- A look-up in the rows of one table, which answer for the records.
+    -- If the rows of one table determine an answer about the records, the query on this table gives
+    -- the look-up's answer.
     pub told_of : {A X : Type 0} (new : Held S) (tree : ℕ) (columns : X → Row) (IsSound : X → Type 0) (r : Result A RowFault) (Answers : List X → A → Type 0)
         → LooksUp g mid new tree columns IsSound r Answers → (Says : List Fact → A → Type 0) (AreSound : List Fact → Type 0)
         → ((zone : List ℕ) (facts : List Fact) (content : Content) → AreOf zone facts content → IsTold facts content tree columns IsSound Answers Says AreSound)
@@ -199,7 +203,7 @@ module _ {S : Type 0} (g : Ghosts S) (old mid : Held S) where
       looks = looks_asked new it.asks;
     }
 
-    -- No further query ran.
+    -- If a look-up runs no query after `check_open`, it satisfies the contract of a look-up.
     pub seen_alone : {A : Type 0} (a : A) (Says : List Fact → A → Type 0) (AreSound : List Fact → Type 0) → ((facts : List Fact) → AreLawful facts → Says facts a) → Finds g old mid (Ok a) Says AreSound
     seen_alone a Says AreSound tells = record {
       answer = λ zone facts holds clean. tells facts (seen zone facts holds clean).are.lawful;

@@ -1,4 +1,4 @@
--- The timestamps of a meter's entries, and the latest of them.
+-- Proofs about the timestamps of a meter's entries, and the latest of these timestamps.
 use Rattle.std.proofs.Common.{◌≡◌, ℕ, ◌≤◌, ◌==◌, ◌&&◌, Bool, true, false, cond, List, [], ◌∷◌, map, filter, get_or, is_some, Option, Some, None, refl, sym, ap, ap₂, subst, ◌∙◌, IsPermutation, arith}
 use Rattle.std.specs.List.{AllByRecursion, All, find, cons_option}
 use Rattle.std.proofs.lemmas.List.Sorted.{IsPermutation-sym}
@@ -32,7 +32,7 @@ use Rattle.store_queries.specs.Finding.Latest.{greatest, latest_entered}
 use Rattle.store_queries.proofs.FindingLemmas.Greatest.{permuted, none_past, at_most, below}
 use Rattle.store_queries.proofs.FindingLemmas.Lists.{all_found}
 
--- ---- a journal
+-- ---- timestamps in a journal
 
 abbrev moments_in : Journal → List ℕ
 moments_in [] = []
@@ -55,7 +55,7 @@ void_if : (b : Bool) (one other : List EntryRow) (ms : List ℕ) → moments_of 
 void_if true one other ms h k = h
 void_if false one other ms h k = k
 
--- A void changes no timestamp.
+-- If an entry is voided, the timestamps in the meter's journal stay unchanged.
 void_moments : (opening : Last) (place : ℕ) (rows : List EntryRow) → moments_of (with_void opening place rows) ≡ moments_of rows
 void_moments opening place [] = refl
 void_moments opening place (row ∷ rows) =
@@ -70,7 +70,7 @@ journal_moments opening (Entered k e ∷ lines) = ap (λ ms. moment_of e ∷ ms)
 journal_moments opening (Held reading cause ∷ lines) = journal_moments opening lines
 journal_moments opening (Voided place ∷ lines) = void_moments opening place (rows_of opening lines) ∙ journal_moments opening lines
 
--- ---- the rows of a meter
+-- ---- timestamps in a meter's rows of `entries`
 
 module _ (P : ℕ → Type 0) where
   entered_all : (o : Opening) (rows : List EntryRow) → AllByRecursion P (moments_of rows) → P o.at → AllByRecursion (λ e. P (entry_moment e)) (entered_rows o rows)
@@ -89,7 +89,7 @@ module _ (P : ℕ → Type 0) where
   line_out true k e lines h = (λ is. h.0, h.1)
   line_out false k e lines h = (λ is. absurd (let f : false ≡ true = is in cc), h)
 
-  -- A line that is no entry has no timestamp.
+  -- If a journal line is not a meter entry, it has no timestamp.
   other_in : (b : Bool) (line : Line) (lines : Journal) → moments_in (line ∷ lines) ≡ moments_in lines → moments_in (cons_option (cond b (Some line) None) lines) ≡ moments_in lines
   other_in true line lines is = is
   other_in false line lines is = refl
@@ -120,13 +120,14 @@ module _ (P : ℕ → Type 0) where
   journal_back meter (fact.Outcome e ∷ facts) h = journal_back meter facts h
   journal_back meter (fact.Reply r ∷ facts) h = journal_back meter facts h
 
--- ---- all entries of lawful records
+-- ---- timestamps of all meter entries of the records
 
 some_after : {X : Type 0} (b : Bool) (x : X) (o : Option X) → is_some o ≡ true → is_some (cond b (Some x) o) ≡ true
 some_after true x o h = refl
 some_after false x o h = h
 
--- Each entry is of a meter that was installed.
+-- If the rules accepted the records, each recorded meter entry belongs to a meter that was
+-- installed.
 has_opening : (facts : List Fact) → AreLawful facts → AllByRecursion (λ (b : BookedEntry). is_some (opening_of facts b.meter) ≡ true) (facts_of.entries_in facts)
 has_opening [] h = tt
 has_opening (fact.Device d ∷ facts) h = has_opening facts h.1
@@ -152,7 +153,7 @@ module _ (facts : List Fact) (n : ℕ) where
       subst (λ (t : List ℕ). AllByRecursion (λ (b : BookedEntry). same b.meter t ≡ true → Early (moment_of b.entry)) (facts_of.entries_in facts)) (named facts meter o there)
       (journal_back Early o.meter facts (subst (AllByRecursion Early) (journal_moments (opened o) (journal_of facts o.meter)) (entered_back Early o (meters.rows_of facts o) all).0))
 
-  -- The rows of all meters have the timestamps of all openings and entries.
+  -- No opening or meter entry in the records is later than the latest timestamp in `entries`.
   pub entries_above : AreLawful facts → ((meter : List ℕ) → AllByRecursion (λ e. Early (entry_moment e)) (entries_of facts meter)) → latest_entered facts ≤ n
   entries_above lawful each =
       let es = facts_of.entries_in facts in
@@ -176,11 +177,12 @@ module _ (facts : List Fact) (n : ℕ) where
       (journal_all Early o.meter facts (none_past (λ (b : BookedEntry). moment_of b.entry) (facts_of.entries_in facts) n (omega (arith, h)))))
       (all_found (λ (q : Opening). Early q.at) (λ (q : Opening). same q.meter meter) (openings_in facts) o (none_past (λ (q : Opening). q.at) (openings_in facts) n (omega (arith, h))) there)
 
-  -- The rows have no other timestamps.
+  -- The latest timestamp in `entries` is at most the latest timestamp of the openings and meter
+  -- entries in the records.
   pub entries_below : (meter : List ℕ) → latest_entered facts ≤ n → AllByRecursion (λ e. Early (entry_moment e)) (entries_of facts meter)
   entries_below meter h = below_found meter (opening_of facts meter) refl h
 
--- ---- the table
+-- ---- the latest timestamp in the table `entries`
 
 all_own : (P : entries.Entered → Type 0) (p : entries.Entered → Bool) (rows : List entries.Entered) → AllByRecursion P (filter p rows) → AllByRecursion (λ e. p e ≡ true → P e) rows
 all_own P p rows h =

@@ -1,4 +1,4 @@
--- A list with distinct keys has one order.
+-- Proof that two lists are equal if they have the same elements and are sorted by distinct keys.
 use Rattle.std.proofs.Common.{◌≡◌, ℕ, ◌≤◌, ◌<◌, nat_le, Bool, true, false, not, inl, inr, List, [], ◌∷◌, ◌++◌, map, filter, reverse, length, refl, sym, ap, ap₂, subst, ◌∙◌, IsPermutation, arith}
 use Rattle.std.specs.List.{AllByRecursion}
 use Rattle.std.proofs.lemmas.Bool.{cases_Bool, leb-true}

@@ -1,4 +1,4 @@
--- Reading rows back as the values that they encode.
+-- Proofs that readers return the values that the rows of tables encode.
 use Rattle.std.proofs.Common.{◌≡◌, ℕ, zero, suc, ◌+◌, ◌≤◌, ◌<◌, nat_le, Bool, true, false, ◌&&◌, if◌then◌else◌, List, [], ◌∷◌, ◌++◌, map, take, length, get_or, Option, Some, None, Ok, Err, Result, IfOk, IfErr, IsErrAnd, string_bytes, refl, sym, ap, ap₂, subst, ◌∙◌, arith, add-one}
 use Rattle.std.specs.List.{AllByRecursion}
 use Rattle.std.proofs.Math.Bridge.{le_prop}
@@ -34,14 +34,14 @@ use Rattle.store_queries.specs.Finding.Reading.{device_with, IsDeviceOf, source_
 use Rattle.store_queries.specs.Finding.Sound.{IsReadableDevice, IsReadableRegister, IsReadablePoll}
 use Rattle.store_queries.proofs.FindingLemmas.Each.{each_append}
 
--- ---- one row
+-- ---- reading one row
 
 module _ {A B X : Type 0} (row : Row) (shown : X → Row) (Seen : X → A → Type 0) (Is : X → B → Type 0) (S T : X → Type 0) where
-  -- The row was read, and its value is converted.
+  -- If a row can be read, its value is converted to the type of the records.
   pub reads_then : (a : A) (r : Result B RowFault) → ReadsRow row shown Seen S (Ok a) → ((x : X) → Seen x a → IsFair (T x) (Is x) r) → ReadsRow row shown Is T r
   reads_then a r one fair = record { read = λ x is. (fair x (one.read x is)).read; fault = λ x is. (fair x (one.read x is)).fault }
 
-  -- The row was not read.
+  -- If a row can't be read, the result is the fault of the row's reader.
   pub not_read : (e : RowFault) (r : Result B RowFault) → ReadsRow row shown Seen S (Err e) → ((x : X) → T x → S x) → IsErrAnd r (λ d. d ≡ e) → ReadsRow row shown Is T r
   not_read e (Ok b) one sound fails = absurd fails
   not_read e (Err d) one sound fails = record {
@@ -59,7 +59,7 @@ fair_ok Sound Is x is = record { read = is; fault = tt }
 within : (low high n : ℕ) → (low ≤ n) × (n ≤ high) → nat_le low n && nat_le n high ≡ true
 within low high n h = both _ _ (le-leb low n h.0) (le-leb n high h.1)
 
--- ---- devices
+-- ---- rows of the table `devices`
 
 device_as : Added → Device
 device_as x = record { name = x.name; unit = x.row.unit; timeout = x.row.timeout; window = x.row.window }
@@ -81,7 +81,7 @@ fair_device x =
 pub device_found : (a : list_device.Device) (r : Result Device RowFault) → r ≡ device_with (string_bytes a.name) a.row → (x : Added) → IsDevice x a → IsFair (IsReadableDevice x) (IsDeviceOf x) r
 device_found a r is x seen = subst (IsFair (IsReadableDevice x) (IsDeviceOf x)) (sym (is ∙ ap₂ device_with seen.name seen.row)) (fair_device x)
 
--- ---- registers
+-- ---- rows of the table `registers`
 
 source_back : (s : ScaleSource) → source_from (scale_as s) ≡ s
 source_back (source.Fixed sf) = refl
@@ -109,12 +109,12 @@ pub register_found : (a : list_register.Register) (r : Result Register RowFault)
 register_found a r is x seen =
     subst (IsFair (IsReadableRegister x) (IsRegisterOf x)) (sym (is ∙ (λ i. register_with (seen.name i) (seen.device i) (seen.row i)))) (fair_register x)
 
--- ---- polls
+-- ---- rows of the table `polls`
 
 span_of : (f : ReadFunction) (a c : ℕ) → 1 ≤ c → c ≤ 125 → a + c ≤ 65536 → ReadSpan
 span_of f a c s w i = record { function = f; address = a; count = c; some = s; few = w; inside = i }
 
--- A span consists of its function, its address and its count.
+-- True if the span of a Modbus read has the given function, address and count.
 abbrev IsSpan : (x : ReadSpan) (f : ReadFunction) (a c : ℕ) → Type 0
 IsSpan x f a c = (s : 1 ≤ c) (w : c ≤ 125) (i : a + c ≤ 65536) → x ≡ span_of f a c s w i
 
@@ -147,7 +147,7 @@ poll_found a (Ok p) has fair x seen = record {
 }
 poll_found a (Err e) has fair x seen = record { read = tt; fault = subst (IsRowFault (IsReadablePoll x)) (sym fair.0) (λ s. fair.1 (ap is_name seen.device ∙ s.device)) }
 
--- ---- several rows
+-- ---- reading several rows
 
 at_index : {X : Type 0} (shown : X → Row) (xs : List X) (i : ℕ) (row : Row) → i < length (map shown xs) → row ≡ get_or (map shown xs) i row
     → (x : X) × (row ≡ shown x) × (take (suc i) xs ≡ take i xs ++ x ∷ [])
@@ -164,7 +164,7 @@ at_element shown (x ∷ xs) zero row lt is = (x, is, λ S all. all.0)
 at_element shown (x ∷ xs) (suc i) row lt is = let it = at_element shown xs i row (omega arith) is in (it.0, it.1, λ S all. it.2 S all.1)
 
 module _ {X A : Type 0} (rows : List Row) (shown : X → Row) (Seen : X → A → Type 0) where
-  -- The first rows were read.
+  -- True if the first `n` rows were read as the values of a list.
   abbrev pub HasReadSome : ℕ → List A → Type 0
   HasReadSome i done = (xs : List X) → rows ≡ map shown xs → AreEach Seen (take i xs) done
 
@@ -177,7 +177,7 @@ module _ {X A : Type 0} (rows : List Row) (shown : X → Row) (Seen : X → A �
         let it = this_row xs are in
         rw (add-one) (subst (λ l. AreEach Seen l (done ++ a ∷ [])) (sym it.2) (each_append Seen (take i xs) (it.0 ∷ []) done (a ∷ []) (some xs are) (reads.read it.0 it.1, tt)))
 
-    -- A row was not read.
+    -- If one of several rows can't be read, the result is the fault of this row's reader.
     pub unreadable : {T : Type 0} (S : X → Type 0) (items : T → List A) (e : RowFault) (r : Result T RowFault) → ReadsRow row shown Seen S (Err e) → IsErrAnd r (λ d. d ≡ e) → ReadsAll rows shown Seen S items r
     unreadable S items e (Ok v) reads fails = absurd fails
     unreadable S items e (Err d) reads fails = record {
@@ -187,7 +187,7 @@ module _ {X A : Type 0} (rows : List Row) (shown : X → Row) (Seen : X → A �
           subst (IsRowFault (AllByRecursion S xs)) (sym fails) (less_sound (AllByRecursion S xs) (S it.0) (it.2 S) e (reads.fault it.0 it.1));
     }
 
-  -- All rows were read.
+  -- If each of several rows can be read, the result has the values of all rows.
   pub read_all : {T : Type 0} (S : X → Type 0) (items : T → List A) (v : T) (i : ℕ) → i ≡ length rows → HasReadSome i (items v) → ReadsAll rows shown Seen S items (Ok v)
   read_all S items v i end some = record {
     read = λ xs are.

@@ -1,4 +1,5 @@
--- Kept requests, and how a request compares with them.
+-- Proofs about stored requests, and about comparing a request with the request that is stored under
+-- its idempotency key.
 use Rattle.std.proofs.Common.{◌≡◌, ℕ, ◌+◌, ◌≤◌, ◌<◌, ◌^◌, ◌==◌, ◌&&◌, Bool, true, false, cond, if◌then◌else◌, inl, inr, List, [], ◌∷◌, map, filter, length, find, bytes_eq, Option, Some, None, refl, sym, ap, subst, ◌∙◌, arith}
 use Rattle.std.specs.Option.{option_map}
 use Rattle.std.proofs.lemmas.Bool.{cond-true, cond-false, eqb-true, ne_eqb, and_parts}
@@ -29,7 +30,7 @@ repeat_back false k = refl
 abbrev of : (caller : List ℕ) (number : ℕ) → Reply → Bool
 of caller number r = same r.caller caller && (r.number == number)
 
--- No idempotency key has two kept requests.
+-- If the rules accepted the records, no idempotency key has two stored requests.
 few_replies : (facts : List Fact) (caller : List ℕ) (number : ℕ) → AreLawful facts → length (filter (of caller number) (replies_in facts)) ≤ 1
 few_replies [] caller number h = omega arith
 few_replies (fact.Device d ∷ facts) caller number h = few_replies facts caller number h.1

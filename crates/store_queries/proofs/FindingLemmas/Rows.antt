@@ -1,4 +1,4 @@
--- Rows, and the values that they encode.
+-- Proofs about rows of tables: their order, their indices, and queries that return at most one row.
 use Rattle.std.proofs.Common.{◌≡◌, ℕ, ◌+◌, ◌≤◌, ◌<◌, Bool, true, false, cond, inl, inr, List, [], ◌∷◌, ◌++◌, map, filter, reverse, length, find, slice_get, Option, Some, None, refl, sym, ap, ap₂, subst, ◌∙◌, IsPermutation, arith}
 use Rattle.std.specs.List.{AllByRecursion}
 use Rattle.std.proofs.lemmas.Bool.{cases_Bool, cond-true, cond-false}
@@ -13,7 +13,7 @@ use Rattle.store_queries.specs.Finding.Each.{AreEach}
 use Rattle.store_queries.proofs.FindingLemmas.Each.{each_append, each_filter, each_length}
 use Rattle.store_queries.proofs.FindingLemmas.Ordered.{Rises, NeverFalls, one_order}
 
--- ---- in order
+-- ---- rows in the order of their keys
 
 module _ {X A : Type 0} (Is : X → A → Type 0) where
   pub each_reverse : (xs : List X) (vs : List A) → AreEach Is xs vs → AreEach Is (reverse xs) (reverse vs)
@@ -26,7 +26,7 @@ pub all_reverse : {X : Type 0} (P : X → Type 0) (xs : List X) → AllByRecursi
 all_reverse P xs h = recursion_from_All P _ (All-permutation P xs (reverse xs) (IsPermutation-reverse xs) (All-from_recursion P xs h))
 
 module _ {X : Type 0} (key : X → ℕ) where
-  -- The greatest key is first.
+  -- True if each key in a list is greater than all later keys.
   abbrev pub Falls : List X → Type 0
   Falls = IsAscending (λ x y. key y < key x)
 
@@ -37,11 +37,11 @@ module _ {X : Type 0} (key : X → ℕ) where
       (ascending-append (λ x y. key x < key y) (reverse xs) (x ∷ []) (reverse_rises xs h.1) (tt, tt)
       (all_weaker _ _ (λ z lt. (lt, tt)) (reverse xs) (all_reverse (λ z. key z < key x) xs h.0)))
 
-  -- Rows in ascending order of keys are the reverse of rows in descending order.
+  -- If the keys of a list descend, sorting the list by ascending keys reverses it.
   pub in_turn : (xs found : List X) → Falls xs → IsPermutation xs found → NeverFalls key found → found ≡ reverse xs
   in_turn xs found falls same up = one_order key (reverse xs) found (reverse_rises xs falls) (IsPermutation-trans _ _ _ (IsPermutation-sym _ _ (IsPermutation-reverse xs)) same) up
 
--- ---- indices
+-- ---- rows numbered by index
 
 module _ {X Y : Type 0} (row : ℕ → X → Y) where
   pub each_placed : (xs : List X) → AreEach (λ y x. (place : ℕ) × (y ≡ row place x)) (placed row xs) xs
@@ -57,10 +57,10 @@ module _ {X Y : Type 0} (row : ℕ → X → Y) where
     placed_falls [] = tt
     placed_falls (x ∷ xs) = (few (key (row (length xs + 1) x)) xs (let is = keyed (length xs + 1) x in omega (arith, is)), placed_falls xs)
 
--- ---- the only row
+-- ---- queries that return at most one row
 
 module _ {X A B : Type 0} (Is : X → A → Type 0) (Seen : X → B → Type 0) (p : X → Bool) (q : A → Bool) where
-  -- The answer of a query if at most one row passes.
+  -- The answer of a query if at most one row passes its test.
   abbrev pub IsOnly : List A → Option B → Type 0
   IsOnly vs None = find q vs ≡ None
   IsOnly vs (Some b) = (x : X) × (a : A) × Is x a × Seen x b × (find q vs ≡ Some a)
@@ -86,7 +86,8 @@ module _ {X A B : Type 0} (Is : X → A → Type 0) (Seen : X → B → Type 0) 
       let it = one_of (filter p xs) (filter q vs) h.0 h.2 (each_filter Is p q agree xs vs each) few h.3 in
       (h.0, it.0, it.1, h.1, sym (slice_get-filter q vs) ∙ it.2)
 
--- The row that is found is sound if all rows are.
+-- If the values of all rows are in their ranges, the values of the row that a look-up finds are in
+-- their ranges.
 pub found_sound : {X B : Type 0} (Seen : X → B → Type 0) (p : X → Bool) (S : X → Type 0) (xs : List X) (b : B) → IsFound p Seen xs (Some b) → (x : X) × Seen x b × (AllByRecursion S xs → S x)
 found_sound Seen p S xs b h = (
   h.0,

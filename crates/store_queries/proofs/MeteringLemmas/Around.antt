@@ -1,4 +1,5 @@
--- The entries around an entry, in the records.
+-- Proofs that the rows around a meter entry in the tables encode the entries around it in the
+-- records.
 use Rattle.std.proofs.Common.{◌≡◌, ℕ, ℤ, ◌+◌, ◌≤◌, ◌<◌, ◌==◌, ◌&&◌, ◌||◌, not, Bool, true, false, cond, inl, inr, ◌⊎◌, List, [], ◌∷◌, map, filter, length, Option, Some, None, option_map, bytes_eq, refl, sym, ap, ap₂, subst, ◌∙◌, arith, eq-eqb, eqb-true, IsPermutation}
 use Rattle.std.specs.List.{list_any, AllByRecursion}
 use Rattle.std.specs.Option.{option_or}
@@ -54,13 +55,13 @@ named_of meter place [] = refl
 named_of meter place (v ∷ vs) =
     named_step (bytes_eq v.meter meter) (λ (w : Voided). place == w.place) v (filter (is_void_of meter) vs) (v.place == place) (names meter place vs) (turned place v.place) (named_of meter place vs)
 
--- The table has voids of the entries that the journal has voided.
+-- The table `voids` has a void for exactly the meter entries that the journal marks as voided.
 pub names_are : (facts : List Fact) (meter : List ℕ) (place : ℕ) → names meter place (map voided (voids_in facts)) ≡ is_voided place (journal_of facts meter)
 names_are facts meter place = named_of meter place (map voided (voids_in facts)) ∙ voids_are meter place facts
 
--- ---- the rows of a journal between two indices
+-- ---- the meter entries of a journal between two indices
 
--- Each entry between two indices is voided.
+-- True if every meter entry of a journal between two indices is voided.
 abbrev pub AreStruck : Journal → (low high : ℕ) → Type 0
 AreStruck lines low high = (place : ℕ) → low < place → place < high → is_voided place lines ≡ true
 
@@ -77,17 +78,18 @@ module _ (o : Opening) where
   abbrev stood : List EntryRow → Last
   stood rows = last_of (opened o) (entries_in rows)
 
-  -- The indices of the table's rows are those of the journal, and 1.
+  -- No row of a meter in `entries` has an index greater than the number of the meter's entries.
   few : (rows : List EntryRow) (n : ℕ) → AreNumbered rows → length rows + 1 ≤ n → AllByRecursion (λ (e : Entered). e.entry.place ≤ n) (entered_rows o rows)
   few [] n numbered le = (omega (arith, le), tt)
   few (row ∷ rows) n numbered le = ((let at = numbered.0 in omega (arith, at, le)), few rows n numbered.1 (omega (arith, le)))
 
-  -- No row has a later index.
+  -- No row of a meter in `entries` has an index greater than the last index of the meter's journal.
   none_later : (Q : Entered → Type 0) (place : ℕ) (rows : List EntryRow) → AreNumbered rows → length rows + 1 < place → AllByRecursion (λ (e : Entered). e.entry.place ≡ place → Q e) (entered_rows o rows)
   none_later Q place rows numbered late =
       all_weaker (λ (e : Entered). e.entry.place ≤ length rows + 1) (λ (e : Entered). e.entry.place ≡ place → Q e) (λ e le same. absurd (omega (arith, le, same, late))) (entered_rows o rows) (few rows (length rows + 1) numbered (omega arith))
 
-  -- Every index up to the last has a row.
+  -- If an index is from 1 to a meter's last index, `entries` has a row of the meter with this
+  -- index.
   pub all_places : (place : ℕ) (rows : List EntryRow) → AreNumbered rows → 1 ≤ place → AllByRecursion (λ (e : Entered). e.entry.place ≡ place → ⊥) (entered_rows o rows) → length rows + 1 < place
   all_places place [] numbered some none = omega (arith, some, (λ (is : 1 ≡ place). none.0 is))
   all_places place (row ∷ rows) numbered some none =
@@ -98,7 +100,7 @@ module _ (o : Opening) where
         | inr off ↦ grind (arith, nat_tests, rest, at, off)
       ]
 
-  -- ---- the entry at an index
+  -- ---- the row of the meter entry at an index
 
   pub record AtRow (place : ℕ) (rows : List EntryRow) (e : stored.EntryRow) : Type 0 where
     pub around : Around
@@ -127,7 +129,7 @@ module _ (o : Opening) where
         (λ e h same. past_row place row rows e.entry numbered (h same)) (entered_rows o rows) (entries_at_rows place rows numbered.1 late),
   )
 
-  -- ---- the counter before the entry
+  -- ---- the state of the counter before a meter entry
 
   counter_of_row : (sf : ℤ) (last : Last) (place : ℕ) (k : EntryKind) (e : Entry) (stands : Bool) → HasShape k e → sf ≡ (after last e).sf
       → counter_after (entry_row sf (record { place = place; kind = k; entry = e; stands = stands })) ≡ after last e
@@ -142,7 +144,8 @@ module _ (o : Opening) where
   counter_of_row sf last place kind.Reset (entry.Step at raw rolls) stands h is = absurd h
   counter_of_row sf last place kind.Rescale (entry.Step at raw rolls) stands h is = absurd h
 
-  -- The counter after a row that is not voided.
+  -- If a meter entry is not voided, the counter's state after the entry equals the state in the
+  -- entry's row.
   pub stands_after_row : (row : EntryRow) (rows : List EntryRow) → HasShape row.kind row.entry → row.stands ≡ true → counter_after (entry_row (scale_after o (row ∷ rows)) row) ≡ after (stood rows) row.entry
   stands_after_row row rows shape on =
       counter_of_row (scale_after o (row ∷ rows)) (stood rows) row.place row.kind row.entry row.stands shape (ap (λ es. (last_of (opened o) es).sf) (entries_standing row rows on))
@@ -204,7 +207,7 @@ module _ (o : Opening) where
         found_rest_before place row None around h = absurd (let e = h in cc)
         found_rest_before place row (Some rest) around h = (rest, refl, ap (λ (a : Around). a.before) (sym (same_Some (passed row rest) around h)))
 
-    -- ---- the next entry that is not voided
+    -- ---- the next meter entry that is not voided
 
     found_rest_next : (row : EntryRow) (o : Option Around) (around : Around) → option_map (passed row) o ≡ Some around → (rest : Around) × (o ≡ Some rest) × (around.next ≡ option_or rest.next (if_standing row))
     found_rest_next row None around h = absurd (let e = h in cc)
@@ -269,12 +272,12 @@ module _ (o : Opening) where
           )
     ]
 
-  -- ---- the opening
+  -- ---- the opening of a meter as its only row
   pub opening_alone : (rows : List EntryRow) → AreNumbered rows → AllByRecursion (λ (e : Entered). e.entry.place ≡ 1 → e.entry.moment ≡ o.at) (entered_rows o rows)
   opening_alone [] numbered = (λ is. refl, tt)
   opening_alone (row ∷ rows) numbered = ((λ (is : row.place ≡ 1). absurd (let at = numbered.0 in omega (arith, is, at))), opening_alone rows numbered.1)
 
--- ---- from all rows of a meter to the row that is found
+-- ---- from all rows of a meter to the row of one entry
 
 module _ (meter : List ℕ) (o : Opening) (rows : List EntryRow) (table : List Entered) (are : IsPermutation (filter (is_of meter) table) (entered_rows o rows)) where
   lifted : (Q : Entered → Type 0) (place : ℕ) → AllByRecursion (λ (e : Entered). e.entry.place ≡ place → Q e) (entered_rows o rows) → AllByRecursion (λ e. is_entry meter place e ≡ true → Q e) table

@@ -1,4 +1,4 @@
--- The entry of a meter at an index.
+-- Proofs that a look-up finds the entry of a meter at an index.
 use Rattle.std.proofs.Common.{◌≡◌, ℕ, List, map, filter, reverse, take, Option, Some, None, option_map, Ok, Err, Result, IfOk, IfErr, refl, sym, ap, subst, ◌∙◌, IsPermutation}
 use Rattle.std.specs.Option.{option_and_then}
 use Rattle.std.specs.List.{filter_map}
@@ -40,7 +40,7 @@ use Rattle.store_facts.proofs.Energy.{found_recorded}
 use Rattle.store_queries.specs.Metering.Entries.{AreJournal, ShowsEntries, ShowsVoids, FindsJournal, row_among, IsFaultOfJournal, CanBePlaced}
 use Rattle.store_queries.proofs.MeteringLemmas.Journals.{numbered, journal_back, entries_in_order}
 
--- The opening of a meter has the meter's name.
+-- If the records have an opening for a meter, the opening has the meter's name.
 named : (facts : List Fact) (meter : List ℕ) (o : Opening) → opening_of facts meter ≡ Some o → o.meter ≡ meter
 named facts meter o there = same_text o.meter meter (find_passes (λ (x : Opening). same x.meter meter) (openings_in facts) o there)
 
@@ -76,7 +76,7 @@ journal_is journals stand change facts meter entries voids rows shown void are =
     ap reverse (are shown.entries void.voids shown.shown void.shown ∙ ap (filter_map (row_among void.voids)) (shown.all o there) ∙ journal_back journals stand change facts o void.lawful recorded void.voids all)
     ∙ reverse-reverse (rows_of facts o)
 
--- The answer for an index of a meter.
+-- The answer for an index of a meter depends on whether the meter has an opening.
 by_opening : (facts : List Fact) (place : ℕ) (whole : Installation) (found : Option EntryPlace) (opening : Option Opening) → Some whole ≡ option_map (installation_of facts) opening
     → ((o : Opening) → opening ≡ Some o → whole ≡ installation_of facts o → found ≡ option_map (place_in facts o) (row_at place (rows_of facts o)))
     → found ≡ option_and_then (λ o. option_map (place_in facts o) (row_at place (rows_of facts o))) opening
@@ -89,7 +89,7 @@ pub entry_is : (facts : List Fact) (meter : List ℕ) (place : ℕ) (whole : Ins
 entry_is facts meter place whole rows found is journal tells =
     by_opening facts place whole found (opening_of facts meter) is (λ o there whole_is. tells o whole_is (journal o there))
 
--- Without a meter there is no entry.
+-- If a meter was never installed, it has no entry at any index.
 none_at : (facts : List Fact) (place : ℕ) (opening : Option Opening) → None ≡ option_map (installation_of facts) opening
     → None ≡ option_and_then (λ o. option_map (place_in facts o) (row_at place (rows_of facts o))) opening
 none_at facts place None is = refl
@@ -121,13 +121,14 @@ placed_found facts o place whole before rows firsts index row next whole_is rows
     ∙ ap (λ (w : Installation). standing w.opening (entries_in around.before) w.ended) whole_is in
     ap (λ (b : Installation). Some (let p : EntryPlace = record { before = b; row = row; next = next } in p)) was ∙ sym (ap (option_map (place_in facts o)) at)
 
--- The entries before the found entry that are not voided have an account.
+-- If the earlier meter entries that are not voided may follow one another, the energy before an
+-- entry can be computed from them.
 pub account_before : (o : Opening) (place index : ℕ) (rows firsts : List EntryRow) (row : EntryRow) (next : Option EntryRow) → row_at place (latest_first rows) ≡ Some (record { before = latest_first (take index rows); row = row; next = next })
     → firsts ≡ take index rows → CanBePlaced o rows place → HasAccount (installed o) (entries_in (latest_first firsts))
 account_before o place index rows firsts row next found_at is can =
     subst (λ (rs : List EntryRow). HasAccount (installed o) (entries_in (latest_first rs))) (sym is) (can.account (record { before = latest_first (take index rows); row = row; next = next }) found_at)
 
--- The entry of a recorded meter can be found.
+-- The state before an entry of a recorded meter can always be computed.
 can_be_placed : InstallationsAreInRange → JournalsFit → RowsStand → PlacesWereKept → (facts : List Fact) (o : Opening) (place : ℕ) (rows : List EntryRow) → AreLawful facts → IsRecorded facts o
     → latest_first rows ≡ rows_of facts o → CanBePlaced o rows place
 can_be_placed ranges journals stand kept facts o place rows lawful there are =
@@ -139,7 +140,7 @@ can_be_placed ranges journals stand kept facts o place rows lawful there are =
       account = λ around at. (kept (installed o) (journal_of facts o.meter) place around begun (journals facts o lawful there) (ap (row_at place) (sym are) ∙ at)).account;
     }
 
--- Damage of the rows is reported only if the rows are not sound.
+-- If finding a meter entry by its index reports `Damaged`, a row has a value out of its range.
 pub placed_fault : InstallationsAreInRange → JournalsFit → RowsStand → PlacesWereKept → (facts : List Fact) (meter text : List ℕ) (place : ℕ) (x : Option Installation) (whole : Installation) (rows told : List EntryRow) (r : Result (Option EntryPlace) RowFault)
     → (Sound : Type 0) → (Sound → AreLawful facts) → x ≡ Some whole → x ≡ meter_of facts meter → text ≡ meter → told ≡ rows → FindsJournal text facts rows → IfErr r (λ e. (e ≡ Damaged) × (¬ CanBePlaced whole.opening told place))
     → IfErr r (IsRowFault Sound)

@@ -1,4 +1,4 @@
--- What the rows of the records say about meters.
+-- Proofs that the rows of the tables determine the meters of the records.
 use Rattle.std.proofs.Common.{◌≡◌, ℕ, ◌+◌, ◌==◌, ◌&&◌, Bool, true, false, List, [], ◌∷◌, map, filter, length, Option, Some, None, option_map, string_bytes, bytes_eq, refl, sym, ap, subst, ◌∙◌, arith, eqb-true, IsPermutation}
 use Rattle.std.specs.List.{AllByRecursion}
 use Rattle.std.proofs.lemmas.Bool.{and_parts}
@@ -32,11 +32,11 @@ use Rattle.store_facts.proofs.Placed.{last_counts}
 use Rattle.store_queries.specs.Metering.Meters.{IsRowOf, FindsRow, FindsRange, FindsFirst, CountsOpenings, opening_from, standing_from, IsStanding}
 use Rattle.store_queries.proofs.MeteringLemmas.Picked.{found_has, none_placed, none_mapped, none_passes, last_placed, all_placed, all_mapped}
 
--- Each meter has only one opening.
+-- If the rules accepted the records, no meter has more than one opening.
 pub alone : (facts : List Fact) → AreLawful facts → AllByRecursion (λ (o : Opening). opening_of facts o.meter ≡ Some o) (openings_in facts)
 alone facts lawful = recursion_from_All _ _ (each_found (λ (o : Opening). o.meter) (openings_in facts) (openings_apart facts lawful))
 
--- ---- installations
+-- ---- a meter's row of `installations`
 
 pub row_found : (facts : List Fact) (meter : List ℕ) → AreLawful facts → (found : Option stored.Installation)
     → IsFound (is_meter meter) IsInstalled (placed (installed_row facts) (openings_in facts)) found → FindsRow facts (opening_of facts meter) found
@@ -67,7 +67,7 @@ pub counted : (facts : List Fact) (found : Option ℕ) → IsLast every HasInsta
 counted facts None h = let n = last_counts (installed_row facts) installed_place (λ place o. refl) (openings_in facts) None h in omega (arith, n)
 counted facts (Some place) h = let n = last_counts (installed_row facts) installed_place (λ place o. refl) (openings_in facts) (Some place) h in omega (arith, n)
 
--- ---- ranges
+-- ---- a meter's row of `ranges`
 
 pub range_found : (facts : List Fact) (meter : List ℕ) → AreLawful facts → (found : Option ℕ) → IsFound (is_range_of meter) HasRange (map ranged (openings_in facts)) found → FindsRange meter facts found
 range_found facts meter lawful None h = none_mapped ranged (λ (o : Opening). same o.meter meter) (is_range_of meter) (λ o. refl) (openings_in facts) h
@@ -81,13 +81,13 @@ range_found facts meter lawful (Some range) h = λ opening there.
     let this : o ≡ opening = same_Some o opening (sym here ∙ there) in
     h.1 ∙ ap (λ r. r.range) it.0.1 ∙ ap (λ (x : Opening). x.range) this
 
--- ---- openings
+-- ---- the row of a meter's opening in `entries`
 
 first_alone : (o : Opening) (rows : List journal.EntryRow) → AreNumbered rows → AllByRecursion (λ (e : Entered). e.entry.place ≡ 1 → e.entry ≡ opening_row o) (entered_rows o rows)
 first_alone o [] numbered = (λ is. refl, tt)
 first_alone o (row ∷ rows) numbered = (λ is. absurd (let place = numbered.0 in omega (arith, place, is)), first_alone o rows numbered.1)
 
--- The opening is one of the rows.
+-- If a meter has an opening, one of the meter's rows in `entries` encodes the opening.
 at_opening : (o : Opening) (P : Entered → Type 0) (rows : List journal.EntryRow) → AllByRecursion P (entered_rows o rows) → P (entered o.meter (opening_row o))
 at_opening o P [] all = all.0
 at_opening o P (row ∷ rows) all = at_opening o P rows all.1
@@ -121,7 +121,7 @@ first_found law facts meter rows lawful each (Some entry) h = λ opening there.
     let place : y.entry.place ≡ 1 = eqb-true y.entry.place 1 at_one in
     h.1 ∙ it.0 parts.0 place
 
--- ---- the installation
+-- ---- the installation of a meter
 
 pub opening_is : (facts : List Fact) (o : Opening) (row : stored.Installation) (range : ℕ) (first : EntryRow) → IsRowOf facts o row → FindsRange (string_bytes row.meter) facts (Some range) → FindsFirst (string_bytes row.meter) facts (Some first)
     → opening_from row range first ≡ o
@@ -155,24 +155,25 @@ standing_found facts row m x y range first made found named ranged_is first_is m
     let two = subst (λ (t : List ℕ). FindsFirst t facts (Some first)) named (subst (λ (z : Option EntryRow). FindsFirst m facts z) first_is begins) in
     is ∙ standing_is facts o made row of (made_is ∙ opening_is facts o row range first of one two)
 
--- The installation of the opening whose row was found.
+-- If a look-up finds the row of an opening, it returns the installation of this opening.
 pub found_is : (facts : List Fact) (o : Option Opening) (x : Option stored.Installation) (row : stored.Installation) (found : Installation) → x ≡ Some row → FindsRow facts o x → IsStanding row facts found
     → Some found ≡ option_map (installation_of facts) o
 found_is facts None x row found is finds stands = absurd (let e = sym finds ∙ is in cc)
 found_is facts (Some o) x row found is finds stands = ap Some (stands o (subst (FindsRow facts (Some o)) is finds))
 
--- ---- properties of lawful records
+-- ---- properties of records that the rules accepted
 
 pub in_range : (facts : List Fact) (o : Opening) → IsSound (installation_of facts o) → IsSound (installation_of facts o)
 in_range facts o h = record { range = h.range; ceiling = h.ceiling; raw = h.raw; scale = h.scale; total = h.total }
 
--- The names of an opening whose row was found.
+-- If a look-up finds the row of an opening, the opening has the names in this row.
 pub named_row : (facts : List Fact) (o : Opening) (row : stored.Installation) → IsRowOf facts o row → AllByRecursion HasNames (openings_in facts) → IsNamed row
 named_row facts o row is all =
     let names = all_found HasNames (λ (x : Opening). same x.meter o.meter) (openings_in facts) o all is.alone in
     record { meter = ap is_name is.row.meter ∙ names.meter; register = ap is_name is.row.register ∙ names.register }
 
--- The opening exists, so its range and its first entry exist.
+-- If a meter has a row in `installations`, it also has a row in `ranges` and a first row in
+-- `entries`.
 pub no_opening : (facts : List Fact) (o : Opening) (row : stored.Installation) (meter : List ℕ) → meter ≡ string_bytes row.meter → IsRowOf facts o row → opening_of facts meter ≡ None → ⊥
 no_opening facts o row meter named is none =
     let there : opening_of facts meter ≡ Some o = ap (opening_of facts) (named ∙ is.row.meter) ∙ is.alone in
@@ -181,17 +182,17 @@ no_opening facts o row meter named is none =
 pub recorded_row : (facts : List Fact) (o : Opening) (row : stored.Installation) → IsRowOf facts o row → IsRecorded facts o
 recorded_row facts o row is = found_recorded (λ (x : Opening). same x.meter o.meter) (openings_in facts) o is.alone
 
--- The installation of an opening whose row was found is in its ranges.
+-- If a look-up finds the row of an installation, the numbers in this row are in their ranges.
 pub not_unsound : InstallationsAreInRange → (facts : List Fact) (o : Opening) (row : stored.Installation) (made : Opening) → AreLawful facts → IsRowOf facts o row → made ≡ o → ¬ IsSound (standing_from made row.row) → ⊥
 not_unsound law facts o row made lawful is opening unsound =
     unsound (subst IsSound (sym (standing_is facts o made row is opening)) (in_range facts o ((law facts lawful).recorded o (recorded_row facts o row is))))
 
--- A row that was found has an opening.
+-- If a look-up finds a row in `installations`, the row belongs to an opening of the records.
 pub found_row : (facts : List Fact) (o : Option Opening) (row : stored.Installation) → FindsRow facts o (Some row) → (opening : Opening) × IsRowOf facts opening row
 found_row facts None row finds = absurd (let e = finds in cc)
 found_row facts (Some o) row finds = (o, finds)
 
--- Without a row there is no opening.
+-- If a meter has no row in `installations`, it has no opening in the records.
 pub none_found : (facts : List Fact) (o : Option Opening) → FindsRow facts o None → None ≡ option_map (installation_of facts) o
 none_found facts None finds = refl
 none_found facts (Some o) finds = absurd finds

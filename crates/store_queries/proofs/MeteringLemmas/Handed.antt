@@ -1,4 +1,4 @@
--- Streaming the rows of a table.
+-- Proofs about streaming the rows of a table to a sink.
 use Rattle.std.proofs.Common.{◌≡◌, ◌⊎◌, inl, inr, ℕ, List, [], ◌∷◌, Ok, Err, Result, OnOk, IfErr, IsTrue, IsErrAnd, refl, sym, subst}
 use Rattle.std.specs.List.{AllByRecursion}
 use Rattle.sqlite.specs.Store.{Ghosts}
@@ -18,7 +18,7 @@ use Rattle.store_queries.specs.Metering.Looking.{HandsOn}
 use Rattle.store_queries.proofs.FindingLemmas.Looking.{Touched, looks_asked, seen, since}
 
 module _ {S K T : Type 0} (g : Ghosts S) (takes : K → T → K → Type 0) (IsRow : T → Type 0) (says : List Fact → List T) (AreSound : List Fact → Type 0) where
-  -- A call failed before the query.
+  -- If a call before the query fails, the stream passes no row to the sink.
   pub not_asked : (a b : Held S) (sink : K) (r : Result (Unit {0}) RowFault) (Why : RowFault → Type 0) → ((zone : List ℕ) → OnlyLooks g zone a b)
       → ((zone : List ℕ) (facts : List Fact) → HoldsFacts g zone a facts → HasCleanDisk (state g b) → IfErr r (IsFault (state g a) (state g b) (AreSound facts))) → IsErrAnd r Why → HandsOn g a b takes sink sink r IsRow says AreSound
   not_asked a b sink (Ok x) Why looks fault is = absurd is
@@ -31,7 +31,8 @@ module _ {S K T : Type 0} (g : Ghosts S) (takes : K → T → K → Type 0) (IsR
     mode = (looks []).mode;
   }
 
-  -- The tables are those of the records, and have these rows.
+  -- True if the tables encode the records, and `tables` has the rows of the tables that the stream
+  -- reads.
   pub record Tells {Tables : Type 0} (Have : Tables → Content → Type 0) (AreRowsOf : Tables → List T → Type 0) (IsSound : Tables → Type 0) (facts : List Fact) (content : Content) : Type 0 where
     pub rows : Tables
     pub there : Have rows content

@@ -1,4 +1,4 @@
--- The rejected readings of the tables, in order.
+-- Proofs about the order of the rejected readings in the table `holds`.
 use Rattle.std.proofs.Common.{◌≡◌, ℕ, ◌+◌, ◌≤◌, ◌&&◌, min, nat_le, nat_lt, Bool, true, false, cond, List, [], ◌∷◌, map, filter, reverse, length, refl, sym, ap, ap₂, ◌∙◌}
 use Rattle.std.specs.List.{AllByRecursion}
 use Rattle.sqlite_keyed.proofs.ListLemmas.{all_of, all-filter, filter-map, filter_all, ascending-filter}
@@ -18,12 +18,12 @@ use Rattle.store_facts.specs.Holds.{IsSoundReading, reading_of, is_of, is_betwee
 use Rattle.store_queries.proofs.FindingLemmas.Rows.{all_reverse, in_turn, placed_falls}
 use Rattle.store_queries.proofs.MeteringLemmas.Spans.{one_by_one, bounded_rows}
 
--- The rows of readable records can be read.
+-- If the numbers of a rejected reading are in their ranges, its row in `holds` can be read.
 pub all_sound : (hs : List HeldReading) → AllByRecursion IsSoundReading hs → AreSoundHolds (placed held_row hs)
 all_sound [] sound = tt
 all_sound (h ∷ hs) sound = (sound.0, all_sound hs sound.1)
 
--- No rejected reading is past the latest timestamp.
+-- The timestamp of a rejected reading is at most the latest timestamp of the store.
 abbrev InTime : HeldReading → Type 0
 InTime h = h.at ≤ latest_moment
 
@@ -40,7 +40,7 @@ held_in_time (fact.Poll x ∷ facts) lawful = held_in_time facts lawful.1
 held_in_time (fact.Outcome x ∷ facts) lawful = held_in_time facts lawful.1
 held_in_time (fact.Reply x ∷ facts) lawful = held_in_time facts lawful.1
 
--- ---- the readings of a meter
+-- ---- the rejected readings of a meter
 
 module _ (meter : List ℕ) where
   abbrev of_it : HeldReading → Bool
@@ -54,7 +54,7 @@ module _ (meter : List ℕ) where
   one_more true h place rows hs is rest = ap₂ ◌∷◌ (named h place (same_text h.meter meter is)) rest
   one_more false h place rows hs is rest = rest
 
-  -- The rows of the meter are its rejected readings, the latest first.
+  -- The rows of `holds` for a meter are its rejected readings, the latest first.
   readings_back : (hs : List HeldReading) → map (reading_of meter) (filter (is_of meter) (placed held_row hs)) ≡ filter of_it hs
   readings_back [] = refl
   readings_back (h ∷ hs) = one_more (of_it h) h (length hs + 1) (filter (is_of meter) (placed held_row hs)) (filter of_it hs) refl (readings_back hs)

@@ -1,4 +1,4 @@
--- The entries of a meter from an index.
+-- Proofs about the list of a meter's entries from an index.
 use Rattle.std.proofs.Common.{◌≡◌, ℕ, List, [], reverse, Option, Some, None, option_map, refl, sym, ap, ap₂, subst, ◌∙◌}
 use Rattle.std.proofs.lemmas.Option.{same_Some}
 use Rattle.meter_journal.specs.declared.lines.EntryRow.{EntryRow}
@@ -13,7 +13,7 @@ use Rattle.office_books.specs.Entries.{entries_at, entries_from, first_from, lis
 use Rattle.office_books.proofs.Listing.{none_listed}
 use Rattle.store_queries.specs.Metering.Entries.{FindsJournal}
 
--- Without a meter there is no entry.
+-- If a meter was never installed, the list of its entries is empty.
 none_of : (facts : List Fact) (from most : ℕ) (opening : Option Opening) → None ≡ option_map (installation_of facts) opening → [] ≡ first_from from most (entries_at facts opening)
 none_of facts from most None is = sym (none_listed from most)
 none_of facts from most (Some o) is = absurd (let e = is in cc)

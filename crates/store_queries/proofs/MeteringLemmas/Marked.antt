@@ -1,9 +1,9 @@
--- The elements that a loop has read, and the next one.
+-- Proofs about a loop over rows: the elements that the loop has read, and the next element.
 use Rattle.std.proofs.Common.{◌≡◌, ℕ, zero, suc, ◌+◌, ◌<◌, ◌≤◌, ◌||◌, Bool, true, false, List, [], ◌∷◌, ◌++◌, map, take, drop, length, get_or, refl, sym, ap, ◌∙◌, arith, take-append-drop}
 use Rattle.std.specs.List.{list_any}
 use Rattle.std.proofs.lemmas.List.Folds.{list_any-append}
 
--- The element that a row encodes, after the elements before it.
+-- True if `y` is the row of the element after the first `n` elements of `xs`.
 pub record IsNext {X Y : Type 0} (f : X → Y) (xs : List X) (n : ℕ) (y : Y) : Type 0 where
   pub at : X
   pub seen : y ≡ f at
@@ -17,7 +17,7 @@ next_of f (x ∷ xs) (suc n) y lt is =
     let e : suc n + 1 ≡ suc (n + 1) = omega arith in
     record { at = rest.at; seen = rest.seen; more = ap (λ k. take k (x ∷ xs)) e ∙ ap (λ l. x ∷ l) rest.more }
 
--- `next_of` for a list `ys` that is equal to the shown rows.
+-- If `ys` has the rows of a list's elements, the next row of `ys` encodes the next element.
 pub next_shown : {X Y : Type 0} (f : X → Y) (xs : List X) (ys : List Y) (n : ℕ) (y : Y) → ys ≡ map f xs → n < length ys → y ≡ get_or ys n y → IsNext f xs n y
 next_shown f xs ys n y shown lt is =
     let long = ap length shown in

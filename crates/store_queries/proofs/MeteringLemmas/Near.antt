@@ -1,4 +1,4 @@
--- The entry that the rows around it give is the entry of the records.
+-- Proofs that the rows around a meter entry determine the entry that the records have.
 use Rattle.std.proofs.Common.{◌≡◌, ℕ, ◌+◌, ◌<◌, ◌≤◌, ◌==◌, not, Bool, true, false, inl, inr, ◌⊎◌, List, [], ◌∷◌, map, filter, Option, Some, None, option_map, refl, sym, ap, ap₂, subst, ◌∙◌, arith, IsPermutation}
 use Rattle.std.specs.Prelude.{IfSome, nat_lt}
 use Rattle.std.specs.List.{AllByRecursion, list_any}
@@ -43,7 +43,7 @@ use Rattle.store_queries.proofs.MeteringLemmas.Around.{AtRow, AreStruck, IsNextR
 use Rattle.store_queries.proofs.MeteringLemmas.Journals.{IsTold, back_by, numbered, one_back, voids_are}
 use Rattle.store_queries.proofs.MeteringLemmas.Shapes.{IsPlain, found_rest, found_there, plain}
 
--- ---- one index further
+-- ---- the index of the next meter entry that is not voided
 
 pub none_between : (vs : List Voided) (low high : ℕ) → high ≤ low + 1 → AreVoided vs low high
 none_between vs low high none place above below = absurd (omega (arith, none, above, below))
@@ -60,7 +60,7 @@ further_up vs low p high next are is place above below = elim (cases_Bool (nat_l
   | inr here ↦ let same : p ≡ place = grind (arith, nat_tests, here, below, next) in subst (λ q. list_any (names q) vs ≡ true) same (sym is)
 ]
 
--- ---- from each row to the row that is found
+-- ---- from the rows of `entries` to the row of one entry
 
 row_holds : (P : EntryRow → Type 0) (place : ℕ) (rows : List EntryRow) (around : journal.Around) → AllByRecursion P rows → row_at place rows ≡ Some around → P around.row
 row_holds P place [] around all h = absurd (let e = h in cc)
@@ -95,7 +95,7 @@ module _ (journals : JournalsFit) (stand : RowsStand) (change : VoidsChangeTwoRo
   plains : AllByRecursion (IsPlain lines) rows
   plains = plain stand change (installed o) (well facts o lawful (found facts o lawful recorded_there)) lines (journals facts o lawful recorded_there)
 
-  -- The rows have voids of the entries that the journal has voided.
+  -- The table `voids` has a void for exactly the meter entries that the journal marks as voided.
   named_is : (place : ℕ) → list_any (names place) vs ≡ is_voided place lines
   named_is place = sym (any_permutation (names place) _ _ all) ∙ voids_are meter place facts ∙ ap (λ m. is_voided place (journal_of facts m)) (sym meter_is)
 
@@ -164,7 +164,7 @@ module _ (journals : JournalsFit) (stand : RowsStand) (change : VoidsChangeTwoRo
         subst (λ (q : EntryPlace). TellsNear facts meter place (Some q)) (sym all_same)
         (tells_near facts meter place whole (Some (place_in facts o around)) whole_is found_at (within_whole kept places facts lawful meter place))
 
--- The entry that is built is right.
+-- If a meter entry is built from the rows around it, the result equals the entry in the records.
 pub seen_rightly : JournalsFit → RowsStand → VoidsChangeTwoRows → JournalsAreKept → PlacesWereKept → (facts : List Fact) (meter : List ℕ) (place : ℕ) → 2 ≤ place → (vs : List Voided) → IsPermutation (filter (is_void_of meter) (map voided (voids_in facts))) vs
     → (sides : Sides) → AreSides vs place sides → (seen : stored_around.Around) → FindsAround meter place sides.before sides.after facts seen → (whole : Installation) (p : EntryPlace) → Some whole ≡ meter_of facts meter → IsSeen whole seen sides.stands p
     → TellsNear facts meter place (Some p)
@@ -177,7 +177,8 @@ if_seen : (facts : List Fact) (meter : List ℕ) (place : ℕ) (whole : Installa
 if_seen facts meter place whole seen stands None h tells = tt
 if_seen facts meter place whole seen stands (Some p) h tells = λ whole_is. tells p whole_is h
 
--- The entry that the rows and the voids give is right.
+-- If an entry is built from the rows of `entries` and `voids`, the result equals the entry in the
+-- records.
 pub told_rightly : JournalsFit → RowsStand → VoidsChangeTwoRows → JournalsAreKept → PlacesWereKept → (facts : List Fact) (meter : List ℕ) (place : ℕ) → 2 ≤ place → (shown told : List Row) (sides : Sides) (found : Option stored_around.Around) (seen : stored_around.Around)
     (whole : Installation) (r : Option EntryPlace) → ShowsVoids meter facts shown → told ≡ shown → ByVoids (λ (vs : List Voided). AreSides vs place sides) told → IfSome found (FindsAround meter place sides.before sides.after facts) → found ≡ Some seen
     → IfSome r (IsSeen whole seen sides.stands) → TellsRightly meter place whole facts r

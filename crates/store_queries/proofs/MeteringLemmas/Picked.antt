@@ -1,4 +1,4 @@
--- What a query finds among rows with indices.
+-- Proofs about what a query returns from numbered rows.
 use Rattle.std.proofs.Common.{◌≡◌, ◌≤◌, ℕ, ◌+◌, Bool, true, false, cond, inl, inr, ◌⊎◌, List, [], ◌∷◌, map, filter, length, Option, Some, None, refl, sym, ap, subst, ◌∙◌, arith, IsPermutation}
 use Rattle.std.specs.List.{find, AllByRecursion}
 use Rattle.std.proofs.lemmas.Bool.{cases_Bool, cond-true, cond-false}
@@ -8,18 +8,19 @@ use Rattle.sqlite_keyed.proofs.ListLemmas.{all-filter, all_both}
 use Rattle.store_tables.specs.Answer.{IsFound, IsLast}
 use Rattle.store_facts.specs.Rows.{placed}
 
--- ---- any rows
+-- ---- rows that pass a test
 
 passing_step : {Y : Type 0} (p : Y → Bool) (b : Bool) (y : Y) (ys : List Y) → p y ≡ b → AllByRecursion (λ z. p z ≡ true) ys → AllByRecursion (λ z. p z ≡ true) (cond b (y ∷ ys) ys)
 passing_step p true y ys is more = (is, more)
 passing_step p false y ys is more = more
 
--- Elements that a filter keeps pass its test.
+-- If a filter returns an element, the element passes the filter's test.
 pub all_passing : {Y : Type 0} (p : Y → Bool) (ys : List Y) → AllByRecursion (λ y. p y ≡ true) (filter p ys)
 all_passing p [] = tt
 all_passing p (y ∷ ys) = passing_step p (p y) y (filter p ys) refl (all_passing p ys)
 
--- The found row passes, and has the properties of all rows.
+-- If a look-up finds a row, the row passes the look-up's test, and has every property that all rows
+-- have.
 pub found_has : {Y : Type 0} (p : Y → Bool) (P : Y → Type 0) (rows : List Y) (y : Y) (others : List Y) → AllByRecursion P rows → IsPermutation (filter p rows) (y ∷ others)
     → P y × (p y ≡ true)
 found_has p P rows y others all are =
@@ -27,7 +28,7 @@ found_has p P rows y others all are =
     let passes = recursion_from_All (λ z. p z ≡ true) (y ∷ others) (All-permutation (λ z. p z ≡ true) _ _ are (All-from_recursion (λ z. p z ≡ true) _ (all_passing p rows))) in
     (here.0, passes.0)
 
--- If the filter keeps nothing, every element fails the test.
+-- If a filter returns no element, every element fails its test.
 pub none_passes : {Y : Type 0} (p : Y → Bool) (ys : List Y) → filter p ys ≡ [] → AllByRecursion (λ y. p y ≡ false) ys
 none_passes p [] h = tt
 none_passes p (y ∷ ys) h = elim (cases_Bool (p y)) [
@@ -42,10 +43,10 @@ none_mapped row p q agree (x ∷ xs) h = elim (cases_Bool (p x)) [
   | inr off ↦ cond-false _ _ _ off ∙ none_mapped row p q agree xs (sym (cond-false _ _ _ (agree x ∙ off)) ∙ h)
 ]
 
--- ---- rows with indices
+-- ---- rows that are numbered by index
 
 module _ {X Y : Type 0} (row : ℕ → X → Y) (p : X → Bool) (q : Y → Bool) (agree : (n : ℕ) (x : X) → q (row n x) ≡ p x) where
-  -- No row passes.
+  -- If no numbered row passes a test, no element of the list passes it.
   pub none_placed : (xs : List X) → filter q (placed row xs) ≡ [] → find p xs ≡ None
   none_placed [] h = refl
   none_placed (x ∷ xs) h = elim (cases_Bool (p x)) [
@@ -54,7 +55,7 @@ module _ {X Y : Type 0} (row : ℕ → X → Y) (p : X → Bool) (q : Y → Bool
   ]
 
   module _ {A : Type 0} (IsSeen : Y → A → Type 0) (key : Y → ℕ) (keyed : (n : ℕ) (x : X) → key (row n x) ≡ n) where
-    -- The row at an index, or at an earlier one.
+    -- True if a row encodes the element `x` at index `n` + 1, or has an index of at most `n`.
     abbrev IsUpTo : (n : ℕ) → X → Y → Type 0
     IsUpTo n x y = (y ≡ row (n + 1) x) ⊎ (key y ≤ n)
 
@@ -77,7 +78,8 @@ module _ {X Y : Type 0} (row : ℕ → X → Y) (p : X → Bool) (q : Y → Bool
           | inr small ↦ absurd (omega (arith, low, top, small))
         ]
 
-    -- The row with the greatest index is the first that passes.
+    -- The passing row with the greatest index encodes the first passing element of a list in
+    -- descending order.
     pub last_placed : (xs : List X) (a : A) → IsLast q IsSeen key (placed row xs) (Some a) → (x : X) × (n : ℕ) × (find p xs ≡ Some x) × IsSeen (row n x) a
     last_placed [] a h = absurd (let long = length_permutation _ _ h.3 in omega (arith, long))
     last_placed (x ∷ xs) a h = elim (cases_Bool (p x)) [
@@ -88,7 +90,8 @@ module _ {X Y : Type 0} (row : ℕ → X → Y) (p : X → Bool) (q : Y → Bool
           (it.0, it.1, cond-false _ _ _ off ∙ it.2, it.3)
     ]
 
--- Each row encodes an element, with the properties of all elements.
+-- If all elements of a list have a property, the elements that the list's numbered rows encode have
+-- the property.
 pub all_placed : {X Y : Type 0} (row : ℕ → X → Y) (P : X → Type 0) (xs : List X) → AllByRecursion P xs → AllByRecursion (λ y. (x : X) × (n : ℕ) × (y ≡ row n x) × P x) (placed row xs)
 all_placed row P [] h = tt
 all_placed row P (x ∷ xs) h = ((x, length xs + 1, refl, h.0), all_placed row P xs h.1)

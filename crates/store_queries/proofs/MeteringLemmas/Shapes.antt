@@ -1,4 +1,4 @@
--- The possible rows of a meter's journal.
+-- Proofs about the possible rows of a meter's journal, by kind of entry.
 use Rattle.std.proofs.Common.{◌≡◌, ◌≢◌, ℕ, ◌+◌, ◌≤◌, ◌==◌, ◌&&◌, ◌||◌, not, Bool, true, false, cond, inl, inr, ◌⊎◌, List, [], ◌∷◌, map, length, Option, Some, None, option_map, refl, sym, ap, ap₂, subst, ◌∙◌, arith, eq-eqb, eqb-true}
 use Rattle.std.specs.List.{AllByRecursion}
 use Rattle.std.proofs.lemmas.Bool.{cases_Bool, cond-true, cond-false}
@@ -22,7 +22,8 @@ use Rattle.meter_journal.specs.Laws.{RowsStand}
 use Rattle.meter_journal.specs.Standing.{is_voided}
 use Rattle.meter_journal.specs.Voids.{VoidsChangeTwoRows, changed_by, is_next, last_before}
 
--- An entry of this kind is a step, or a change.
+-- True if a meter entry fits its kind: a reset or a rescale sets the counter, and any other entry
+-- does not.
 abbrev pub HasShape : EntryKind → Entry → Type 0
 HasShape kind.Reading (entry.Step at raw rolls) = Unit {0}
 HasShape kind.Manual (entry.Step at raw rolls) = Unit {0}
@@ -47,13 +48,14 @@ has_shape meter es kind.Closing (entry.Change at before after sf) h = absurd h
 has_shape meter es kind.Reset (entry.Step at raw rolls) h = absurd h
 has_shape meter es kind.Rescale (entry.Step at raw rolls) h = absurd h
 
--- A row has the shape of its kind. A voided row is a reading. A row with a void is voided.
+-- True if a journal row fits its kind, and is marked as voided exactly if a void cancels it. Only
+-- readings may be voided.
 pub record IsPlain (lines : Journal) (row : EntryRow) : Type 0 where
   pub shape : HasShape row.kind row.entry
   pub reading : row.stands ≡ false → is_read row.kind row.entry ≡ true
   pub stands : row.stands ≡ not (is_voided row.place lines)
 
--- ---- indices
+-- ---- rows numbered by index
 
 abbrev pub IsBelow : ℕ → EntryRow → Type 0
 IsBelow n row = row.place ≤ n
@@ -62,7 +64,7 @@ pub below : (n : ℕ) (rows : List EntryRow) → AreNumbered rows → length row
 below n [] numbered le = tt
 below n (row ∷ rows) numbered le = ((let at = numbered.0 in omega (arith, at, le)), below n rows numbered.1 (omega (arith, le)))
 
--- The row that is found at an index.
+-- True if a search for index `place` finds the row.
 abbrev pub FoundThere : (place : ℕ) → EntryRow → EntryRow → Type 0
 FoundThere place found row = row.place ≡ place → found ≡ row
 
@@ -93,7 +95,7 @@ found_there place (row ∷ rows) around numbered h = elim (cases_Bool (row.place
       )
 ]
 
--- ---- one row after a void
+-- ---- the journal rows after a meter entry was voided
 
 shape_rolled : (last : Last) (k : EntryKind) (e : Entry) → HasShape k e → HasShape k (with_rolls last e)
 shape_rolled last k (entry.Change at before after sf) h = h
@@ -107,7 +109,8 @@ module _ (lines : Journal) (place : ℕ) where
   abbrev Later : Journal
   Later = Voided place ∷ lines
 
-  -- The void is of another index, or of this one.
+  -- If a new void has another index than a journal row, the row still fits the journal with this
+  -- void.
   unnamed : (row : EntryRow) → (row.place == place) ≡ false → IsPlain lines row → IsPlain Later row
   unnamed row off h = record { shape = h.shape; reading = h.reading; stands = h.stands ∙ sym (ap (λ b. not (b || is_voided row.place lines)) off) }
 
@@ -133,7 +136,7 @@ module _ (lines : Journal) (place : ℕ) where
   }
   changed_if false next last row is read h = next_if (is_next next row) last row is h
 
--- ---- all rows
+-- ---- all rows of a journal
 
 plain_entered : (k : EntryKind) (e : Entry) (lines : Journal) (row : EntryRow) → IsPlain lines row → IsPlain (Entered k e ∷ lines) row
 plain_entered k e lines row h = record { shape = h.shape; reading = h.reading; stands = h.stands }
@@ -143,7 +146,7 @@ not_true true h = absurd (h refl)
 not_true false h = refl
 
 module _ (stand : RowsStand) (change : VoidsChangeTwoRows) (meter : Installed) (well : IsWellInstalled meter) where
-  -- A void is of an existing index.
+  -- If a journal has a void, the void's index belongs to an existing meter entry.
   voids_low : (lines : Journal) → AreFitting meter lines → (place : ℕ) → is_voided place lines ≡ true → place ≤ length (rows_of meter.opening lines) + 1
   voids_low [] fits place h = absurd (let e = h in cc)
   voids_low (Entered k e ∷ lines) fits place h = let low = voids_low lines fits.1 place h in omega (arith, low)

@@ -1,7 +1,7 @@
--- Two lists, compared element by element.
+-- Defines when a relation holds between the elements of two lists at each index.
 use Rattle.std.specs.Prelude.{List, [], ◌∷◌}
 
--- The lists have the same length, and `Is` relates the elements at each index.
+-- True if two lists have the same length, and `Is` relates their elements at each index.
 abbrev pub AreEach : {X A : Type 0} → (Is : X → A → Type 0) → List X → List A → Type 0
 AreEach Is [] [] = Unit {0}
 AreEach Is [] (v ∷ vs) = ⊥

@@ -1,4 +1,4 @@
--- How a query's answer follows from the records that the database of a connection has.
+-- The contract of a look-up: how its answer follows from the records in a connection's database.
 use Rattle.std.specs.Prelude.{◌≡◌, ℕ, List, map, Result, IfOk, IfErr}
 use Rattle.std.specs.List.{AllByRecursion}
 use Rattle.sqlite.specs.Order.{Row}
@@ -12,9 +12,10 @@ use Rattle.store_tables.specs.Failing.{IsFault, IsRowFault}
 use Rattle.store_facts.specs.Holding.{HoldsFacts, OnlyLooks}
 use Rattle.store_queries.specs.Finding.Each.{AreEach}
 
--- What a look-up finds, if the database gave back what was written to it. An Ok answer is what the
--- records say. `Damaged` is reported only if the records have a value that no table, or no office,
--- can have. Any other fault has one of the causes of `IsStoreError`. A look-up changes nothing.
+-- The contract of a look-up, if reads of the database file return the written bytes. An Ok answer
+-- follows from the records. The look-up reports `Damaged` only if the records have a value that no
+-- table, or no valid record, can have. Any other fault has a cause in `IsStoreError`. A look-up
+-- changes nothing.
 pub record Finds {S A : Type 0} (g : Ghosts S) (old new : Held S) (result : Result A RowFault)
     (Says : List Fact → A → Type 0) (AreSound : List Fact → Type 0) : Type 0 where
   pub answer : (zone : List ℕ) (facts : List Fact) → HoldsFacts g zone old facts
@@ -24,12 +25,13 @@ pub record Finds {S A : Type 0} (g : Ghosts S) (old new : Held S) (result : Resu
       → IfErr result (IsFault (state g old) (state g new) (AreSound facts))
   pub looks : (zone : List ℕ) → OnlyLooks g zone old new
 
--- The records are lawful, and the statement `Says` is true of them.
+-- True if the rules accepted the records, and the statement `Says` relates the records to an
+-- answer.
 abbrev pub OfLawful : {A : Type 0} → (List Fact → A → Type 0) → List Fact → A → Type 0
 OfLawful Says facts a = AreLawful facts × Says facts a
 
--- Rows that show values are read back with the same values, in order. `Damaged` is reported only if
--- a value is out of its range. The only other fault is out of memory.
+-- True if a reader returns the values that result rows encode, in order. The reader reports
+-- `Damaged` only if a value is out of its range. The only other fault is out of memory.
 pub record ReadsAll {A T X : Type 0} (rows : List Row) (shown : X → Row) (IsSeen : X → A → Type 0)
     (IsSound : X → Type 0) (items : T → List A) (result : Result T RowFault) : Type 0 where
   pub read : (xs : List X) → rows ≡ map shown xs → IfOk result (λ v. AreEach IsSeen xs (items v))

@@ -1,5 +1,5 @@
--- The latest timestamps of the records of each kind, in seconds since 1970-01-01 UTC. Each is 0
--- without such records.
+-- The latest timestamps of the records of each kind, in seconds since 1970-01-01 UTC. If a kind has
+-- no records, its latest timestamp is 0.
 use Rattle.std.specs.Prelude.{ℕ, max, List, [], ◌∷◌, map}
 use Rattle.std.specs.List.{AllByRecursion}
 use Rattle.energy_core.specs.Account.{moment_of}
@@ -10,18 +10,18 @@ use Rattle.store_tables.specs.Entries.Latest.{IsTimelyVoid}
 use Rattle.store_devices.specs.Polls.Rows.{IsSoundStarted, IsSoundOutcome, IsSoundHeld, IsSoundKept}
 use Rattle.store_facts.specs.Rows.{placed, entries_of, voided, held_row, started, outcome_row, kept}
 
--- The greatest timestamp of a list, or 0 for an empty list.
+-- The greatest timestamp of a list's elements, or 0 for an empty list.
 abbrev pub greatest : {X : Type 0} → (moment : X → ℕ) → List X → ℕ
 greatest moment [] = 0
 greatest moment (x ∷ xs) = max (moment x) (greatest moment xs)
 
--- The latest timestamp of all openings and entries.
+-- The latest timestamp of all openings and meter entries, in seconds since 1970-01-01 UTC.
 abbrev pub latest_entered : List Fact → ℕ
 latest_entered facts =
     max (greatest (λ o. o.at) (openings_in facts))
     (greatest (λ b. moment_of b.entry) (entries_in facts))
 
--- The latest timestamp of all voids.
+-- The latest time at which a meter entry was voided, in seconds since 1970-01-01 UTC.
 abbrev pub latest_voided : List Fact → ℕ
 latest_voided facts = greatest (λ v. v.at) (voids_in facts)
 
@@ -29,25 +29,25 @@ latest_voided facts = greatest (λ v. v.at) (voids_in facts)
 abbrev pub latest_held : List Fact → ℕ
 latest_held facts = greatest (λ h. h.at) (holds_in facts)
 
--- The latest start of all polls.
+-- The latest time at which a poll started.
 abbrev pub latest_started : List Fact → ℕ
 latest_started facts = greatest (λ p. p.at) (polls_in facts)
 
--- The latest timestamp of all outcomes.
+-- The latest time at which a poll ended.
 abbrev pub latest_ended : List Fact → ℕ
 latest_ended facts = greatest (λ e. e.at) (ended_in facts)
 
--- The latest timestamp of all kept requests.
+-- The latest timestamp of all stored requests.
 abbrev pub latest_replied : List Fact → ℕ
 latest_replied facts = greatest (λ r. r.at) (replies_in facts)
 
--- The latest timestamp of all polls, outcomes, rejected readings and kept requests.
+-- The latest timestamp of all polls, outcomes, rejected readings and stored requests.
 abbrev pub latest_asked : List Fact → ℕ
 latest_asked facts =
     max (max (latest_started facts) (latest_ended facts))
     (max (latest_held facts) (latest_replied facts))
 
--- Every row that has a timestamp can be read: its values are in the ranges of its table.
+-- True if every row with a timestamp can be read: its values are in the ranges of its table.
 pub record HasReadableMoments (facts : List Fact) : Type 0 where
   pub entries : (meter : List ℕ) → AllByRecursion IsSoundEntered (entries_of facts meter)
   pub voids : AllByRecursion IsTimelyVoid (map voided (voids_in facts))

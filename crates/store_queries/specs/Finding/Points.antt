@@ -1,4 +1,4 @@
--- The listed points that rows of the table `points` encode.
+-- Conversions from rows of the table `points` to points of a point list.
 use Rattle.std.specs.Prelude.{◌≡◌, ℕ, true, List, Option, Some, None, Result, Ok, Err}
 use Rattle.std.specs.List.{AllByRecursion}
 use Rattle.point_list.specs.declared.point.ListedPoint.{ListedPoint}
@@ -15,7 +15,7 @@ use Rattle.store_devices.specs.declared.devices.rows.PointRow.{PointRow}
 use Rattle.store_devices.specs.Devices.Rows.{Listed, IsSoundListed}
 use Rattle.store_facts.specs.Rows.{placed_on, listed, points_of}
 
--- The point with these texts and numbers, or `Damaged` if a text can't be parsed.
+-- The point with the given texts and numbers, or `Damaged` if a text can't be parsed.
 abbrev pub point_with : (name kind scale : List ℕ) → PointRow → Result ListedPoint RowFault
 point_with named typed scaled row =
     and_then (or_damaged (name_spelled named)) (λ name.
@@ -30,24 +30,25 @@ point_with named typed scaled row =
       scale = scale;
     }))))
 
--- The texts of the point's type and scale parse as this type and this scale.
+-- True if the texts for a point's type and scale parse as the type and the scale of the point.
 pub record IsSpelled (p : ListedPoint) : Type 0 where
   pub kind : type_of (type_text p.kind) ≡ Some p.kind
   pub scale : scale_spelled (scale_text p.scale) ≡ Some p.scale
 
--- Among the points that `IsSpelled` includes, the row encodes only this one.
+-- True if a row of `points` encodes a point, and no other point that satisfies `IsSpelled`.
 abbrev pub IsPointOf : Listed → ListedPoint → Type 0
 IsPointOf row point = (device : List ℕ) (place : ℕ) (p : ListedPoint) → IsSpelled p
     → row ≡ listed device place p → point ≡ p
 
--- The row of a point is sound, and its texts parse as a name, a type and a scale.
+-- True if the numbers of a point's row are in their ranges, and its texts parse as a name, a type
+-- and a scale.
 pub record IsReadablePoint (p : Listed) : Type 0 where
   pub row : IsSoundListed p
   pub name : is_name p.name ≡ true
   pub kind : (k : PointType) × (type_of p.kind ≡ Some k)
   pub scale : (s : PointScale) × (scale_spelled p.scale ≡ Some s)
 
--- Every row of a device's points can be read.
+-- True if every row of a device's points can be read.
 abbrev pub HasReadablePoints : List Fact → (device : List ℕ) → Type 0
 HasReadablePoints facts device =
     AllByRecursion IsReadablePoint (placed_on (listed device) 0 (points_of facts device))

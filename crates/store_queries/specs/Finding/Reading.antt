@@ -1,4 +1,4 @@
--- The devices, accounting registers and polls that rows of the tables encode.
+-- Conversions from rows of the tables to devices, accounting registers and polls.
 use Rattle.std.specs.Prelude.{◌≡◌, ℕ, nat_le, ◌&&◌, if◌then◌else◌, List, Option, Some, None, Result, Ok, Err, string_bytes}
 use Rattle.poll_core.specs.declared.limits.TheConstants.{MAX_TIMEOUT, MAX_WINDOW}
 use Rattle.office_events.specs.Names.{named}
@@ -24,9 +24,10 @@ use Rattle.office_books.specs.declared.books.Repeat.{Repeat}
 use Rattle.office_books.specs.declared.books.Repeat.TheVariants.{Same, Other}
 use Rattle.store_facts.specs.Rows.{added, registered, started, outcome_row}
 
--- ---- devices
+-- ---- rows of the table `devices`
 
--- The device with this name and these numbers, or `Damaged` if they are not those of a device.
+-- The device with the given name and numbers, or `Damaged` if no device can have the name and the
+-- numbers.
 abbrev pub device_with : (name : List ℕ) → DeviceRow → Result Device RowFault
 device_with text row =
     and_then (or_damaged (named text)) (λ name.
@@ -38,19 +39,19 @@ device_with text row =
     (λ window.
     Ok (record { name = name; unit = row.unit; timeout = timeout; window = window }))))
 
--- The row encodes this device and no other.
+-- True if a row of `devices` encodes the given device, and no other device.
 abbrev pub IsDeviceOf : Added → Device → Type 0
 IsDeviceOf row device = (place : ℕ) (d : Device) → row ≡ added place d → device ≡ d
 
--- ---- registers
+-- ---- rows of the table `registers`
 
--- Where the scale factor comes from, by the columns of an accounting register's scale.
+-- The source of an accounting register's scale factor, from the columns of its scale.
 abbrev pub source_from : RegisterScale → ScaleSource
 source_from (scale.Fixed sf) = source.Fixed sf
 source_from (scale.At address) = source.Register address
 
--- The accounting register with these names and numbers, or `Damaged` if they are not those of a
--- register.
+-- The accounting register with the given names and numbers, or `Damaged` if no accounting register
+-- can have the names and the numbers.
 abbrev pub register_with : (name device : List ℕ) → RegisterRow → Result Register RowFault
 register_with text of row =
     and_then (or_damaged (named text)) (λ name.
@@ -63,13 +64,14 @@ register_with text of row =
       scale = source_from row.scale;
     })))
 
--- The row encodes this accounting register and no other.
+-- True if a row of `registers` encodes the given accounting register, and no other accounting
+-- register.
 abbrev pub IsRegisterOf : Registered → Register → Type 0
 IsRegisterOf row register = (place : ℕ) (r : Register) → row ≡ registered place r → register ≡ r
 
--- ---- polls
+-- ---- rows of the table `polls`
 
--- The poll has this device name and the numbers of the row.
+-- True if a poll has the name of its device and the numbers of its row.
 pub record HasNumbers (name : List ℕ) (row : PollRow) (poll : Poll) : Type 0 where
   pub number : poll.number ≡ row.number
   pub device : poll.device ≡ name
@@ -80,17 +82,17 @@ pub record HasNumbers (name : List ℕ) (row : PollRow) (poll : Poll) : Type 0 w
   pub address : poll.span.address ≡ row.address
   pub count : poll.span.count ≡ row.count
 
--- The row encodes this poll and no other.
+-- True if a row of `polls` encodes the given poll, and no other poll.
 abbrev pub IsPollOf : Started → Poll → Type 0
 IsPollOf row poll = (p : Poll) → row ≡ started p → poll ≡ p
 
--- The ended poll that a row of `outcomes` encodes.
+-- The poll and the outcome that a row of `outcomes` encodes.
 abbrev pub ended_from : OutcomeRow → EndedPoll
 ended_from row = record { poll = row.poll; at = row.moment; outcome = row.outcome }
 
--- ---- kept requests
+-- ---- comparing a request with a stored request
 
--- How a request compares with the kept request, in the words of the office.
+-- Converts the result of comparing a request with the stored request to the type `Repeat`.
 abbrev pub repeat_from : kept.Repeat → Repeat
 repeat_from (kept_as.Same kind) = Same kind
 repeat_from kept_as.Other = Other

@@ -1,4 +1,4 @@
--- Which rows a query shows for given records.
+-- The rows that queries return for given records.
 use Rattle.std.specs.Prelude.{◌≡◌, ℕ, List, map, filter, reverse, Option, Vec}
 use Rattle.sqlite.specs.Order.{Row}
 use Rattle.office_events.specs.declared.facts.Fact.{Fact}
@@ -11,38 +11,40 @@ use Rattle.store_devices.specs.declared.polls.rows.Repeat.{Repeat}
 use Rattle.store_devices.specs.Polls.Rows.{poll_shown, is_poll, IsStarted, is_reply, IsRepeat}
 use Rattle.store_facts.specs.Rows.{placed, placed_on, added, listed, points_of, registered, started, kept}
 
--- The query shows all devices, in the order in which they were added.
+-- True if a query returns all devices, in the order in which they were added.
 abbrev pub ShowsDevices : {Z : Type 0} → List Fact → Vec Row Z → Type 0
 ShowsDevices facts rows = rows.items ≡ map device_shown (reverse (placed added (devices_in facts)))
 
--- The query shows the points of a device, in the order of its list.
+-- True if a query returns the points of a device, in the order of its point list.
 abbrev pub ShowsPoints : {Z : Type 0} → (device : List ℕ) → List Fact → Vec Row Z → Type 0
 ShowsPoints device facts rows =
     rows.items ≡ map point_shown (placed_on (listed device) 0 (points_of facts device))
 
--- The query shows the accounting registers of a device, in the order in which they were added.
+-- True if a query returns the accounting registers of a device, in the order in which they were
+-- added.
 abbrev pub ShowsRegisters : {Z : Type 0} → (device : List ℕ) → List Fact → Vec Row Z → Type 0
 ShowsRegisters device facts rows =
     rows.items ≡ map register_shown
     (reverse (filter (is_register_of device) (placed registered (registers_in facts))))
 
--- The query shows the pending polls, in the order in which they were started.
+-- True if a query returns the pending polls, in the order in which they were started.
 abbrev pub ShowsPendingPolls : {Z : Type 0} → List Fact → Vec Row Z → Type 0
 ShowsPendingPolls facts rows = rows.items ≡ map poll_shown (map started (pending_in facts))
 
--- ---- a row, if there is one
+-- ---- queries that return at most one row
 
--- The answer is the accounting register with this name, or None if there is none.
+-- True if the answer is the accounting register with the name `name`, or None if no accounting
+-- register has the name.
 abbrev pub FindsRegister : (name : List ℕ) → List Fact → Option Register → Type 0
 FindsRegister name facts =
     IsFound (is_register name) IsRegister (placed registered (registers_in facts))
 
--- The answer is the poll with this number, or None if there is none.
+-- True if the answer is the poll with the number `number`, or None if no poll has the number.
 abbrev pub FindsPoll : (number : ℕ) → List Fact → Option Poll → Type 0
 FindsPoll number facts = IsFound (is_poll number) IsStarted (map started (polls_in facts))
 
--- The answer compares the request with the request that is kept under its idempotency key. It is
--- None if no request is kept there.
+-- True if the answer compares a request with the stored request of its idempotency key, or is None
+-- if the key has no stored request.
 abbrev pub FindsRepeat : (caller : List ℕ) → (number : ℕ) → (request : List ℕ) → List Fact
     → Option Repeat → Type 0
 FindsRepeat caller number request facts =

@@ -1,4 +1,5 @@
--- Rows that can be read: their values are those that the tables and the office can have.
+-- Definitions of when rows can be read: their values must be valid for the tables and for the
+-- records.
 use Rattle.std.specs.Prelude.{◌≡◌, ℕ, List, map, true, string_bytes}
 use Rattle.std.specs.List.{AllByRecursion}
 use Rattle.office_events.specs.declared.facts.Fact.{Fact}
@@ -8,39 +9,40 @@ use Rattle.store_devices.specs.Devices.Rows.{Added, Registered, IsSoundAdded, Is
 use Rattle.store_devices.specs.Polls.Rows.{Started, IsSoundStarted, IsSoundOutcome, IsSoundKept}
 use Rattle.store_facts.specs.Rows.{placed, added, registered, started, outcome_row, kept}
 
--- The row of a device is sound, and its text is a valid name.
+-- True if the numbers of a device's row are in their ranges, and its text is a valid name.
 pub record IsReadableDevice (d : Added) : Type 0 where
   pub row : IsSoundAdded d
   pub name : is_name d.name ≡ true
 
--- The row of an accounting register is sound, and its texts are valid names.
+-- True if the numbers of an accounting register's row are in their ranges, and its texts are valid
+-- names.
 pub record IsReadableRegister (r : Registered) : Type 0 where
   pub row : IsSoundRegistered r
   pub name : is_name r.name ≡ true
   pub device : is_name r.device ≡ true
 
--- The row of a poll is sound, and its text is a valid name.
+-- True if the numbers of a poll's row are in their ranges, and its text is a valid name.
 pub record IsReadablePoll (p : Started) : Type 0 where
   pub row : IsSoundStarted p
   pub device : is_name p.device ≡ true
 
--- Every row of a device can be read.
+-- True if every row of `devices` can be read.
 abbrev pub HasReadableDevices : List Fact → Type 0
 HasReadableDevices facts = AllByRecursion IsReadableDevice (placed added (devices_in facts))
 
--- Every row of an accounting register can be read.
+-- True if every row of `registers` can be read.
 abbrev pub HasReadableRegisters : List Fact → Type 0
 HasReadableRegisters facts =
     AllByRecursion IsReadableRegister (placed registered (registers_in facts))
 
--- Every row of a poll can be read.
+-- True if every row of `polls` can be read.
 abbrev pub HasReadablePolls : List Fact → Type 0
 HasReadablePolls facts = AllByRecursion IsReadablePoll (map started (polls_in facts))
 
--- Every row of an outcome can be read.
+-- True if every row of `outcomes` can be read.
 abbrev pub HasReadableOutcomes : List Fact → Type 0
 HasReadableOutcomes facts = AllByRecursion IsSoundOutcome (map outcome_row (ended_in facts))
 
--- Every row of a kept request can be read.
+-- True if every row of `replies` can be read.
 abbrev pub HasReadableReplies : List Fact → Type 0
 HasReadableReplies facts = AllByRecursion IsSoundKept (map kept (replies_in facts))

@@ -1,4 +1,5 @@
--- An entry of a meter, built from its row and the rows of the nearest entries that are not voided.
+-- How an entry of a meter is built from its row and the rows of the nearest entries that are not
+-- voided.
 use Rattle.std.specs.Prelude.{◌≡◌, ◌⊎◌, ℕ, ◌<◌, ◌≤◌, Bool, true, false, not, List, map, Option, Some, None, IfSome}
 use Rattle.std.specs.List.{list_any}
 use Rattle.std.specs.List.Sorted.{IsPermutation}
@@ -20,40 +21,42 @@ use Rattle.store_queries.specs.Metering.Entries.{row_from, names}
 use Rattle.store_queries.specs.declared.metering.around.Sides.{Sides}
 use Rattle.store_queries.specs.declared.metering.around.Around.{Around}
 
--- ---- the indices around an entry, by the voids of the meter
+-- ---- the indices around an entry, by the voids of its meter
 
--- Each entry with an index between `low` and `high` has one of these voids.
+-- True if each meter entry with an index between `low` and `high` has a void in the list.
 abbrev pub AreVoided : List Voided → (low high : ℕ) → Type 0
 AreVoided voids low high =
     (place : ℕ) → low < place → place < high → list_any (names place) voids ≡ true
 
--- `before` is the index of the last entry before `place` that is not voided, or 1 for the opening.
+-- True if `before` is the index of the last meter entry before `place` that is not voided, or 1 for
+-- the opening.
 pub record IsBefore (voids : List Voided) (place before : ℕ) : Type 0 where
   pub lower : before < place
   pub between : AreVoided voids before place
   pub stands : (before ≡ 1) ⊎ (list_any (names before) voids ≡ false)
 
--- `after` is the first index after `place` that has no void.
+-- True if `after` is the first index after `place` that no void in the list has.
 pub record IsAfter (voids : List Voided) (place after : ℕ) : Type 0 where
   pub higher : place < after
   pub small : after ≤ greatest_place
   pub between : AreVoided voids place after
   pub stands : list_any (names after) voids ≡ false
 
--- `sides` has the indices of the nearest entries that are not voided, and whether the entry at
--- `place` itself is not voided.
+-- True if `sides` has the indices of the nearest meter entries around `place` that are not voided,
+-- and whether the entry at `place` is voided.
 pub record AreSides (voids : List Voided) (place : ℕ) (sides : Sides) : Type 0 where
   pub before : IsBefore voids place sides.before
   pub after : IsAfter voids place sides.after
   pub stands : sides.stands ≡ not (list_any (names place) voids)
 
--- The voids that these rows show have the property `Is`.
+-- True if the voids that the result rows encode have the property `Is`.
 abbrev pub ByVoids : (List Voided → Type 0) → (rows : List Row) → Type 0
 ByVoids Is rows = (voids : List Voided) → rows ≡ map voided_shown voids → Is voids
 
--- ---- the rows at these indices
+-- ---- the rows of `entries` around an entry
 
--- `found` is the row of a meter's entry at index `place`, or None if there is none.
+-- True if `found` is the row of a meter's entry at index `place`, or None if the meter has no such
+-- entry.
 pub record FindsAt (meter : List ℕ) (place : ℕ) (facts : List Fact) (found : Option EntryRow) :
     Type 0 where
   pub lawful : AreLawful facts
@@ -61,41 +64,42 @@ pub record FindsAt (meter : List ℕ) (place : ℕ) (facts : List Fact) (found :
   pub each : (m : List ℕ) → IsPermutation (filter (is_of m) table) (entries_of facts m)
   pub is : IsFound (is_entry meter place) IsRow table found
 
--- `around` has the row of the entry at `place`, the row before it at `low`, and the next row at
--- `high`, if there is one.
+-- True if `around` has the rows of the meter entries at `place` and at the earlier index `low`. If
+-- an entry at the later index `high` exists, `around` also has its row.
 pub record FindsAround (meter : List ℕ) (place low high : ℕ) (facts : List Fact)
     (around : Around) : Type 0 where
   pub entry : FindsAt meter place facts (Some around.entry)
   pub before : FindsAt meter low facts (Some around.before)
   pub next : FindsAt meter high facts around.next
 
--- ---- the entry that these rows give
+-- ---- the meter entry from its row and the rows around it
 
--- The journal row of the next entry, which is not voided. None if there is no next entry.
+-- The journal row of the next meter entry that is not voided, or None if there is no next entry.
 abbrev pub next_from : Option EntryRow → Option journal.EntryRow
 next_from None = None
 next_from (Some next) = row_from next true
 
--- The installation with the counter's state after the earlier entry. Its total energy is that of
--- the whole meter.
+-- The meter's installation with the counter's state after an earlier entry, and with the meter's
+-- total energy over all entries.
 abbrev pub stood : Installation → EntryRow → Installation
 stood whole before = record whole { last = counter_after before }
 
--- `seen` is the entry that is built from the rows `around`.
+-- True if `seen` is the meter entry that the rows `around` determine.
 pub record IsSeen (whole : Installation) (around : Around) (stands : Bool) (seen : EntryPlace) :
     Type 0 where
   pub before : seen.before ≡ stood whole around.before
   pub row : Some seen.row ≡ row_from around.entry stands
   pub next : seen.next ≡ next_from around.next
 
--- The answer is the right one for the meter's entry at index `place`, if `whole` is the meter's
+-- True if the answer is the meter's entry at index `place`, where `whole` is the meter's
 -- installation.
 abbrev pub TellsOf : (meter : List ℕ) → (place : ℕ) → Installation → List Fact
     → Option EntryPlace → Type 0
 TellsOf meter place whole facts found =
     Some whole ≡ meter_of facts meter → TellsNear facts meter place found
 
--- If an entry was built, it is the meter's entry at index `place`. The records are lawful.
+-- True if the rules accepted the records, and an entry that was built from rows is the meter's
+-- entry at index `place`.
 pub record TellsRightly (meter : List ℕ) (place : ℕ) (whole : Installation) (facts : List Fact)
     (found : Option EntryPlace) : Type 0 where
   pub lawful : AreLawful facts

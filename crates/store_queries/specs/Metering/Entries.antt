@@ -1,4 +1,4 @@
--- The journal rows of a meter that the rows of `entries` and `voids` encode.
+-- Conversions from rows of `entries` and `voids` to the journal rows of a meter.
 use Rattle.std.specs.Prelude.{◌≡◌, ℕ, ◌==◌, Bool, not, List, map, reverse, Option, Some, None}
 use Rattle.std.specs.List.{list_any, filter_map, AllByRecursion}
 use Rattle.std.specs.List.Sorted.{IsPermutation}
@@ -26,7 +26,7 @@ use Rattle.store_tables.specs.Entries.Rows.{Entered, Voided, entry_shown, voided
 use Rattle.store_facts.specs.Rows.{entered_rows, voided}
 use Rattle.store_queries.specs.Metering.Sound.{HasReadableMeters, HasReadableJournals}
 
--- The journal row of a reading, a reading by hand, or a closing.
+-- The journal row of a reading, a reading that a person entered, or a closing.
 abbrev pub step_row : journal_kind.EntryKind → EntryRow → (stands : Bool) → journal.EntryRow
 step_row k e stands =
     record { place = e.place; kind = k; entry = entry.Step e.moment e.raw e.rolls; stands = stands }
@@ -41,7 +41,8 @@ change_row k e stands =
       stands = stands;
     }
 
--- The journal row of an entry of this kind. None for an opening, which a journal keeps apart.
+-- The journal row of a meter entry by its kind, or None for an opening, which is not a row of the
+-- journal.
 abbrev pub row_by : EntryKind → EntryRow → (stands : Bool) → Option journal.EntryRow
 row_by kind.Opening e stands = None
 row_by kind.Reading e stands = Some (step_row from.Reading e stands)
@@ -50,25 +51,24 @@ row_by kind.Closing e stands = Some (step_row from.Closing e stands)
 row_by kind.Reset e stands = Some (change_row from.Reset e stands)
 row_by kind.Rescale e stands = Some (change_row from.Rescale e stands)
 
--- The journal row of an entry, or None for an opening.
+-- The journal row of a meter entry, or None for an opening.
 abbrev pub row_from : EntryRow → (stands : Bool) → Option journal.EntryRow
 row_from e stands = row_by e.kind e stands
 
--- Whether the void is that of the entry at index `place`.
+-- True if a void cancels the meter entry at index `place`.
 abbrev pub names : (place : ℕ) → Voided → Bool
 names place v = place == v.place
 
--- The answer is whether one of the voids that these rows show is that of the entry at index
--- `place`.
+-- True if the answer is whether a void in the result rows cancels the meter entry at index `place`.
 abbrev pub TellsVoided : (voids : List Row) → (place : ℕ) → Bool → Type 0
 TellsVoided voids place is =
     (vs : List Voided) → voids ≡ map voided_shown vs → is ≡ list_any (names place) vs
 
--- The journal row of an entry, marked as voided if one of these voids is that of the entry.
+-- The journal row of a meter entry, marked as voided if one of the voids cancels the entry.
 abbrev pub row_among : List Voided → Entered → Option journal.EntryRow
 row_among vs e = row_from e.entry (not (list_any (names e.entry.place) vs))
 
--- The rows show all entries of a meter, in order.
+-- True if the result rows encode all entries of a meter, in order.
 pub record ShowsEntries (meter : List ℕ) (facts : List Fact) (rows : List Row) : Type 0 where
   pub entries : List Entered
   pub shown : rows ≡ map entry_shown entries
@@ -76,7 +76,7 @@ pub record ShowsEntries (meter : List ℕ) (facts : List Fact) (rows : List Row)
       → entries ≡ reverse (entered_rows opening (rows_of facts opening))
   pub sound : HasReadableMeters facts → AllByRecursion IsSoundEntered entries
 
--- The rows show all voids of a meter's entries, in any order.
+-- True if the result rows encode all voids of a meter's entries, in any order.
 pub record ShowsVoids (meter : List ℕ) (facts : List Fact) (rows : List Row) : Type 0 where
   pub lawful : AreLawful facts
   pub voids : List Voided
@@ -84,33 +84,36 @@ pub record ShowsVoids (meter : List ℕ) (facts : List Fact) (rows : List Row) :
   pub all : IsPermutation (filter (is_void_of meter) (map voided (voids_in facts))) voids
   pub sound : HasReadableJournals facts → AllByRecursion IsSoundVoided voids
 
--- `rows` are the journal rows of these entries and voids, in the order of the entries.
+-- True if `rows` are the journal rows that result rows of meter entries and voids encode, in the
+-- order of the entries.
 abbrev pub AreJournal : (entries voids : List Row) → List journal.EntryRow → Type 0
 AreJournal entries voids rows = (es : List Entered) (vs : List Voided)
     → entries ≡ map entry_shown es
     → voids ≡ map voided_shown vs → rows ≡ filter_map (row_among vs) es
 
--- Why rows of voids can't be read: out of memory, or `Damaged` if a void is not sound.
+-- Why result rows of voids can't be read: out of memory, or `Damaged` if a void is out of its
+-- ranges.
 abbrev pub IsFaultOfVoids : (voids : List Row) → RowFault → Type 0
 IsFaultOfVoids voids e = (vs : List Voided) → voids ≡ map voided_shown vs
     → IsRowFault (AllByRecursion IsSoundVoided vs) e
 
--- Why rows of entries and voids can't be read: out of memory, or `Damaged` if an entry or a void is
--- not sound.
+-- Why result rows of meter entries and voids can't be read: out of memory, or `Damaged` if an entry
+-- or a void is out of its ranges.
 abbrev pub IsFaultOfJournal : (entries voids : List Row) → RowFault → Type 0
 IsFaultOfJournal entries voids e = (es : List Entered) (vs : List Voided)
     → entries ≡ map entry_shown es
     → voids ≡ map voided_shown vs
     → IsRowFault (AllByRecursion IsSoundEntered es × AllByRecursion IsSoundVoided vs) e
 
--- `rows` are the journal rows of a meter, the oldest first.
+-- True if `rows` are the journal rows of a meter, the oldest first.
 abbrev pub FindsJournal : (meter : List ℕ) → List Fact → List journal.EntryRow → Type 0
 FindsJournal meter facts rows =
     (opening : Opening) → opening_of facts meter ≡ Some opening
     → latest_first rows ≡ rows_of facts opening
 
--- When the entry at index `place` can be found. The opening's numbers are in their ranges, and each
--- row has its own index. The entries before it that are not voided may follow one another.
+-- The conditions under which the meter entry at index `place` can be found. The numbers of the
+-- opening are in their ranges, and each row has its own index. The earlier entries that are not
+-- voided may follow one another.
 pub record CanBePlaced (opening : Opening) (rows : List journal.EntryRow) (place : ℕ) : Type 0 where
   pub numbers : HasNumbers opening
   pub places : AreNumbered (latest_first rows)

@@ -1,4 +1,4 @@
--- What queries of single tables find about a meter.
+-- Definitions of what queries of single tables return about a meter.
 use Rattle.std.specs.Prelude.{◌≡◌, ℕ, List, length, Option, Some, None, string_bytes, unwrap_or}
 use Rattle.office_events.specs.declared.facts.Opening.{Opening}
 use Rattle.office_events.specs.declared.facts.Fact.{Fact}
@@ -11,26 +11,30 @@ use Rattle.store_tables.specs.declared.meters.rows.Installation as stored
 use Rattle.store_tables.specs.declared.entries.rows.EntryRow.{EntryRow}
 use Rattle.store_facts.specs.Rows.{installed_row, opening_row}
 
--- The row found is that of this opening's installation, and the opening is that of its meter.
+-- True if a row that was found in `installations` encodes an opening, and the records have this
+-- opening for its meter.
 pub record IsRowOf (facts : List Fact) (opening : Opening) (found : stored.Installation) : Type 0
   where
     pub place : ℕ
     pub row : IsInstalled (installed_row facts place opening) found
     pub alone : opening_of facts opening.meter ≡ Some opening
 
--- The row of the opening's installation was found. Without an opening, no row was found.
+-- True if a query found the row of an opening's installation, or if it found no row and the opening
+-- is None.
 abbrev pub FindsRow : List Fact → Option Opening → Option stored.Installation → Type 0
 FindsRow facts None found = found ≡ None
 FindsRow facts (Some opening) None = ⊥
 FindsRow facts (Some opening) (Some row) = IsRowOf facts opening row
 
--- The answer is how many values the meter's counter has, or None if the meter has no opening.
+-- True if the answer is how many values the meter's counter has, or None if the meter has no
+-- opening.
 abbrev pub FindsRange : (meter : List ℕ) → List Fact → Option ℕ → Type 0
 FindsRange meter facts None = opening_of facts meter ≡ None
 FindsRange meter facts (Some range) =
     (opening : Opening) → opening_of facts meter ≡ Some opening → range ≡ opening.range
 
--- The answer is the entry of the meter's opening, or None if the meter has no opening.
+-- True if the answer is the first entry of a meter, its opening, or None if the meter has no
+-- opening.
 abbrev pub FindsFirst : (meter : List ℕ) → List Fact → Option EntryRow → Type 0
 FindsFirst meter facts None = opening_of facts meter ≡ None
 FindsFirst meter facts (Some entry) =
@@ -48,7 +52,7 @@ opening_from row range first = record {
   sf = first.sf;
 }
 
--- The installation that an opening and the numbers of its row encode.
+-- The installation that an opening and the numbers of its row in `installations` encode.
 abbrev pub standing_from : Opening → InstallationRow → Installation
 standing_from opening row = record {
   opening = opening;
@@ -57,11 +61,11 @@ standing_from opening row = record {
   ended = row.is_ended;
 }
 
--- The answer is the installation of the row that was found.
+-- True if the answer is the installation that a row found in `installations` encodes.
 abbrev pub IsStanding : stored.Installation → List Fact → Installation → Type 0
 IsStanding row facts found = (opening : Opening) → IsRowOf facts opening row
     → found ≡ installation_of facts opening
 
--- The greatest index is the number of installations, where None counts as 0.
+-- True if the greatest index is the number of installations, where None counts as 0.
 abbrev pub CountsOpenings : List Fact → Option ℕ → Type 0
 CountsOpenings facts place = unwrap_or place 0 ≡ length (openings_in facts)

@@ -16,10 +16,11 @@ abbrev pub rows_at : (register : List ℕ) → List Fact → List Installed
 rows_at register facts =
     reverse (filter (is_at register) (placed (installed_row facts) (openings_in facts)))
 
--- The query shows the rows of all installations at an accounting register, in this order.
+-- True if a query returns the rows of all installations at an accounting register, in the order in
+-- which they were installed.
 abbrev pub ShowsMetersAt : {Z : Type 0} → (register : List ℕ) → List Fact → Vec Row Z → Type 0
 ShowsMetersAt register facts rows = rows.items ≡ map installed_shown (rows_at register facts)
 
--- Each row found is that of the opening at the same index.
+-- True if each row that was found encodes the opening at the same index of the list.
 abbrev pub AreRowsOf : List Fact → List Opening → List stored.Installation → Type 0
 AreRowsOf facts openings rows = AreEach (IsRowOf facts) openings rows

@@ -1,4 +1,5 @@
--- Rows of meters that can be read: their values are those that the tables and the office can have.
+-- Definitions of when the rows of meters can be read: their values must be valid for the tables and
+-- for the records.
 use Rattle.std.specs.Prelude.{◌≡◌, ℕ, true, List, map, string_bytes}
 use Rattle.std.specs.List.{AllByRecursion}
 use Rattle.office_events.specs.declared.facts.Opening.{Opening}
@@ -14,17 +15,18 @@ use Rattle.store_facts.specs.Intervals.Rows.{IsSoundShare}
 use Rattle.store_facts.specs.Holds.{IsSoundReading}
 use Rattle.store_facts.specs.Rows.{placed, installed_row, ranged, entries_of, voided}
 
--- The texts of an opening are valid names.
+-- True if the names in an opening are valid names.
 pub record HasNames (opening : Opening) : Type 0 where
   pub meter : is_name opening.meter ≡ true
   pub register : is_name opening.register ≡ true
 
--- The texts of a row are valid names.
+-- True if the texts of a row of `installations` are valid names.
 pub record IsNamed (row : stored.Installation) : Type 0 where
   pub meter : is_name (string_bytes row.meter) ≡ true
   pub register : is_name (string_bytes row.register) ≡ true
 
--- The records are lawful, and every row of their meters, counters' ranges and entries can be read.
+-- True if the rules accepted the records, and every row of their meters, counters' ranges and
+-- entries can be read.
 pub record HasReadableMeters (facts : List Fact) : Type 0 where
   pub lawful : AreLawful facts
   pub names : AllByRecursion HasNames (openings_in facts)
@@ -33,16 +35,16 @@ pub record HasReadableMeters (facts : List Fact) : Type 0 where
   pub ranges : AllByRecursion IsSoundRanged (map ranged (openings_in facts))
   pub entries : (meter : List ℕ) → AllByRecursion IsSoundEntered (entries_of facts meter)
 
--- Every row of meters and every row of voids can be read.
+-- True if every row of the meters and every row of `voids` can be read.
 pub record HasReadableJournals (facts : List Fact) : Type 0 where
   pub meters : HasReadableMeters facts
   pub voids : AllByRecursion IsSoundVoided (map voided (voids_in facts))
 
--- Every interval row of each meter can be read.
+-- True if every row of `intervals` can be read, for each meter.
 abbrev pub HasReadableIntervals : List Fact → Type 0
 HasReadableIntervals facts =
     (meter : List ℕ) → AllByRecursion IsSoundShare (rows_of_meter facts meter)
 
--- Every row of a rejected reading can be read.
+-- True if every row of `holds` can be read.
 abbrev pub HasReadableHolds : List Fact → Type 0
 HasReadableHolds facts = AllByRecursion IsSoundReading (holds_in facts)

@@ -1,4 +1,4 @@
-//! Queries for kept requests.
+//! Queries for stored requests.
 ghost use Rattle.std.specs.Prelude.{◌≡◌, false, IsUtf8};
 ghost use Rattle.office_books.specs.Repeats.{repeat_of};
 ghost use Rattle.store_devices.specs.Polls.Rows.{IsCallNumber};
@@ -22,7 +22,7 @@ fn told(repeat: store_devices::Repeat) -> Repeat
     }
 }
 
-/// Compares a request with the request that the table keeps under its idempotency key.
+/// Compares a request with the request that the table `replies` stores under its idempotency key.
 fn row_of<S: Alter>(
     conn: &mut Connection<S>,
     caller: &str,
@@ -38,8 +38,8 @@ fn row_of<S: Alter>(
     store_devices::repeat_of(conn, caller, number, request)
 }
 
-/// Compares a request with the request that is kept under its idempotency key. Returns None if no
-/// request is kept there.
+/// Compares a request with the request that is stored under its idempotency key. Returns None if
+/// the key has no stored request.
 pub fn repeat<S: Alter>(
     conn: &mut Connection<S>,
     caller: &Name,

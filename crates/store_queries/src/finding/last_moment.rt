@@ -1,6 +1,6 @@
-//! The latest timestamp of all records, in seconds since 1970-01-01 UTC. Each query scans its
-//! complete table: no table has an index on timestamps, and only openings are recorded in order of
-//! time.
+//! Queries for the latest timestamp of all records, in seconds since 1970-01-01 UTC. Each query
+//! scans a complete table, because no table has an index on timestamps, and only openings are
+//! recorded in order of time.
 ghost use Rattle.std.specs.Prelude.{◌≡◌, false, max};
 ghost use Rattle.office_rules.specs.Facts.{latest_in};
 ghost use Rattle.store_queries.specs.Finding.Finding.{Finds};
@@ -12,7 +12,7 @@ use sqlite::{Alter, Connection};
 use store_devices::{latest_hold, latest_outcome, latest_reply, latest_start};
 use store_tables::{RowFault, check_open, latest_entry, latest_void};
 
-/// Returns the latest timestamp of all openings and entries, or 0.
+/// Returns the latest timestamp of all openings and meter entries, or 0 if no entry is stored.
 fn entered<S: Alter>(conn: &mut Connection<S>) -> Result<u64, RowFault>
     requires { conn.old.in_transaction ≡ false }
     ensures { Finds S.Store conn.old conn.new result
@@ -22,7 +22,7 @@ fn entered<S: Alter>(conn: &mut Connection<S>) -> Result<u64, RowFault>
     Ok(latest_entry(conn)?.unwrap_or(0))
 }
 
-/// Returns the latest timestamp of all voids, or 0.
+/// Returns the latest time at which a meter entry was voided, or 0 if no entry was voided.
 fn voided<S: Alter>(conn: &mut Connection<S>) -> Result<u64, RowFault>
     requires { conn.old.in_transaction ≡ false }
     ensures { Finds S.Store conn.old conn.new result
@@ -32,7 +32,7 @@ fn voided<S: Alter>(conn: &mut Connection<S>) -> Result<u64, RowFault>
     Ok(latest_void(conn)?.unwrap_or(0))
 }
 
-/// Returns the latest timestamp of all rejected readings, or 0.
+/// Returns the latest timestamp of all rejected readings, or 0 if no reading was rejected.
 fn held<S: Alter>(conn: &mut Connection<S>) -> Result<u64, RowFault>
     requires { conn.old.in_transaction ≡ false }
     ensures { Finds S.Store conn.old conn.new result
@@ -42,7 +42,7 @@ fn held<S: Alter>(conn: &mut Connection<S>) -> Result<u64, RowFault>
     Ok(latest_hold(conn)?.unwrap_or(0))
 }
 
-/// Returns the latest start of all polls, or 0.
+/// Returns the latest time at which a poll started, or 0 if no poll is stored.
 fn started<S: Alter>(conn: &mut Connection<S>) -> Result<u64, RowFault>
     requires { conn.old.in_transaction ≡ false }
     ensures { Finds S.Store conn.old conn.new result
@@ -52,7 +52,7 @@ fn started<S: Alter>(conn: &mut Connection<S>) -> Result<u64, RowFault>
     Ok(latest_start(conn)?.unwrap_or(0))
 }
 
-/// Returns the latest timestamp of all outcomes, or 0.
+/// Returns the latest time at which a poll ended, or 0 if no outcome is stored.
 fn ended<S: Alter>(conn: &mut Connection<S>) -> Result<u64, RowFault>
     requires { conn.old.in_transaction ≡ false }
     ensures { Finds S.Store conn.old conn.new result
@@ -62,7 +62,7 @@ fn ended<S: Alter>(conn: &mut Connection<S>) -> Result<u64, RowFault>
     Ok(latest_outcome(conn)?.unwrap_or(0))
 }
 
-/// Returns the latest timestamp of all kept requests, or 0.
+/// Returns the latest timestamp of all stored requests, or 0 if no request is stored.
 fn replied<S: Alter>(conn: &mut Connection<S>) -> Result<u64, RowFault>
     requires { conn.old.in_transaction ≡ false }
     ensures { Finds S.Store conn.old conn.new result
@@ -72,7 +72,7 @@ fn replied<S: Alter>(conn: &mut Connection<S>) -> Result<u64, RowFault>
     Ok(latest_reply(conn)?.unwrap_or(0))
 }
 
-/// Returns the latest timestamp of all openings, entries and voids, or 0.
+/// Returns the latest timestamp of all openings, meter entries and voids, or 0 if none is stored.
 fn booked<S: Alter>(conn: &mut Connection<S>) -> Result<u64, RowFault>
     requires { conn.old.in_transaction ≡ false }
     ensures { Finds S.Store conn.old conn.new result
@@ -83,7 +83,7 @@ fn booked<S: Alter>(conn: &mut Connection<S>) -> Result<u64, RowFault>
     Ok(entered.max(voided))
 }
 
-/// Returns the latest timestamp of all starts and outcomes of polls, or 0.
+/// Returns the latest timestamp of all starts and outcomes of polls, or 0 if no poll is stored.
 fn polled<S: Alter>(conn: &mut Connection<S>) -> Result<u64, RowFault>
     requires { conn.old.in_transaction ≡ false }
     ensures { Finds S.Store conn.old conn.new result
@@ -94,7 +94,8 @@ fn polled<S: Alter>(conn: &mut Connection<S>) -> Result<u64, RowFault>
     Ok(started.max(ended))
 }
 
-/// Returns the latest timestamp of all rejected readings and kept requests, or 0.
+/// Returns the latest timestamp of all rejected readings and stored requests, or 0 if none is
+/// stored.
 fn noted<S: Alter>(conn: &mut Connection<S>) -> Result<u64, RowFault>
     requires { conn.old.in_transaction ≡ false }
     ensures { Finds S.Store conn.old conn.new result
@@ -105,7 +106,8 @@ fn noted<S: Alter>(conn: &mut Connection<S>) -> Result<u64, RowFault>
     Ok(held.max(replied))
 }
 
-/// Returns the latest timestamp of all polls, outcomes, rejected readings and kept requests, or 0.
+/// Returns the latest timestamp of all polls, outcomes, rejected readings and stored requests, or 0
+/// if none is stored.
 fn asked<S: Alter>(conn: &mut Connection<S>) -> Result<u64, RowFault>
     requires { conn.old.in_transaction ≡ false }
     ensures { Finds S.Store conn.old conn.new result
@@ -116,7 +118,7 @@ fn asked<S: Alter>(conn: &mut Connection<S>) -> Result<u64, RowFault>
     Ok(polled.max(noted))
 }
 
-/// Returns the latest timestamp of all records, or 0 if there are none.
+/// Returns the latest timestamp of all records, or 0 if no record is stored.
 pub fn latest<S: Alter>(conn: &mut Connection<S>) -> Result<u64, RowFault>
     requires { conn.old.in_transaction ≡ false }
     ensures { Finds S.Store conn.old conn.new result

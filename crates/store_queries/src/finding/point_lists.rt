@@ -24,7 +24,7 @@ use std::alloc::Global;
 use store_facts::text;
 use store_tables::RowFault;
 
-/// Plans the reads of a list. Points that break a rule of point lists are damage.
+/// Plans the reads of a point list. Reports points that break a rule of point lists as damage.
 fn with_plan(alloc: Global, points: Vec<ListedPoint>) -> Result<PlannedList, RowFault>
     ensures points { IfOk result (λ list. list.points ≡ points.items) }
     ensures planned { IfOk result IsPlanned }
@@ -39,7 +39,7 @@ fn with_plan(alloc: Global, points: Vec<ListedPoint>) -> Result<PlannedList, Row
     }
 }
 
-/// Returns the points of a device's list.
+/// Returns the points of a device's point list.
 fn points<S: Alter>(conn: &mut Connection<S>, device: &str) -> Result<Vec<ListedPoint>, RowFault>
     requires { conn.old.in_transaction ≡ false }
     ensures { Finds S.Store conn.old conn.new result
@@ -70,7 +70,7 @@ pub fn list<S: Alter>(
     Ok(Some(with_plan(alloc, points)?))
 }
 
-/// Returns how many reads the plan of a device has, or None if the device has no list.
+/// Returns how many reads the plan of a device's point list has, or None if the device has no list.
 pub fn read_count<S: Alter>(
     alloc: Global,
     conn: &mut Connection<S>,
@@ -87,7 +87,8 @@ pub fn read_count<S: Alter>(
     }
 }
 
-/// Returns the Modbus registers of a plan's reads: from index `from`, at most `most` reads.
+/// Returns the spans of Modbus registers that a plan reads. Begins at the read with the index
+/// `from`, and returns at most `most` reads.
 fn spans_of(
     alloc: Global,
     list: &PlannedList,
@@ -103,8 +104,8 @@ fn spans_of(
     }
 }
 
-/// Returns the Modbus registers of the reads in a device's plan: from index `from`, at most `most`
-/// reads.
+/// Returns the spans of Modbus registers that the plan of a device's point list reads: from read
+/// `from`, at most `most` reads.
 pub fn reads<S: Alter>(
     alloc: Global,
     conn: &mut Connection<S>,

@@ -1,4 +1,4 @@
-//! Queries for the points of a device's list.
+//! Queries for the points of a device's point list.
 ghost use Rattle.std.specs.Prelude.{◌≡◌, false, string_bytes};
 ghost use Rattle.store_tables.specs.Asking.{ReadsRow};
 ghost use Rattle.store_tables.specs.Columns.{or_damaged};
@@ -47,7 +47,7 @@ fn scale(text: String) -> Result<PointScale, RowFault>
     }
 }
 
-/// Converts a point's row to the listed point.
+/// Converts a row of `points` to a point of a point list. Reports invalid values as damage.
 fn point_from(row: store_devices::Point) -> Result<ListedPoint, RowFault>
     ensures { result ≡ point_with (string_bytes row.name) (string_bytes row.kind)
         (string_bytes row.scale) row.row }
@@ -86,7 +86,7 @@ pub(crate) fn points_in(rows: &Vec<Row>) -> Result<Vec<ListedPoint>, RowFault>
     Ok(points)
 }
 
-/// Queries the rows of a device's points, in the order of its list.
+/// Queries the rows of a device's points, in the order of its point list.
 pub(crate) fn rows_of<S: Alter>(
     conn: &mut Connection<S>,
     device: &str,

@@ -21,7 +21,7 @@ use store_devices::{OutcomeRow, last_poll, outcome_of, pending_rows, poll_at, re
 use store_facts::name;
 use store_tables::{GREATEST_PLACE, RowFault, check_open};
 
-/// Returns the Modbus registers that a poll reads.
+/// Returns the span of Modbus registers that a poll reads.
 fn span_from(row: store_devices::PollRow) -> ReadSpan
     requires { IsSoundPoll row }
     ensures function { result.function ≡ row.function }
@@ -35,7 +35,7 @@ fn span_from(row: store_devices::PollRow) -> ReadSpan
     }
 }
 
-/// Converts a poll's row to the poll.
+/// Converts a row of `polls` to a poll. Reports invalid values as damage.
 fn poll_from(row: &store_devices::Poll) -> Result<Poll, RowFault>
     requires { IsSoundPoll row.now.row }
     ensures numbers { IfOk result (HasNumbers (string_bytes row.now.device) row.now.row) }
@@ -73,7 +73,7 @@ fn polls_in(rows: &Vec<Row>) -> Result<Vec<Poll>, RowFault>
     Ok(polls)
 }
 
-/// Queries the row of a poll.
+/// Queries the row of a poll by its number.
 fn row_at<S: Alter>(
     conn: &mut Connection<S>,
     number: u64,
@@ -88,7 +88,7 @@ fn row_at<S: Alter>(
     poll_at(conn, number)
 }
 
-/// Returns the poll with this number, or None if there is none.
+/// Returns the poll with the number `number`, or None if no poll has the number.
 fn poll_of<S: Alter>(conn: &mut Connection<S>, number: u64) -> Result<Option<Poll>, RowFault>
     requires idle { conn.old.in_transaction ≡ false }
     requires place { number ≤ greatest_place }
@@ -125,7 +125,7 @@ fn end_of<S: Alter>(conn: &mut Connection<S>, number: u64) -> Result<Option<Ende
     }
 }
 
-/// Returns the poll with this number and its outcome, or None if there is no such poll.
+/// Returns the poll with the number `number` and its outcome, or None if no poll has the number.
 pub fn poll<S: Alter>(conn: &mut Connection<S>, number: u64) -> Result<Option<PollRow>, RowFault>
     requires { conn.old.in_transaction ≡ false }
     ensures { Finds S.Store conn.old conn.new result
@@ -158,7 +158,7 @@ pub fn poll_count<S: Alter>(conn: &mut Connection<S>) -> Result<u64, RowFault>
     }
 }
 
-/// Queries the rows of the pending polls.
+/// Queries the rows of the pending polls, in the order of their numbers.
 fn waiting<S: Alter>(conn: &mut Connection<S>) -> Result<Vec<Row>, RowFault>
     requires { conn.old.in_transaction ≡ false }
     ensures { Finds S.Store conn.old conn.new result ShowsPendingPolls HasReadablePolls }

@@ -28,7 +28,7 @@ fn source(scale: RegisterScale) -> ScaleSource
     }
 }
 
-/// Converts the row of an accounting register.
+/// Converts a row of `registers` to an accounting register. Reports invalid values as damage.
 fn register_from(row: &store_devices::Register) -> Result<Register, RowFault>
     ensures { result ≡
         register_with (string_bytes row.now.name) (string_bytes row.now.device) row.now.row }
@@ -65,7 +65,7 @@ fn registers_in(rows: &Vec<Row>) -> Result<Vec<Register>, RowFault>
     Ok(registers)
 }
 
-/// Queries the row of the accounting register with this name.
+/// Queries the row of the accounting register with the name `name`.
 fn row_of<S: Alter>(
     conn: &mut Connection<S>,
     name: &str,
@@ -78,7 +78,7 @@ fn row_of<S: Alter>(
     register_of(conn, name)
 }
 
-/// Returns the accounting register with this name, or None if there is none.
+/// Returns the accounting register with the name `name`, or None if no register has the name.
 pub fn register<S: Alter>(
     conn: &mut Connection<S>,
     name: &Name,
@@ -121,7 +121,7 @@ pub fn registers<S: Alter>(
 }
 
 /// Returns the accounting registers of a device that get a reading from a Modbus read of `span`.
-/// Reads all accounting registers of the device from the table.
+/// Queries all accounting registers of the device.
 pub fn registers_read<S: Alter>(
     conn: &mut Connection<S>,
     device: &Name,

@@ -1,4 +1,4 @@
-//! An entry of a meter, built from the rows around it.
+//! Builds an entry of a meter from its row and the rows around it.
 ghost use Rattle.std.specs.Prelude.{◌≡◌, ◌≤◌, false, IfOk, IfSome, IsUtf8};
 ghost use Rattle.office_rules.specs.Lawful.{AreLawful};
 ghost use Rattle.office_rules.specs.Ranges.{IsSound};
@@ -23,8 +23,8 @@ use std::alloc::Global;
 use store_facts::{counter_after, text};
 use store_tables::{EntryRow, GREATEST_PLACE, RowFault, check_open, entry_at};
 
-/// The indices of the nearest entries before and after an entry that are not voided, and whether
-/// the entry itself is not voided.
+/// The indices of the nearest meter entries before and after an entry that are not voided, and
+/// whether the entry itself is not voided.
 #[derive(Clone, Copy, Debug, PartialEq, Eq)]
 pub(crate) struct Sides {
     pub before: u64,
@@ -32,8 +32,8 @@ pub(crate) struct Sides {
     pub stands: bool,
 }
 
-/// The row of an entry, and the rows of the nearest entries that are not voided. `before` may be
-/// the opening.
+/// The row of a meter entry, and the rows of the nearest entries before and after it that are not
+/// voided. `before` may be the opening.
 #[derive(Clone, Copy, Debug, PartialEq, Eq)]
 pub(crate) struct Around {
     pub entry: EntryRow,
@@ -41,7 +41,7 @@ pub(crate) struct Around {
     pub next: Option<EntryRow>,
 }
 
-/// Returns whether one of these voids is that of the entry at `place`. None if a void can't be
+/// Returns true if one of the voids cancels the meter entry at `place`, or None if a void can't be
 /// read.
 fn is_named(voids: &[Row], place: u64) -> Option<bool>
     ensures { IfSome result (TellsVoided voids.now place) }
@@ -52,8 +52,8 @@ fn is_named(voids: &[Row], place: u64) -> Option<bool>
     }
 }
 
-/// Returns the index of the last entry before `place` that has none of these voids, or 1 for the
-/// opening. None if a void can't be read.
+/// Returns the index of the last meter entry before `place` without a void, or 1 for the opening.
+/// Returns None if a void can't be read.
 fn place_before(voids: &[Row], place: u64) -> Option<u64>
     requires following { 2 ≤ place }
     ensures before { IfSome result (λ n. ByVoids (λ vs. IsBefore vs place n) voids.now) }
@@ -68,8 +68,8 @@ fn place_before(voids: &[Row], place: u64) -> Option<u64>
     Some(1)
 }
 
-/// Returns the first index after `place` that has none of these voids. None if a void can't be
-/// read, or no such index exists.
+/// Returns the first index after `place` that no void has. Returns None if a void can't be read, or
+/// if every later index has a void.
 fn place_after(voids: &[Row], place: u64) -> Option<u64>
     requires place { place ≤ greatest_place }
     ensures after { IfSome result (λ n. ByVoids (λ vs. IsAfter vs place n) voids.now) }
@@ -83,8 +83,8 @@ fn place_after(voids: &[Row], place: u64) -> Option<u64>
     None
 }
 
-/// Returns the indices on both sides of an entry, and whether the entry is not voided. None if no
-/// entry can have the index.
+/// Returns the indices on both sides of the entry at `place`, and whether the entry is not voided.
+/// Returns None if no entry can have the index `place`.
 fn sides_of(voids: &[Row], place: u64) -> Option<Sides>
     ensures following { IfSome result (λ sides. 2 ≤ place) }
     ensures place { IfSome result (λ sides. place ≤ greatest_place) }
@@ -120,8 +120,8 @@ fn row_there<S: Alter>(
     entry_at(conn, meter, place)
 }
 
-/// Queries the rows of an entry and of the indices around it. None if the row of the entry, or of
-/// the entry before it, is missing.
+/// Queries the row of a meter entry and the rows before and after it. Returns None if the row of
+/// the entry, or the row before it, is missing.
 fn rows_around<S: Alter>(
     conn: &mut Connection<S>,
     meter: &str,
@@ -150,7 +150,7 @@ fn rows_around<S: Alter>(
     }))
 }
 
-/// Converts the row of the next entry, which is not voided, to a journal row.
+/// Converts the row of the next meter entry that is not voided to a journal row.
 fn next_row(next: &Option<EntryRow>) -> Option<meter_journal::EntryRow>
     ensures { result ≡ next_from next.now }
 {
@@ -160,8 +160,8 @@ fn next_row(next: &Option<EntryRow>) -> Option<meter_journal::EntryRow>
     }
 }
 
-/// Returns the installation with the counter's state after an earlier entry. Its total energy is
-/// that of the whole meter.
+/// Returns the installation with its counter's state after an earlier entry, and the total energy
+/// of the complete meter.
 fn stood_after(whole: &Installation, before: &EntryRow) -> Installation
     ensures { result ≡ stood whole.now before.now }
 {
@@ -173,7 +173,8 @@ fn stood_after(whole: &Installation, before: &EntryRow) -> Installation
     }
 }
 
-/// Builds an entry from the rows around it. None if these are not rows of an office.
+/// Builds an entry from its row and the rows around it. Returns None if no office can have these
+/// rows.
 fn seen(whole: &Installation, around: &Around, stands: bool) -> Option<EntryPlace>
     ensures seen { IfSome result (IsSeen whole.now around.now stands) }
     ensures sound { IfSome result (λ found. IsSound found.before) }
@@ -187,8 +188,8 @@ fn seen(whole: &Installation, around: &Around, stands: bool) -> Option<EntryPlac
     Some(EntryPlace { before, row, next })
 }
 
-/// Returns the entry of a meter at an index from the rows around it. None if these rows don't
-/// determine the entry.
+/// Returns the entry of a meter at an index from its row and the rows around it. Returns None if
+/// these rows don't determine the entry.
 fn told_around<S: Alter>(
     conn: &mut Connection<S>,
     meter: &str,
@@ -215,7 +216,7 @@ fn told_around<S: Alter>(
     Ok(seen(whole, &around, sides.stands))
 }
 
-/// Returns the entry of a meter at an index from all rows of the meter.
+/// Returns the entry of a meter at an index from all rows of the meter in `entries`.
 fn told_by_all<S: Alter>(
     alloc: Global,
     conn: &mut Connection<S>,
@@ -238,10 +239,10 @@ fn told_by_all<S: Alter>(
     }
 }
 
-/// Returns the entry of a meter at an index of at least 2. The energy given is the meter's total
-/// energy, not that before the entry. Reads the meter's voids and the rows around the entry. If
-/// these rows don't determine the entry, for example because it doesn't exist, it reads all
-/// entries.
+/// Returns the entry of a meter at an index of at least 2, with the meter's total energy instead of
+/// the energy before the entry. Reads the meter's voids and the rows around the entry. Reads all
+/// entries of the meter if these rows don't determine the entry, for example because the entry
+/// doesn't exist.
 pub fn entry_near<S: Alter>(
     alloc: Global,
     conn: &mut Connection<S>,

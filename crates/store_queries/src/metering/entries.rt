@@ -17,7 +17,7 @@ use std::alloc::Global;
 use store_facts::text;
 use store_tables::{RowFault, check_open, entry_rows, void_rows};
 
-/// Queries the entries of a meter, in order of index.
+/// Queries the entries of a meter, ordered by index.
 fn entries<S: Alter>(conn: &mut Connection<S>, meter: &str) -> Result<Vec<Row>, RowFault>
     requires { conn.old.in_transaction ≡ false }
     ensures { Finds S.Store conn.old conn.new result
@@ -59,8 +59,8 @@ pub(crate) fn rows<S: Alter>(
     journal_rows(alloc, &entries, &voids)
 }
 
-/// Returns the entry of a meter at an index of at least 2: the meter's state before the entry, and
-/// the next entry that is not voided. Reads all entries of the meter.
+/// Returns the entry of a meter at an index of at least 2. The result also has the meter's state
+/// before the entry, and the next entry that is not voided. Reads all entries of the meter.
 pub fn entry<S: Alter>(
     alloc: Global,
     conn: &mut Connection<S>,

@@ -1,4 +1,4 @@
-//! Streams of rejected readings.
+//! Streams of rejected readings to a sink.
 ghost use Rattle.std.specs.Prelude.{◌≡◌, false, IsUtf8};
 ghost use Rattle.office_books.specs.Holds.{holds_of, holds_within};
 ghost use Rattle.store_facts.specs.Holds.{IsSoundReading};

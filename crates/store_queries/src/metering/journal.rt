@@ -1,4 +1,4 @@
-//! The journal of a meter from the rows of its entries and voids.
+//! Builds the journal of a meter from the rows of its entries and voids.
 ghost use Rattle.std.specs.Prelude.{◌≡◌, ◌++◌, ◌∷◌, [], IfOk, IfErr, OnOk};
 ghost use Rattle.std.specs.Option.{option_to_list};
 ghost use Rattle.store_queries.specs.Metering.Entries.{step_row, change_row, row_from};
@@ -13,7 +13,7 @@ use sqlite::{Error, ErrorCode, Row};
 use std::alloc::Global;
 use store_tables::{EntryKind, RowFault, read_entry, read_void};
 
-/// Returns the journal row of a reading, a reading by hand, or a closing.
+/// Returns the journal row of a reading, a reading that a person entered, or a closing.
 fn step(kind: meter_journal::EntryKind, row: store_tables::EntryRow, stands: bool) -> EntryRow
     ensures { result ≡ step_row kind row stands }
 {
@@ -46,7 +46,8 @@ fn change(kind: meter_journal::EntryKind, row: store_tables::EntryRow, stands: b
     }
 }
 
-/// Returns the journal row of an entry. None for the opening, which a journal keeps apart.
+/// Returns the journal row of a meter entry, or None for the opening, which is not a row of the
+/// journal.
 pub(crate) fn entry_row(row: store_tables::EntryRow, stands: bool) -> Option<EntryRow>
     ensures { result ≡ row_from row stands }
 {
@@ -60,7 +61,7 @@ pub(crate) fn entry_row(row: store_tables::EntryRow, stands: bool) -> Option<Ent
     }
 }
 
-/// Returns whether one of these voids is that of the entry at `place`.
+/// Returns true if one of the voids cancels the meter entry at `place`.
 pub(crate) fn is_voided(voids: &[Row], place: u64) -> Result<bool, RowFault>
     ensures told { IfOk result (TellsVoided voids.now place) }
     ensures fault { IfErr result (IsFaultOfVoids voids.now) }
@@ -83,7 +84,7 @@ fn push(rows: &mut Vec<EntryRow>, row: EntryRow) -> Result<(), RowFault>
     }
 }
 
-/// Appends a row, if there is one.
+/// Appends a journal row to the rows of a journal. If the row is None, appends nothing.
 fn add(rows: &mut Vec<EntryRow>, row: Option<EntryRow>) -> Result<(), RowFault>
     ensures put { OnOk result (rows.new.items ≡ rows.old.items ++ option_to_list row) }
     ensures fault { IfErr result (λ e. e ≡ Sql want_of_memory) }

@@ -19,8 +19,8 @@ use std::alloc::Global;
 use store_facts::text;
 use store_tables::RowFault;
 
-/// Lists the opening and the rows of a meter, the oldest first: from index `from`, at most `most`
-/// of them.
+/// Lists the opening and the journal rows of a meter, the oldest first. Begins at index `from`, and
+/// lists at most `most` entries.
 fn listed(
     alloc: Global,
     opening: &Opening,
@@ -38,8 +38,8 @@ fn listed(
     }
 }
 
-/// Returns the entries of a meter in order, also voided ones: from index `from`, at most `most` of
-/// them. Reads all entries of the meter.
+/// Returns the entries of a meter in order, including voided entries. Begins at index `from`, and
+/// returns at most `most` entries. Reads all entries of the meter.
 pub fn meter_entries<S: Alter>(
     alloc: Global,
     conn: &mut Connection<S>,

@@ -14,7 +14,7 @@ use sqlite::{Alter, Connection};
 use store_facts::text;
 use store_tables::{RowFault, check_open, last_installation};
 
-/// Returns the installation of a meter, or None if there is no such meter.
+/// Returns the installation of a meter, or None if the store has no such meter.
 pub fn meter<S: Alter>(
     conn: &mut Connection<S>,
     name: &Name,
@@ -32,8 +32,8 @@ pub fn meter<S: Alter>(
     }
 }
 
-/// Returns the latest installation at an accounting register, or None if no meter was installed
-/// there.
+/// Returns the latest installation at an accounting register, or None if no meter was installed at
+/// the register.
 pub fn installation<S: Alter>(
     conn: &mut Connection<S>,
     register: &Name,
@@ -51,7 +51,7 @@ pub fn installation<S: Alter>(
     }
 }
 
-/// Returns the greatest index of an installation, which is the number of installations.
+/// Returns the greatest index of all installations, which is the number of installations.
 fn last_place<S: Alter>(conn: &mut Connection<S>) -> Result<Option<u64>, RowFault>
     requires { conn.old.in_transaction ≡ false }
     ensures { Finds S.Store conn.old conn.new result CountsOpenings HasReadableMeters }

@@ -1,4 +1,4 @@
-//! The state of a meter before one of its entries.
+//! Computes the state of a meter before one of its entries.
 ghost use Rattle.std.specs.Prelude.{◌≡◌, ◌≤◌, List, take, IfOk, IfErr, IfSome};
 ghost use Rattle.std.specs.Option.{option_map};
 ghost use Rattle.energy_core.specs.Account.{IsAccount};
@@ -20,7 +20,7 @@ use office_books::installation_after;
 use office_events::{EntryPlace, Installation};
 use store_tables::RowFault;
 
-/// Returns the first `count` rows, or all of them.
+/// Returns the first `count` journal rows, or all rows if there are fewer.
 fn first(rows: &[EntryRow], count: usize) -> &[EntryRow]
     ensures { result.now ≡ take count rows.now }
 {
@@ -31,8 +31,8 @@ fn first(rows: &[EntryRow], count: usize) -> &[EntryRow]
     }
 }
 
-/// Returns the state of the counter and the energy after these rows. Rows that may not follow one
-/// another are damage.
+/// Returns the counter's state and the energy after some journal rows. Reports rows that may not
+/// follow one another as damage.
 pub fn tally(meter: &Installed, rows: &[EntryRow]) -> Result<Tally, RowFault>
     requires range_low { MIN_RANGE ≤ meter.now.range }
     requires range_high { meter.now.range ≤ MAX_RANGE }
@@ -48,7 +48,8 @@ pub fn tally(meter: &Installed, rows: &[EntryRow]) -> Result<Tally, RowFault>
     }
 }
 
-/// Returns the installation after these rows. Rows that may not follow one another are damage.
+/// Returns the state of an installation after some journal rows. Reports rows that may not follow
+/// one another as damage.
 fn stood_after(whole: &Installation, rows: &[EntryRow]) -> Result<Installation, RowFault>
     ensures stands { let es = entries_in (lists.latest_first rows.now) in
         IfOk result (λ row. row ≡ meters.standing whole.now.opening es whole.now.ended) }
@@ -63,8 +64,8 @@ fn stood_after(whole: &Installation, rows: &[EntryRow]) -> Result<Installation, 
     }
 }
 
-/// Finds the entry at an index among all rows of a meter, the oldest first: the meter's state
-/// before the entry, and the next entry that is not voided.
+/// Finds the entry at an index in a meter's journal, whose oldest row is first. Returns the entry
+/// with the meter's state before the entry and the next entry that is not voided.
 pub(crate) fn placed(
     whole: &Installation,
     rows: &[EntryRow],

@@ -28,7 +28,7 @@ fn rows_at<S: Alter>(conn: &mut Connection<S>, register: &str) -> Result<Vec<Row
     Ok(register_meter_rows(conn, register)?)
 }
 
-/// Reads installations from the rows of the query for installations.
+/// Reads installations from the rows of the query for an accounting register's installations.
 fn installed_in(rows: &Vec<Row>) -> Result<Vec<store_tables::Installation>, RowFault>
     ensures { ReadsAll rows.now.items installed_shown IsInstalled IsSoundInstalled
         (λ v. v.items) result }
@@ -55,7 +55,7 @@ fn installed_at<S: Alter>(
     installed_in(&rows)
 }
 
-/// Returns the installations that these rows encode.
+/// Returns the installations that rows of `installations` encode.
 fn standing_all<S: Alter>(
     alloc: Global,
     conn: &mut Connection<S>,
@@ -76,8 +76,8 @@ fn standing_all<S: Alter>(
     Ok(found)
 }
 
-/// Returns all installations at an accounting register, also closed ones, in the order in which
-/// they were installed.
+/// Returns all installations at an accounting register, including closed ones, in the order in
+/// which they were installed.
 pub fn meters_at<S: Alter>(
     alloc: Global,
     conn: &mut Connection<S>,

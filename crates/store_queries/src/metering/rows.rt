@@ -1,4 +1,4 @@
-//! Queries for single rows, stated in terms of records.
+//! Queries for single rows of a meter, with contracts about the records.
 ghost use Rattle.std.specs.Prelude.{◌≡◌, false};
 ghost use Rattle.office_rules.specs.Facts.{opening_of, installed_at};
 ghost use Rattle.store_queries.specs.Finding.Finding.{Finds};
@@ -38,7 +38,7 @@ pub(crate) fn row_at<S: Alter>(
     installation_at(conn, register)
 }
 
-/// Queries how many values the counter of a meter has.
+/// Queries the range of a meter's counter: how many values the counter has.
 pub(crate) fn range<S: Alter>(
     conn: &mut Connection<S>,
     meter: &str,
@@ -51,7 +51,7 @@ pub(crate) fn range<S: Alter>(
     range_of(conn, meter)
 }
 
-/// Queries the entry of a meter's opening.
+/// Queries the first entry of a meter, which is its opening.
 pub(crate) fn first_entry<S: Alter>(
     conn: &mut Connection<S>,
     meter: &str,

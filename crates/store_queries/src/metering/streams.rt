@@ -1,4 +1,4 @@
-//! Streams of interval rows.
+//! Streams of the energy of meters by quarter hours.
 ghost use Rattle.std.specs.Prelude.{◌≡◌, ◌+◌, false, min, IsUtf8};
 ghost use Rattle.office_books.specs.Spans.{rows_within};
 ghost use Rattle.office_rules.specs.Intervals.{rows_of_meter, rows_of_register};
@@ -22,7 +22,7 @@ pub(super) fn bound(moment: u64) -> u64
     moment.min(LATEST_MOMENT + 1)
 }
 
-/// Streams the energy of a meter by the quarter hours that start in `span`, in order of their
+/// Streams the energy of a meter by the quarter hours that start in `span`, ordered by their
 /// starts. Reads no other row.
 pub fn intervals<S: Alter, K: RowSink<Share>>(
     conn: &mut Connection<S>,
@@ -47,8 +47,8 @@ pub fn intervals<S: Alter, K: RowSink<Share>>(
     }
 }
 
-/// Streams the energy of an accounting register by the quarter hours that start in `span`: one
-/// meter after another, in the order in which they were installed.
+/// Streams the energy of an accounting register by the quarter hours that start in `span`. The
+/// meters follow one another in the order of installation.
 pub fn register_intervals<S: Alter, K: RowSink<Share>>(
     conn: &mut Connection<S>,
     register: &Name,

@@ -1,4 +1,4 @@
--- The values that are read from the rows that the queries show.
+-- Proofs that the readers return the values in the result rows of `entries` and `voids`.
 use Rattle.std.proofs.Common.{◌≡◌, ℕ, pos, zero-le, Some, Ok, Err, Result, IfOk, refl, sym, ap, subst, ◌∙◌}
 use Rattle.sqlite.specs.declared.types.Value.TheVariants.{Int}
 use Rattle.sqlite.specs.Order.{Row, column}
@@ -57,12 +57,12 @@ sound_entry row (Ok e) is =
       sf = within_bounds 3 (column row 6) sf.value sf.is;
     })
 
--- ---- indices
+-- ---- indices of entries and voids
 
 pub reads_void : (row : Row) (r : Result ℕ RowFault) → r ≡ or_damaged (whole_in 1 greatest_place (column row 0)) → ReadsRow row voided_shown HasPlace IsSoundVoided r
 reads_void = reads_number 1 greatest_place voided_shown voided_place IsSoundVoided (λ v. refl) (λ v is. is)
 
--- ---- timestamps
+-- ---- timestamps of entries and voids
 
 pub reads_entry_moment : (row : Row) (r : Result ℕ RowFault) → r ≡ or_damaged (whole_in 0 latest_moment (column row 0)) → ReadsRow row entry_moment_shown HasEntryMoment IsSoundEntered r
 reads_entry_moment = reads_number 0 latest_moment entry_moment_shown entry_moment IsSoundEntered (λ e. refl) (λ e is. (zero-le, is.moment))

@@ -1,4 +1,4 @@
--- The meaning of the SQL texts on `entries` and `voids`.
+-- The meaning that SQLite's parser gives to the SQL texts on `entries` and `voids`.
 use Rattle.std.proofs.Common.{◌≡◌, List, [], ◌∷◌, codes, ℕ, false, refl, pos}
 use Rattle.sqlite.specs.declared.types.Value.TheVariants.{Null, Int, Text}
 use Rattle.sqlite.specs.Term.{Term, lit, col}

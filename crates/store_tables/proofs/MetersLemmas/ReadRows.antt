@@ -1,4 +1,4 @@
--- The values that are read from the rows that the queries show.
+-- Proofs that the readers return the values in the result rows of `installations` and `ranges`.
 use Rattle.std.proofs.Common.{◌≡◌, ℕ, Ok, Result, refl, subst}
 use Rattle.sqlite.specs.Order.{Row, column}
 use Rattle.store_tables.specs.declared.faults.RowFault.{RowFault}
@@ -37,7 +37,7 @@ sound_installation row a is =
       last = sound_last row last.0 last.1;
     })
 
--- ---- indices and ranges
+-- ---- indices of installations, and ranges of counters
 
 pub reads_installed_place : (row : Row) (r : Result ℕ RowFault) → r ≡ or_damaged (whole_in 1 greatest_place (column row 0)) → ReadsRow row installed_place_shown HasInstalledPlace IsSoundInstalled r
 reads_installed_place = reads_number 1 greatest_place installed_place_shown installed_place IsSoundInstalled (λ i. refl) (λ i is. is.row.place)

@@ -1,4 +1,4 @@
--- The meaning of the SQL texts on `installations` and `ranges`.
+-- The meaning that SQLite's parser gives to the SQL texts on `installations` and `ranges`.
 use Rattle.std.proofs.Common.{◌≡◌, pos, List, [], ◌∷◌, codes, ℕ, false, refl}
 use Rattle.sqlite.specs.declared.types.Value.TheVariants.{Null, Int, Text}
 use Rattle.sqlite.specs.Term.{Term, lit, col}

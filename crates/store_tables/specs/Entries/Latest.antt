@@ -9,11 +9,11 @@ use Rattle.store_tables.specs.Entries.Rows.{Entered, Voided}
 abbrev pub entry_moment : Entered → ℕ
 entry_moment e = e.entry.moment
 
--- The result row of the query for the latest entry: the entry's timestamp.
+-- The column that the query for the latest entry returns: the entry's timestamp.
 abbrev pub entry_moment_shown : Entered → Row
 entry_moment_shown e = Int (pos e.entry.moment) ∷ []
 
--- The value read is the timestamp of the entry.
+-- True if a look-up read the timestamp of the entry `e`.
 abbrev pub HasEntryMoment : Entered → ℕ → Type 0
 HasEntryMoment e moment = moment ≡ e.entry.moment
 
@@ -21,14 +21,14 @@ HasEntryMoment e moment = moment ≡ e.entry.moment
 abbrev pub void_moment : Voided → ℕ
 void_moment v = v.moment
 
--- The result row of the query for the latest void: the void's time.
+-- The column that the query for the latest void returns: the time at which the entry was voided.
 abbrev pub void_moment_shown : Voided → Row
 void_moment_shown v = Int (pos v.moment) ∷ []
 
--- The value read is the time of the void.
+-- True if a look-up read the time at which the entry of the void `v` was voided.
 abbrev pub HasVoidMoment : Voided → ℕ → Type 0
 HasVoidMoment v moment = moment ≡ v.moment
 
--- The time of the void is in the range of the store's timestamps.
+-- True if the time at which an entry was voided is at most the store's latest timestamp.
 abbrev pub IsTimelyVoid : Voided → Type 0
 IsTimelyVoid v = v.moment ≤ latest_moment

@@ -12,7 +12,7 @@ use Rattle.store_tables.specs.declared.entries.rows.EntryKind.{EntryKind}
 use Rattle.store_tables.specs.declared.entries.rows.EntryKind.TheVariants.{Opening, Reading, Manual, Closing, Reset, Rescale}
 use Rattle.store_tables.specs.Limits.{greatest_place, latest_moment, IsPlace}
 
--- The number of an entry's kind in the column `kind`.
+-- The number that the column `kind` stores for each kind of entry.
 abbrev pub kind_number : EntryKind → ℕ
 kind_number Opening = 1
 kind_number Reading = 2
@@ -21,7 +21,7 @@ kind_number Closing = 4
 kind_number Reset = 5
 kind_number Rescale = 6
 
--- The kind that has this number in the column `kind`, if there is one.
+-- The kind of entry that a number in the column `kind` encodes, or None.
 abbrev pub kind_of : ℕ → Option EntryKind
 kind_of n =
     if n == 1 then Some Opening else
@@ -44,19 +44,19 @@ entry_columns e =
     ∷ Int (pos e.entry.raw) ∷ Int (pos e.entry.rolls) ∷ Int (pos e.entry.after) ∷ Int e.entry.sf
     ∷ []
 
--- Whether the entry is that of meter `meter` at index `place`.
+-- True if an entry belongs to the meter `meter` and has the index `place`.
 abbrev pub is_entry : (meter : List ℕ) → (place : ℕ) → Entered → Bool
 is_entry meter place e = bytes_eq e.meter meter && (e.entry.place == place)
 
--- Whether the entry is an entry of this meter.
+-- True if an entry belongs to the meter `meter`.
 abbrev pub is_of : (meter : List ℕ) → Entered → Bool
 is_of meter e = bytes_eq e.meter meter
 
--- The entry with the number of rollovers before it set to `rolls`.
+-- An entry with its number of counter rollovers set to `rolls`.
 abbrev pub rolled : (rolls : ℕ) → Entered → Entered
 rolled rolls e = record e { entry = record e.entry { rolls = rolls } }
 
--- Every value of an entry is in its range.
+-- True if every value of an entry is within the bounds of its column.
 pub record IsSoundEntry (e : EntryRow) : Type 0 where
   pub place : (1 ≤ e.place) × (e.place ≤ greatest_place)
   pub moment : e.moment ≤ latest_moment
@@ -65,30 +65,30 @@ pub record IsSoundEntry (e : EntryRow) : Type 0 where
   pub after : e.after ≤ MAX_SHOWN
   pub sf : IsTrue (is_within 3 e.sf)
 
--- The result row that shows an entry, in queries of `entries`.
+-- The columns that a SELECT from `entries` returns for an entry.
 abbrev pub entry_shown : Entered → Row
 entry_shown e =
     Int (pos e.entry.place) ∷ Int (pos (kind_number e.entry.kind)) ∷ Int (pos e.entry.moment)
     ∷ Int (pos e.entry.raw)
     ∷ Int (pos e.entry.rolls) ∷ Int (pos e.entry.after) ∷ Int e.entry.sf ∷ []
 
--- The value read is the entry.
+-- True if the entry that a look-up read equals the stored entry.
 abbrev pub IsRow : Entered → EntryRow → Type 0
 IsRow e row = row ≡ e.entry
 
--- Every value of the entry is in its range.
+-- True if every value of a stored entry is within the bounds of its column.
 abbrev pub IsSoundEntered : Entered → Type 0
 IsSoundEntered e = IsSoundEntry e.entry
 
--- The result row of the query for a meter's last entry: the entry's index.
+-- The column that the query for a meter's last entry returns: the entry's index.
 abbrev pub place_shown : Entered → Row
 place_shown e = Int (pos e.entry.place) ∷ []
 
--- The kind whose number a value has, if there is one.
+-- The kind of entry whose number is in a column, or None.
 abbrev pub kind_in : Value → Option EntryKind
 kind_in v = option_and_then kind_of (whole_in 1 6 v)
 
--- The entry that a result row shows, or `Damaged` if a column is out of its range.
+-- The entry that a result row encodes, or `Damaged` if a column is out of its range.
 abbrev pub entry_in : Row → Result EntryRow RowFault
 entry_in row =
     and_then (or_damaged (whole_in 1 greatest_place (column row 0))) (λ place.
@@ -108,13 +108,13 @@ entry_in row =
       sf = sf;
     }))))))))
 
--- The index of an entry.
+-- The index of an entry in the sequence of its meter's entries.
 abbrev pub entry_place : Entered → ℕ
 entry_place e = e.entry.place
 
 -- ---- voids
 
--- A void: a record that a meter's entry at index `place` was false.
+-- A void: a record that cancels the entry of a meter at index `place`.
 pub record Voided : Type 0 where
   pub meter : List ℕ
   pub place : ℕ
@@ -127,22 +127,22 @@ voided_at meter place moment = record { meter = meter; place = place; moment = m
 abbrev pub voided_columns : Voided → Row
 voided_columns v = Text v.meter ∷ Int (pos v.place) ∷ Int (pos v.moment) ∷ []
 
--- The result row that shows a void: the index of the voided entry.
+-- The column that a SELECT from `voids` returns: the index of the voided entry.
 abbrev pub voided_shown : Voided → Row
 voided_shown v = Int (pos v.place) ∷ []
 
--- Whether the void is of an entry of this meter.
+-- True if a void cancels an entry of the meter `meter`.
 abbrev pub is_void_of : (meter : List ℕ) → Voided → Bool
 is_void_of meter v = bytes_eq v.meter meter
 
--- The index of the voided entry.
+-- The index of the entry that a void cancels.
 abbrev pub voided_place : Voided → ℕ
 voided_place v = v.place
 
--- The index of the voided entry is in its range.
+-- True if the index of a voided entry is within its bounds.
 abbrev pub IsSoundVoided : Voided → Type 0
 IsSoundVoided v = IsPlace v.place
 
--- The value read is the index of the voided entry.
+-- True if a look-up read the index of the voided entry.
 abbrev pub HasPlace : Voided → ℕ → Type 0
 HasPlace v place = place ≡ v.place

@@ -1,4 +1,4 @@
--- The tree numbers of the tables `entries` and `voids`.
+-- The numbers of the B-trees that store the tables `entries` and `voids`.
 use Rattle.std.specs.Prelude.{ℕ}
 
 abbrev pub entries : ℕ

@@ -43,7 +43,7 @@ installed_columns i =
     ∷ Int (pos i.row.last.raw)
     ∷ Int i.row.last.sf ∷ Int (pos i.row.last.total) ∷ []
 
--- The result row that shows an installation, in queries of `installations`.
+-- The columns that a SELECT from `installations` returns for an installation.
 abbrev pub installed_shown : Installed → Row
 installed_shown i =
     Int (pos i.row.place) ∷ Text i.meter ∷ Text i.register ∷ Int (pos i.row.ceiling)
@@ -51,11 +51,11 @@ installed_shown i =
     ∷ Int (pos i.row.last.raw)
     ∷ Int i.row.last.sf ∷ Int (pos i.row.last.total) ∷ []
 
--- Whether the installation is that of this meter.
+-- True if an installation belongs to the meter `meter`.
 abbrev pub is_meter : (meter : List ℕ) → Installed → Bool
 is_meter meter i = bytes_eq i.meter meter
 
--- Whether the installation is at this accounting register.
+-- True if an installation is at the accounting register `register`.
 abbrev pub is_at : (register : List ℕ) → Installed → Bool
 is_at register i = bytes_eq i.register register
 
@@ -63,49 +63,49 @@ is_at register i = bytes_eq i.register register
 abbrev pub installed_place : Installed → ℕ
 installed_place i = i.row.place
 
--- The installation with this last entry and total energy.
+-- An installation with its last entry and its total energy replaced.
 abbrev pub moved : LastRow → Installed → Installed
 moved last i = record i { row = record i.row { last = last } }
 
--- The installation, marked as closed.
+-- An installation that is marked as closed.
 abbrev pub ended : Installed → Installed
 ended i = record i { row = record i.row { is_ended = true } }
 
--- Every value of a meter's last entry, and its total energy, is in its range.
+-- True if every value of a meter's last entry, and its total energy, is in its range.
 pub record IsSoundLast (last : LastRow) : Type 0 where
   pub moment : last.moment ≤ latest_moment
   pub raw : last.raw ≤ MAX_SHOWN
   pub sf : IsTrue (is_within 3 last.sf)
   pub total : last.total ≤ greatest_total
 
--- Every number of an installation is in its range. Its names are not considered.
+-- True if every number of an installation is in its range. Names are not checked.
 pub record IsSoundInstallation (row : InstallationRow) : Type 0 where
   pub place : (1 ≤ row.place) × (row.place ≤ greatest_place)
   pub ceiling : (1 ≤ row.ceiling) × (row.ceiling ≤ greatest_ceiling)
   pub last : IsSoundLast row.last
 
--- Every value of an installation is in its range, and its names are UTF-8.
+-- True if every value of an installation is in its range, and its names are UTF-8.
 pub record IsSoundInstalled (i : Installed) : Type 0 where
   pub row : IsSoundInstallation i.row
   pub meter : IsUtf8 i.meter
   pub register : IsUtf8 i.register
 
--- The value read has the names and numbers of the installation.
+-- True if the installation that a look-up read has the names and numbers of the stored
+-- installation.
 pub record IsInstalled (i : Installed) (a : Installation) : Type 0 where
   pub meter : string_bytes a.meter ≡ i.meter
   pub register : string_bytes a.register ≡ i.register
   pub row : a.row ≡ i.row
 
--- The Boolean of a flag: 0 is false and 1 is true. Any other number has none.
+-- The Boolean that a number encodes: 0 is false, 1 is true, and any other number is invalid.
 abbrev pub flag_of : ℕ → Option Bool
 flag_of n = if n == 0 then Some false else if n == 1 then Some true else None
 
--- The Boolean of the flag that a value has, if the flag is 0 or 1.
+-- The Boolean that a column encodes as 0 or 1, or None for any other value.
 abbrev pub flag_in : Value → Option Bool
 flag_in v = option_and_then flag_of (whole_in 0 1 v)
 
--- The last entry and the total energy that a result row shows, or `Damaged` if one is out of its
--- range.
+-- The last entry and the total energy in a result row, or `Damaged` if a value is out of its range.
 abbrev pub last_in : Row → Result LastRow RowFault
 last_in row =
     and_then (or_damaged (whole_in 0 latest_moment (column row 5))) (λ moment.
@@ -114,7 +114,7 @@ last_in row =
     and_then (or_damaged (whole_in 0 greatest_total (column row 8))) (λ total.
     Ok (record { moment = moment; raw = raw; sf = sf; total = total })))))
 
--- The numbers of the installation that a result row shows, or `Damaged` if one is out of its range.
+-- The numbers of an installation in a result row, or `Damaged` if a number is out of its range.
 abbrev pub installation_in : Row → Result InstallationRow RowFault
 installation_in row =
     and_then (or_damaged (whole_in 1 greatest_place (column row 0))) (λ place.
@@ -123,17 +123,17 @@ installation_in row =
     and_then (last_in row) (λ last.
     Ok (record { place = place; ceiling = ceiling; is_ended = is_ended; last = last })))))
 
--- The result row of the query for the last installation: the installation's index.
+-- The column that the query for the last installation returns: the installation's index.
 abbrev pub installed_place_shown : Installed → Row
 installed_place_shown i = Int (pos i.row.place) ∷ []
 
--- The value read is the index of the installation.
+-- True if a look-up read the index of the installation.
 abbrev pub HasInstalledPlace : Installed → ℕ → Type 0
 HasInstalledPlace i place = place ≡ i.row.place
 
 -- ---- ranges
 
--- The range of a meter's counter: how many values it has before it rolls over.
+-- The range of a meter's counter: how many values the counter has before it rolls over.
 pub record Ranged : Type 0 where
   pub meter : List ℕ
   pub range : ℕ
@@ -142,22 +142,22 @@ pub record Ranged : Type 0 where
 abbrev pub ranged_columns : Ranged → Row
 ranged_columns r = Text r.meter ∷ Int (pos r.range) ∷ []
 
--- The result row of the query for a counter's range: the range.
+-- The column that the query for a counter's range returns: the range.
 abbrev pub range_shown : Ranged → Row
 range_shown r = Int (pos r.range) ∷ []
 
--- Whether the range is that of this meter's counter.
+-- True if a counter's range belongs to the meter `meter`.
 abbrev pub is_range_of : (meter : List ℕ) → Ranged → Bool
 is_range_of meter r = bytes_eq r.meter meter
 
--- The store accepts counters with `range` values: from `MIN_RANGE` to `MAX_RANGE`.
+-- True if the store accepts a counter with `range` values: from `MIN_RANGE` to `MAX_RANGE`.
 abbrev pub IsRange : ℕ → Type 0
 IsRange range = (MIN_RANGE ≤ range) × (range ≤ MAX_RANGE)
 
--- The store accepts the range in this row.
+-- True if the store accepts the counter's range in a row of `ranges`.
 abbrev pub IsSoundRanged : Ranged → Type 0
 IsSoundRanged r = IsRange r.range
 
--- The value read is the range.
+-- True if a look-up read the range of the counter.
 abbrev pub HasRange : Ranged → ℕ → Type 0
 HasRange r range = range ≡ r.range

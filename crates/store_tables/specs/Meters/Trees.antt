@@ -1,4 +1,4 @@
--- The tree numbers of the tables `installations` and `ranges`.
+-- The numbers of the B-trees that store the tables `installations` and `ranges`.
 use Rattle.std.specs.Prelude.{ℕ}
 
 abbrev pub installations : ℕ

@@ -84,7 +84,7 @@ fn rows_at<S: Alter>(conn: &mut Connection<S>, meter: &str, place: u64) -> Resul
     )
 }
 
-/// Returns the entry of a meter at index `place`, or None if there is none.
+/// Returns the entry of a meter at index `place`, or None if the meter has no such entry.
 pub fn entry_at<S: Alter>(
     conn: &mut Connection<S>,
     meter: &str,

@@ -1,6 +1,6 @@
 //! The latest timestamps of `entries` and `voids`, in seconds since 1970-01-01 UTC. Each query
-//! scans its complete table, which has no index on timestamps. They run once, when an office is
-//! opened.
+//! scans its complete table, which has no index on timestamps. The queries run once, when an office
+//! is opened.
 ghost use Rattle.std.specs.Prelude.{◌≤◌, IfOk, IfSome};
 ghost use Rattle.store_tables.specs.Limits.{latest_moment};
 ghost use Rattle.store_tables.specs.Answer.{IsLast, LastFirst, every};
@@ -14,7 +14,7 @@ ghost use Rattle.store_tables.specs.Entries.Trees.{entries, voids};
 use crate::{LATEST_MOMENT, RowFault, first_whole};
 use sqlite::{Alter, Connection, Error, Row};
 
-/// Queries the latest timestamp of an entry.
+/// Queries the latest timestamp of all entries.
 fn entry_moments<S: Alter>(conn: &mut Connection<S>) -> Result<Vec<Row>, Error>
     ensures asks { Asks S.Store conn.old conn.new }
     ensures shows { TellsRows S.Store conn.old conn.new entries entry_columns result
@@ -26,8 +26,8 @@ fn entry_moments<S: Alter>(conn: &mut Connection<S>) -> Result<Vec<Row>, Error>
     )
 }
 
-/// Returns the latest timestamp of all entries of all meters, or None without entries. A meter's
-/// opening is an entry too.
+/// Returns the latest timestamp of all entries of all meters, or None without entries. The opening
+/// of a meter is an entry too.
 pub fn latest_entry<S: Alter>(conn: &mut Connection<S>) -> Result<Option<u64>, RowFault>
     ensures finds { LooksUp S.Store conn.old conn.new entries entry_columns IsSoundEntered result
         (IsLast every HasEntryMoment entry_moment) }
@@ -46,7 +46,7 @@ fn void_moments<S: Alter>(conn: &mut Connection<S>) -> Result<Vec<Row>, Error>
     conn.query_all("SELECT moment FROM voids ORDER BY moment DESC LIMIT 1", &[])
 }
 
-/// Returns the latest time at which an entry was voided, or None without voids.
+/// Returns the latest time at which an entry was voided, or None if no entry was voided.
 pub fn latest_void<S: Alter>(conn: &mut Connection<S>) -> Result<Option<u64>, RowFault>
     ensures finds { LooksUp S.Store conn.old conn.new voids voided_columns IsTimelyVoid result
         (IsLast every HasVoidMoment void_moment) }

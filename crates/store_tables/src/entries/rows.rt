@@ -1,4 +1,4 @@
-//! An entry as the table `entries` has it.
+//! An entry of a meter, as the table `entries` stores it.
 ghost use Rattle.std.specs.Prelude.{◌≡◌};
 ghost use Rattle.store_tables.specs.Entries.Rows.{kind_number, kind_of};
 
@@ -14,14 +14,14 @@ pub enum EntryKind {
     Manual,
     /// The last value of a meter, when it was closed.
     Closing,
-    /// The counter was set to another value.
+    /// A reset: the counter was set to another value.
     Reset,
-    /// The counter was set to another value, at another scale.
+    /// A rescale: the counter was set to another value, with another scale factor.
     Rescale,
 }
 
 impl EntryKind {
-    /// Returns the kind with a number from 1 to 6, or None for any other number.
+    /// Returns the kind of entry with a number from 1 to 6, or None for any other number.
     pub(crate) fn of(number: u64) -> Option<EntryKind>
         ensures { result ≡ kind_of number }
     {
@@ -36,7 +36,7 @@ impl EntryKind {
         }
     }
 
-    /// Returns the number of the kind in the table, from 1 to 6.
+    /// Returns the number that the table `entries` stores for a kind of entry, from 1 to 6.
     pub fn number(self) -> u8
         ensures { result ≡ kind_number self }
     {

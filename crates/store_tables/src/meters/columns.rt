@@ -22,7 +22,7 @@ fn flag(row: &Row, at: usize) -> Result<bool, RowFault>
     }
 }
 
-/// Reads a meter's last entry and total energy.
+/// Reads a meter's last entry and total energy from a row of `installations`.
 fn last(row: &Row) -> Result<LastRow, RowFault>
     ensures { result ≡ last_in row.now }
 {
@@ -38,7 +38,7 @@ fn last(row: &Row) -> Result<LastRow, RowFault>
     })
 }
 
-/// Reads all columns of an installation except its texts.
+/// Reads all columns of an installation except the names of its meter and register.
 fn numbers(row: &Row) -> Result<InstallationRow, RowFault>
     ensures { result ≡ installation_in row.now }
 {

@@ -22,7 +22,7 @@ use sqlite::{Alter, Connection, Error, Row, Transaction, params};
 const OF_METER: &str =
     "SELECT place, meter, register, ceiling, ended, last_moment, last_raw, last_sf, total FROM installations WHERE meter = ?1 LIMIT 1";
 
-/// The query for the greatest index of an installation.
+/// The query for the greatest index of all installations.
 const LAST: &str = "SELECT place FROM installations ORDER BY place DESC LIMIT 1";
 
 fn flag(is: bool) -> u32
@@ -106,7 +106,7 @@ fn rows_of<S: Alter>(conn: &mut Connection<S>, meter: &str) -> Result<Vec<Row>, 
     conn.query_all(OF_METER, params![meter])
 }
 
-/// Returns the installation of a meter, or None if there is no such meter.
+/// Returns the installation of a meter, or None if the store has no such meter.
 pub fn installation_of<S: Alter>(
     conn: &mut Connection<S>,
     meter: &str,
@@ -135,8 +135,8 @@ fn rows_at<S: Alter>(conn: &mut Connection<S>, register: &str) -> Result<Vec<Row
     )
 }
 
-/// Returns the latest installation at an accounting register, or None if no meter was installed
-/// there.
+/// Returns the latest installation at an accounting register, or None if no meter was installed at
+/// the register.
 pub fn installation_at<S: Alter>(
     conn: &mut Connection<S>,
     register: &str,
@@ -153,7 +153,7 @@ pub fn installation_at<S: Alter>(
     }
 }
 
-/// Queries the greatest index of an installation.
+/// Queries the greatest index of all installations.
 fn last_rows<S: Alter>(conn: &mut Connection<S>) -> Result<Vec<Row>, Error>
     ensures asks { Asks S.Store conn.old conn.new }
     ensures shows { TellsRows S.Store conn.old conn.new installations installed_columns result
@@ -162,8 +162,8 @@ fn last_rows<S: Alter>(conn: &mut Connection<S>) -> Result<Vec<Row>, Error>
     conn.query_all(LAST, &[])
 }
 
-/// Returns the greatest index of an installation, or None without installations. Indices begin at 1
-/// without gaps, so the greatest index is the number of installations.
+/// Returns the greatest index of all installations, or None without installations. Indices begin at
+/// 1 without gaps, so the greatest index is the number of installations.
 pub fn last_installation<S: Alter>(conn: &mut Connection<S>) -> Result<Option<u64>, RowFault>
     ensures finds { LooksUp S.Store conn.old conn.new
         installations installed_columns IsSoundInstalled result

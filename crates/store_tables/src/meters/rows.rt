@@ -1,4 +1,4 @@
-//! An installation as the table `installations` has it.
+//! Installations, as the table `installations` stores them.
 
 /// The last entry of a meter, and its total energy since its opening, in milliwatt-hours (mWh).
 #[derive(Clone, Copy, Debug, PartialEq, Eq)]

@@ -1,6 +1,7 @@
-//! The requests that follow the script: one exchanges the meter, and one voids its reading.
+//! The requests that a test sends to an office after its script of events. The first request
+//! exchanges the meter, and the second request voids the meter's reading.
 
-/// A request to the office after the script.
+/// A request that a test sends to an office after its script of events.
 #[derive(Clone, Copy, Debug)]
 pub(crate) enum Asked {
     Exchange,
@@ -19,7 +20,7 @@ const VOID: &[u8] =
 const VOID_DONE: &[u8] =
     b"HTTP/1.1 200 OK\r\nContent-Type: application/json\r\nContent-Length: 15\r\nConnection: close\r\n\r\n{\"done\":\"void\"}";
 
-/// The HTTP response if the store failed.
+/// The HTTP response of an office whose store failed.
 pub(crate) const UNAVAILABLE: &[u8] =
     b"HTTP/1.1 503 Service Unavailable\r\nContent-Type: application/json\r\nContent-Length: 14\r\nConnection: close\r\n\r\n{\"refused\":13}";
 
@@ -31,7 +32,7 @@ pub(crate) fn request_of(asked: Asked) -> &'static [u8] {
     }
 }
 
-/// Returns the HTTP response if the office carried the request out.
+/// Returns the HTTP response for a request that the office carried out.
 pub(crate) fn reply_of(asked: Asked) -> &'static [u8] {
     match asked {
         Asked::Exchange => EXCHANGE_DONE,

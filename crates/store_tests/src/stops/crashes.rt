@@ -1,4 +1,4 @@
-//! Crashes at each call of a file.
+//! Tests crashes at each call of the log and of the database file.
 use crate::acts::{Act, act_in, empty_files};
 use crate::stops::asked::Asked;
 use crate::stops::files::{Stop, Stopping, files, restarted};
@@ -7,8 +7,8 @@ use sqlite_disk::{Fuse, Memory};
 use std::alloc::Global;
 use std::process::Abort;
 
-/// An act and its number of steps. `after` has counts of acknowledged steps: some crash must come
-/// after each of these counts. The act makes more than `calls` calls of the log.
+/// A task with its number of steps. For each count in `after`, some crash must come after exactly
+/// this many acknowledged steps. The task makes more than `calls` calls of the write-ahead log.
 struct Case {
     act: Act,
     steps: usize,
@@ -16,8 +16,8 @@ struct Case {
     calls: usize,
 }
 
-// The acts with crashes. In the office's act, the first step creates the tables. The fifth step
-// connects the device, and records nothing.
+// The tasks that the test interrupts by crashes. In the office's task, the first step creates the
+// tables. The fifth step connects the device, and records nothing.
 static CASES: [Case; 3] = [
     Case {
         act: Act::Bring,
@@ -39,7 +39,7 @@ static CASES: [Case; 3] = [
     },
 ];
 
-/// Returns the files as they are when an act begins.
+/// Returns the database files in their state before a task begins.
 fn given(rt: &impl Abort, alloc: Global, act: Act) -> Files<Fuse<Memory>> {
     let empty = empty_files(rt, alloc);
     match act {
@@ -51,8 +51,8 @@ fn given(rt: &impl Abort, alloc: Global, act: Act) -> Files<Fuse<Memory>> {
     }
 }
 
-/// Crashes during an act, and asserts what the files hold afterwards. Returns how many steps were
-/// acknowledged.
+/// Runs a task with a crash, and asserts which rows the files have afterwards. Returns how many
+/// steps were acknowledged before the crash.
 fn stopped(
     rt: &impl Abort,
     alloc: Global,
@@ -70,8 +70,8 @@ fn stopped(
     steps
 }
 
-/// Repeats an act with a crash at each call of a file, until the act makes no further call. Returns
-/// how many steps were acknowledged before each crash.
+/// Repeats a task with a crash at each call of a file, until the task makes no further call.
+/// Returns how many steps were acknowledged before each crash.
 fn stop_each(
     rt: &impl Abort,
     alloc: Global,
@@ -96,7 +96,8 @@ fn stop_each(
     panic!(rt; "it stops each time")
 }
 
-/// Returns whether some crash came after each of these counts of acknowledged steps.
+/// Returns true if, for each count in `after`, some crash came after exactly this many acknowledged
+/// steps.
 fn each_came_up(after: &[usize], stops: &[usize]) -> bool {
     for steps in after {
         if !stops.contains(steps) {
@@ -106,8 +107,8 @@ fn each_came_up(after: &[usize], stops: &[usize]) -> bool {
     true
 }
 
-/// Repeats an act with a crash at each call of each file. Data that was not synced is lost, or is
-/// in the file.
+/// Repeats a task with a crash at each call of each file. The first series of crashes loses data
+/// that was not synced. The second series keeps this data in the file.
 fn stop_all(rt: &impl Abort, alloc: Global, case: &Case) {
     for is_lost in [true, false] {
         let of_log = stop_each(rt, alloc, case, Stopping::Log, is_lost);
@@ -117,8 +118,8 @@ fn stop_all(rt: &impl Abort, alloc: Global, case: &Case) {
     }
 }
 
-// A crash leaves the file before the change in flight, or the file after it. Every acknowledged
-// change is in the file.
+// Checks that a crash leaves either the file before the change in flight or the file after this
+// change. Every acknowledged change is in the file.
 #[test]
 fn what_was_acknowledged_stands(rt: HostRuntime) {
     for case in &CASES {

@@ -1,4 +1,5 @@
-//! The file of a meter that was read every quarter of an hour for a day.
+//! SQL statements that fill a test file with a meter that was read every quarter of an hour for a
+//! day, and queries about its rows.
 
 /// SQL statements that insert the rows of a meter with one reading.
 pub(crate) const READ: &str = "INSERT INTO devices VALUES (1, 'inv', 1, 5, 1);
@@ -10,8 +11,8 @@ INSERT INTO outcomes VALUES (1, 1900, 1, 0);
 INSERT INTO intervals VALUES ('m1', 900, 177777), ('m1', 1800, 22223)";
 
 /// SQL statements that insert readings of 100 Wh more for each quarter of an hour of a day. The
-/// step to each reading has 88,888 mWh in the quarter hour of the last reading, and 11,112 mWh in
-/// the next.
+/// step to each reading has 88,888 mWh in the quarter hour of the previous reading, and 11,112 mWh
+/// in the next.
 pub(crate) const DAY: &str =
     "UPDATE installations SET last_moment = 88300, last_raw = 14800, total = 9800000;
 UPDATE intervals SET mwh = 111111 WHERE start = 1800;
@@ -21,10 +22,10 @@ INSERT INTO entries SELECT 'm1', 1 + poll, 2, started + 2, 5100 + 100 * poll, 0,
 INSERT INTO intervals SELECT 'm1', started - 98, 100000 FROM polls WHERE 1 < poll AND poll < 97;
 INSERT INTO intervals VALUES ('m1', 88200, 11112)";
 
-/// SQL statements that turn the file into one of version 1.
+/// SQL statements that turn a file of version 3 into a file of version 1.
 pub(crate) const FIRST: &str = "DROP TABLE voids; DROP TABLE ranges; UPDATE meta SET version = 1";
 
-/// Queries about the rows of the file in any version, and the number that each shows.
+/// Queries about the rows of a file of any version, each with the number that it returns.
 pub(crate) static ROWS: [(&str, i64); 12] = [
     (
         "SELECT count(*) FROM meta WHERE id = 1 AND zone = 'UTC0'",
@@ -46,7 +47,7 @@ pub(crate) static ROWS: [(&str, i64); 12] = [
     ),
 ];
 
-/// Queries about the file in version 1, and the number that each shows.
+/// Queries about a file of version 1, each with the number that it returns.
 pub(crate) static OLD: [(&str, i64); 2] = [
     ("SELECT version FROM meta", 1),
     (
@@ -55,7 +56,7 @@ pub(crate) static OLD: [(&str, i64); 2] = [
     ),
 ];
 
-/// Queries about the file in version 3, and the number that each shows.
+/// Queries about a file of version 3, each with the number that it returns.
 pub(crate) static NEW: [(&str, i64); 5] = [
     ("SELECT version FROM meta", 3),
     (

@@ -1,18 +1,18 @@
-//! The two files of a database, in memory. From a given call of one file on, every call fails, as
-//! after a crash of the machine.
+//! The two files of a database, in memory, for tests of crashes. From a given call of one file on,
+//! every call fails, as after a crash of the machine.
 use sqlite::{Connection, FileStore, Files, Options};
 use sqlite_disk::{Crash, Disk, Fuse, Memory};
 use std::alloc::Global;
 use std::process::Abort;
 
-/// The file at one of whose calls the machine crashes.
+/// The file during one of whose calls the machine crashes.
 #[derive(Clone, Copy, Debug)]
 pub(crate) enum Stopping {
     Log,
     Database,
 }
 
-/// A crash after a number of calls of one file. Data that was not synced is lost, or is in the
+/// A crash after a number of calls of one file. Data that was not synced is either lost or in the
 /// file.
 #[derive(Clone, Copy, Debug)]
 pub(crate) struct Stop {
@@ -21,7 +21,7 @@ pub(crate) struct Stop {
     pub(crate) is_lost: bool,
 }
 
-/// Returns a file with these bytes. After `calls` calls, every call fails.
+/// Returns a file with the given bytes on which every call after the first `calls` calls fails.
 fn file(rt: &impl Abort, alloc: Global, bytes: &[u8], calls: u64) -> Fuse<Memory> {
     let mut file = Memory::new(alloc);
     file.write_at(0, bytes).expect(rt, "not written");
@@ -29,7 +29,8 @@ fn file(rt: &impl Abort, alloc: Global, bytes: &[u8], calls: u64) -> Fuse<Memory
     Fuse::new(file, calls)
 }
 
-/// Returns a log and a database file with these bytes. The machine will crash at the given call.
+/// Returns a log and a database file with the given bytes. The machine crashes at the given call of
+/// one of the files.
 pub(crate) fn files(
     rt: &impl Abort,
     alloc: Global,
@@ -47,7 +48,7 @@ pub(crate) fn files(
     }
 }
 
-/// Connects to files, or returns the files if the connection fails.
+/// Opens a connection to files, or returns the files if the connection fails.
 pub(crate) fn connected(
     alloc: Global,
     files: Files<Fuse<Memory>>,
@@ -61,8 +62,8 @@ pub(crate) fn connected(
     }
 }
 
-/// Returns the files after a restart of the machine. Data that was not synced is lost, or is in the
-/// file as it was written.
+/// Returns the files after a restart of the machine. Data that was not synced is either lost or in
+/// the file as it was written.
 pub(crate) fn restarted(
     rt: &impl Abort,
     alloc: Global,

@@ -1,4 +1,5 @@
-//! An office over a database that handles the events of a script and then a request.
+//! Runs a metering office over a database. The office handles the events of a script and then a
+//! request.
 use crate::stops::asked::{Asked, UNAVAILABLE, reply_of, request_of};
 use mb_wire::MemoryLink;
 use office_books::Books;
@@ -11,8 +12,8 @@ use sqlite::{Alter, Connection};
 use std::alloc::Global;
 use std::process::Abort;
 
-/// A script with a device, its accounting register and its meter. The response to a poll shows 5200
-/// at the scale factor 0.
+/// A script with a device, its accounting register and its meter. The response to a poll has the
+/// counter value 5200 with the scale factor 0.
 const READ: &str = "1000 device inv 1 5 1
 1000 register main inv 3 40094 @40096
 1000 install main m1 5000 0 100000
@@ -20,8 +21,8 @@ const READ: &str = "1000 device inv 1 5 1
 1898 start inv 3 40094 3
 1900 bytes inv 000000000009010306000014500000";
 
-/// Plays all steps except the first over a new store: opens an office, feeds it the script, and
-/// sends a request.
+/// Runs all steps except the first over a new store: opens an office, feeds it the events of the
+/// script, and sends a request.
 fn play_over<B: Books>(rt: &impl Abort, alloc: Global, books: B, asked: Asked) -> (usize, B) {
     let mut office = match Office::open(alloc, books, 0) {
         Ok(office) => office,
@@ -31,7 +32,7 @@ fn play_over<B: Books>(rt: &impl Abort, alloc: Global, books: B, asked: Asked) -
     (steps, office.into_books())
 }
 
-/// Plays all steps over a new database. The first step creates the tables. Returns how many steps
+/// Runs all steps over a new database. The first step creates the tables. Returns how many steps
 /// were acknowledged before the store refused one.
 pub(crate) fn play<S: Alter + Drop>(
     rt: &impl Abort,
@@ -63,8 +64,8 @@ fn event_of(rt: &impl Abort, alloc: Global, line: &str) -> (u64, Event) {
     }
 }
 
-/// Returns whether the office accepts the event of a script line. Only the store may cause a
-/// refusal.
+/// Returns true if the office accepts the event of a script line. Only a failure of the store may
+/// cause a refusal.
 pub(crate) fn accepts<B: Books>(
     rt: &impl Abort,
     alloc: Global,
@@ -79,8 +80,8 @@ pub(crate) fn accepts<B: Books>(
     }
 }
 
-/// Returns whether the office acknowledges a request at this time. Any other response must say that
-/// the store failed.
+/// Returns true if the office acknowledges the request. Any other response must report that the
+/// store failed.
 pub(crate) fn acknowledges<B: Books>(
     rt: &impl Abort,
     alloc: Global,
@@ -101,8 +102,9 @@ pub(crate) fn acknowledges<B: Books>(
     panic!(rt; "another reply")
 }
 
-/// Returns how many steps are acknowledged before the store refuses one. The first step is already
-/// done. The events of the script follow, and then the request.
+/// Returns how many steps are acknowledged before the store refuses one. The count includes the
+/// first step, which created the tables. The other steps are the events of the script, and then the
+/// request.
 fn steps<B: Books>(rt: &impl Abort, alloc: Global, office: &mut Office<B>, asked: Asked) -> usize {
     let mut steps = 1usize;
     for line in READ.lines() {

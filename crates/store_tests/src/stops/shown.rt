@@ -1,10 +1,10 @@
-//! The results of queries of a database file.
+//! Helpers that run queries on a database file and compare their results with expected numbers.
 use interval_core::Zone;
 use sqlite::{Alter, Connection};
 use std::process::Abort;
 use store_files::OpenFault;
 
-/// Returns the number of the fault, or 0 if there is none.
+/// Returns the number of a fault, or 0 for a result without a fault.
 pub(crate) fn fault(answer: Result<Zone, OpenFault>) -> u8 {
     match answer {
         Ok(_) => 0,
@@ -12,7 +12,7 @@ pub(crate) fn fault(answer: Result<Zone, OpenFault>) -> u8 {
     }
 }
 
-/// Returns the number that a query returns.
+/// Returns the number that a query on the database returns.
 pub(crate) fn number<S: Alter>(rt: &impl Abort, conn: &mut Connection<S>, query: &str) -> i64 {
     conn.query_row(query, &[])
         .expect(rt, "no row")
@@ -20,7 +20,7 @@ pub(crate) fn number<S: Alter>(rt: &impl Abort, conn: &mut Connection<S>, query:
         .expect(rt, "no number")
 }
 
-/// Asserts that each query returns its number.
+/// Asserts that each query returns its expected number.
 pub(crate) fn shows<S: Alter>(rt: &impl Abort, conn: &mut Connection<S>, numbers: &[(&str, i64)]) {
     for (query, shown) in numbers {
         assert!(rt; number(rt, conn, query) == *shown, "{query}");

@@ -1,4 +1,4 @@
-//! What the file of an office holds after a crash.
+//! Asserts which rows the file of a metering office has after a crash.
 use crate::made::{found, made, opened};
 use crate::stops::asked::Asked;
 use crate::stops::offices::acknowledges;
@@ -9,11 +9,10 @@ use sqlite::{Alter, Connection};
 use std::alloc::Global;
 use std::process::Abort;
 
-/// Queries, and the number that each shows in each state of the file. The office was opened again
-/// at time 5000. The states are: no tables, new tables, after each of the six events of the script,
-/// after the exchange, and after the void.
-///
-/// When the office is opened, the poll that was pending is lost.
+/// Queries, each with the number that the query returns in each state of the file, after the office
+/// was opened again at time 5000. The states are: no tables, new tables, after each of the six
+/// events of the script, after the exchange, and after the void. A poll that was pending is
+/// recorded as lost when the office is opened again.
 static STATES: [(&str, &[i64]); 17] = [
     (
         "SELECT count(*) FROM meta WHERE id = 1 AND version = 3 AND zone = 'UTC0'",
@@ -85,8 +84,8 @@ static STATES: [(&str, &[i64]); 17] = [
     ),
 ];
 
-/// Queries, and the number that each shows after a retry of the exchange, whenever the exchange was
-/// recorded.
+/// Queries, each with the number that it returns after a retry of the request that exchanges the
+/// meter.
 static EXCHANGED_ROWS: [(&str, i64); 5] = [
     ("SELECT count(*) FROM installations", 2),
     (
@@ -101,7 +100,8 @@ static EXCHANGED_ROWS: [(&str, i64); 5] = [
     ("SELECT count(*) FROM replies", 1),
 ];
 
-/// Queries, and the number that each shows after a retry of the void.
+/// Queries, each with the number that it returns after a retry of the request that voids the
+/// reading.
 static VOIDED_ROWS: [(&str, i64); 5] = [
     ("SELECT count(*) FROM voids", 1),
     (
@@ -116,7 +116,7 @@ static VOIDED_ROWS: [(&str, i64); 5] = [
     ("SELECT count(*) FROM replies", 1),
 ];
 
-/// Returns whether each query shows the number of this state.
+/// Returns true if each query returns the expected number for the state `state` of the file.
 fn is_in_state<S: Alter>(rt: &impl Abort, connection: &mut Connection<S>, state: usize) -> bool {
     for (query, numbers) in &STATES {
         let is_shown = match numbers.get(state) {
@@ -130,8 +130,8 @@ fn is_in_state<S: Alter>(rt: &impl Abort, connection: &mut Connection<S>, state:
     true
 }
 
-/// Returns whether the store has the acknowledged steps, and possibly the step in flight. The last
-/// step is the request.
+/// Returns true if the store has the changes of all acknowledged steps, and possibly of the step in
+/// flight. The last step is the request.
 fn may_stand<S: Alter>(
     rt: &impl Abort,
     connection: &mut Connection<S>,
@@ -151,7 +151,7 @@ fn may_stand<S: Alter>(
     is_acknowledged || is_in_state(rt, connection, next)
 }
 
-/// Asserts that the request was recorded exactly once.
+/// Asserts that the store recorded the request exactly once.
 fn stands_once<S: Alter>(rt: &impl Abort, connection: &mut Connection<S>, asked: Asked) {
     match asked {
         Asked::Exchange => shows(rt, connection, &EXCHANGED_ROWS),
@@ -159,8 +159,8 @@ fn stands_once<S: Alter>(rt: &impl Abort, connection: &mut Connection<S>, asked:
     }
 }
 
-/// Opens an office at time 5000. Sends it a request again, if there is one, and asserts that the
-/// request is acknowledged. Returns the store.
+/// Opens an office at time 5000. If a request is given, sends it again and asserts that the office
+/// acknowledges it. Returns the store.
 fn reopened<B: Books>(rt: &impl Abort, alloc: Global, books: B, again: Option<Asked>) -> B {
     let mut office = opened(rt, alloc, books, 5000);
     if let Some(asked) = again {
@@ -169,7 +169,7 @@ fn reopened<B: Books>(rt: &impl Abort, alloc: Global, books: B, again: Option<As
     office.into_books()
 }
 
-/// Sends a request again, and asserts that it was recorded exactly once. Returns the store.
+/// Sends a request again, and asserts that the store recorded it exactly once. Returns the store.
 fn retried<S: Alter + Drop>(
     rt: &impl Abort,
     alloc: Global,
@@ -182,7 +182,8 @@ fn retried<S: Alter + Drop>(
     connection.into_store()
 }
 
-/// Asserts that the database is empty, and that the tables can be created in it. Returns the store.
+/// Asserts that the database is empty, and that the tables can be created in the database. Returns
+/// the store.
 fn remade<S: Alter + Drop>(rt: &impl Abort, alloc: Global, mut connection: Connection<S>) -> S {
     assert!(rt; number(rt, &mut connection, "SELECT count(*) FROM sqlite_schema") == 0);
     let books = made(rt, alloc, connection, "UTC0");
@@ -191,7 +192,7 @@ fn remade<S: Alter + Drop>(rt: &impl Abort, alloc: Global, mut connection: Conne
     connection.into_store()
 }
 
-/// Asserts that the acknowledged steps are recorded, or these and one more. If no step was
+/// Asserts that the acknowledged steps are recorded, and at most the step in flight. If no step was
 /// acknowledged, there may be no tables. Returns the store.
 pub(crate) fn stands<S: Alter + Drop>(
     rt: &impl Abort,

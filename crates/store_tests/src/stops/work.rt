@@ -1,11 +1,12 @@
-//! Opens a file of version 1, and asserts what the file holds after a crash.
+//! Opens a file of version 1, and asserts which rows the file has after a crash.
 use crate::stops::day::{DAY, FIRST, NEW, OLD, READ, ROWS};
 use crate::stops::shown::{fault, number, shows};
 use sqlite::{Alter, Connection};
 use std::process::Abort;
 use store_files::{create, open};
 
-/// Creates a file of version 1 in an empty database. Returns the count of one step, and the store.
+/// Creates a file of version 1 in an empty database. Returns 1, the count of its steps, and the
+/// store.
 pub(crate) fn prepare<S: Alter + Drop>(rt: &impl Abort, mut conn: Connection<S>) -> (usize, S) {
     if create(&mut conn, "UTC0").is_err() {
         panic!(rt; "not made");
@@ -25,8 +26,8 @@ pub(crate) fn bring<S: Alter + Drop>(rt: &impl Abort, mut conn: Connection<S>) -
     (steps, conn.into_store())
 }
 
-/// Asserts that the file has version 3 if its opening was acknowledged, and otherwise version 1 or
-/// 3. The file has every row, and can be opened. Returns the store.
+/// Asserts that the file has every row and can be opened. If the opening of the file was
+/// acknowledged, the file has version 3, otherwise version 1 or version 3. Returns the store.
 pub(crate) fn is_brought<S: Alter + Drop>(
     rt: &impl Abort,
     mut conn: Connection<S>,

@@ -1,4 +1,5 @@
--- The parts of a rollover, put together.
+-- Lemmas that combine the contracts of the calls which roll an office over into a new database
+-- file.
 use Rattle.std.proofs.Common.{◌≡◌, ℕ, List, [], ◌∷◌, Result, Ok, Err, IfOk, Option, sym, subst}
 use Rattle.std.specs.Prelude.{String, string_bytes}
 use Rattle.sqlite.specs.Store.{Ghosts}
@@ -22,8 +23,8 @@ use Rattle.carried_books.specs.declared.carrying.faults.CarryFault.{CarryFault}
 use Rattle.stored_files.specs.Carries.GoingOn.{GoesOn, GoesOnFrom, GoesOnIn, IsCarriedInto}
 use Rattle.stored_files.specs.Carries.ToldZone.{TellsZone}
 
--- An office that was opened at time 0, and into which others were rolled over, has the history of
--- both.
+-- If a file rollover executes its commands on a new office that was opened at time 0, then the
+-- office's history consists of these commands.
 pub goes_on : {O N : Type 0} (of_old : O → Ledger) (of_new : N → Ledger) (old asked : O) (until : Option ℕ) (before after : Office N) (result : Result ℕ CarryFault)
     → StandsIfClean of_new (Opened 0 ∷ []) before → Carries (of_old old) (of_old asked) until of_new before after result
     → OnlyAsked (of_old old) (of_old asked) result → Passes of_new before after → IfOk result (GoesOn of_old of_new old until)
@@ -37,7 +38,8 @@ goes_on of_old of_new old asked until before after (Ok meters) opened carried as
 }
 goes_on of_old of_new old asked until before after (Err why) opened carried asks passes = tt
 
--- The rollover of an office whose store is in a database file.
+-- If the contract of a file rollover is satisfied for a store, then it is also satisfied for the
+-- database file from which the store was opened.
 pub goes_on_from : {S E : Type 0} (g : Ghosts S) (old : Held S) (facts : List Fact) (its zone : List ℕ) (until : Option ℕ) (new : Held S) (books : SqlBooks S g) (result : Result ℕ E)
     → (HasCleanDisk (state g books.connection) → HasCleanDisk (state g old)) → HoldsAlone g its books.connection facts
     → IfOk result (GoesOnIn g (ledger_beneath g) books zone until new) → IfOk result (GoesOnFrom g old facts zone until new)
@@ -52,9 +54,9 @@ goes_on_from g old facts its zone until new books (Ok meters) clean holds it = r
 }
 goes_on_from g old facts its zone until new books (Err why) clean holds it = tt
 
--- ---- the time zone that was read first
+-- ---- reading the time zone of an office's file before a file rollover
 
--- A file has the same records after its time zone was read.
+-- After the time zone of a file is read, the file has the same records as before.
 pub still_has : {S Z : Type 0} (g : Ghosts S) (old new : Held S) (zone : List ℕ) (facts : List Fact) (told : String Z) → HasFile g zone old facts
     → (HasCleanDisk (state g new) → HasCleanDisk (state g old))
     → (HasCleanDisk (state g new) → (layout : Layout) (its : List ℕ) (content : Content) → IsFile layout its (state g old).committed content → TellsZone its (state g old) (state g new) told)
@@ -63,7 +65,8 @@ still_has g old new zone facts told has cleans tells = λ clean.
     let file = has (cleans clean) in
     (file.0, subst (λ db. HasFactsIn file.0 zone facts db) (sym (tells clean file.0 zone file.1.content file.1.file).same) file.1)
 
--- The time zone that was read is that of the file.
+-- If a query reads the time zone of a file, then it returns the time zone in the file's table
+-- `meta`.
 pub is_told : {S Z : Type 0} (g : Ghosts S) (old new : Held S) (zone : List ℕ) (facts : List Fact) (told : String Z) → HasFile g zone old facts
     → (HasCleanDisk (state g new) → HasCleanDisk (state g old))
     → (HasCleanDisk (state g new) → (layout : Layout) (its : List ℕ) (content : Content) → IsFile layout its (state g old).committed content → TellsZone its (state g old) (state g new) told)

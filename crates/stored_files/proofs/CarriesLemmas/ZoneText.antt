@@ -1,4 +1,4 @@
--- The meaning of the query for the time zone of a file, and what it shows.
+-- Lemmas on the result of the SQL query for the time zone of an office's file.
 use Rattle.std.proofs.Common.{◌≡◌, inl, List, ℕ, [], ◌∷◌, map, filter, true, false, codes, refl, sym, ap, subst, ◌∙◌, IsPermutation}
 use Rattle.std.proofs.lemmas.List.Sorted.{IsPermutation-sym, IsPermutation-trans}
 use Rattle.sqlite.specs.declared.types.Value.TheVariants.{Null}
@@ -53,7 +53,7 @@ meta_there First = inl refl
 meta_there Second = inl refl
 meta_there Third = inl refl
 
--- The table has one row.
+-- If the table `meta` is queried for its columns, then the query returns the only row of the table.
 one_row : (rows all : List Row) (m : Meta) → IsPermutation (map (told true) rows) all → IsPermutation (meta_columns m ∷ []) all → rows ≡ meta_columns m ∷ []
 one_row rows all m is marked = sym (told_same rows) ∙ one_permutation (meta_columns m) (map (told true) rows) (IsPermutation-trans _ _ _ marked (IsPermutation-sym _ _ is))
 

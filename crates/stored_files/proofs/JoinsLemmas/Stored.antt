@@ -1,4 +1,4 @@
--- Offices in databases that join.
+-- Lemmas on merging the reports on the files of one office.
 use Rattle.std.proofs.Common.{◌≡◌, ℕ, List, [], Result, Ok, Err, IfOk, Option, Some, None, refl, sym, subst, ◌∙◌}
 use Rattle.std.specs.Prelude.{◌≢◌, IfErr, string_bytes}
 use Rattle.sqlite.specs.Store.{Ghosts}
@@ -16,7 +16,8 @@ use Rattle.stored_files.specs.declared.joins.stored.JoinFault.TheVariants as fau
 use Rattle.stored_files.specs.declared.joins.stored.JoinedOffice.{JoinedOffice}
 
 module _ {K : Type 0} (k : keepings.Ghosts K) (range : DayRange) (register : List ℕ) (facts : List Fact) where
-  -- The next file after the earlier files, or the first file.
+  -- If a file is added to a merged report, then the same contract is satisfied for the first file
+  -- and for later files.
   pub next_joins : (zone : List ℕ) (before : Option (JoinedOffice K)) (kept : K) (new : JoinedOffice K)
       → AreBefore k zone range before kept → JoinsOne k range register facts kept new.kept → JoinsNext k zone range register facts before new
   next_joins zone None kept new are joins = (are.0, are.1, joins are.0 [] (are.2 register))
@@ -24,7 +25,8 @@ module _ {K : Type 0} (k : keepings.Ghosts K) (range : DayRange) (register : Lis
       joins its files (subst (λ (those : K). k.keeps its range register files those) (sym are) has)
 
   module _ {S : Type 0} (g : Ghosts S) where
-    -- A store that was found in a file.
+    -- If a store was added to a merged report, then the contract for adding the store's database
+    -- file is satisfied.
     pub joins_file : (old : Held S) (its : List ℕ) (kept : K) (books : SqlBooks S g) (result : Result K JoinFault)
         → (HasCleanDisk (state g books.connection) → HasCleanDisk (state g old)) → HoldsAlone g its books.connection facts
         → IfOk result (JoinsBooks k (ledger_beneath g) books range register kept) → IfOk result (JoinsFile k g old range register facts kept)
@@ -49,7 +51,8 @@ module _ {K : Type 0} (k : keepings.Ghosts K) (range : DayRange) (register : Lis
       parts = it.parts facts (record { zone = its; holds = holds.holds });
     }
 
-    -- A file after what is kept of the earlier files.
+    -- If a file has the time zone of the earlier files, then the contract for adding the file to
+    -- their merged report is satisfied.
     pub joins_in : (old : Held S) (zone : List ℕ) (before : Option (JoinedOffice K)) (kept : K) (new : JoinedOffice K)
         → AreBefore k zone range before kept → IsOfZone zone before → string_bytes new.zone ≡ zone
         → JoinsFile k g old range register facts kept new.kept → JoinsOffice k g old zone range register facts before new
@@ -74,7 +77,7 @@ module _ {K : Type 0} (k : keepings.Ghosts K) (range : DayRange) (register : Lis
       parts = it.parts;
     }
 
-    -- ---- the time zone was read first
+    -- ---- reading the time zone of a file before adding the file to a merged report
 
     module _ (old mid : Held S) (told zone : List ℕ) (before : Option (JoinedOffice K)) (cleans : HasCleanDisk (state g mid) → HasCleanDisk (state g old))
         (is : HasCleanDisk (state g mid) → told ≡ zone) where

@@ -1,4 +1,4 @@
--- Why a copy of a database file fails.
+-- Maps errors of SQLite to the faults of copying a database file.
 use Rattle.sqlite.specs.declared.error.ErrorCode.TheVariants as code
 use Rattle.sqlite.specs.declared.error.Error.{Error}
 use Rattle.sqlite.specs.declared.error.Error.TheVariants.{SqliteFailure}
@@ -7,14 +7,14 @@ use Rattle.stored_files.specs.declared.files.faults.FileFault.TheVariants as fil
 use Rattle.stored_files.specs.declared.backups.faults.CopyFault.{CopyFault}
 use Rattle.stored_files.specs.declared.backups.faults.CopyFault.TheVariants.{Changing, Torn, Unwritable, Memory}
 
--- The fault of a copy, if the copy can't be opened for this reason.
+-- The fault of a copy that can't be opened because of a `FileFault`.
 abbrev pub copy_fault_of : FileFault → CopyFault
 copy_fault_of file.NoDatabase = Torn
 copy_fault_of file.Memory = Memory
 copy_fault_of (file.Log fault) = Changing
 copy_fault_of _ = Unwritable
 
--- The fault of a copy, if moving its log into its file failed with this error.
+-- The fault of a copy whose log can't be merged into the copied file because of an SQLite error.
 abbrev pub close_fault_of : Error → CopyFault
 close_fault_of (SqliteFailure code.DatabaseCorrupt) = Torn
 close_fault_of (SqliteFailure code.OutOfMemory) = Memory

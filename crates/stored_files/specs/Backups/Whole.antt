@@ -1,4 +1,5 @@
--- Files that hold an office: with a write-ahead log beside the file, or the file alone.
+-- Defines when a database file has all records of an office, together with its write-ahead log or
+-- alone.
 use Rattle.std.specs.Prelude.{◌≡◌, ℕ, List}
 use Rattle.sqlite_disk.specs.declared.Disk.{Ghosts}
 use Rattle.sqlite_disk.specs.declared.Files.{Files}
@@ -13,22 +14,22 @@ use Rattle.office_rules.specs.Lawfulness.{IsPast}
 use Rattle.store_files.specs.declared.layouts.Layout.{Layout}
 use Rattle.office_store.specs.Laws.Files.{HasFactsIn}
 
--- The next open of a database with these trees finds the records of a history of accepted events.
--- The database may have any version's tables.
+-- States that opening a database with these B-trees finds the records of the history `past`. Any
+-- program version may have created the tables.
 pub record TreesHavePast (trees : Trees) (past : History) : Type 0 where
   pub zone : List ℕ
   pub is_past : IsPast past
   pub has : (found : Database) → IsDatabase found → found.trees ≡ trees
       → (layout : Layout) × HasFactsIn layout zone (facts_of past) found
 
--- The bytes of a database file and its log hold the records of a history of accepted events.
+-- States that a database file and its log together have the records of the history `past`.
 pub record HasPastIn (image : Image) (past : History) : Type 0 where
   pub trees : Trees
   pub holds : HoldsDatabase image trees
   pub has : TreesHavePast trees past
 
--- The database file holds the records of a history of accepted events, both alone and with its log.
--- This is true of the files now, and of any files that a crash leaves.
+-- States that the database file has the records of the history `past`, both alone and with its log.
+-- The same is true for any files that a crash leaves.
 pub record HasPastAlone {D : Type 0} (g : Ghosts D) (files : Files D) (past : History) :
     Type 0 where
   pub trees : Trees

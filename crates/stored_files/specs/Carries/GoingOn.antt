@@ -1,5 +1,5 @@
--- The rollover of an office from a database into a new one. Each open meter continues there from
--- its last entry.
+-- Defines the file rollover of an office from one database into a new one. Each open meter
+-- continues in the new database from its last entry.
 use Rattle.std.specs.Prelude.{◌≡◌, ℕ, List, [], ◌∷◌, Option}
 use Rattle.sqlite.specs.Store.{Ghosts}
 use Rattle.sqlite.specs.Held.{Held, state}
@@ -17,13 +17,13 @@ use Rattle.carried_books.specs.Carrying.Feeding.{history_with}
 use Rattle.carried_books.specs.Carrying.Plans.{AreCarried}
 use Rattle.carried_books.specs.declared.carrying.commands.TimedCommand.{TimedCommand}
 
--- The history of a new office that was opened at time 0 and accepted these commands.
+-- The history of a new office that was opened at time 0, and then accepted the commands `commands`.
 abbrev pub set_up_by : List TimedCommand → History
 set_up_by commands = history_with (Opened 0 ∷ []) commands
 
--- The rollover of a store into a new office. The old store was only queried. By its records,
--- `commands` roll the office over, and install `meters` meters. The new office has the history of
--- `commands`.
+-- States that an office was rolled over into a new office. The old store was only queried.
+-- `commands` follow from its records, and install `meters` meters. The new office has the history
+-- of `commands`.
 pub record GoesOn {O N : Type 0} (of_old : O → Ledger) (of_new : N → Ledger) (old : O)
     (until : Option ℕ) (meters : ℕ) : Type 0 where
   pub asked : O
@@ -34,13 +34,15 @@ pub record GoesOn {O N : Type 0} (of_old : O → Ledger) (of_new : N → Ledger)
   pub stands : StandsIfClean of_new (set_up_by commands) office
 
 module _ {S : Type 0} (g : Ghosts S) where
-  -- `GoesOn`, where the new office is in a database. Its tables were created for this time zone.
+  -- States the contract `GoesOn` for a new office in a database, whose tables were created for the
+  -- time zone `zone`.
   pub record GoesOnIn {O : Type 0} (of_old : O → Ledger) (old : O) (zone : List ℕ)
       (until : Option ℕ) (new : Held S) (meters : ℕ) : Type 0 where
     pub made : IsMade g zone new
     pub goes_on : GoesOn of_old (ledger_beneath g) old until meters
 
-  -- `GoesOn`, where both offices are in databases. The file of the old one had the records `facts`.
+  -- States the contract `GoesOn` for two offices in databases. The file of the old office has the
+  -- records `facts`.
   pub record GoesOnFrom (old : Held S) (facts : List Fact) (zone : List ℕ) (until : Option ℕ)
       (new : Held S) (meters : ℕ) : Type 0 where
     pub asked : SqlBooks S g
@@ -51,9 +53,9 @@ module _ {S : Type 0} (g : Ghosts S) where
     pub office : Office (SqlBooks S g)
     pub stands : StandsIfClean (ledger_beneath g) (set_up_by commands) office
 
-  -- The rollover of an office with the records `facts` into a new database. `commands` roll the
-  -- office over, and install `meters` meters. The new office has the same time zone, and the
-  -- history of `commands`. The claims need databases that gave back what was written to them.
+  -- States that an office with the records `facts` was rolled over into a new database. The new
+  -- office has the old office's time zone, and the history of `commands`, which install `meters`
+  -- meters. The claims require disks that returned what was written to them.
   pub record IsCarriedInto (facts : List Fact) (zone : List ℕ) (until : Option ℕ)
       (new : Held S) (meters : ℕ) : Type 0 where
     pub asked : SqlBooks S g

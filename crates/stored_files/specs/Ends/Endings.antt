@@ -1,4 +1,4 @@
--- The exit statuses of the program.
+-- Defines the exit statuses of the commands of `sunreg`.
 use Rattle.std.specs.Prelude.{ℕ, ◌<◌}
 use Rattle.command_io.specs.declared.status.ExitStatus.{ExitStatus}
 use Rattle.command_io.specs.declared.status.ExitStatus.TheVariants as status
@@ -7,8 +7,8 @@ use Rattle.stored_files.specs.declared.ends.ending.Ending.TheVariants.{Fine, Ref
 use Rattle.stored_files.specs.declared.ends.failure.Failure.{Failure}
 use Rattle.stored_files.specs.declared.ends.failure.Failure.TheVariants.{Streams}
 
--- The exit status of an ending: 0 fine, 1 refused, 2 wrong arguments. 3 is a fault of a file, a
--- stream or a socket, or out of memory.
+-- The exit status of a command. It is 0 for success, 1 for a refusal, 2 for wrong arguments, and 3
+-- for a failure of files, streams, sockets or memory.
 abbrev pub ending_number : Ending → ℕ
 ending_number Fine = 0
 ending_number Refused = 1
@@ -21,11 +21,12 @@ ending_number (NoSeal file) = 2
 ending_number (Twice file) = 2
 ending_number (Failed failure) = 3
 
--- The endings about which standard error has a message: all except fine and refused.
+-- States that the command's ending is reported on standard error. Success and refusal are not
+-- reported there.
 abbrev pub IsTold : Ending → Type 0
 IsTold ending = 1 < ending_number ending
 
--- The ending of a command that reads standard input and prints, by its exit status.
+-- The ending of a command that reads standard input and prints, from the command's exit status.
 abbrev pub ending_of : ExitStatus → Ending
 ending_of status.Fine = Fine
 ending_of status.Refused = Refused

@@ -1,4 +1,4 @@
--- Connections to database files that were blank: without any bytes.
+-- Defines connections to database files that were empty when they were opened.
 use Rattle.std.specs.Prelude.{◌≡◌, false}
 use Rattle.sqlite_disk.specs.declared.Disk.{Ghosts}
 use Rattle.sqlite_wal.specs.Recovery.{Image}
@@ -9,8 +9,8 @@ use Rattle.sqlite.specs.Held.{Held}
 use Rattle.sqlite.specs.Files.{file_state, IsBlankAs}
 
 module _ {D : Type 0} {g : Ghosts D} where
-  -- The pages of a file that was blank have no checksums, if the file gave back what was written to
-  -- it.
+  -- States that the pages of a database have no checksums if the database began as an empty file.
+  -- This requires a disk that returned what was written to it.
   abbrev pub HasNoSumsIfBlank : Image → Held (FileStore D g) → Type 0
   HasNoSumsIfBlank image c =
       HasCleanDisk (file_state c) → IsBlankAs false image → (view c.store).has_sums ≡ false

@@ -1,4 +1,4 @@
--- Why a database file is not opened.
+-- Maps errors of SQLite to the faults of opening a database file.
 use Rattle.std.specs.Prelude.{ℕ}
 use Rattle.sqlite.specs.declared.error.ErrorCode.TheVariants.{DatabaseBusy, NotADatabase, DatabaseCorrupt, OutOfMemory}
 use Rattle.sqlite.specs.declared.error.Error.{Error}
@@ -6,7 +6,7 @@ use Rattle.sqlite.specs.declared.error.Error.TheVariants.{SqliteFailure}
 use Rattle.stored_files.specs.declared.files.faults.FileFault.{FileFault}
 use Rattle.stored_files.specs.declared.files.faults.FileFault.TheVariants.{Missing, Busy, NoDatabase, Unreadable, Irregular, Log, Memory}
 
--- The number of a fault.
+-- The number of a fault of a database file, from 1.
 abbrev pub file_fault_number : FileFault → ℕ
 file_fault_number Missing = 1
 file_fault_number Busy = 2
@@ -16,7 +16,7 @@ file_fault_number Memory = 5
 file_fault_number Irregular = 6
 file_fault_number (Log fault) = 7
 
--- The fault of a file, if opening its database failed with this error.
+-- The fault of a database file that can't be opened because of an SQLite error.
 abbrev pub fault_of : Error → FileFault
 fault_of (SqliteFailure DatabaseBusy) = Busy
 fault_of (SqliteFailure NotADatabase) = NoDatabase

@@ -1,4 +1,4 @@
--- Why the log of a database is refused.
+-- Defines the reasons why a database's write-ahead log is rejected.
 use Rattle.std.specs.Prelude.{◌≡◌, ℕ, List, ⊤}
 use Rattle.sqlite_wal.specs.declared.error.Error.{Error}
 use Rattle.sqlite_wal.specs.declared.error.Error.TheVariants.{Corrupt}
@@ -8,21 +8,22 @@ use Rattle.stored_files.specs.declared.logs.check.LogFault.{LogFault}
 use Rattle.stored_files.specs.declared.logs.check.LogFault.TheVariants.{Header, Count, Commits, Memory}
 use Rattle.stored_files.specs.Logs.Damage.{HasRoom, LosesFrom}
 
--- What is true of the log if it is refused with this fault, for a database with this page size.
+-- States the cause of a fault, as a property of the rejected log and of the database's page size.
 abbrev pub IsCause : ℕ → List ℕ → LogFault → Type 0
 IsCause page_size log Header = HasRoom log × (¬ IsHeader page_size (header log))
 IsCause page_size log Count = (k : ℕ) → ¬ Replays page_size log k
 IsCause page_size log (Commits at) = (k : ℕ) × (at ≡ frame_at page_size k) × LosesFrom page_size log k
 IsCause page_size log Memory = ⊤
 
--- What is true of the log if recovery can't read its frames, for each fault.
+-- States the cause of a fault that recovery reports, as a property of a log whose frames can't be
+-- read.
 abbrev pub IsUnread : ℕ → List ℕ → LogFault → Type 0
 IsUnread page_size log Count = (k : ℕ) → ¬ Replays page_size log k
 IsUnread page_size log Memory = ⊤
 IsUnread page_size log Header = ⊥
 IsUnread page_size log (Commits at) = ⊥
 
--- The fault of the log, if recovery failed with this error.
+-- The fault of a log whose recovery failed with an SQLite error.
 abbrev pub fault_of : Error → LogFault
 fault_of Corrupt = Count
 fault_of _ = Memory

@@ -1,4 +1,4 @@
-//! Why a copy of a database file fails.
+//! Defines the reasons why copying a database file fails, with their messages.
 ghost use Rattle.std.specs.Prelude.{◌≡◌};
 ghost use Rattle.stored_files.specs.Backups.Faults.{close_fault_of, copy_fault_of};
 
@@ -7,27 +7,27 @@ use sqlite::{Error, ErrorCode};
 use std::fmt;
 use std::fmt::{Display, Formatter};
 
-/// Why a copy of a database file fails.
+/// A reason why copying a database file fails.
 #[derive(Clone, Copy, Debug, PartialEq, Eq)]
 pub enum CopyFault {
     /// A file with the name of the copy, or of its log, exists already.
     Exists,
-    /// A backup to this name is running, or was interrupted.
+    /// A backup to the same file name is running, or was interrupted.
     Unfinished,
-    /// The name has a reserved suffix: -wal, -journal, -shm or .part.
+    /// The name of the copy has a reserved suffix: -wal, -journal, -shm or .part.
     Reserved,
-    /// The copy can't be written.
+    /// The copied file can't be written.
     Unwritable,
-    /// At each attempt, another process moved the log into the file while the file was copied.
+    /// At each attempt, another process merged the log into the file during the copy.
     Changing,
-    /// The copy is not a database, or a damaged one.
+    /// The copy is not a database, or its database is damaged.
     Torn,
-    /// The copy does not have the tables of an office.
+    /// The copied file does not have the tables of an office.
     NotOurs,
     Memory,
 }
 
-// Writes what was wrong and what to do. The message follows the name of the file.
+// Writes the reason and its remedy. The program prints this text after the name of the file.
 impl Display for CopyFault {
     fn fmt<W: fmt::Write>(&self, f: &mut Formatter<W>) -> fmt::Result {
         f.write_str(match self {
@@ -48,8 +48,8 @@ impl Display for CopyFault {
     }
 }
 
-/// Maps a fault of opening the copy. The log of the original was checked first. So if the log of
-/// the copy is damaged, a commit was written while the files were copied.
+/// Maps a fault of opening a copied file to a `CopyFault`. A damaged log means that a commit was
+/// written during the copy, because the original log was checked earlier.
 pub(crate) fn copy_fault_of(fault: FileFault) -> CopyFault
     ensures { result ≡ copy_fault_of fault }
 {
@@ -63,7 +63,7 @@ pub(crate) fn copy_fault_of(fault: FileFault) -> CopyFault
     }
 }
 
-/// Maps an error of moving the copy's log into its file.
+/// Maps an SQLite error to a `CopyFault`, if a copy's log could not be merged into the copied file.
 pub(crate) fn close_fault_of(error: Error) -> CopyFault
     ensures { result ≡ close_fault_of error }
 {

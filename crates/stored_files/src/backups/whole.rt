@@ -1,4 +1,4 @@
-//! Database files that hold an office without a log.
+//! Merges the write-ahead log of an office's database into its file.
 ghost use Rattle.std.specs.Prelude.{◌≡◌, Err, IfOk};
 ghost use Rattle.sqlite_wal.specs.Files.{image_at};
 ghost use Rattle.sqlite_wal.specs.Reads.{AreClean};
@@ -15,7 +15,7 @@ use sqlite::{Connection, FileFrom, FileStore, Files, Start};
 use sqlite_disk::Disk;
 use store_files::layout_of;
 
-// Moves the log of a database into its file, and returns both files.
+// Merges the log of a database into its file, closes the database, and returns both files.
 fn close_alone<D: Disk + Drop>(connection: Connection<FileStore<D>>) -> Result<Files<D>, CopyFault>
     ensures { (past : History) → HasPast over_files connection past
         → IfOk result (λ files. AreClean D.Disk files.log files.db
@@ -30,9 +30,9 @@ fn close_alone<D: Disk + Drop>(connection: Connection<FileStore<D>>) -> Result<F
     }
 }
 
-/// Moves the log of an office's database into its file, and returns both files. The file then holds
-/// the office alone, of any version. Faults: `NotOurs` if the tables don't have the names of an
-/// office's tables, in their order.
+/// Merges the log of an office's database into its file, and returns both files. The file alone
+/// then has all records, for tables of any version. Returns `NotOurs` unless the tables have the
+/// names of an office's tables, in their order.
 pub fn whole_files<D: Disk + Drop>(
     connection: Connection<FileStore<D>>,
 ) -> Result<Files<D>, CopyFault>
@@ -48,9 +48,10 @@ pub fn whole_files<D: Disk + Drop>(
     }
 }
 
-/// Returns what `whole_files` returns, for the files at a path, even if their log has lost commits.
-/// The result has what recovery finds. No other program may have the files open, because its writes
-/// would be missed. `S` has what the files held.
+/// Merges the log beside the file at a path into the file, even if the log has lost commits. The
+/// file then has the records that recovery finds. No other process may have the file or the log
+/// open, because the result would lack that process's writes. `S` specifies the earlier content of
+/// the file and the log.
 pub fn recovered_file<S: Start>(
     rt: &HostRuntime,
     path: &str,
@@ -66,7 +67,8 @@ pub fn recovered_file<S: Start>(
     }
 }
 
-/// Returns what `whole_files` returns, for the files at a path, if their log has lost no commits.
+/// Merges the log beside the file at a path into the file by `whole_files`, if the log has lost no
+/// commits.
 pub fn whole_file<S: Start>(
     rt: &HostRuntime,
     path: &str,

@@ -1,4 +1,4 @@
-//! The rollover of an office from one database into another.
+//! Rolls an office over from one database into another.
 ghost use Rattle.std.specs.Prelude.{◌≡◌, ℕ, List, [], Err, IfOk};
 ghost use Rattle.office_events.specs.declared.facts.Fact.{Fact};
 ghost use Rattle.office_rules.specs.History.{History, facts_of};
@@ -17,18 +17,18 @@ use office_store::{OpenFault, SqlBooks};
 use sqlite::{Alter, Connection};
 use std::alloc::Global;
 
-/// Why an office was not rolled over.
+/// A reason why an office was not rolled over into a new database.
 #[derive(Clone, Copy, Debug, PartialEq, Eq)]
 pub enum CarryEnd {
     /// The old database has no office that could be opened.
     Unopened(OpenFault),
-    /// The tables of the new office were not created.
+    /// The tables of the new office could not be created.
     Unmade(OpenFault),
-    /// The rollover was not completed.
+    /// The file rollover began, but was not completed.
     Ended(CarryFault),
 }
 
-// Opens a new office over a store, and rolls the old store over into it.
+// Opens a new office over a store, and rolls the old store over into the new office.
 fn carry_into<O: Books, N: Books>(
     alloc: Global,
     old: O,
@@ -47,7 +47,7 @@ fn carry_into<O: Books, N: Books>(
     }
 }
 
-// Creates the tables of a new office, and rolls the old store over into it.
+// Creates the tables of a new office, and rolls the old store over into the new office.
 fn carry_anew<O: Books, S: Alter + Drop>(
     alloc: Global,
     old: O,
@@ -66,7 +66,7 @@ fn carry_anew<O: Books, S: Alter + Drop>(
     }
 }
 
-// Opens the old office, and rolls it over into a new one.
+// Opens the old office, and rolls it over into a new office.
 fn carry_opened<S: Alter + Drop>(
     alloc: Global,
     old: Connection<S>,
@@ -83,9 +83,9 @@ fn carry_opened<S: Alter + Drop>(
     }
 }
 
-/// Creates a new office in a database without tables, with the time zone of an old office. Rolls
-/// the old office over into it, as `carry_books` does. The new office is opened at time 0, so that
-/// no timestamp is earlier.
+/// Creates a new office in an empty database, with the time zone of an old office, and rolls the
+/// old office over with `carry_books`. The new office is opened at time 0, so that every later
+/// timestamp is valid.
 pub fn carry_stored<S: Alter + Drop>(
     alloc: Global,
     old: Connection<S>,

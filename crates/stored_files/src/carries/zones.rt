@@ -1,4 +1,4 @@
-//! The time zone of an office's file, which its table `meta` has.
+//! Reads the time zone of an office's file from the table `meta`.
 ghost use Rattle.std.specs.Prelude.{◌≡◌, ◌∷◌, [], ℕ, List, false, Err, IfOk, string_bytes};
 ghost use Rattle.sqlite.specs.Held.{state};
 ghost use Rattle.sqlite.specs.State.{HasCleanDisk, IsUnchanged};
@@ -13,7 +13,7 @@ use sqlite::{Alter, Connection, Error, ErrorCode, Row};
 use store_files::{OpenFault, layout_of};
 use store_tables::{RowFault, check_open, text};
 
-// Maps an error of the query for the zone to a fault.
+// Maps an SQL error of the query for the time zone to an `OpenFault`.
 fn fault_of(error: Error) -> OpenFault {
     match error {
         Error::SqliteFailure(ErrorCode::OutOfMemory) => OpenFault::Memory,
@@ -21,7 +21,7 @@ fn fault_of(error: Error) -> OpenFault {
     }
 }
 
-// Queries the zone in `meta`.
+// Queries the time zone in the table `meta`.
 fn zone_rows<S: Alter>(connection: &mut Connection<S>) -> Result<Vec<Row>, Error>
     ensures clean { HasCleanDisk (state S.Store connection.new)
         → HasCleanDisk (state S.Store connection.old) }
@@ -34,7 +34,7 @@ fn zone_rows<S: Alter>(connection: &mut Connection<S>) -> Result<Vec<Row>, Error
     connection.query_all("SELECT zone FROM meta", &[])
 }
 
-// Reads the text of the zone from a row.
+// Reads the text of the time zone from a result row.
 fn zone_of(row: &Row) -> Result<String, OpenFault>
     ensures { (m : Meta) → row.now ≡ zone_shown m
         → IfOk result (λ zone. string_bytes zone ≡ m.zone) }
@@ -46,7 +46,8 @@ fn zone_of(row: &Row) -> Result<String, OpenFault>
     }
 }
 
-// Reads the text of the zone from the only row. Another number of rows is a fault.
+// Reads the text of the time zone from the query's only result row. Fails if the query returned
+// another number of rows.
 fn zone_in(rows: &[Row]) -> Result<String, OpenFault>
     ensures { (m : Meta) → rows.now ≡ zone_shown m ∷ []
         → IfOk result (λ zone. string_bytes zone ≡ m.zone) }
@@ -57,7 +58,7 @@ fn zone_in(rows: &[Row]) -> Result<String, OpenFault>
     }
 }
 
-// Reads the text of the zone of a file that is open.
+// Queries the time zone of an office's file that is open.
 fn zone_of_open<S: Alter>(connection: &mut Connection<S>) -> Result<String, OpenFault>
     ensures clean { HasCleanDisk (state S.Store connection.new)
         → HasCleanDisk (state S.Store connection.old) }
@@ -74,7 +75,7 @@ fn zone_of_open<S: Alter>(connection: &mut Connection<S>) -> Result<String, Open
     }
 }
 
-// Reads the text of the zone of a file, after the check that the database is open.
+// Queries the time zone of an office's file. First checks that the database is open.
 fn zone_of_file<S: Alter>(connection: &mut Connection<S>) -> Result<String, OpenFault>
     requires { connection.old.in_transaction ≡ false }
     ensures clean { HasCleanDisk (state S.Store connection.new)
@@ -91,7 +92,7 @@ fn zone_of_file<S: Alter>(connection: &mut Connection<S>) -> Result<String, Open
     }
 }
 
-/// Returns the text of the time zone that an office's file has, for any version. Writes nothing to
+/// Returns the time zone of an office's file as text, for tables of any version. Writes nothing to
 /// the file.
 pub fn told_zone<S: Alter>(connection: &mut Connection<S>) -> Result<String, OpenFault>
     ensures foreign { ((layout : TheLayout) → ¬ IsNamedAs connection.old.schema layout)

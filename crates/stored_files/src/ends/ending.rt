@@ -1,4 +1,4 @@
-//! How a command ended, its exit status, and its message.
+//! Defines how commands end, with their exit statuses and messages.
 ghost use Rattle.std.specs.Prelude.{◌≡◌, ◌⊎◌};
 ghost use Rattle.stored_files.specs.Ends.Endings.{IsTold, ending_number, ending_of};
 
@@ -7,25 +7,25 @@ use crate::ends::named::Named;
 use command_io::ExitStatus;
 use std::io::Write;
 
-/// How a command ended.
+/// The ending of a command, from which the exit status and the message follow.
 #[derive(Drop)]
 pub enum Ending<'a> {
     Fine,
-    /// The input is wrong, or the office refused it. The output says which.
+    /// The input is wrong, or the office refused the input. The output states the reason.
     Refused,
-    /// The arguments are wrong. The text says why.
+    /// The arguments are wrong. The text states the reason.
     Wrong(String),
-    /// The arguments are not valid UTF-8.
+    /// The command line arguments are not valid UTF-8.
     NoText,
-    /// The value of the option is not a time zone.
+    /// The value of an option is not a time zone.
     NoZone(&'a str),
-    /// The value of the option is not a day.
+    /// The value `word` of the option `option` is not a day.
     NoDay { option: &'a str, word: &'a str },
-    /// The range of days ends before it begins.
+    /// The requested range of days ends before it begins.
     Backward,
-    /// The file that the option names has no seal.
+    /// The file in the option `--against` does not have the text of a seal.
     NoSeal(&'a str),
-    /// The file that the option names was given twice.
+    /// The same file was given twice.
     Twice(&'a str),
     Failed(Failure<'a>),
 }
@@ -46,7 +46,8 @@ impl<'a> Ending<'a> {
     }
 }
 
-/// Returns the ending of a command that reads standard input and prints.
+/// Returns the ending of a command that reads standard input and prints, from the command's exit
+/// status.
 pub fn ending_of(status: ExitStatus) -> Ending<'static>
     ensures { result ≡ ending_of status }
 {
@@ -57,8 +58,9 @@ pub fn ending_of(status: ExitStatus) -> Ending<'static>
     }
 }
 
-/// Writes how a command ended to standard error. Writes nothing for a command that was fine or
-/// refused: standard output has its result. Errors while writing to standard error are ignored.
+/// Writes the error message of a command to standard error. Writes nothing after success or a
+/// refusal, because standard output reports these. Errors while writing to standard error are
+/// ignored.
 pub fn say<W: Write>(ending: &Ending<'_>, errors: &mut W)
     ensures { IsTold ending.now ⊎ (errors.new ≡ errors.old) }
 {

@@ -1,4 +1,4 @@
-//! Why a command failed.
+//! Defines the reasons why a command failed, with their messages. The exit status is then 3.
 use crate::audits::AuditFault;
 use crate::backups::CopyFault;
 use crate::ends::named::Named;
@@ -9,27 +9,27 @@ use std::error::Error;
 use std::fmt;
 use std::fmt::{Display, Formatter};
 
-/// Why a command failed.
+/// A reason why a command failed. The exit status is then 3.
 #[derive(Clone, Copy, Debug, Drop)]
 pub enum Failure<'a> {
     Memory,
     /// Standard input or standard output failed, or memory ran out while a command ran.
     Streams,
-    /// The program can't listen on a port.
+    /// The program can't listen on a TCP port.
     Port {
         host: &'a str,
         port: u16,
     },
     /// The program can't listen on the loopback network.
     Loopback,
-    /// No further connection could be accepted.
+    /// The program could not accept a further connection.
     Listening,
     /// The database in a file could not be opened.
     File {
         path: &'a str,
         fault: FileFault,
     },
-    /// The tables of a new office were not created.
+    /// The tables of a new office could not be created.
     Unmade {
         path: &'a str,
         fault: OpenFault,
@@ -38,16 +38,16 @@ pub enum Failure<'a> {
     Occupied {
         path: &'a str,
     },
-    /// The file has no office that can be opened.
+    /// The file's office could not be opened.
     Unopened {
         path: &'a str,
         fault: OpenFault,
     },
-    /// The file has no tables, so the tables of an office may be in its log.
+    /// The file has no tables. The office's tables may be in a log that is missing.
     Bare {
         path: &'a str,
     },
-    /// The file is missing or empty, but its log is not.
+    /// The file is missing or empty, although its log is not.
     LogAlone {
         path: &'a str,
     },
@@ -55,12 +55,12 @@ pub enum Failure<'a> {
     Undamaged {
         path: &'a str,
     },
-    /// The file was not copied.
+    /// The file could not be copied.
     Uncopied {
         path: &'a str,
         fault: CopyFault,
     },
-    /// The file was not audited.
+    /// The file could not be audited.
     Unaudited {
         path: &'a str,
         fault: AuditFault,
@@ -70,29 +70,29 @@ pub enum Failure<'a> {
         host: &'a str,
         port: u16,
     },
-    /// The scan of a device was not completed.
+    /// The scan of a device's SunSpec models was not completed.
     Unscanned {
         host: &'a str,
         port: u16,
         fault: ScanFault,
     },
-    /// The connection to a device failed in a round.
+    /// The connection to a device failed during its round of polls.
     Broken {
         host: &'a str,
         port: u16,
     },
-    /// A round reached the greatest number of turns.
+    /// A round of polls reached the limit of reads and writes on its link.
     Endless {
         host: &'a str,
         port: u16,
     },
-    /// The host of a device has no address.
+    /// The host name of a device has no IP address.
     Host {
         host: &'a str,
     },
-    /// The system can't report which sockets are ready.
+    /// The operating system can't report which sockets are ready.
     Sockets,
-    /// The office stopped while it polled devices.
+    /// The office stopped accepting events while the program polled devices.
     Stopped,
 }
 
@@ -199,7 +199,7 @@ impl<'a> Display for Failure<'a> {
 
 impl<'a> Error for Failure<'a> {}
 
-// Returns why the tables of an office were not created, and what to do.
+// Returns the message that reports why tables could not be created, with the remedy.
 fn why_unmade(fault: OpenFault) -> &'static str {
     match fault {
         OpenFault::NotOurs => "already has tables: skip create, or choose another file",
@@ -210,7 +210,7 @@ fn why_unmade(fault: OpenFault) -> &'static str {
     }
 }
 
-// Returns why an office was not opened, and what to do.
+// Returns the message that reports why an office could not be opened, with the remedy.
 fn why_unopened(fault: OpenFault) -> &'static str {
     match fault {
         OpenFault::NotOurs =>
@@ -222,7 +222,7 @@ fn why_unopened(fault: OpenFault) -> &'static str {
     }
 }
 
-// Returns why an office was not audited, and what to do.
+// Returns the message that reports why a file could not be audited, with the remedy.
 fn why_unaudited(fault: AuditFault) -> &'static str {
     match fault {
         AuditFault::NotOurs =>

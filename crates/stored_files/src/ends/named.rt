@@ -1,8 +1,8 @@
-//! Names of files in messages.
+//! Prints file names in messages.
 use std::fmt;
 use std::fmt::{Display, Formatter};
 
-/// The name of a file in a message, on one line. A line feed in the name is written as `\x0a`.
+/// A file's name, printed in a message on one line. A line feed in the name is printed as `\x0a`.
 #[derive(Clone, Copy, Debug)]
 pub struct Named<'a>(pub &'a str);
 

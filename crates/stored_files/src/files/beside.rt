@@ -1,5 +1,5 @@
-//! The check of the write-ahead log beside a database file, before the two are opened. It writes
-//! nothing.
+//! Checks the write-ahead log beside a database file before SQLite opens the file and the log. The
+//! check writes nothing.
 ghost use Rattle.std.specs.Prelude.{◌≢◌, IfErr};
 ghost use Rattle.sqlite_wal.specs.PageSize.{Names, size_in_file};
 
@@ -10,17 +10,17 @@ use sqlite_wal::PageSize;
 use std::fs::{self, File};
 use std::io::{self, ErrorKind, Read};
 
-/// The greatest number of bytes that are read of a log: 1 GiB. This is many times the size to which
-/// the writer lets a log grow.
+/// The greatest length of a log that the check reads: 1 GiB. The writer's checkpoints keep a log
+/// much smaller.
 const MOST_LOG: u64 = 1_073_741_824;
 
-/// The length of a database file's header.
+/// The length of a database file's header, in bytes.
 const HEADER: u64 = 100;
 
-/// The offset of the page size in the header (SQLite's file format, section 1.3.2).
+/// The offset of the page size in a database file's header (SQLite's file format, section 1.3.2).
 const PAGE_SIZE: usize = 16;
 
-// Maps an error of reading a file to a fault.
+// Maps an I/O error of reading a file to a `FileFault`.
 fn read_fault(error: io::Error) -> FileFault
     ensures { result ≢ FileFault.Missing }
 {
@@ -30,8 +30,7 @@ fn read_fault(error: io::Error) -> FileFault
     }
 }
 
-/// Refuses a path that exists and is not a regular file, because reading it might block or never
-/// end.
+/// Rejects a path that exists but is not a regular file, because reading it could block forever.
 pub fn check_regular(rt: &HostRuntime, path: &str) -> Result<(), FileFault>
     ensures { IfErr result (λ fault. fault ≢ FileFault.Missing) }
 {
@@ -43,7 +42,7 @@ pub fn check_regular(rt: &HostRuntime, path: &str) -> Result<(), FileFault>
     }
 }
 
-// Reads the first bytes of a file, at most `most`. A missing file has no bytes.
+// Reads the first bytes of a file, up to `most` bytes. A missing file is read as empty.
 fn read_up_to(rt: &HostRuntime, path: &str, most: u64) -> Result<Vec<u8>, FileFault>
     ensures { IfErr result (λ fault. fault ≢ FileFault.Missing) }
 {
@@ -59,21 +58,22 @@ fn read_up_to(rt: &HostRuntime, path: &str, most: u64) -> Result<Vec<u8>, FileFa
     }
 }
 
-/// Reads the bytes of a log. A missing log has no bytes.
+/// Reads the bytes of a write-ahead log. A missing log is read as empty.
 pub(crate) fn read_log(rt: &HostRuntime, path: &str) -> Result<Vec<u8>, FileFault>
     ensures { IfErr result (λ fault. fault ≢ FileFault.Missing) }
 {
     read_up_to(rt, path, MOST_LOG)
 }
 
-/// Reads the header of a database file. A shorter file has only a part of it.
+/// Reads the header of a database file. If the file is shorter than a header, returns the complete
+/// file.
 pub(crate) fn read_front(rt: &HostRuntime, path: &str) -> Result<Vec<u8>, FileFault>
     ensures { IfErr result (λ fault. fault ≢ FileFault.Missing) }
 {
     read_up_to(rt, path, HEADER)
 }
 
-/// Returns the page size in the header of a database file, or None if the header has none.
+/// Returns the page size in a database file's header, or None if the header is invalid.
 pub(crate) fn page_size_in(db: &[u8]) -> Option<PageSize>
     ensures { Names result (size_in_file db.now) }
 {
@@ -84,7 +84,7 @@ pub(crate) fn page_size_in(db: &[u8]) -> Option<PageSize>
     PageSize::new(if named == 1 { 65536 } else { named })
 }
 
-// Checks the log of a database file whose pages have this size.
+// Checks the log of a database file with the page size `size`.
 fn check_log_for(rt: &HostRuntime, path: &str, log: &[u8], size: PageSize) -> Result<(), FileFault>
     ensures { IfErr result (λ fault. fault ≢ FileFault.Missing) }
 {
@@ -101,8 +101,8 @@ fn check_log_for(rt: &HostRuntime, path: &str, log: &[u8], size: PageSize) -> Re
     }
 }
 
-// Checks the log of the file at a path once. A file without a page size is not a database, which
-// its opening reports.
+// Checks the log beside the file at a path once. Accepts a file without a page size, because
+// opening this file reports that it is no database.
 fn check_once(rt: &HostRuntime, path: &str) -> Result<(), FileFault>
     ensures { IfErr result (λ fault. fault ≢ FileFault.Missing) }
 {
@@ -117,10 +117,10 @@ fn check_once(rt: &HostRuntime, path: &str) -> Result<(), FileFault>
     }
 }
 
-/// Checks that opening the file at a path loses no commit of the log beside it. Another process may
-/// write to both files during the check. So a log counts as damaged only if a second look finds the
-/// same damage. By then, everything written before the first look is there. Other damage is
-/// reported as `Busy`.
+/// Checks that opening the database file at a path loses no commit in its log. Reports damage only
+/// if a second check finds the same damage, and otherwise `Busy`, because another process may be
+/// writing during a check. By the second check, everything written before the first check is in the
+/// files.
 pub fn check_beside(rt: &HostRuntime, path: &str) -> Result<(), FileFault>
     ensures { IfErr result (λ fault. fault ≢ FileFault.Missing) }
 {

@@ -1,4 +1,4 @@
-//! Why a database file is not opened.
+//! Defines the reasons why a database file can't be opened, with their messages.
 ghost use Rattle.std.specs.Prelude.{◌≡◌};
 ghost use Rattle.stored_files.specs.Files.Faults.{file_fault_number, fault_of};
 
@@ -7,26 +7,26 @@ use sqlite::{Error, ErrorCode};
 use std::fmt;
 use std::fmt::{Display, Formatter};
 
-/// Why a database file is not opened.
+/// A reason why a database file can't be opened.
 #[derive(Clone, Copy, Debug, PartialEq, Eq)]
 pub enum FileFault {
-    /// The file does not exist.
+    /// The database file does not exist.
     Missing,
-    /// Another process has the file open.
+    /// Another process has the database file open.
     Busy,
-    /// The file is not a database, or a damaged one.
+    /// The file is not a database, or its database is damaged.
     NoDatabase,
-    /// The system refuses to open, read or write the file.
+    /// The operating system refuses to open, read or write the file.
     Unreadable,
-    /// The path is a folder, a pipe or a device.
+    /// The path is not a regular file, but a folder, a pipe or a device.
     Irregular,
-    /// The log beside the file has lost commits.
+    /// The write-ahead log beside the database file has lost commits.
     Log(LogFault),
     Memory,
 }
 
 impl FileFault {
-    /// Returns the number of the fault, from 1. No text of the program shows this number.
+    /// Returns the number of the fault, counted from 1. The program never prints this number.
     pub fn number(self) -> u8
         ensures { result ≡ file_fault_number self }
     {
@@ -42,7 +42,7 @@ impl FileFault {
     }
 }
 
-// Writes what was wrong and what to do. The message follows the name of the file.
+// Writes the reason and its remedy. The program prints this text after the name of the file.
 impl Display for FileFault {
     fn fmt<W: fmt::Write>(&self, f: &mut Formatter<W>) -> fmt::Result {
         f.write_str(match self {
@@ -59,7 +59,7 @@ impl Display for FileFault {
     }
 }
 
-/// Maps an error of opening a database to a fault.
+/// Maps an SQLite error of opening a database to a `FileFault`.
 pub(crate) fn fault_of(error: Error) -> FileFault
     ensures { result ≡ fault_of error }
 {

@@ -1,4 +1,4 @@
-//! Opening a database file.
+//! Opens and creates database files.
 ghost use Rattle.std.specs.Prelude.{◌≡◌, ◌≢◌, codes, Err, IfOk, IfErr};
 ghost use Rattle.sqlite_wal.specs.Files.{image_at};
 ghost use Rattle.sqlite.specs.State.{HasCleanDisk};
@@ -12,23 +12,23 @@ use crate::files::faults::{FileFault, fault_of};
 use sqlite::{Alter, Connection, FileFrom, FileStore, Start};
 use std::fs;
 
-/// A connection to a file. `S` has what the file held.
+/// A connection to a database file. `S` specifies the file's content when it is opened.
 pub type FileConnection<S> = Connection<FileStore<FileFrom<S>>>;
 
-/// A source of databases. Functions that hold a connection are proved over any such source: over a
-/// connection to a file, each proof would take minutes.
+/// A source of databases. Functions with a connection are generic over this source, because proofs
+/// over a connection to a file take minutes each.
 pub trait Databases {
     type Store: Alter + Drop;
 
     /// Opens the database at a path, and creates it if it does not exist.
     fn make(&self, path: &str) -> Result<Connection<Self::Store>, FileFault>;
 
-    /// Opens a database that exists.
+    /// Opens the existing database at a path.
     fn open(&self, path: &str) -> Result<Connection<Self::Store>, FileFault>;
 }
 
-/// Opens the database in a file, or creates an empty one if the file does not exist. Commits that
-/// the log has lost stay lost: [`make_file`] checks the log first.
+/// Opens the database in a file, or creates an empty database if the file does not exist. Unlike
+/// [`make_file`], does not check whether the log has lost commits.
 pub fn connect<S: Start>(
     rt: &HostRuntime,
     path: &str,
@@ -48,8 +48,8 @@ pub fn connect<S: Start>(
     }
 }
 
-/// Opens the database in a file, or creates an empty one if the file does not exist. Refuses a file
-/// whose log has lost commits, and then changes neither file.
+/// Opens the database in a file, or creates an empty database if the file does not exist. If the
+/// file's log has lost commits, fails and changes neither the file nor the log.
 pub fn make_file<S: Start>(
     rt: &HostRuntime,
     path: &str,
@@ -72,7 +72,7 @@ pub fn make_file<S: Start>(
     }
 }
 
-/// Opens the database in a file that exists.
+/// Opens the database in an existing file.
 pub fn open_file<S: Start>(
     rt: &HostRuntime,
     path: &str,

@@ -1,4 +1,4 @@
-//! Repairing the header of a write-ahead log in a copy of the files.
+//! Repairs the header of a write-ahead log in a copy of a database's files.
 use crate::files::beside::{page_size_in, read_front, read_log};
 use crate::files::faults::FileFault;
 use crate::files::paths::log_of;
@@ -6,18 +6,18 @@ use crate::logs::{FRAME_HEADER_LEN, HEADER_LEN, is_header, mended_header};
 use std::fs::OpenOptions;
 use std::io::{self, Write};
 
-/// The result of repairing the header of a log.
+/// The result of repairing the header of a write-ahead log.
 #[derive(Clone, Copy, Debug, PartialEq, Eq)]
 pub enum LogHeader {
-    /// The header was not damaged.
+    /// The header of the log was not damaged.
     Sound,
-    /// One byte of the header was changed, and was repaired.
+    /// One byte of the header was damaged, and was repaired.
     Mended,
-    /// More than one byte of the header was changed, so the log can't be read.
+    /// More than one byte of the header is damaged, so the log can't be read.
     Lost,
 }
 
-// Returns the header of a log, or None if the log is too short for frames.
+// Returns the header of a write-ahead log, or None if the log is too short for frames.
 fn header_of(log: &[u8]) -> Option<[u8; 32]> {
     if log.len() < HEADER_LEN + FRAME_HEADER_LEN {
         return None;
@@ -29,15 +29,15 @@ fn header_of(log: &[u8]) -> Option<[u8; 32]> {
     Some(head)
 }
 
-// Overwrites the header of a log.
+// Overwrites the header of a write-ahead log file.
 fn write_header(rt: &HostRuntime, path: &str, header: &[u8; 32]) -> io::Result<()> {
     let mut log = OpenOptions::new().write(true).open(rt, path)?;
     log.write_all(header)?;
     log.sync_all()
 }
 
-/// Repairs the header of the log beside the file at a path, if one byte of the header was changed.
-/// Both files must be copies.
+/// Repairs the header of the log beside the file at a path, if one byte of the header is damaged.
+/// The file and the log must be copies.
 pub fn mend_beside(rt: &HostRuntime, path: &str) -> Result<LogHeader, FileFault> {
     let Ok(log_path) = log_of(rt, path) else {
         return Err(FileFault::Memory);

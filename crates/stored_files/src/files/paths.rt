@@ -1,9 +1,9 @@
-//! The paths of a file and its log, and the lengths of files.
+//! Returns the path of a file's log, the real path of a file, and the lengths of files.
 use crate::ends::Failure;
 use std::fs;
 use std::io::ErrorKind;
 
-/// Returns the path of a file without symbolic links. Returns the path itself if it can't be
+/// Returns the path of a file with symbolic links resolved, or the given path if it can't be
 /// resolved.
 pub fn real_path<'a>(rt: &HostRuntime, path: &str) -> Result<String, Failure<'a>> {
     let text = match fs::canonicalize(rt, path) {
@@ -16,7 +16,7 @@ pub fn real_path<'a>(rt: &HostRuntime, path: &str) -> Result<String, Failure<'a>
     }
 }
 
-/// Returns the path of a file's log, which is beside the file.
+/// Returns the path of a database file's write-ahead log, which is in the same folder.
 pub fn log_of<'a>(rt: &HostRuntime, path: &str) -> Result<String, Failure<'a>> {
     let real = real_path(rt, path)?;
     match format!(in rt.alloc(); "{}-wal", real.as_str()) {
@@ -35,7 +35,7 @@ pub fn length_of(rt: &HostRuntime, path: &str) -> Option<u64> {
     }
 }
 
-/// Returns whether a file with this length is missing or empty.
+/// Returns whether a file is missing or empty. `length` is None for a missing file.
 pub fn is_blank(length: Option<u64>) -> bool {
     length.unwrap_or(0) == 0
 }

@@ -1,4 +1,4 @@
-//! The merged report of offices in databases, one of them open at a time.
+//! Merges the reports on an office's database files, with one file open at a time.
 ghost use Rattle.std.specs.Prelude.{◌≡◌, ◌≢◌, ◌↔◌, ℕ, List, Err, IfErr, IfOk, IsTrue, string_bytes};
 ghost use Rattle.office_events.specs.declared.facts.Fact.{Fact};
 ghost use Rattle.office_rules.specs.History.{History, facts_of};
@@ -19,27 +19,27 @@ use office_store::{OpenFault, SqlBooks};
 use sqlite::{Alter, Connection};
 use std::alloc::Global;
 
-/// Why an office in a database was not added to the earlier offices of a merged report.
+/// A reason why a database file could not be added to a merged report.
 #[derive(Clone, Copy, Debug, PartialEq, Eq)]
 pub enum JoinFault {
     /// The database has no office that could be opened.
     Unopened(OpenFault),
-    /// The office has another time zone.
+    /// The file has another time zone than the earlier files of the merged report.
     OtherZone,
-    /// The accounting register, or a meter at it, does not continue from the earlier offices.
+    /// The accounting register, or one of its meters, does not continue the earlier files.
     Unjoined(Unjoined),
-    /// The office's store failed, or memory ran out.
+    /// The file's store failed, or memory ran out.
     Books(Refusal),
 }
 
-/// What is kept of the offices that were added to a merged report, and the text of their time zone.
+/// The data of a merged report after one or more files, with the time zone of the files as text.
 #[derive(Drop)]
 pub struct JoinedOffice<K> {
     pub zone: String,
     pub kept: K,
 }
 
-// Returns whether an office with this time zone may follow the earlier offices.
+// Returns whether a file with the time zone `zone` may follow the earlier files of a merged report.
 fn is_of_zone<K>(zone: &str, before: &Option<JoinedOffice<K>>) -> bool
     ensures { IsTrue result ↔ IsOfZone zone.now before.now }
 {
@@ -49,7 +49,8 @@ fn is_of_zone<K>(zone: &str, before: &Option<JoinedOffice<K>>) -> bool
     }
 }
 
-// Returns what is kept before the next office: that of the earlier offices, or an empty report.
+// Returns the data of a merged report before the next file. Before the first file, this is the data
+// of an empty report.
 fn kept_before<K: Keeping>(
     alloc: Global,
     zone: &str,
@@ -71,7 +72,7 @@ fn kept_before<K: Keeping>(
     }
 }
 
-// Adds the report on a store to what is kept.
+// Adds the report on a store to the data of a merged report.
 fn join_books<B: Books, K: Keeping>(
     books: B,
     kept: K,
@@ -95,7 +96,7 @@ fn join_books<B: Books, K: Keeping>(
     }
 }
 
-// Opens an office, and adds the report on it to what is kept.
+// Opens an office in a database, and adds its report to the data of a merged report.
 fn join_opened<S: Alter + Drop, K: Keeping>(
     alloc: Global,
     connection: Connection<S>,
@@ -116,7 +117,7 @@ fn join_opened<S: Alter + Drop, K: Keeping>(
     }
 }
 
-// Adds an office to the earlier offices, which have the same time zone.
+// Adds an office to a merged report of earlier files in the same time zone.
 fn join_in_zone<S: Alter + Drop, K: Keeping>(
     alloc: Global,
     connection: Connection<S>,
@@ -142,7 +143,7 @@ fn join_in_zone<S: Alter + Drop, K: Keeping>(
     }
 }
 
-// Drops what was kept of the earlier offices, and returns the fault.
+// Drops the data of the earlier files of a merged report, and returns the fault of the next file.
 fn refused<K: Keeping>(
     before: Option<JoinedOffice<K>>,
     why: JoinFault,
@@ -153,8 +154,8 @@ fn refused<K: Keeping>(
     Err(why)
 }
 
-/// Adds the report on an office in a database to what is kept of the earlier offices. The report is
-/// about an accounting register on a range of days. Writes nothing to the database.
+/// Adds an office in a database to a merged report of earlier files. The report is about an
+/// accounting register on a range of days. Writes nothing to the database.
 pub fn join_stored<S: Alter + Drop, K: Keeping>(
     alloc: Global,
     connection: Connection<S>,

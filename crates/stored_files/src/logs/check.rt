@@ -1,4 +1,4 @@
-//! Whether a write-ahead log has lost commits that were on the disk.
+//! Checks whether a write-ahead log has lost commits after they were on the disk.
 ghost use Rattle.std.specs.Prelude.{◌≡◌, ◌⊎◌, ◌+◌, ◌*◌, ◌<◌, ◌≤◌, ◌↔◌, ℕ, length, Err, IsNone, IfSome, IfOk, IfErr, OnOk, IsTrue};
 ghost use Rattle.sqlite_disk.specs.Memory.{memory_bytes, memory_is_usable};
 ghost use Rattle.sqlite_wal.specs.Format.{count_page, page_number};
@@ -16,28 +16,30 @@ use std::alloc::Global;
 use std::fmt::{self, Display, Formatter};
 use std::io;
 
-/// The offset of the first salt byte in a log's header.
+/// The offset of the first salt byte in a write-ahead log's header.
 const SALT: usize = 16;
 
-/// The offset of the first salt byte in a frame, which is called the frame's gate.
+/// The offset of the first salt byte in a frame of a write-ahead log. This byte is called the
+/// frame's gate.
 const GATE: usize = 8;
 
-/// The page number of a frame that counts what the frames up to the commit lack.
+/// The page number of a count frame. With count frames, recovery detects that bytes of a commit's
+/// frames were lost and read as zeros.
 const COUNT_PAGE: u32 = 0xff00_0000;
 
-/// Why a write-ahead log is refused.
+/// A reason why a write-ahead log is rejected.
 #[derive(Clone, Copy, Debug, PartialEq, Eq)]
 pub enum LogFault {
-    /// The header is damaged, or is for another page size.
+    /// The header is damaged, or has another page size than the database file.
     Header,
-    /// A commit lacks bytes that its count lists, and more was written after the commit.
+    /// The count frame of a commit shows lost bytes, although more was written after the commit.
     Count,
-    /// Recovery would end at this offset, before a transaction that was complete.
+    /// Recovery would end at the byte offset `at`, before a complete transaction.
     Commits { at: u64 },
     Memory,
 }
 
-// Writes what is wrong with the log. The message follows the name of the log.
+// Writes how a log is damaged. The program prints this text after the log's name.
 impl Display for LogFault {
     fn fmt<W: fmt::Write>(&self, f: &mut Formatter<W>) -> fmt::Result {
         match self {
@@ -49,8 +51,8 @@ impl Display for LogFault {
     }
 }
 
-// Returns whether the transaction at the first frame that recovery drops was complete when the one
-// at frame `i` began.
+// Returns whether the transaction that recovery would lose first was already complete when the
+// transaction at frame `i` began.
 fn was_complete(log: &[u8], page_size: usize, taken: usize, i: usize) -> bool
     requires behind { taken < i }
     requires size { page_size ≤ 65536 }
@@ -71,8 +73,8 @@ fn is_cut_off(log: &[u8], page_size: usize, taken: usize, i: usize) -> bool
     begins(log, page_size, i) && was_complete(log, page_size, taken, i)
 }
 
-// Returns the first frame that begins a transaction after a complete transaction that recovery
-// would drop.
+// Returns the first frame that proves a loss. This frame begins a transaction, and recovery would
+// lose an earlier transaction that was complete.
 fn find_cut_off(log: &[u8], page_size: usize, taken: usize) -> Option<usize>
     requires room { 32 ≤ length log.now }
     requires size { page_size ≤ 65536 }
@@ -89,7 +91,7 @@ fn find_cut_off(log: &[u8], page_size: usize, taken: usize) -> Option<usize>
     None
 }
 
-// Returns a file in memory with these bytes.
+// Creates a file in memory with the given bytes.
 fn file_of(alloc: Global, bytes: &[u8]) -> io::Result<Memory>
     ensures usable { IfOk result (λ file. IsTrue (memory_is_usable file)) }
     ensures bytes { IfOk result (λ file. memory_bytes file ≡ bytes.now) }
@@ -99,7 +101,7 @@ fn file_of(alloc: Global, bytes: &[u8]) -> io::Result<Memory>
     Ok(file)
 }
 
-// Maps an error of reading the frames to a fault.
+// Maps an SQLite error of reading a log's frames to a fault.
 fn fault_of(error: Error) -> LogFault
     ensures { result ≡ fault_of error }
 {
@@ -109,7 +111,7 @@ fn fault_of(error: Error) -> LogFault
     }
 }
 
-/// Returns the page number of each frame that recovery takes from a log.
+/// Returns the page number of each frame that recovery would replay from a log.
 pub(crate) fn taken_frames(alloc: Global, log: &[u8], size: PageSize) -> Result<Vec<u32>, LogFault>
     ensures taken { IfOk result (λ pages. AreFramesOf (bytes_of size) log.now pages.items) }
     ensures cause { IfErr result (IsUnread (bytes_of size) log.now) }
@@ -123,9 +125,9 @@ pub(crate) fn taken_frames(alloc: Global, log: &[u8], size: PageSize) -> Result<
     }
 }
 
-/// Checks that recovery takes all complete transactions of a log, as a crash leaves it. A damaged
-/// transaction can't be distinguished from a torn one, unless a later transaction shows that it was
-/// complete.
+/// Checks that recovery would replay all complete transactions of a log. A damaged transaction
+/// looks like a transaction that a crash left incomplete. A later transaction shows that the
+/// damaged transaction was complete.
 pub(crate) fn check_log(alloc: Global, log: &[u8], size: PageSize) -> Result<(), LogFault>
     ensures sound { OnOk result (IsSound (bytes_of size) log.now) }
     ensures cause { IfErr result (IsCause (bytes_of size) log.now) }

@@ -1,5 +1,5 @@
-//! Logs that a checkpoint was emptying. Their first byte was changed, and the database file has
-//! their pages.
+//! Checks logs that a checkpoint was emptying. The checkpoint changed the log's first byte after
+//! the database file had all pages of the log.
 ghost use Rattle.std.specs.Prelude.{◌≡◌, ◌⊎◌, ◌+◌, ◌-◌, ◌*◌, ◌<◌, ◌≤◌, ◌↔◌, length, IfOk, IfErr, OnOk, IsTrue};
 ghost use Rattle.sqlite_wal.specs.PageSize.{bytes_of};
 ghost use Rattle.sqlite_wal.specs.Recovery.{AreFramesOf, file_page, page_after};
@@ -10,18 +10,18 @@ use crate::logs::format::{commit_size_in, content_in, header_in, is_header};
 use sqlite_wal::PageSize;
 use std::alloc::{AllocError, Global};
 
-/// The first byte of a log that is in use.
+/// The first byte of a write-ahead log that is in use.
 const OPEN: u8 = 0x37;
 
-/// Returns whether the first byte of a log was changed. A log that is too short for frames counts
-/// as unchanged.
+/// Returns whether a checkpoint changed the first byte of a log. False for a log that is too short
+/// for frames.
 pub(crate) fn is_shut(log: &[u8]) -> bool
     ensures { IsTrue result ↔ (HasRoom log.now × IsShut log.now) }
 {
     log.len() >= 56 && log[0] != OPEN
 }
 
-// Returns page `number` of a database file, from 1.
+// Returns page `number` of a database file. Pages count from 1.
 fn page_in(db: &[u8], page_size: usize, number: usize) -> &[u8]
     requires first { 0 < number }
     requires size { page_size ≤ 65536 }
@@ -32,8 +32,8 @@ fn page_in(db: &[u8], page_size: usize, number: usize) -> &[u8]
     &db[at..at + page_size]
 }
 
-// Returns whether page `number` of the database file has the content that the frames of the log
-// leave.
+// Returns whether page `number` of the database file equals this page after replaying the log's
+// frames.
 fn has_page(log: &[u8], db: &[u8], page_size: usize, pages: &[u32], number: usize) -> bool
     requires first { 0 < number }
     requires size { page_size ≤ 65536 }
@@ -52,7 +52,8 @@ fn has_page(log: &[u8], db: &[u8], page_size: usize, pages: &[u32], number: usiz
     page == page_in(db, page_size, number)
 }
 
-/// Returns whether each page of the database file has the content that the frames of the log leave.
+/// Returns whether each page of the database file equals this page after replaying the log's
+/// frames.
 fn has_all_pages(log: &[u8], db: &[u8], page_size: usize, pages: &[u32]) -> bool
     requires some { 0 < page_size }
     requires size { page_size ≤ 65536 }
@@ -75,7 +76,8 @@ fn has_all_pages(log: &[u8], db: &[u8], page_size: usize, pages: &[u32]) -> bool
     true
 }
 
-// Returns the log with the first byte that it had before the checkpoint changed it.
+// Returns a copy of a write-ahead log with its original first byte, before a checkpoint changed
+// this byte.
 fn opened_log(alloc: Global, log: &[u8]) -> Result<Vec<u8>, AllocError>
     requires { 0 < length log.now }
     ensures { IfOk result (λ it. it.items ≡ opened log.now) }
@@ -85,7 +87,7 @@ fn opened_log(alloc: Global, log: &[u8]) -> Result<Vec<u8>, AllocError>
     Ok(bytes)
 }
 
-// Checks that the database file has all pages that the commits of a log left.
+// Checks that the database file has all committed pages of a log.
 fn check_kept(alloc: Global, log: &[u8], db: &[u8], size: PageSize) -> Result<(), LogFault>
     requires { HasRoom log.now }
     ensures kept { OnOk result (KeepsAll (bytes_of size) log.now db.now) }
@@ -106,7 +108,7 @@ fn check_kept(alloc: Global, log: &[u8], db: &[u8], size: PageSize) -> Result<()
     }
 }
 
-/// Checks that ignoring a log whose first byte was changed loses nothing.
+/// Checks that nothing is lost by ignoring a log whose first byte a checkpoint changed.
 pub(crate) fn check_emptied(
     alloc: Global,
     log: &[u8],

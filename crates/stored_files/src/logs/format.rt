@@ -1,4 +1,4 @@
-//! The bytes of a write-ahead log (SQLite's file format, section 4).
+//! Parses the bytes of a write-ahead log (SQLite's file format, section 4).
 ghost use Rattle.std.specs.Prelude.{◌≡◌, ◌≢◌, ◌+◌, ◌*◌, ◌-◌, ◌^◌, ◌<◌, ◌≤◌, ◌↔◌, length, IsTrue};
 ghost use Rattle.sqlite_wal.specs.Format.{be32, commit_size, content, stored_sum, IsSigned, IsHeader, IsFrame};
 ghost use Rattle.sqlite_wal.specs.Recovery.{frame, frame_at, header};
@@ -6,13 +6,13 @@ ghost use Rattle.stored_files.specs.Logs.Damage.{Begins};
 
 use sqlite_wal::checksum_of;
 
-/// The length of the log's header in bytes.
+/// The length of a write-ahead log's header, in bytes.
 pub(crate) const HEADER_LEN: usize = 32;
 
-/// The length of a frame's header in bytes.
+/// The length of the header of a log's frame, in bytes.
 pub(crate) const FRAME_HEADER_LEN: usize = 24;
 
-/// The only version of the format.
+/// The version number of the write-ahead log format.
 const VERSION: u32 = 3007000;
 
 /// Reads a four-byte big-endian number at offset `at`.
@@ -33,7 +33,8 @@ fn get_sum(bytes: &[u8], at: usize) -> (u32, u32)
     (get_be32(bytes, at), get_be32(bytes, at + 4))
 }
 
-/// Returns whether a log's first 32 bytes have the magic number and their checksum.
+/// Returns whether the first 32 bytes of a write-ahead log have the magic number and a valid
+/// checksum.
 pub(crate) fn is_signed(head: &[u8]) -> bool
     requires { length head.now ≡ 32 }
     ensures { IsTrue result ↔ IsSigned head.now }
@@ -47,7 +48,7 @@ pub(crate) fn is_signed(head: &[u8]) -> bool
     checksum_of(head[3] == 0x83, (0, 0), &head[..24]) == get_sum(head, 24)
 }
 
-/// Returns whether the bytes are the header of a log with pages of this size.
+/// Returns whether the bytes are the header of a write-ahead log with the page size `page_size`.
 pub(crate) fn is_header(head: &[u8], page_size: usize) -> bool
     requires { length head.now ≡ 32 }
     ensures { IsTrue result ↔ IsHeader page_size head.now }
@@ -55,7 +56,7 @@ pub(crate) fn is_header(head: &[u8], page_size: usize) -> bool
     is_signed(head) && get_be32(head, 4) == VERSION && get_be32(head, 8) as usize == page_size
 }
 
-/// Returns the first 32 bytes of a log.
+/// Returns the header of a write-ahead log: its first 32 bytes.
 pub(crate) fn header_in(log: &[u8]) -> &[u8]
     requires { 32 ≤ length log.now }
     ensures header { result.now ≡ header log.now }
@@ -64,7 +65,7 @@ pub(crate) fn header_in(log: &[u8]) -> &[u8]
     &log[..HEADER_LEN]
 }
 
-/// Returns the offset of frame `i`, from 0.
+/// Returns the byte offset of frame `i` in a write-ahead log. Frames are numbered from 0.
 pub(crate) fn frame_offset(page_size: usize, i: usize) -> usize
     requires size { page_size ≤ 65536 }
     requires fits { frame_at page_size i < 2 ^ 64 }
@@ -73,8 +74,8 @@ pub(crate) fn frame_offset(page_size: usize, i: usize) -> usize
     HEADER_LEN + i * (FRAME_HEADER_LEN + page_size)
 }
 
-/// Returns whether a frame passes SQLite's test: it has the salt of this header, and continues the
-/// checksum `before`.
+/// Returns whether SQLite accepts a frame. The frame must have the salt in the header `head`, and
+/// must continue the checksum `before`.
 fn is_frame(head: &[u8], before: (u32, u32), frame: &[u8]) -> bool
     requires head { length head.now ≡ 32 }
     requires frame { 24 ≤ length frame.now }
@@ -88,7 +89,8 @@ fn is_frame(head: &[u8], before: (u32, u32), frame: &[u8]) -> bool
     checksum_of(big, front, &frame[24..]) == get_sum(frame, 16)
 }
 
-/// Returns frame `i`, from 0, with its header.
+/// Returns frame `i` of a write-ahead log, with the header of the frame. Frames are numbered from
+/// 0.
 pub(crate) fn frame_in(log: &[u8], page_size: usize, i: usize) -> &[u8]
     requires size { page_size ≤ 65536 }
     requires within { frame_at page_size (i + 1) ≤ length log.now }
@@ -99,7 +101,7 @@ pub(crate) fn frame_in(log: &[u8], page_size: usize, i: usize) -> &[u8]
     &log[at..at + FRAME_HEADER_LEN + page_size]
 }
 
-/// Returns whether frame `i` begins a transaction after another.
+/// Returns whether frame `i` begins a transaction directly after an earlier transaction.
 pub(crate) fn begins(log: &[u8], page_size: usize, i: usize) -> bool
     requires first { 0 < i }
     requires size { page_size ≤ 65536 }
@@ -114,7 +116,7 @@ pub(crate) fn begins(log: &[u8], page_size: usize, i: usize) -> bool
     is_frame(header_in(log), get_sum(before, 16), now)
 }
 
-/// Returns the page content of frame `i`.
+/// Returns the page content in frame `i` of a write-ahead log.
 pub(crate) fn content_in(log: &[u8], page_size: usize, i: usize) -> &[u8]
     requires size { page_size ≤ 65536 }
     requires within { frame_at page_size (i + 1) ≤ length log.now }
@@ -123,7 +125,8 @@ pub(crate) fn content_in(log: &[u8], page_size: usize, i: usize) -> &[u8]
     &frame_in(log, page_size, i)[FRAME_HEADER_LEN..]
 }
 
-/// Returns how many pages the database has after frame `i`, or 0 if the frame does not commit.
+/// Returns the number of database pages after the commit in frame `i`, or 0 if the frame is no
+/// commit.
 pub(crate) fn commit_size_in(log: &[u8], page_size: usize, i: usize) -> usize
     requires size { page_size ≤ 65536 }
     requires within { frame_at page_size (i + 1) ≤ length log.now }

@@ -1,4 +1,4 @@
-//! Valid headers that differ from a damaged header in one byte.
+//! Repairs a damaged log header by finding a valid header that differs from it in one byte.
 ghost use Rattle.std.specs.Prelude.{◌≡◌, ◌≢◌, ◌+◌, ◌*◌, ◌<◌, ◌≤◌, ℕ, length, slice_set, IsNone, IfSome};
 ghost use Rattle.sqlite_wal.specs.Format.{IsHeader};
 ghost use Rattle.sqlite_wal.specs.PageSize.{bytes_of};
@@ -7,7 +7,7 @@ ghost use Rattle.stored_files.specs.Logs.Damage.{IsMended};
 use crate::logs::format::{HEADER_LEN, is_header};
 use sqlite_wal::PageSize;
 
-// Returns the header with another byte at offset `at`.
+// Returns a copy of a log header with the byte `byte` at offset `at`.
 fn with_byte(head: &[u8; 32], at: usize, byte: u8) -> [u8; 32]
     requires { at < 32 }
     ensures { result ≡ slice_set head.now at byte }
@@ -17,7 +17,7 @@ fn with_byte(head: &[u8; 32], at: usize, byte: u8) -> [u8; 32]
     other
 }
 
-// Returns the valid header that differs only at offset `at`, if there is one.
+// Returns a valid header that differs from `head` only in the byte at offset `at`, or None.
 fn mended_at(head: &[u8; 32], at: usize, page_size: usize) -> Option<[u8; 32]>
     requires { at < 32 }
     ensures found { IfSome result (IsMended page_size head.now) }
@@ -32,7 +32,7 @@ fn mended_at(head: &[u8; 32], at: usize, page_size: usize) -> Option<[u8; 32]>
     None
 }
 
-/// Returns a valid header that differs from this one in at most one byte, if there is one.
+/// Returns a valid header that differs from `head` in at most one byte, or None.
 pub(crate) fn mended_header(head: &[u8; 32], size: PageSize) -> Option<[u8; 32]>
     ensures found { IfSome result (IsMended (bytes_of size) head.now) }
     ensures none { IsNone result → (at byte : ℕ) → at < 32 → byte < 256

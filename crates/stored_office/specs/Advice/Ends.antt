@@ -1,4 +1,4 @@
--- When more messages follow the end of a task.
+-- Defines when the program prints further messages after the end of a task.
 use Rattle.std.specs.Prelude.{Bool, true, false, Result, Ok, Err}
 use Rattle.command_io.specs.declared.status.ExitStatus.{ExitStatus}
 use Rattle.command_io.specs.declared.status.ExitStatus.TheVariants as status
@@ -11,25 +11,25 @@ use Rattle.office_rounds.specs.declared.fault.RoundFault.TheVariants.{Refused}
 use Rattle.stored_office.specs.declared.tasks.tasks.Done.{Done}
 use Rattle.stored_office.specs.declared.tasks.tasks.Done.TheVariants as task
 
--- Whether a round was completed, or the office refused to continue it.
+-- True if a round of polls was completed, or ended because the office refused to continue.
 abbrev pub is_finished : Result (Unit {0}) RoundFault → Bool
 is_finished (Ok x) = true
 is_finished (Err (Refused why)) = true
 is_finished (Err _) = false
 
--- Whether the exit status says that the office refused.
+-- True if the exit status means that the office refused an event.
 abbrev pub is_refusal : ExitStatus → Bool
 is_refusal status.Refused = true
 is_refusal _ = false
 
--- Whether messages follow a round: if it was completed, or the office refused it. After any other
--- failure, only the failure is reported.
+-- True if explanations follow a round of polls. They follow only if the round was completed, or if
+-- the office refused it. Any other failure is reported without explanations.
 abbrev pub is_told : PollEnd → Bool
 is_told (Polled done) = is_finished done
 is_told (Unopened why) = is_refusal why
 is_told Unconnected = false
 
--- Whether the office of a serving task refused to open.
+-- True if a task that serves HTTP ended because its office refused to open.
 abbrev pub is_refused_serving : ServeEnd → Bool
 is_refused_serving serving.Served = false
 is_refused_serving (serving.Unopened why) = is_refusal why
@@ -41,8 +41,8 @@ is_refused_polling (Polled done) = false
 is_refused_polling (Unopened why) = is_refusal why
 is_refused_polling Unconnected = false
 
--- Whether a task may have ended because the office refused to open. The cause may be that the
--- office's latest record is later than the clock.
+-- True if a task may have ended because the office refused to open. The cause may be that the
+-- latest record has a later timestamp than the clock's time.
 abbrev pub may_be_ahead : Done → Bool
 may_be_ahead (task.Reported status) = false
 may_be_ahead (task.Served end) = is_refused_serving end

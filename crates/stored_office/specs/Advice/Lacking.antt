@@ -1,4 +1,5 @@
--- The messages about what a device lacks in the store before it can be polled.
+-- Defines the messages about missing parts of a device's setup. A device can't be polled while such
+-- a part is missing.
 use Rattle.std.specs.Prelude.{◌≡◌, ℕ, List, [], ◌∷◌, Option, Result, OnOk}
 use Rattle.office_events.specs.declared.facts.Fact.{Fact}
 use Rattle.office_books.specs.Ledgers.{Ledger}
@@ -6,13 +7,13 @@ use Rattle.run_status.specs.Advice.Lacks.{lacks_of}
 use Rattle.run_status.specs.Advice.Sentences.{with_lack}
 use Rattle.run_status.specs.declared.advice.lacks.DeviceLack.{DeviceLack}
 
--- The text with a line for each thing that a device lacks, in order.
+-- Appends a line to a text for each missing part of a device's setup, in order.
 abbrev pub with_lacks : List DeviceLack → List ℕ → List ℕ
 with_lacks [] text = text
 with_lacks (lack ∷ lacks) text = with_lacks lacks (with_lack lack text)
 
--- At Ok, the text has a line for each thing that the device lacks by the records of the store. This
--- needs a database that gave back what was written to it.
+-- States that a successful call appends a line for each part of the device's setup that is missing
+-- in the store. This requires a disk that returned what was written to it.
 abbrev pub PutsLacks : {T E : Type 0} → (old new : Ledger) → (device : Option (List ℕ))
     → (before after : List ℕ) → Result T E → Type 0
 PutsLacks old new device before after result = (known : List Fact) → old.holds known

@@ -1,4 +1,4 @@
--- The explanations of a round's printed lines.
+-- Defines the explanations of the lines that a round of polls printed.
 use Rattle.std.specs.Prelude.{◌≡◌, ℕ, ◌==◌, Bool, true, false, not, List, [], ◌∷◌, Option, Some, None}
 use Rattle.command_io.specs.Lines.{Line}
 use Rattle.script_lines.specs.LineWords.Words.{words_of}
@@ -6,13 +6,14 @@ use Rattle.stored_office.specs.Advice.Remarks.{Says, remark_of}
 use Rattle.stored_office.specs.declared.advice.remarks.Remark.{Remark}
 use Rattle.stored_office.specs.declared.advice.remarks.Remark.TheVariants.{Refused, Held}
 
--- Whether a remark is explained here. Refusal 1, for an unknown device or list, is not: `say_lacks`
--- reports it.
+-- True if `say_remarks` explains a printed refusal or rejected reading. The function
+-- `say_lacks` explains refusal 1, for an unknown device or list.
 abbrev pub is_left : Remark → Bool
 is_left (Refused number) = not (number == 1)
 is_left (Held meter number) = true
 
--- The explanation of a remark is appended, unless `say_lacks` reports it.
+-- States that the explanation of a refusal or rejected reading is appended to a text. Nothing is
+-- appended if `say_lacks` explains the refusal.
 abbrev pub SaysIf : (left : Bool) → (device : Option (List ℕ)) → Remark → (old new : List ℕ)
     → Type 0
 SaysIf true device remark old new = Says device remark old new
@@ -22,12 +23,13 @@ abbrev pub SaysLeft : (device : Option (List ℕ)) → Option Remark → (old ne
 SaysLeft device None old new = new ≡ old
 SaysLeft device (Some remark) old new = SaysIf (is_left remark) device remark old new
 
--- The explanation of a printed line is appended, if it has one.
+-- States that the explanation of a printed line is appended to a text. Nothing is appended if the
+-- line has no explanation.
 abbrev pub ExplainsLine : (device : Option (List ℕ)) → (line old new : List ℕ) → Type 0
 ExplainsLine device line old new =
     SaysLeft device (remark_of (words_of line)) old new
 
--- The explanations of several printed lines are appended, one after another.
+-- States that the explanations of several printed lines are appended to a text, in order.
 abbrev pub Explains : (device : Option (List ℕ)) → List Line → (old new : List ℕ) → Type 0
 Explains device [] old new = new ≡ old
 Explains device (line ∷ lines) old new =

@@ -1,5 +1,5 @@
--- Printed lines of a round that need an explanation, and the explanations. A round is one poll for
--- each read of a device's plan.
+-- Defines which printed lines of a round need an explanation, and what the explanations are. A
+-- round is one poll for each read of a device's plan.
 use Rattle.std.specs.Prelude.{◌≡◌, ℕ, nat_lt, Bool, true, false, List, [], ◌∷◌, Option, Some, None, codes, if◌then◌else◌}
 use Rattle.std.specs.Str.{bytes_eq}
 use Rattle.printed_numbers.specs.Numbers.{has_number}
@@ -10,11 +10,11 @@ use Rattle.script_lines.specs.LineWords.Fields.{AnyName, Number, first_value, no
 use Rattle.stored_office.specs.declared.advice.remarks.Remark.{Remark}
 use Rattle.stored_office.specs.declared.advice.remarks.Remark.TheVariants.{Refused, Held}
 
--- The number, if it is less than 2^32.
+-- The number if it is less than 2^32, otherwise None.
 abbrev pub small : ℕ → Option ℕ
 small number = if nat_lt number 4294967296 then Some number else None
 
--- The words after the first, if the first word is `wanted`.
+-- The words of a line after the first word, if the first word is `wanted`. Otherwise None.
 abbrev pub exactly : (wanted : List ℕ) → List (List ℕ) → Option (List (List ℕ))
 exactly wanted [] = None
 exactly wanted (word ∷ words) = if bytes_eq word wanted then Some words else None
@@ -49,22 +49,23 @@ or_hold None held = held
 abbrev pub remark_of : (words : List (List ℕ)) → Option Remark
 remark_of words = or_hold (refusal_of words) (hold_of words)
 
--- If `known`, a line is appended that says what the number means and what to do. Otherwise nothing
--- is appended.
+-- States that a line with the meaning of a number and its remedy is appended to a text if `known`
+-- is true. Otherwise nothing is appended.
 abbrev pub MeansIf : (known : Bool) → (subject : Option (List ℕ)) → Kind → (before : List ℕ)
     → (number : ℕ) → (old new : List ℕ) → Type 0
 MeansIf true subject k before number old new =
     MeansAfter k number before (with_subject subject old) new
 MeansIf false subject k before number old new = new ≡ old
 
--- The explanation of a number is appended, if numbers of this kind include it.
+-- States that the explanation of a number is appended to a text, if the program can print this
+-- number for the kind `k`.
 abbrev pub MayMean : (subject : Option (List ℕ)) → Kind → (before : List ℕ) → (number : ℕ)
     → (old new : List ℕ) → Type 0
 MayMean subject k before number old new =
     MeansIf (has_number k number) subject k before number old new
 
--- The explanation of a remark is appended. It names the device of a refusal, or the meter of a
--- rejected reading.
+-- States that the explanation of a refusal or rejected reading is appended to a text. The
+-- explanation names the refusal's device or the reading's meter.
 abbrev pub Says : (device : Option (List ℕ)) → Remark → (old new : List ℕ) → Type 0
 Says device (Refused number) old new = MayMean device kind.Refused (codes ": ") number old new
 Says device (Held meter number) old new =

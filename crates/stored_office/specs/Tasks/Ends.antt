@@ -1,4 +1,4 @@
--- The exit statuses of tasks.
+-- Defines the exit statuses of the program's tasks over an office.
 use Rattle.std.specs.Prelude.{ℕ, Result, Ok, Err}
 use Rattle.command_io.specs.Statuses.{status_number}
 use Rattle.office_program.specs.Texts.Rounds.{round_status}
@@ -35,7 +35,7 @@ run_number (Err run.Output) = 3
 run_number (Err run.Stopped) = 3
 run_number (Err run.Memory) = 3
 
--- The exit status of any task over an office in a file.
+-- The exit status of a command, from the result of the command's task over an office's file.
 abbrev pub done_number : Result Done Failure → ℕ
 done_number (Ok (Reported status)) = status_number status
 done_number (Ok (Served end)) = serving_number end

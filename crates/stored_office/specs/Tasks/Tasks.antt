@@ -1,4 +1,4 @@
--- What a task does to a store, or to the store of a database, and how the task ends.
+-- Defines the effects of tasks on an office's store, and the results of tasks.
 use Rattle.std.specs.Prelude.{ℕ, List, Option}
 use Rattle.sqlite.specs.Store.{Ghosts}
 use Rattle.office_rules.specs.History.{History}
@@ -21,7 +21,7 @@ use Rattle.stored_office.specs.declared.tasks.tasks.Task.TheVariants as task
 use Rattle.stored_office.specs.declared.tasks.tasks.Done.{Done}
 use Rattle.stored_office.specs.declared.tasks.tasks.Done.TheVariants.{Reported, Served, Entered, Checked, Polled, Ran}
 
--- The end `Done` is possible for this kind of task.
+-- States that the result `Done` belongs to the same kind of task as the given `Task`.
 abbrev pub IsOf : Task → Done → Type 0
 IsOf (task.Report register) (Reported end) = Unit {0}
 IsOf (task.ReportRange register form) (Reported end) = Unit {0}
@@ -34,7 +34,8 @@ IsOf (task.Run settings sites) (Ran end) = Unit {0}
 IsOf _ _ = ⊥
 
 module _ {B : Type 0} (ledger : B → Ledger) where
-  -- A round ran over a store, and then possibly a look-up for what the device lacks.
+  -- States that a round of polls ran over a store. A query for missing parts of the device's setup
+  -- may have followed.
   abbrev pub PollsAndLooks : (past : History) → (device : List ℕ)
       → (moments later : Option (List ℕ)) → (found left : B) → (had holds : Option (List ℕ))
       → PollEnd → Type 0
@@ -43,8 +44,8 @@ module _ {B : Type 0} (ledger : B → Ledger) where
       × LooksUp (ledger polled) (ledger left)
 
 module _ {B : Type 0} (ledger : B → Ledger) (tells : Telling) (past : History) where
-  -- The task ran over the store that was found, left the store `left`, and ended with `Done`.
-  -- `tells` has the files and counters that a text names.
+  -- States that the task changed the store from `found` to `left`, and ended with the result
+  -- `Done`. `tells` has the contents of the files and counters that an input text names.
   unfoldable pub Does : (moments later had holds : Option (List ℕ))
       → (found left : B) → Task → Done → Type 0
   Does moments later had holds found left (task.Report register) (Reported end) =
@@ -66,7 +67,7 @@ module _ {B : Type 0} (ledger : B → Ledger) (tells : Telling) (past : History)
       BooksRun (texts settings.now.host_names.now) moments later (ledger left) past
   Does moments later had holds found left _ _ = ⊥
 
--- The task ran over the store that was found in the database.
+-- States that the task ran over the store that was opened from a database.
 abbrev pub DoesOver : {S : Type 0} → Ghosts S → Telling → (past : History)
     → (moments later had holds : Option (List ℕ)) → Task → Done → Type 0
 DoesOver g tells past moments later had holds asked end = OverBooks g past (λ found left.

@@ -1,4 +1,4 @@
-//! When more messages follow the end of a task.
+//! Decides whether the program prints further messages after the end of a task.
 ghost use Rattle.std.specs.Prelude.{◌≡◌};
 ghost use Rattle.stored_office.specs.Advice.Ends as ends;
 
@@ -7,8 +7,8 @@ use command_io::ExitStatus;
 use office_program::{PollEnd, ServeEnd};
 use office_rounds::RoundFault;
 
-/// Returns whether messages follow a round: if it was completed or refused. After any other
-/// failure, only the failure is reported.
+/// Returns whether explanations follow a round of polls. They follow only if the round was
+/// completed, or if the office refused it. Any other failure is reported without explanations.
 pub(crate) fn is_told(end: PollEnd) -> bool
     ensures { result ≡ ends.is_told end }
 {
@@ -35,7 +35,7 @@ fn is_refusal(status: ExitStatus) -> bool
     }
 }
 
-// Returns whether the office of a serving task refused to open.
+// Returns whether a task that serves HTTP ended because its office refused to open.
 fn is_refused_serving(end: ServeEnd) -> bool
     ensures { result ≡ ends.is_refused_serving end }
 {
@@ -47,7 +47,7 @@ fn is_refused_serving(end: ServeEnd) -> bool
     }
 }
 
-// Returns whether the office of a polling task refused to open.
+// Returns whether a task that polls a device ended because its office refused to open.
 fn is_refused_polling(end: PollEnd) -> bool
     ensures { result ≡ ends.is_refused_polling end }
 {
@@ -59,8 +59,8 @@ fn is_refused_polling(end: PollEnd) -> bool
 }
 
 /// Returns whether a task may have ended because the office's latest record is later than the
-/// clock. These tasks print only the number of the refusal. A run itself reports what the number
-/// means.
+/// clock. Returns true only for tasks that print just the refusal's number. The command `run`
+/// reports the meaning itself.
 pub fn may_be_ahead(done: Done) -> bool
     ensures { result ≡ ends.may_be_ahead done }
 {

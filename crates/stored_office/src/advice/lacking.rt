@@ -1,4 +1,4 @@
-//! The messages about what the device of a round lacks in the store.
+//! Writes messages about missing parts of a device's setup after a round of polls.
 ghost use Rattle.std.specs.Prelude.{◌≡◌, OnOk, false};
 ghost use Rattle.run_status.specs.Advice.Lacks.{LooksUp};
 ghost use Rattle.stored_office.specs.Advice.Ends.{is_told};
@@ -12,7 +12,7 @@ use run_status::{DeviceLack, add_lacks, put_lack};
 use std::alloc::{AllocError, Global};
 use std::io::Write;
 
-// Appends a line for each thing that a device lacks.
+// Appends a line to a text for each part that is missing in a device's setup.
 fn put_lacks(text: &mut Vec<u8>, lacks: &[DeviceLack]) -> Result<(), AllocError>
     ensures { OnOk result (text.new.items ≡ with_lacks lacks.now text.old.items) }
 {
@@ -22,7 +22,8 @@ fn put_lacks(text: &mut Vec<u8>, lacks: &[DeviceLack]) -> Result<(), AllocError>
     Ok(())
 }
 
-// Appends a line for each thing that a device lacks in the store.
+// Queries the store for missing parts of a device's setup, and appends a line to a text for each
+// missing part.
 fn put_lacks_of<B: Books>(
     alloc: Global,
     text: &mut Vec<u8>,
@@ -39,9 +40,9 @@ fn put_lacks_of<B: Books>(
     Ok(())
 }
 
-/// Writes a line for each thing that the device of a round lacks in the store, as a run does.
-/// Writes nothing after a round that failed. A text that is not a name is an unknown device. If the
-/// store, memory or the writing fails, a part of the lines is written.
+/// Writes a line for each part of the device's setup that is missing in the store. Writes nothing
+/// after a failed round. A text that is no valid name counts as an unknown device. If the store,
+/// memory or the writer fails, only some of the lines are written.
 pub fn say_lacks<B: Books, E: Write>(
     alloc: Global,
     books: &mut B,

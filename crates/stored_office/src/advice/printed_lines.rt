@@ -1,4 +1,4 @@
-//! The explanations of a round's printed lines.
+//! Writes explanations of the lines that a round of polls printed.
 ghost use Rattle.std.specs.Prelude.{◌≡◌, OnOk, false};
 ghost use Rattle.command_io.specs.Lines.{speaking_lines};
 ghost use Rattle.stored_office.specs.Advice.Ends.{is_told};
@@ -13,8 +13,8 @@ use office_program::PollEnd;
 use std::alloc::{AllocError, Global};
 use std::io::Write;
 
-// Returns whether a remark is explained here. Refusal 1, for an unknown device or list, is not:
-// `say_lacks` reports it.
+// Returns whether `say_remarks` explains a printed refusal or rejected reading. The function
+// `say_lacks` explains refusal 1, for an unknown device or list.
 fn is_left(remark: &Remark) -> bool
     ensures { result ≡ printing.is_left remark.now }
 {
@@ -24,7 +24,7 @@ fn is_left(remark: &Remark) -> bool
     }
 }
 
-// Appends the explanation of a printed line, if it has one.
+// Appends the explanation of a printed line to a text, if the line has an explanation.
 fn put_line(text: &mut Vec<u8>, device: &Option<Name>, line: &[u8]) -> Result<(), AllocError>
     ensures { OnOk result (ExplainsLine device.now line.now text.old.items text.new.items) }
 {
@@ -38,7 +38,7 @@ fn put_line(text: &mut Vec<u8>, device: &Option<Name>, line: &[u8]) -> Result<()
     }
 }
 
-// Appends the explanations of all lines of a text.
+// Appends the explanations of all printed lines of a round to a text.
 fn put_remarks(text: &mut Vec<u8>, device: &Option<Name>, printed: &[u8]) -> Result<(), AllocError>
     ensures { OnOk result (Explains device.now (speaking_lines printed.now)
         text.old.items text.new.items) }
@@ -50,9 +50,9 @@ fn put_remarks(text: &mut Vec<u8>, device: &Option<Name>, printed: &[u8]) -> Res
     Ok(())
 }
 
-/// Writes a line for each refusal and each rejected reading that a round printed: what it means,
-/// and what to do. Writes nothing after a round that failed. If memory or the writing fails, a part
-/// of the lines is written.
+/// Writes the meaning and the remedy of each refusal and rejected reading that a round printed.
+/// Writes nothing after a failed round. If memory or the writer fails, only some of the lines are
+/// written.
 pub fn say_remarks<E: Write>(
     alloc: Global,
     device: &str,

@@ -1,4 +1,4 @@
-//! Printed lines of a round that need an explanation. A round is one poll for each read of a
+//! Finds printed lines of a round that need an explanation. A round is one poll for each read of a
 //! device's plan.
 ghost use Rattle.std.specs.Prelude.{◌≡◌, OnOk, option_map};
 ghost use Rattle.script_lines.specs.LineWords.Words.{words_of};
@@ -12,12 +12,12 @@ use run_status::put;
 use script_lines::{Words, next_name, next_number, nothing_more};
 use std::alloc::AllocError;
 
-/// A printed line of a round that needs an explanation.
+/// A printed line of a round of polls that needs an explanation.
 #[derive(Clone, Copy, Debug, PartialEq, Eq)]
 pub(crate) enum Remark {
     /// The line `refused N`: a refusal of the office, with its number.
     Refused(u32),
-    /// The line `held METER RAW cause N`: a reading of a meter was rejected.
+    /// The line `held METER RAW cause N`: the office rejected a reading of the meter.
     Held(Name, u32),
 }
 
@@ -31,7 +31,7 @@ fn small(number: u64) -> Option<u32>
     }
 }
 
-// Reads the next word, which must be `wanted`. Returns None for another word.
+// Reads the next word of a line, which must be `wanted`. Returns None for another word.
 fn next_exactly(words: &mut Words<'_>, wanted: &[u8]) -> Option<()>
     ensures { option_map (λ none. words.new) result ≡ remarks.exactly wanted.now words.old }
 {
@@ -70,7 +70,7 @@ fn hold_in(line: &[u8]) -> Option<Remark>
     Some(Remark::Held(meter, number))
 }
 
-/// Returns the refusal or the rejected reading of a printed line. None for any other line.
+/// Returns the refusal or the rejected reading in a printed line. None for any other line.
 pub(crate) fn remark_in(line: &[u8]) -> Option<Remark>
     ensures { result ≡ remarks.remark_of (words_of line.now) }
 {
@@ -80,7 +80,8 @@ pub(crate) fn remark_in(line: &[u8]) -> Option<Remark>
     }
 }
 
-// Appends the name of the device or meter that a line is about, if there is one.
+// Appends the name of the device or meter that an explanation is about to a text, if there is such
+// a name.
 fn put_subject(text: &mut Vec<u8>, name: &Option<Name>) -> Result<(), AllocError>
     ensures { OnOk result (text.new.items ≡ with_subject name.now text.old.items) }
 {
@@ -91,7 +92,7 @@ fn put_subject(text: &mut Vec<u8>, name: &Option<Name>) -> Result<(), AllocError
     }
 }
 
-// Appends what a number means and what to do, after the text `before`.
+// Appends `before` to a text, and then the meaning of a number and its remedy.
 fn put_meaning(text: &mut Vec<u8>, before: &[u8], meaning: &Meaning) -> Result<(), AllocError>
     ensures { OnOk result (text.new.items ≡ with_meaning before.now meaning.now text.old.items) }
 {
@@ -102,8 +103,8 @@ fn put_meaning(text: &mut Vec<u8>, before: &[u8], meaning: &Meaning) -> Result<(
     put(text, b"\n")
 }
 
-// Appends what a number means and what to do. Appends nothing if numbers of this kind don't include
-// it.
+// Appends the meaning of a number and its remedy to a text. Appends nothing if the program never
+// prints this number for its kind.
 fn put_number_of(
     text: &mut Vec<u8>,
     subject: &Option<Name>,
@@ -123,8 +124,8 @@ fn put_number_of(
     }
 }
 
-/// Appends a line on what a number means, and what to do. Appends nothing if there is no such
-/// number. Out of memory leaves a part of the line.
+/// Appends a line with the meaning of a printed number and its remedy to a text. Appends nothing if
+/// the number has no meaning. If memory runs out, the line is incomplete.
 pub(crate) fn put_remark(
     text: &mut Vec<u8>,
     device: &Option<Name>,

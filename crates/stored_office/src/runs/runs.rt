@@ -1,4 +1,4 @@
-//! Runs over stores in a database.
+//! Runs an office over a store in a database.
 ghost use Rattle.std.specs.Prelude.{ℕ, List, [], IfErr, IfOk, IfSome};
 ghost use Rattle.office_core.specs.EventRun.{HandsBack, IsCleanOnlyIfWas, RecordsIfClean};
 ghost use Rattle.office_rules.specs.Lawfulness.{IsPast};
@@ -12,9 +12,9 @@ use office_store::SqlBooks;
 use sqlite::{Alter, Connection};
 use std::alloc::Global;
 
-/// Runs events over a store in a database. The main theorem about an office applies to the run on
-/// two premises. The store has the records of a history of accepted events, and a crash leaves
-/// exactly these. The database gave back what was written to it.
+/// Processes events over a store in a database. The main theorem about an office has two premises.
+/// The store has exactly the records of a history of accepted events, also after a crash. The disk
+/// returned what was written to it.
 pub fn run_stored<S: Alter + Drop>(
     alloc: Global,
     books: SqlBooks<S>,
@@ -32,9 +32,9 @@ pub fn run_stored<S: Alter + Drop>(
     run(alloc, books, opened, events)
 }
 
-/// Runs events over a new store, with civil days in a time zone. The only premise is that the
-/// database gave back what was written to it. None if the store was not created, or if the office
-/// was not opened.
+/// Processes events over a new store, with the days of a time zone. The only premise is that the
+/// disk returned what was written to it. Returns None if the store could not be created, or if the
+/// office could not be opened.
 pub fn run_anew<S: Alter + Drop>(
     alloc: Global,
     connection: Connection<S>,

@@ -1,4 +1,4 @@
-//! How a command ends, given how its task ended.
+//! Maps the result of a task to the ending of its command.
 ghost use Rattle.std.specs.Prelude.{◌≡◌};
 ghost use Rattle.command_io.specs.Statuses.{status_number};
 ghost use Rattle.office_program.specs.Texts.Rounds.{round_status};
@@ -11,7 +11,7 @@ use office_rounds::RoundFault;
 use office_running::RunFault;
 use stored_files::{Ending, Failure, ending_of};
 
-// Returns how the command ends after a round that was started.
+// Returns the ending of a command, from the result of its round of polls.
 fn ending_of_round<'a>(done: Result<(), RoundFault>, host: &'a str, port: u16) -> Ending<'a>
     ensures { ending_number result ≡ status_number (round_status done) }
 {
@@ -24,7 +24,7 @@ fn ending_of_round<'a>(done: Result<(), RoundFault>, host: &'a str, port: u16) -
     }
 }
 
-// Returns how the command ends after serving HTTP on a port of a host.
+// Returns the ending of a command that served HTTP on a port of a host.
 fn ending_of_serving<'a>(end: ServeEnd, host: &'a str, port: u16) -> Ending<'a>
     ensures { ending_number result ≡ serving_number end }
 {
@@ -36,7 +36,7 @@ fn ending_of_serving<'a>(end: ServeEnd, host: &'a str, port: u16) -> Ending<'a>
     }
 }
 
-// Returns how the command ends after polling the device at a port of a host.
+// Returns the ending of a command that polled the device at a port of a host.
 fn ending_of_polling<'a>(end: PollEnd, host: &'a str, port: u16) -> Ending<'a>
     ensures { ending_number result ≡ polling_number end }
 {
@@ -47,7 +47,7 @@ fn ending_of_polling<'a>(end: PollEnd, host: &'a str, port: u16) -> Ending<'a>
     }
 }
 
-// Returns how the command ends after a run that serves HTTP on a port of a host.
+// Returns the ending of the command `run`, which served HTTP on a port of a host.
 fn ending_of_run<'a>(end: Result<(), RunFault>, host: &'a str, port: u16) -> Ending<'a>
     ensures { ending_number result ≡ run_number end }
 {
@@ -62,7 +62,8 @@ fn ending_of_run<'a>(end: Result<(), RunFault>, host: &'a str, port: u16) -> End
     }
 }
 
-/// Returns how the command ends after a task. The task had sockets at a port of a host.
+/// Returns the ending of a command, from the result of its task. `host` and `port` are the address
+/// of the task's sockets.
 pub fn ending_of_done<'a>(done: Result<Done, Failure<'a>>, host: &'a str, port: u16) -> Ending<'a>
     ensures { ending_number result ≡ done_number done.entry }
 {

@@ -1,4 +1,4 @@
-//! The program's tasks over an office, and their execution.
+//! Defines and executes the program's tasks over an office.
 ghost use Rattle.std.specs.Prelude.{◌≡◌, Err, IfOk, IfErr};
 ghost use Rattle.office_rules.specs.History.{History};
 ghost use Rattle.office_core.specs.Leaving.{BooksStand};
@@ -26,14 +26,14 @@ use std::io::Write;
 use std::net::Net;
 use std::rt::Files;
 
-/// A task that a command carries out over the store of an office.
+/// A task that a command executes over the store of an office.
 #[derive(Clone, Copy)]
 pub enum Task<'a> {
     /// Reports the energy of an accounting register, as `report_books` does.
     Report {
         register: &'a str,
     },
-    /// Reports the energy of an accounting register on a range of days, in this form, as
+    /// Reports the energy of an accounting register on a range of days, in the form `form`, as
     /// `report_range_books` does.
     ReportRange {
         register: &'a str,
@@ -45,27 +45,27 @@ pub enum Task<'a> {
         register: &'a str,
         form: &'a StatementForm,
     },
-    /// Serves HTTP on a port of a host for `connections` connections, as `serve_books` does.
-    /// `names` are further names of the host.
+    /// Serves HTTP for `connections` connections, as `serve_books` does. `names` are further names
+    /// of the host in requests.
     Serve {
         host: &'a str,
         port: u16,
         names: &'a [&'a str],
         connections: u32,
     },
-    /// Requests what the lines of a text say, with `caller` in the idempotency keys, as
+    /// Requests the events in the lines of a text, with `caller` in the idempotency keys, as
     /// `enter_books` does.
     Enter {
         caller: &'a str,
         text: &'a [u8],
     },
-    /// Checks the lines of a text without requests, as `check_books` does.
+    /// Checks the lines of a text without requesting their events, as `check_books` does.
     Check {
         caller: &'a str,
         text: &'a [u8],
     },
-    /// Polls the device at a port of a host once, as `poll_books` does. Then reports what the
-    /// device lacks, as `say_lacks` does.
+    /// Polls one round of the device at a port of a host, as `poll_books` does. Then reports
+    /// missing parts of the device's setup, as `say_lacks` does.
     Round {
         device: &'a str,
         host: &'a str,
@@ -78,7 +78,7 @@ pub enum Task<'a> {
     },
 }
 
-/// How a task ended.
+/// The result of a task.
 #[derive(Clone, Copy)]
 pub enum Done {
     Reported(ExitStatus),
@@ -89,7 +89,7 @@ pub enum Done {
     Ran(Result<(), RunFault>),
 }
 
-/// Carries out a task over a store. `files` reads the files and counters that a text names.
+/// Executes a task over a store. `files` reads the files and counters that an input text names.
 fn carry_out<
     R: Net + std::rt::Clock + Files,
     B: Books,
@@ -182,8 +182,8 @@ fn carry_out<
     }
 }
 
-/// Opens the store of a database, and carries out a task over it. Prints nothing if the store is
-/// not opened. `files` reads the files and counters that a text names.
+/// Opens the store in a database, and executes a task over it. Prints nothing if the store can't be
+/// opened. `files` reads the files and counters that an input text names.
 pub fn carry_out_stored<
     R: Net + std::rt::Clock + Files,
     S: Alter + Drop,

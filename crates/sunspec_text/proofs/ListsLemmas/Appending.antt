@@ -1,4 +1,4 @@
--- Lemmas on bytes that are written one after another.
+-- Lemmas on a writer that receives several texts, one after another.
 use Rattle.std.proofs.Common.{◌≡◌, ◌+◌, ◌<◌, ℕ, Option, Some, None, List, [], ◌++◌, length, take, get_or, sym, ◌∙◌, ap, append_assoc, append-nil, arith}
 use Rattle.std.specs.List.{flat_map}
 use Rattle.std.specs.Prelude.{Ok, Err, OnOk}
@@ -20,12 +20,14 @@ appends_nothing (Some xs) = sym (append-nil xs)
 one_more : {X : Type 0} (f : X → List ℕ) (xs : List X) (i : ℕ) (d : X) → i < length xs → flat_map f (take i xs) ++ f (get_or xs i d) ≡ flat_map f (take (i + 1) xs)
 one_more f xs i d inside = grind (arith, common_steps)
 
--- The text of the first items, followed by that of the next item.
+-- If a writer received the texts of the items before item `i` and then the text of item `i`, then
+-- it received the texts of the first `i + 1` items.
 pub appends_next : {X : Type 0} (f : X → List ℕ) (xs : List X) (i : ℕ) (d : X) (a b c : Option (List ℕ)) → i < length xs
     → Appends a b (flat_map f (take i xs)) → Appends b c (f (get_or xs i d)) → Appends a c (flat_map f (take (i + 1) xs))
 appends_next f xs i d a b c inside first second = appends_both a b c _ _ _ first second (one_more f xs i d inside)
 
--- Bytes were written, followed by those of a call that may have failed.
+-- If a writer received the text `x` and then a successful call wrote the text `y`, then the writer
+-- received `x ++ y`.
 pub appends_before : {E : Type 0} (written : Result (Unit {0}) E) (a b c : Option (List ℕ)) (x y z : List ℕ) → Appends a b x → OnOk written (Appends b c y) → x ++ y ≡ z
     → OnOk written (Appends a c z)
 appends_before (Ok done) a b c x y z first second joined = appends_both a b c x y z first second joined

@@ -1,4 +1,4 @@
--- Lemmas on the lines of a plan, written one after another.
+-- Lemmas on the lines that are printed for a read plan, one for each read and one for each point.
 use Rattle.std.proofs.Common.{◌≡◌, ◌+◌, ◌<◌, ℕ, zero, suc, List, [], ◌∷◌, ◌++◌, length, take, get_or, sym, ◌∙◌, ap, append_assoc, append-nil, map, arith}
 use Rattle.std.specs.List.{flat_map}
 use Rattle.std.proofs.Math.Seq.{take-suc}
@@ -40,7 +40,8 @@ pub start_at : (points : List ListedPoint) (starts : List ℕ) (i : ℕ) (p : Li
 start_at points starts i p inside are is =
     ap (λ xs. get_or xs i 0) are ∙ get_or-map (λ (point : ListedPoint). point.address) points i p 0 inside ∙ ap (λ (point : ListedPoint). point.address) (sym is)
 
--- The lines of the first points, followed by that of the next point.
+-- If the line of point `i` is printed after the lines of the points before `i`, then the lines of
+-- the first `i + 1` points were printed.
 pub points_next : (list points : List ListedPoint) (reads : List PlannedRead) (printed : List ℕ) (i : ℕ) (p : PlacedPoint) → i < length points
     → p.point ≡ get_or points i p.point → PointsPrint list (take i points) reads printed → IsPlaced list reads p
     → PointsPrint list (take (i + 1) points) reads (printed ++ point_line p)

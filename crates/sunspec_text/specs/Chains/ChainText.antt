@@ -1,5 +1,5 @@
--- The output for the chain of SunSpec models in a device's words, and the exit status. A word is
--- the content of one Modbus register.
+-- Defines the output and the exit status of the command that prints the chain of SunSpec models in
+-- a device's words. A word is the content of one Modbus register.
 use Rattle.std.specs.Prelude.{◌≡◌, ◌≢◌, ◌<◌, ◌≤◌, ℕ, List, [], ◌++◌, length, flat_map, codes, Ok, Err}
 use Rattle.std.specs.Fmt.{decimal}
 use Rattle.std.specs.declared.result.Result.{Result}
@@ -19,34 +19,35 @@ use Rattle.script_text.specs.AnswerText.{bad_line}
 use Rattle.command_io.specs.declared.status.ExitStatus.{ExitStatus}
 use Rattle.command_io.specs.declared.status.ExitStatus.TheVariants.{Fine, Refused, Failed}
 
--- The line of a point: its name and its value.
+-- The line `point NAME VALUE` for a point of a SunSpec model.
 abbrev pub point_line : Named → List ℕ
 point_line point =
     codes "point " ++ point.name ++ codes " " ++ value_text point.value point.scale ++ codes "\n"
 
--- The line of a model.
+-- The line `model ADDRESS ID LENGTH` for a SunSpec model.
 abbrev pub model_line : Model → List ℕ
 model_line model =
     codes "model " ++ decimal model.address ++ codes " " ++ decimal model.id ++ codes " "
     ++ decimal model.length ++ codes "\n"
 
--- The line of a model, followed by the lines of its points.
+-- The line of a SunSpec model, followed by one line for each of its points.
 abbrev pub model_lines : Words → Model → List ℕ
 model_lines word model = model_line model ++ flat_map point_line (points_in word model)
 
--- The lines of a chain: its base address, its models, and the address of its end.
+-- The lines of a SunSpec chain: its base address, its models, and the address of its end.
 abbrev pub chain_lines : Words → ℕ → List Model → ℕ → List ℕ
 chain_lines word base models end =
     codes "base " ++ decimal base ++ codes "\n" ++ flat_map (model_lines word) models
     ++ codes "end "
     ++ decimal end ++ codes "\n"
 
--- The lines of a parsed chain.
+-- The lines of a SunSpec chain that was parsed from a device's words.
 abbrev pub lines_of : Chain → List ℕ
 lines_of chain =
     chain_lines (words_of chain) (base_of chain) (models_of chain) (end_of chain)
 
--- The address of the word that a fault concerns, if the fault has one.
+-- The address at the end of a chain fault's line, after a space. No text if the fault concerns no
+-- single word.
 abbrev pub place_text : ChainFault → List ℕ
 place_text NoMark = []
 place_text (Unreadable address) = codes " " ++ decimal address
@@ -54,12 +55,14 @@ place_text PastEnd = []
 place_text TooMany = []
 place_text Memory = []
 
--- The line that reports a fault.
+-- The line that reports a fault of a SunSpec chain. It has the fault's number, and for some faults
+-- an address.
 abbrev pub fault_line : ChainFault → List ℕ
 fault_line fault =
     codes "fault " ++ decimal (chain_fault_number fault) ++ place_text fault ++ codes "\n"
 
--- The words have this fault. Running out of memory is no fault of the words.
+-- States that a device's words have the given chain fault. False for `Memory`, because running out
+-- of memory is no fault of the words.
 abbrev pub IsWrong : Words → ChainFault → Type 0
 IsWrong word Memory = ⊥
 IsWrong word NoMark = Fails word NoMark
@@ -67,13 +70,15 @@ IsWrong word (Unreadable address) = Fails word (Unreadable address)
 IsWrong word PastEnd = Fails word PastEnd
 IsWrong word TooMany = Fails word TooMany
 
--- A fault prints its line. `Memory` prints nothing.
+-- States that the output is the line of the given chain fault, with status `Refused`. False for
+-- `Memory`, because running out of memory prints no line.
 abbrev pub FaultPrints : ChainFault → (printed : List ℕ) → ExitStatus → Type 0
 FaultPrints fault printed Fine = ⊥
 FaultPrints fault printed Refused = (fault ≢ Memory) × (printed ≡ fault_line fault)
 FaultPrints fault printed Failed = ⊥
 
--- The output for a device's words: the lines of their chain, or the line of their fault.
+-- States that the output is the lines of the chain in a device's words. If the words have a chain
+-- fault, the output is the fault's line.
 abbrev pub WordsPrint : Words → (printed : List ℕ) → ExitStatus → Type 0
 WordsPrint word printed Fine =
     (base : ℕ) × (models : List Model) × (end : ℕ) × IsChain word base models end
@@ -82,12 +87,14 @@ WordsPrint word printed Refused =
     (fault : ChainFault) × IsWrong word fault × (printed ≡ fault_line fault)
 WordsPrint word printed Failed = ⊥
 
--- The output for parsed lines of words: that for the words, or the number of the first wrong line.
+-- States the output for the words that were parsed from the input lines. If a line is malformed,
+-- the output is `bad line N` with the first such line's number.
 abbrev pub LinesPrint : Result Words ℕ → (printed : List ℕ) → ExitStatus → Type 0
 LinesPrint (Err number) printed status = (status ≡ Refused) × (printed ≡ bad_line number)
 LinesPrint (Ok word) printed status = WordsPrint word printed status
 
--- The output for an input: that for its lines, or that the input is too long.
+-- States the output for an input. If the input exceeds the maximum length, the output reports that,
+-- otherwise the output is for the words in the input's lines.
 pub record ChainPrints (input printed : List ℕ) (status : ExitStatus) : Type 0 where
   pub long : most_bytes < length input → (status ≡ Refused) × (printed ≡ too_long)
   pub lines : length input ≤ most_bytes

@@ -1,5 +1,5 @@
--- The output for the plan of a point list: its reads, and for each point the read and the offset in
--- it.
+-- Defines the output for the read plan of a point list. It lists the reads of the plan, and for
+-- each point its read and its offset in that read.
 use Rattle.std.specs.Prelude.{◌≡◌, ℕ, ◌+◌, List, [], ◌∷◌, ◌++◌, flat_map, map, Option, codes, slice_index_or}
 use Rattle.std.specs.Io.KnownBytes.{Appends}
 use Rattle.std.specs.Fmt.{decimal}
@@ -13,57 +13,60 @@ use Rattle.read_plan.specs.PlannedReads.{IsFirstHolding, read_runs}
 use Rattle.read_plan.specs.Plans.{FollowsRule, IsLawful}
 use Rattle.read_plan.specs.declared.planned_reads.PlannedRead.{PlannedRead}
 
--- The beginning of a read's line: the number of the read, and the code of its function.
+-- The beginning of the line for a read, with the word `read`, the read's number and its Modbus
+-- function code.
 abbrev pub read_head : (number function : ℕ) → List ℕ
 read_head number function =
     codes "read " ++ decimal number ++ codes " " ++ decimal function ++ codes " "
 
--- The area of a read, its first Modbus address and the number of its registers.
+-- The rest of the line for a read, with the area, the first Modbus address and the number of Modbus
+-- registers.
 abbrev pub registers_text : PlannedRead → List ℕ
 registers_text read =
     decimal read.area ++ codes " " ++ decimal read.span.address ++ codes " "
     ++ decimal read.span.count
     ++ codes "\n"
 
--- The line of a read, by its number and function code.
+-- The line `read K FUNCTION AREA ADDRESS COUNT`, with the given number and function code.
 abbrev pub span_line : (number function : ℕ) → PlannedRead → List ℕ
 span_line number function read = read_head number function ++ registers_text read
 
--- The line of a read, by its number.
+-- The line `read K FUNCTION AREA ADDRESS COUNT` of a read with number K.
 abbrev pub read_line : (number : ℕ) → PlannedRead → List ℕ
 read_line number read = span_line number (code_of read.span.function) read
 
--- The lines of reads, numbered from the given number on.
+-- The lines of the reads of a plan, numbered consecutively from the given number.
 abbrev pub read_lines : ℕ → List PlannedRead → List ℕ
 read_lines number [] = []
 read_lines number (read ∷ reads) = read_line number read ++ read_lines (number + 1) reads
 
--- A point of the list, the index of its read in the plan, and the offset of its first register in
--- that read.
+-- A point of a point list with its read. `PlacedPoint` has the index of the read in the plan, and
+-- the offset of the point's first Modbus register in the read.
 pub record PlacedPoint : Type 0 where
   pub point : ListedPoint
   pub read : ℕ
   pub offset : ℕ
 
--- The read at this index is the first read of the point's area that covers the point.
+-- States that the point's read is the first read in the point's area that covers the point. The
+-- offset counts Modbus registers from the first Modbus register of the read.
 pub record IsPlaced (list : List ListedPoint) (reads : List PlannedRead) (placed : PlacedPoint) :
     Type 0 where
   pub first : IsFirstHolding (read_runs reads) (item_of list placed.point) placed.read
   pub offset : (d : PlannedRead)
       → (slice_index_or reads placed.read d).span.address + placed.offset ≡ placed.point.address
 
--- The line of a point.
+-- The line `point NAME K OFFSET` of a point, where K is the number of its read.
 abbrev pub point_line : PlacedPoint → List ℕ
 point_line placed =
     codes "point " ++ placed.point.name ++ codes " " ++ decimal (placed.read + 1) ++ codes " "
     ++ decimal placed.offset ++ codes "\n"
 
--- The bytes that were written satisfy `Prints`.
+-- States that the writer received some text for which `Prints` is true.
 abbrev pub Writes : (Prints : List ℕ → Type 0) → (output output' : Option (List ℕ)) → Type 0
 Writes Prints output output' =
     (printed : List ℕ) × Appends output output' printed × Prints printed
 
--- The lines of some points, each with its read and its offset.
+-- States that the output is one line for each given point, with the point's read and offset.
 pub record PointsPrint (list points : List ListedPoint) (reads : List PlannedRead)
     (printed : List ℕ)
     : Type 0 where
@@ -72,21 +75,23 @@ pub record PointsPrint (list points : List ListedPoint) (reads : List PlannedRea
   pub each : All (IsPlaced list reads) placed
   pub lines : printed ≡ flat_map point_line placed
 
--- The lines of the reads, followed by those of the list's points.
+-- States that the output is the lines of the plan's reads, followed by the lines of the list's
+-- points.
 pub record LinesPrint (list : List ListedPoint) (reads : List PlannedRead) (printed : List ℕ) : Type
     0 where
   pub points : List ℕ
   pub placed : PointsPrint list list reads points
   pub lines : printed ≡ read_lines 1 reads ++ points
 
--- The output for a point list: the lines of its plan. The plan follows the rules for plans.
+-- States that the output is the lines of a read plan for the point list, and that the plan is a
+-- valid plan.
 pub record PlanPrints (list : List ListedPoint) (printed : List ℕ) : Type 0 where
   pub reads : List PlannedRead
   pub rule : FollowsRule (items_of list) (read_runs reads)
   pub lawful : IsLawful (runs_of list) (items_of list) (read_runs reads)
   pub lines : LinesPrint list reads printed
 
--- A point list is never refused: the status is `Fine`.
+-- States that a valid point list prints its plan, with status `Fine`.
 pub record PrintsPlan (list : List ListedPoint) (printed : List ℕ) (status : ExitStatus) :
     Type 0 where
   pub fine : status ≡ Fine

@@ -1,4 +1,4 @@
--- The output for the scan of a device, and the exit status.
+-- Defines the output and the exit status of a scan of a SunSpec device.
 use Rattle.std.specs.Prelude.{◌≡◌, ◌≢◌, ◌⊎◌, ℕ, List, [], flat_map}
 use Rattle.std.specs.declared.option.Option.{Option}
 use Rattle.command_io.specs.Printing.{PrintsOn}
@@ -17,55 +17,61 @@ use Rattle.sunspec_text.specs.Chains.ChainText.{WordsPrint}
 use Rattle.sunspec_text.specs.declared.scans.scan_printout.ScanForm.{ScanForm}
 use Rattle.sunspec_text.specs.declared.scans.scan_printout.ScanForm.TheVariants as form
 
--- The words have a chain of models, and the models satisfy `P`.
+-- States that a device's words contain a chain of SunSpec models, and that these models satisfy
+-- `P`.
 abbrev pub WithChain : Words → (List Model → Type 0) → Type 0
 WithChain word P =
     (base : ℕ) × (models : List Model) × (end : ℕ) × IsChain word base models end × P models
 
--- The output for a chain whose models have more points than a point list may have.
+-- States that the output is the faults of a SunSpec chain that has more points than a point list
+-- may have.
 abbrev pub PrintsTooMany : Words → (printed : List ℕ) → List Model → Type 0
 PrintsTooMany word printed models =
     (chain_faults (points_from word 1 models) ≢ [])
     × (printed ≡ flat_map fault_line (chain_faults (points_from word 1 models)))
 
--- The output for words that give no point list: they have no chain, or one with too many points.
+-- States that the output explains why a device has no point list. The device's words contain no
+-- chain, or a chain with too many points.
 abbrev pub PrintsNoList : Words → (printed : List ℕ) → Type 0
 PrintsNoList word printed =
     WordsPrint word printed Refused ⊎ WithChain word (PrintsTooMany word printed)
 
--- The output with the point list of the words' chain.
+-- States that the output is the point list of the chain in a device's words, or a fault.
 abbrev pub ListPrints : Words → (printed : List ℕ) → ExitStatus → Type 0
 ListPrints word printed Fine =
     WithChain word (λ models. printed ≡ list_text (points_from word 1 models))
 ListPrints word printed Refused = PrintsNoList word printed
 ListPrints word printed Failed = ⊥
 
--- The output with the lines that set a device up. It exists exactly if the point list exists. Only
--- tests check its text.
+-- States that the output is the script lines that set up a device. These lines exist if and only if
+-- the device has a point list, and their text is not specified.
 abbrev pub SetupPrints : Words → (printed : List ℕ) → ExitStatus → Type 0
 SetupPrints word printed Fine = WithChain word (λ models. Unit {0})
 SetupPrints word printed Refused = PrintsNoList word printed
 SetupPrints word printed Failed = ⊥
 
--- The output with a line for each faulty row of a point list.
+-- States that the output is one line for each faulty row of a point list, with status `Refused`.
 abbrev pub RowsPrint : List FaultyRow → (printed : List ℕ) → ExitStatus → Type 0
 RowsPrint rows printed Fine = ⊥
 RowsPrint rows printed Refused = printed ≡ flat_map fault_line rows
 RowsPrint rows printed Failed = ⊥
 
--- Any text may be printed, with the status `Fine`.
+-- States that the exit status is `Fine`, and allows any setup lines as output. Only tests check the
+-- text of setup lines.
 abbrev pub LinesPrint : (printed : List ℕ) → ExitStatus → Type 0
 LinesPrint printed Fine = Unit {0}
 LinesPrint printed Refused = ⊥
 LinesPrint printed Failed = ⊥
 
--- The output for a device's words in the requested form.
+-- States that the output for a device's words is printed as requested, which is a SunSpec chain, a
+-- point list or setup lines.
 abbrev pub FormPrints : ScanForm → Words → (printed : List ℕ) → ExitStatus → Type 0
 FormPrints form.Chain word printed status = WordsPrint word printed status
 FormPrints form.List word printed status = ListPrints word printed status
 FormPrints (form.Setup site) word printed status = SetupPrints word printed status
 
--- A device was scanned over a link, and the output for its words was written in the requested form.
+-- States that a scan read a device's words over a link and wrote the requested output, or that the
+-- scan failed.
 pub record ScanPrints {P : Type 0} (p : printers.Ghosts P) (unit : ℕ) (form : ScanForm)
     (old_bytes old_given new_bytes new_given : Option (List ℕ)) (old new : P) (status : ExitStatus)
     : Type 0 where

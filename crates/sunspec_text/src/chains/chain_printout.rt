@@ -1,4 +1,4 @@
-//! Prints the chain of models in a device's words.
+//! Prints the chain of SunSpec models in a device's words.
 ghost use Rattle.std.specs.Prelude.{IfSome, OnOk, flat_map, map};
 ghost use Rattle.std.specs.Io.KnownBytes.{Appends};
 ghost use Rattle.sun_chain.specs.Chain.{words_of};
@@ -17,12 +17,13 @@ use std::alloc::Global;
 use std::io::{self, Read, Write};
 use sun_chain::{Chain, ChainFault, Image, Model, NamedPoint, walk};
 
-/// Reads lines `ADDRESS HEX`, the words of a device from an address on, and prints the chain of
-/// models in them.
+/// Reads lines `ADDRESS HEX`, where HEX are a device's words from ADDRESS on, and prints the chain
+/// of SunSpec models in these words.
 ///
-/// The output is `base B`, for each model `model ADDRESS ID L` and its points `point NAME VALUE`,
-/// then `end ADDRESS`; or only `fault N`. A line that is wrong, or whose words extend past address
-/// 65535, prints only `bad line N`. An input of more than `MOST_BYTES` bytes prints `too long`.
+/// Prints `base B`, for each model `model ADDRESS ID L` and its points `point NAME VALUE`, then
+/// `end ADDRESS`. A fault prints only `fault N`. A malformed line, or a line that extends past
+/// address 65535, prints only `bad line N`. An input of more than `MOST_BYTES` bytes prints `too
+/// long`.
 pub fn chain_text<R: Read, P: Printer>(alloc: Global, input: &mut R, output: &mut P) -> ExitStatus
     ensures { IfSome (R.remaining input.old)
         (PrintsFor P.Printer ChainPrints result output.old output.new) }
@@ -33,7 +34,7 @@ pub fn chain_text<R: Read, P: Printer>(alloc: Global, input: &mut R, output: &mu
     }
 }
 
-// Builds the output for the lines of words, and prints it.
+// Builds the complete output for lines `ADDRESS HEX` in memory, and then prints this output.
 fn print_said<P: Printer>(alloc: Global, text: &[u8], output: &mut P) -> ExitStatus
     ensures { PrintsOn P.Printer (LinesPrint (words_told nothing_read (speaking_lines text.now)))
         result output.old output.new }
@@ -43,7 +44,7 @@ fn print_said<P: Printer>(alloc: Global, text: &[u8], output: &mut P) -> ExitSta
     print_end(&lines, meant, output)
 }
 
-// Writes the output for the lines of words.
+// Writes the chain of SunSpec models in lines `ADDRESS HEX`, or a fault.
 fn print_lines<W: Write>(alloc: Global, text: &[u8], output: &mut W) -> ExitStatus
     ensures { PrintsAs (LinesPrint (words_told nothing_read (speaking_lines text.now))) result
         (W.contents output.old) (W.contents output.new) }
@@ -58,7 +59,8 @@ fn print_lines<W: Write>(alloc: Global, text: &[u8], output: &mut W) -> ExitStat
     }
 }
 
-/// Writes the chain of models in an image, or the line of its fault.
+/// Writes the chain of SunSpec models in an image of a device's words, or the line of the chain's
+/// fault.
 pub(crate) fn print_image<W: Write>(alloc: Global, image: &Image, output: &mut W) -> ExitStatus
     ensures { PrintsAs (WordsPrint (word_in image.now)) result
         (W.contents output.old) (W.contents output.new) }
@@ -72,7 +74,7 @@ pub(crate) fn print_image<W: Write>(alloc: Global, image: &Image, output: &mut W
     }
 }
 
-/// Writes the fault that explains why there is no chain.
+/// Writes the line `fault N` for a chain fault, which explains why a device has no valid chain.
 pub(crate) fn print_lack<W: Write>(fault: ChainFault, output: &mut W) -> ExitStatus
     ensures { PrintsAs (FaultPrints fault) result
         (W.contents output.old) (W.contents output.new) }
@@ -118,7 +120,7 @@ fn print_models<W: Write>(chain: &Chain<'_>, models: &[Model], output: &mut W) -
     Ok(())
 }
 
-// Writes the line of a model, and then those of its points.
+// Writes the line of a SunSpec model, and then one line for each of its points.
 fn print_model<W: Write>(chain: &Chain<'_>, model: &Model, output: &mut W) -> io::Result<()>
     ensures { OnOk result (Appends (W.contents output.old) (W.contents output.new)
         (model_lines (words_of chain.now) model.now)) }

@@ -1,4 +1,4 @@
-//! Reads a device's words from lines of an address and the words from there on in hexadecimal.
+//! Reads a device's words from lines `ADDRESS HEX`, where HEX are the words from ADDRESS on.
 ghost use Rattle.std.specs.Prelude.{◌≡◌, IfOk, IfErr, OnOk, Some, option_map};
 ghost use Rattle.sun_chain.specs.Image.{word_in};
 ghost use Rattle.sunspec_text.specs.Chains.ImageLines.{SpellsWords, address_of, put_of, words_after};
@@ -11,22 +11,22 @@ use script_lines::{Words, hex_bytes, number};
 use std::alloc::{AllocError, Global};
 use sun_chain::{Image, ImageFault};
 
-/// Why lines of words give no memory image.
+/// The reason why lines `ADDRESS HEX` give no image of a device's words.
 #[derive(Clone, Copy, Debug, PartialEq, Eq)]
 pub(crate) enum LoadFault {
-    /// The line with this number is wrong.
+    /// The line with this number is malformed, or extends past address 65,535.
     BadLine(u64),
     Memory,
 }
 
-/// Words of a device, and the address of the first of them.
+/// Some 16-bit words of a device, and the address of the first of these words.
 #[derive(Drop)]
 pub(crate) struct Put {
     address: u16,
     words: Vec<u16>,
 }
 
-/// Reads the memory image in the lines of a text.
+/// Reads lines `ADDRESS HEX` into an image of a device's words.
 pub(crate) fn load(alloc: Global, text: &[u8]) -> Result<Image, LoadFault>
     ensures image { IfOk result (TellsImage text.now) }
     ensures fault { IfErr result (ExplainsText text.now) }
@@ -39,7 +39,7 @@ pub(crate) fn load(alloc: Global, text: &[u8]) -> Result<Image, LoadFault>
     Ok(image)
 }
 
-// Adds the words of a line to the image.
+// Parses a line `ADDRESS HEX`, and adds its words to the image.
 fn put_line(alloc: Global, image: &mut Image, line: InputLine<'_>) -> Result<(), LoadFault>
     ensures put { OnOk result
         (words_after (word_in image.old) line.entry.text.now ≡ Some (word_in image.new)) }
@@ -59,7 +59,7 @@ fn put_line(alloc: Global, image: &mut Image, line: InputLine<'_>) -> Result<(),
     }
 }
 
-// Parses a line. Returns `None` if it is wrong.
+// Parses a line `ADDRESS HEX`. Returns `None` if the line is malformed.
 fn read_put(alloc: Global, line: &[u8]) -> Result<Option<Put>, AllocError>
     ensures { IfOk result (λ said. option_map seen_put said ≡ put_of line.now) }
 {
@@ -81,7 +81,7 @@ fn read_put(alloc: Global, line: &[u8]) -> Result<Option<Put>, AllocError>
     Ok(words.map(|words| Put { address, words }))
 }
 
-// Parses a Modbus address.
+// Parses a Modbus address, 0 to 65,535.
 fn address(word: &[u8]) -> Option<u16>
     ensures { result ≡ address_of word.now }
 {

@@ -1,4 +1,4 @@
-//! Prints the plan of a point list's text.
+//! Prints the read plan of a point list in CSV.
 ghost use Rattle.std.specs.Prelude.{IfSome};
 ghost use Rattle.command_io.specs.Printing.{PrintsAs, PrintsFor, PrintsOn};
 ghost use Rattle.sunspec_text.specs.Lists.ListText.{ListPrints, TextPrints};
@@ -10,11 +10,11 @@ use script_text::write_faults;
 use std::alloc::Global;
 use std::io::{Read, Write};
 
-/// Reads a point list, as comma-separated values, and prints its plan.
+/// Reads a point list in CSV, and prints its read plan.
 ///
-/// The output is `read K FUNCTION AREA ADDRESS COUNT`, K from 1, for each read, then `point NAME K
-/// OFFSET` for each point; or only `row R fault N` for each faulty row. The header is row 1. An
-/// input of more than `MOST_BYTES` bytes prints only `too long`.
+/// Prints `read K FUNCTION AREA ADDRESS COUNT` for each read, with K from 1, then `point NAME K
+/// OFFSET` for each point. A faulty list prints only `row R fault N` for each faulty row; the
+/// header is row 1. An input of more than `MOST_BYTES` bytes prints only `too long`.
 pub fn plan_text<R: Read, P: Printer>(alloc: Global, input: &mut R, output: &mut P) -> ExitStatus
     ensures { IfSome (R.remaining input.old)
         (PrintsFor P.Printer ListPrints result output.old output.new) }
@@ -25,7 +25,7 @@ pub fn plan_text<R: Read, P: Printer>(alloc: Global, input: &mut R, output: &mut
     }
 }
 
-// Builds the output for a point list's text, and prints it.
+// Builds the complete output for a point list in CSV in memory, and then prints this output.
 fn print_said<P: Printer>(alloc: Global, text: &[u8], output: &mut P) -> ExitStatus
     ensures { PrintsOn P.Printer (TextPrints text.now) result output.old output.new }
 {
@@ -34,7 +34,7 @@ fn print_said<P: Printer>(alloc: Global, text: &[u8], output: &mut P) -> ExitSta
     print_end(&lines, meant, output)
 }
 
-// Writes the plan of a point list's text, or a line for each faulty row.
+// Writes the read plan of a point list in CSV, or one line for each faulty row.
 fn print_text<W: Write>(alloc: Global, text: &[u8], output: &mut W) -> ExitStatus
     ensures { PrintsAs (TextPrints text.now) result
         (W.contents output.old) (W.contents output.new) }

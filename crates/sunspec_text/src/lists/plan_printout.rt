@@ -1,4 +1,4 @@
-//! Prints the plan of a point list.
+//! Prints the read plan of a point list that was already parsed.
 ghost use Rattle.std.specs.Prelude.{◌≡◌, ◌+◌, ◌<◌, ◌^◌, OnOk, length, map};
 ghost use Rattle.std.specs.Io.KnownBytes.{Appends};
 ghost use Rattle.command_io.specs.Printing.{PrintsAs, PrintsOn};
@@ -12,8 +12,8 @@ use read_plan::{Place, Plan, PlannedRead, plan};
 use std::alloc::Global;
 use std::io::{self, Write};
 
-/// Prints the plan of a point list: `read K FUNCTION AREA ADDRESS COUNT`, K from 1, for each read.
-/// Then `point NAME K OFFSET` for each point, in the list's order.
+/// Prints the read plan of a point list: `read K FUNCTION AREA ADDRESS COUNT` for each read, with K
+/// from 1. Then prints `point NAME K OFFSET` for each point, in the list's order.
 pub fn print_plan<P: Printer>(alloc: Global, list: &PointList, output: &mut P) -> ExitStatus
     ensures { PrintsOn P.Printer (PrintsPlan list.now) result output.old output.new }
 {
@@ -22,7 +22,7 @@ pub fn print_plan<P: Printer>(alloc: Global, list: &PointList, output: &mut P) -
     print_end(&lines, meant, output)
 }
 
-/// Writes the plan of a point list.
+/// Computes the read plan of a point list, and writes its lines.
 pub(crate) fn plan_lines<W: Write>(alloc: Global, list: &PointList, output: &mut W) -> ExitStatus
     ensures { PrintsAs (PrintsPlan list.now) result
         (W.contents output.old) (W.contents output.new) }
@@ -36,7 +36,7 @@ pub(crate) fn plan_lines<W: Write>(alloc: Global, list: &PointList, output: &mut
     }
 }
 
-// Writes the reads of a list's plan, and then the list's points.
+// Writes one line for each read of the plan, and then one line for each point of the list.
 fn print_lines<W: Write>(list: &PointList, plan: &Plan, output: &mut W) -> io::Result<()>
     requires items { plan.now.items ≡ items_of list.now }
     requires starts { plan.now.starts ≡ map (λ point. point.address) list.now }

@@ -1,4 +1,4 @@
-//! Prints what a scan of a live device found.
+//! Scans a live SunSpec device, and prints its chain, its point list or its setup lines.
 ghost use Rattle.std.specs.Prelude.{◌≡◌, ◌≤◌, ◌+◌, ◌*◌, [], Err, IfOk, OnErr};
 ghost use Rattle.command_io.specs.Printing.{PrintsAs, PrintsOn};
 ghost use Rattle.device_scan.specs.Lines.{Garbles, OnlyInquires, has_failed, is_gone};
@@ -19,22 +19,23 @@ use std::alloc::Global;
 use std::io::Write;
 use sun_chain::{Chain, Image, walk};
 
-/// The form in which a scan is printed.
+/// The form in which the result of a scan is printed.
 #[derive(Clone, Copy, Debug, PartialEq, Eq)]
 pub enum ScanForm<'a> {
-    /// The chain, as `chain_text` prints it.
+    /// The chain of SunSpec models, in the format of `chain_text`.
     Chain,
-    /// The point list of the chain, as comma-separated values.
+    /// The point list of the chain, in CSV.
     List,
-    /// The lines that set the device up in an office.
+    /// The script lines that set up the device and its energy counters.
     Setup(Site<'a>),
 }
 
-/// Scans a unit over a new link, and prints the chain of models in the device's words, or another
-/// form of it.
+/// Scans the device with a unit identifier over a new link, and prints its chain of SunSpec models
+/// in the requested form.
 ///
-/// Without a chain, prints only `fault N`. If a list would have too many points, prints only `row R
-/// fault N`. If the link fails, ends or carries no Modbus, returns the fault and prints nothing.
+/// Prints only `fault N` if the device has no valid chain, and only `row R fault N` if its list
+/// would have too many points. If the link fails, ends or carries no Modbus, returns the fault and
+/// prints nothing.
 pub fn scan_text<L: Link, V: ScanObserver, P: Printer>(
     alloc: Global,
     link: &mut L,
@@ -60,7 +61,8 @@ pub fn scan_text<L: Link, V: ScanObserver, P: Printer>(
     }
 }
 
-// Builds the output for an image in the requested form, and prints it.
+// Builds the complete output for an image of a device's words in memory, and then prints this
+// output as a chain, a point list or setup lines.
 fn print_scanned<P: Printer>(
     alloc: Global,
     image: &Image,
@@ -75,7 +77,7 @@ fn print_scanned<P: Printer>(
     print_end(&lines, meant, output)
 }
 
-// Writes the output for an image in the requested form.
+// Writes the output for an image of a device's words, as a chain, a point list or setup lines.
 fn print_form<W: Write>(
     alloc: Global,
     image: &Image,
@@ -92,7 +94,7 @@ fn print_form<W: Write>(
     }
 }
 
-// Writes the point list of an image's chain.
+// Writes the point list of the chain in an image of a device's words.
 fn print_listed<W: Write>(alloc: Global, image: &Image, output: &mut W) -> ExitStatus
     ensures { PrintsAs (ListPrints (word_in image.now)) result
         (W.contents output.old) (W.contents output.new) }
@@ -110,7 +112,7 @@ fn print_listed<W: Write>(alloc: Global, image: &Image, output: &mut W) -> ExitS
     }
 }
 
-// Writes the lines that set up the device with an image's chain.
+// Writes the script lines that set up the device whose words are in the image.
 fn print_setup<W: Write>(alloc: Global, image: &Image, site: Site<'_>, output: &mut W) -> ExitStatus
     ensures { PrintsAs (SetupPrints (word_in image.now)) result
         (W.contents output.old) (W.contents output.new) }
@@ -125,7 +127,7 @@ fn print_setup<W: Write>(alloc: Global, image: &Image, site: Site<'_>, output: &
     }
 }
 
-// Writes a line for each faulty row of a point list.
+// Writes the line `row R fault N` for each faulty row of a point list.
 fn print_faults<W: Write>(faults: &FaultyRows, output: &mut W) -> ExitStatus
     ensures { PrintsAs (RowsPrint faults.now) result
         (W.contents output.old) (W.contents output.new) }
@@ -136,7 +138,7 @@ fn print_faults<W: Write>(faults: &FaultyRows, output: &mut W) -> ExitStatus
     }
 }
 
-// Writes the lines that set a device up.
+// Writes the script lines that set up a device and its energy counters.
 fn print_lines<W: Write>(
     alloc: Global,
     chain: &Chain<'_>,

@@ -1,13 +1,13 @@
-//! The lines that set up a device: the device, its point list, and a register for each energy
-//! counter.
+//! Builds the script lines that set up a device. These lines add the device, its point list, and an
+//! accounting register for each energy counter.
 
 use std::alloc::Global;
 use std::io::{self, Write};
 use sun_chain::{Chain, Model, NamedPoint, PointScale, scale_name};
 use sun_points::Point;
 
-/// How an office will poll a device: under which name, with which unit identifier, and with which
-/// timeout in seconds.
+/// The parameters for polling a device, with its name, its unit identifier and the timeout in
+/// seconds.
 #[derive(Clone, Copy, Debug, PartialEq, Eq)]
 pub struct Site<'a> {
     pub device: &'a str,
@@ -15,18 +15,19 @@ pub struct Site<'a> {
     pub timeout: u32,
 }
 
-/// An energy counter in Wh: the name of its point, and the code that follows the device's name in
-/// the register's name.
+/// An energy counter of a device in Wh. It has the name of its SunSpec point, and a code. The name
+/// of the counter's accounting register is the device's name followed by this code.
 #[derive(Clone, Copy)]
 struct Counter {
     point: &'static str,
     code: &'static str,
-    // The text before the register's line: a comment mark for a counter of one phase.
+    // The text before the line `register`, which is a comment mark for a counter of a single phase
+    // and otherwise empty.
     front: &'static str,
 }
 
-// Rows of the table: a point's name, the code in the register's name, and the text before the
-// register's line.
+// Makes a table of energy counters. Each row has the name of a SunSpec point, the code in the
+// accounting register's name, and the text before the line `register`.
 macro_rules! counters {
     ($(($point:expr, $code:expr, $front:expr),)*) => {
         [$(Counter { point: $point, code: $code, front: $front }),*]
@@ -48,11 +49,11 @@ static COUNTERS: [Counter; 9] = counters![
 const HINT: &str =
     "# Install lines: remove the # and replace CEILING by the maximum power in watts.\n";
 
-/// Returns the lines `N device ..`, `N list ..`, and for each energy counter of the device `N
-/// register ..` and `N install ..`.
+/// Returns the lines `N device ..` and `N list ..`, and for each energy counter of the device the
+/// lines `N register ..` and `N install ..`.
 ///
-/// The install line is a comment, with the number that the counter shows. N is counted from 1. A
-/// counter of one phase is in comments only. The list's text is in hex.
+/// The line `install` is a comment with the present count of the counter. The lines for a counter
+/// of one phase are all comments. N counts from 1. The point list is in hex.
 pub(crate) fn setup_text(
     alloc: Global,
     chain: &Chain<'_>,
@@ -69,7 +70,7 @@ pub(crate) fn setup_text(
     Ok(text)
 }
 
-// Writes the lines for the device and for its point list.
+// Writes the line `device` for the device and the line `list` for its point list.
 fn add_device(text: &mut Vec<u8>, list: &[u8], site: Site<'_>) -> io::Result<()> {
     let Site {
         device,
@@ -87,7 +88,8 @@ fn add_device(text: &mut Vec<u8>, list: &[u8], site: Site<'_>) -> io::Result<()>
     text.write_all(b"\n")
 }
 
-// Writes the lines for the counters of a model, numbered from `number` on. Returns the next number.
+// Writes the lines for the energy counters of a SunSpec model, numbered from `number` on. Returns
+// the next free line number.
 fn add_model(
     text: &mut Vec<u8>,
     chain: &Chain<'_>,
@@ -124,12 +126,12 @@ fn add_model(
     Ok(next)
 }
 
-// Returns the counter whose point this is, if there is one.
+// Returns the energy counter of a SunSpec point, or `None` if the point is no energy counter.
 fn counter_of(point: &NamedPoint<'_>) -> Option<Counter> {
     COUNTERS.iter().copied().find(|counter| counter.point.as_bytes() == point.name().as_bytes())
 }
 
-// Returns the address of the scale factor of a point, if the device has it.
+// Returns the address of a point's scale factor, or `None` if the device has no such scale factor.
 fn scale_address(points: &[NamedPoint<'_>], model: &Model, point: &NamedPoint<'_>) -> Option<u16> {
     let name = scale_name(model.id, point.name())?;
     let found = points

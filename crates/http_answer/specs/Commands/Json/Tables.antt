@@ -1,4 +1,4 @@
--- The members of each command's body. Members that are not in the table are ignored.
+-- The members of each command's JSON body. Members that are not listed are ignored.
 use Rattle.std.specs.Prelude.{Bool, ◌&&◌, ◌||◌, List, [], ◌∷◌, is_none, is_some, Option, codes}
 use Rattle.serde_json.specs.Data.{Data}
 use Rattle.serde_json.specs.Find.{get}
@@ -18,8 +18,8 @@ device_members =
     ∷ record { name = codes "window"; want = Natural }
     ∷ []
 
--- The required members of the body that adds an accounting register. It also has a scale: exactly
--- one of `fixed` and `scale_at`.
+-- The required members of the body that adds an accounting register. The body also has the
+-- register's scale: exactly one of `fixed` and `scale_at`.
 abbrev pub register_members : List Member
 register_members =
     record { name = codes "name"; want = Text }
@@ -28,7 +28,7 @@ register_members =
     ∷ record { name = codes "address"; want = Natural }
     ∷ []
 
--- Exactly one of the members `fixed` and `scale_at` exists, and it is an integer.
+-- True if exactly one of the members `fixed` and `scale_at` exists, and its value is an integer.
 abbrev pub has_scale : Data → Bool
 has_scale d =
     (is_some (whole (codes "fixed") d) && is_none (get (codes "scale_at") d))
@@ -62,14 +62,14 @@ exchange_members =
     ∷ record { name = codes "rolls"; want = Natural }
     ∷ install_members
 
--- The required members of the body that resets a counter.
+-- The required members of the body that records a reset of a meter's counter.
 abbrev pub reset_members : List Member
 reset_members =
     record { name = codes "before"; want = Natural }
     ∷ record { name = codes "after"; want = Natural }
     ∷ []
 
--- The required members of the body that rescales a counter.
+-- The required members of the body that records a change of a meter's scale.
 abbrev pub rescale_members : List Member
 rescale_members =
     record { name = codes "before"; want = Natural }
@@ -77,7 +77,7 @@ rescale_members =
     ∷ record { name = codes "sf"; want = Whole }
     ∷ []
 
--- The members of the body with a reading by hand. Only `at` is optional.
+-- The members of the body that enters a reading by hand. Only `at` is optional.
 abbrev pub manual_members : List Member
 manual_members =
     record { name = codes "raw"; want = Natural }
@@ -92,6 +92,6 @@ close_members =
     ∷ record { name = codes "rolls"; want = Natural }
     ∷ []
 
--- The required member of the body that voids an entry.
+-- The required member of the body that voids a meter entry: the entry's sequence number.
 abbrev pub void_members : List Member
 void_members = record { name = codes "place"; want = Natural } ∷ []

@@ -1,4 +1,4 @@
-//! A body as a JSON value.
+//! Parses the body of a request as JSON.
 ghost use Rattle.std.specs.Prelude.{◌≡◌, ◌≢◌, ◌<◌, IfOk, IsUtf8, Some, None, length};
 ghost use Rattle.serde_json.specs.View.{view};
 ghost use Rattle.serde_json.specs.Read.{read};
@@ -9,15 +9,15 @@ use std::error::Error;
 use std::fmt;
 use std::fmt::{Display, Formatter};
 
-/// The JSON value of a body.
+/// The JSON value of a request's body.
 pub type Body = Value;
 
-/// Why a body gives no command.
+/// The reason why a JSON body contains no valid command.
 #[derive(Clone, Copy, Debug, PartialEq, Eq)]
 pub enum BodyFault {
-    /// The body is no JSON, or a required member is missing or has the wrong type.
+    /// The body is not JSON, or a required member is missing or has the wrong type.
     Malformed,
-    /// All members exist, and a number that must not be negative is negative.
+    /// All required members exist, but a number that must not be negative is negative.
     Negative,
     /// Out of memory.
     Memory,
@@ -36,7 +36,7 @@ impl Display for BodyFault {
 
 impl Error for BodyFault {}
 
-/// Parses the bytes of a body as JSON (RFC 8259).
+/// Parses the bytes of a request's body as JSON (RFC 8259).
 pub fn body_of(alloc: Global, bytes: &[u8]) -> Result<Body, BodyFault>
     ensures utf8 { IfOk result (λ body. IsUtf8 bytes.now) }
     ensures spelled { IfOk result (λ body. read bytes.now ≡ Some (view body)) }

@@ -1,4 +1,4 @@
-//! The bodies that set up devices and registers.
+//! Reads the JSON bodies that add devices and accounting registers.
 ghost use Rattle.serde_json.specs.View.{view};
 ghost use Rattle.http_answer.specs.Commands.Json.Members.{Reads};
 ghost use Rattle.http_answer.specs.Commands.Json.Tables.{device_members, fault_of, register_fault, scale_fault};
@@ -7,7 +7,7 @@ ghost use Rattle.http_answer.specs.Commands.Json.Commands.{IsDevice, IsRegister,
 use crate::commands::json::body::{Body, BodyFault};
 use crate::commands::json::members::{has_member, natural, text, whole};
 
-/// The members of the body that adds a device.
+/// The values in the JSON body that adds a device.
 #[derive(Clone, Copy, Debug, PartialEq, Eq)]
 pub struct DeviceBody<'b> {
     pub name: &'b str,
@@ -16,16 +16,16 @@ pub struct DeviceBody<'b> {
     pub window: u64,
 }
 
-/// Where the scale of a register comes from.
+/// The source of an accounting register's scale exponent.
 #[derive(Clone, Copy, Debug, PartialEq, Eq)]
 pub enum Scale {
-    /// The member `fixed` gives the scale.
+    /// The scale exponent is fixed, from the member `fixed`.
     Fixed(i64),
-    /// The device holds the scale at the address that the member `scale_at` gives.
+    /// The scale exponent is read from the device, at the Modbus address in the member `scale_at`.
     At(u64),
 }
 
-/// The members of the body that adds an accounting register.
+/// The values in the JSON body that adds an accounting register.
 #[derive(Clone, Copy, Debug, PartialEq, Eq)]
 pub struct RegisterBody<'b> {
     pub name: &'b str,
@@ -35,7 +35,7 @@ pub struct RegisterBody<'b> {
     pub scale: Scale,
 }
 
-/// Reads the device that a body describes.
+/// Reads the JSON body that adds a device.
 pub fn device_in(body: &Body) -> Result<DeviceBody<'_>, BodyFault>
     ensures { Reads (fault_of device_members (view body.now)) (IsDevice (view body.now)) result }
 {
@@ -51,7 +51,8 @@ pub fn device_in(body: &Body) -> Result<DeviceBody<'_>, BodyFault>
     })
 }
 
-// Reads the scale of a register. Exactly one of its two members must exist.
+// Reads the scale of an accounting register. Exactly one of the members `fixed` and `scale_at` must
+// exist.
 fn scale_in(body: &Body) -> Result<Scale, BodyFault>
     ensures { Reads (scale_fault (view body.now)) (IsScale (view body.now)) result }
 {
@@ -66,7 +67,7 @@ fn scale_in(body: &Body) -> Result<Scale, BodyFault>
     Ok(Scale::At(natural(address)?))
 }
 
-/// Reads the register that a body describes.
+/// Reads the JSON body that adds an accounting register.
 pub fn register_in(body: &Body) -> Result<RegisterBody<'_>, BodyFault>
     ensures { Reads (register_fault (view body.now)) (IsRegister (view body.now)) result }
 {

@@ -1,4 +1,4 @@
-//! Members of a JSON object, by name.
+//! Reads members of a JSON object by name.
 ghost use Rattle.std.specs.Prelude.{◌≡◌, true, false, pos, option_map, is_some, IfOk, IfErr, Some};
 ghost use Rattle.std.specs.Prelude.{None};
 ghost use Rattle.serde_json.specs.View.{view};
@@ -8,7 +8,7 @@ ghost use Rattle.http_answer.specs.Commands.Json.Members.{is_below_zero, is_of_k
 use crate::commands::json::body::BodyFault;
 use serde_json::Value;
 
-// Returns whether a member exists, of any type.
+// Returns whether the JSON object has a member with this name, of any type.
 pub(crate) fn has_member(body: &Value, name: &str) -> bool
     ensures { result ≡ is_some (get name.now (view body.now)) }
 {
@@ -26,7 +26,7 @@ pub(crate) fn text<'b>(body: &'b Value, name: &str) -> Result<&'b str, BodyFault
     }
 }
 
-// Returns the integer in a member, or why there is none.
+// Returns the integer in a member, or `Malformed` if the member is missing or is no integer.
 pub(crate) fn whole(body: &Value, name: &str) -> Result<i64, BodyFault>
     ensures found { IfOk result (λ n. whole name.now (view body.now) ≡ Some n) }
     ensures none { IfErr result (λ e. whole name.now (view body.now) ≡ None) }
@@ -38,7 +38,8 @@ pub(crate) fn whole(body: &Value, name: &str) -> Result<i64, BodyFault>
     }
 }
 
-// Returns the integer in an optional member; `None` without the member.
+// Returns the integer in an optional member, `None` if the member is missing, or `Malformed` if it
+// is no integer.
 pub(crate) fn optional(body: &Value, name: &str) -> Result<Option<i64>, BodyFault>
     ensures found { IfOk result (λ o. whole name.now (view body.now) ≡ o) }
     ensures kind { IfOk result (λ o. is_of_kind Optional name.now (view body.now) ≡ true) }
@@ -52,7 +53,7 @@ pub(crate) fn optional(body: &Value, name: &str) -> Result<Option<i64>, BodyFaul
     }
 }
 
-// Converts an integer, and rejects a negative one.
+// Converts an integer to an unsigned one, or returns `Negative`.
 pub(crate) fn natural(number: i64) -> Result<u64, BodyFault>
     ensures found { IfOk result (λ n. number ≡ pos n) }
     ensures negative { IfErr result (λ e. is_below_zero (Some number) ≡ true) }
@@ -65,7 +66,7 @@ pub(crate) fn natural(number: i64) -> Result<u64, BodyFault>
     }
 }
 
-// Converts an optional integer, and rejects a negative one.
+// Converts an optional integer to an unsigned one, or returns `Negative`.
 pub(crate) fn natural_or_none(number: Option<i64>) -> Result<Option<u64>, BodyFault>
     ensures found { IfOk result (λ o. number ≡ option_map (λ n. pos n) o) }
     ensures negative { IfErr result (λ e. is_below_zero number ≡ true) }

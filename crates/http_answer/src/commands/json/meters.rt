@@ -1,4 +1,4 @@
-//! The bodies that install meters and change what they show.
+//! Reads the JSON bodies that install, exchange, reset and rescale meters.
 ghost use Rattle.serde_json.specs.View.{view};
 ghost use Rattle.http_answer.specs.Commands.Json.Members.{Reads};
 ghost use Rattle.http_answer.specs.Commands.Json.Tables.{exchange_members, fault_of, install_members};
@@ -8,7 +8,7 @@ ghost use Rattle.http_answer.specs.Commands.Json.Commands.{IsExchange, IsInstall
 use crate::commands::json::body::{Body, BodyFault};
 use crate::commands::json::members::{natural, natural_or_none, optional, text, whole};
 
-/// A new meter, with its first reading.
+/// The values in the JSON body that installs a meter, with the meter's first reading.
 #[derive(Clone, Copy, Debug, PartialEq, Eq)]
 pub struct InstallBody<'b> {
     pub meter: &'b str,
@@ -18,8 +18,8 @@ pub struct InstallBody<'b> {
     pub range: Option<u64>,
 }
 
-/// The last reading of the old meter, the rollovers of its counter since the previous reading, and
-/// the new meter.
+/// The values in the JSON body that exchanges a meter. They are the old meter's last reading, the
+/// rollovers of its counter since the reading before, and the new meter.
 #[derive(Clone, Copy, Debug, PartialEq, Eq)]
 pub struct ExchangeBody<'b> {
     pub last: u64,
@@ -27,14 +27,14 @@ pub struct ExchangeBody<'b> {
     pub install: InstallBody<'b>,
 }
 
-/// The counter of a meter before and after a reset.
+/// The counter of a meter before and after a reset, in counter units.
 #[derive(Clone, Copy, Debug, PartialEq, Eq)]
 pub struct ResetBody {
     pub before: u64,
     pub after: u64,
 }
 
-/// The counter of a meter before and after a change of scale, and the new scale.
+/// The counter of a meter before and after a change of scale, and the new scale exponent.
 #[derive(Clone, Copy, Debug, PartialEq, Eq)]
 pub struct RescaleBody {
     pub before: u64,
@@ -42,7 +42,7 @@ pub struct RescaleBody {
     pub sf: i64,
 }
 
-/// Reads the installation that a body describes.
+/// Reads the JSON body that installs a meter.
 pub fn install_in(body: &Body) -> Result<InstallBody<'_>, BodyFault>
     ensures { Reads (fault_of install_members (view body.now)) (IsInstall (view body.now)) result }
 {
@@ -60,7 +60,7 @@ pub fn install_in(body: &Body) -> Result<InstallBody<'_>, BodyFault>
     })
 }
 
-/// Reads the exchange that a body describes.
+/// Reads the JSON body that exchanges a meter for another one.
 pub fn exchange_in(body: &Body) -> Result<ExchangeBody<'_>, BodyFault>
     ensures { Reads (fault_of exchange_members (view body.now))
         (IsExchange (view body.now)) result }
@@ -77,7 +77,7 @@ pub fn exchange_in(body: &Body) -> Result<ExchangeBody<'_>, BodyFault>
     }
 }
 
-/// Reads the reset that a body describes.
+/// Reads the JSON body that records a reset of a meter's counter.
 pub fn reset_in(body: &Body) -> Result<ResetBody, BodyFault>
     ensures { Reads (fault_of reset_members (view body.now)) (IsReset (view body.now)) result }
 {
@@ -89,7 +89,7 @@ pub fn reset_in(body: &Body) -> Result<ResetBody, BodyFault>
     })
 }
 
-/// Reads the rescaling that a body describes.
+/// Reads the JSON body that records a change of a meter's scale.
 pub fn rescale_in(body: &Body) -> Result<RescaleBody, BodyFault>
     ensures { Reads (fault_of rescale_members (view body.now)) (IsRescale (view body.now)) result }
 {

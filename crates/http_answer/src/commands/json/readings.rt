@@ -1,4 +1,4 @@
-//! The bodies of readings by hand, closings and voids.
+//! Reads the JSON bodies that enter readings by hand, close meters and void entries.
 ghost use Rattle.serde_json.specs.View.{view};
 ghost use Rattle.http_answer.specs.Commands.Json.Members.{Reads};
 ghost use Rattle.http_answer.specs.Commands.Json.Tables.{close_members, fault_of, manual_members, void_members};
@@ -7,7 +7,8 @@ ghost use Rattle.http_answer.specs.Commands.Json.Commands.{IsClose, IsManual, Is
 use crate::commands::json::body::{Body, BodyFault};
 use crate::commands::json::members::{natural, natural_or_none, optional, whole};
 
-/// A reading by hand, with its own timestamp or, without one, that of the command.
+/// A reading that is entered by hand. Without a timestamp in the body, the reading gets the
+/// timestamp of the command.
 #[derive(Clone, Copy, Debug, PartialEq, Eq)]
 pub struct ManualBody {
     pub raw: u64,
@@ -15,20 +16,21 @@ pub struct ManualBody {
     pub at: Option<u64>,
 }
 
-/// The last reading of a meter, and the rollovers of its counter since the previous reading.
+/// The last reading of a meter that is closed, and the rollovers of its counter since the reading
+/// before.
 #[derive(Clone, Copy, Debug, PartialEq, Eq)]
 pub struct CloseBody {
     pub raw: u64,
     pub rolls: u64,
 }
 
-/// The sequence number of the entry to void.
+/// The sequence number of the meter entry that a command voids.
 #[derive(Clone, Copy, Debug, PartialEq, Eq)]
 pub struct VoidBody {
     pub place: u64,
 }
 
-/// Reads the reading by hand that a body describes.
+/// Reads the JSON body that enters a reading by hand.
 pub fn manual_in(body: &Body) -> Result<ManualBody, BodyFault>
     ensures { Reads (fault_of manual_members (view body.now)) (IsManual (view body.now)) result }
 {
@@ -42,7 +44,7 @@ pub fn manual_in(body: &Body) -> Result<ManualBody, BodyFault>
     })
 }
 
-/// Reads the closing that a body describes.
+/// Reads the JSON body that closes a meter.
 pub fn close_in(body: &Body) -> Result<CloseBody, BodyFault>
     ensures { Reads (fault_of close_members (view body.now)) (IsClose (view body.now)) result }
 {
@@ -54,7 +56,7 @@ pub fn close_in(body: &Body) -> Result<CloseBody, BodyFault>
     })
 }
 
-/// Reads the void that a body describes.
+/// Reads the JSON body of the command that voids a meter entry.
 pub fn void_in(body: &Body) -> Result<VoidBody, BodyFault>
     ensures { Reads (fault_of void_members (view body.now)) (IsVoid (view body.now)) result }
 {

@@ -8,7 +8,8 @@ use Rattle.std.proofs.lemmas.Int.{to_z_pos}
 use Rattle.interval_core.specs.Zone.{offset_of}
 use Rattle.interval_core.proofs.day.day_of.Goals as goal
 
--- The whole days in a number of nanoseconds are those in its whole seconds.
+-- Converting nanoseconds to days yields the same number as converting the corresponding seconds to
+-- days.
 days : (s o : ℤ) → int_div_euclid (s *ℤ pos 1_000_000_000 +ℤ o *ℤ pos 1_000_000_000) (pos 86_400_000_000_000) ≡ int_div_euclid (s +ℤ o) (pos 86_400)
 days s o = omega (arith, signed_arith)
 

@@ -1,4 +1,4 @@
--- All bytes that are no longer in the rest were written.
+-- Loop invariant: the writer received the hex text of all bytes that are not in the rest.
 use Rattle.std.proofs.Common.{◌≡◌, ℕ, List, ◌++◌, length}
 use Rattle.std.specs.Io.KnownBytes.{Appends}
 use Rattle.hex.specs.Hex.{encode_lower}

@@ -4,13 +4,14 @@ use Rattle.std.proofs.KnownBytes.{Appends-kept, Appends-trans}
 use Rattle.sun_points.proofs.sink.write_whole.Goals as goal
 use Rattle.sun_points.proofs.sink.write_whole.Goals.{in-Ok, in-Err}
 
--- A write removed bytes from the beginning of the rest.
+-- After a write of `n` bytes, the bytes written and the remaining bytes together are the complete
+-- text.
 moves_front : (all done rest left : List ℕ) (n : ℕ) → all ≡ done ++ rest → left ≡ take (length rest - n) (drop n rest) → all ≡ (done ++ take n rest) ++ left
 moves_front all done rest left n split is =
     split ∙ ap (λ (l : List ℕ). done ++ l) (sym (take-append-drop n rest)) ∙ sym (append_assoc done (take n rest) (drop n rest))
     ∙ ap (λ (l : List ℕ). (done ++ take n rest) ++ l) (sym (take_rest rest n) ∙ sym is)
 
--- An interrupted write removed nothing.
+-- An interrupted write leaves the remaining bytes unchanged.
 stays : (all done rest left : List ℕ) → all ≡ done ++ rest → left ≡ rest → all ≡ done ++ left
 stays all done rest left split is = split ∙ ap (λ (l : List ℕ). done ++ l) (sym is)
 

@@ -1,4 +1,5 @@
--- All bytes that are no longer in the rest were written.
+-- The loop invariant: the bytes written until now and the remaining bytes together are the complete
+-- text.
 use Rattle.std.proofs.Common.{◌≡◌, ℕ, List, ◌++◌}
 use Rattle.std.specs.Io.KnownBytes.{Appends}
 use Rattle.sun_points.proofs.sink.write_whole.Given as goal

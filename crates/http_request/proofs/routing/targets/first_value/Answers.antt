@@ -8,7 +8,7 @@ use Rattle.matchit.specs.Params.{part_of, walk}
 use Rattle.http_request.specs.Routing.Routes.{head_value}
 use Rattle.http_request.proofs.routing.targets.first_value.Goals as goal
 
--- A part of an ASCII text is an ASCII text.
+-- A slice of an ASCII text is an ASCII text.
 part-ascii : (bytes : List ℕ) (start end : ℕ) → IsAscii bytes → IsAscii (part_of bytes start end)
 part-ascii bytes start end h = elim (cases_Bool (leb start end && leb end (length bytes))) [
   | inl e ↦ rw e (IsAscii-take (drop start bytes) (end - start) (IsAscii-drop bytes start h))
