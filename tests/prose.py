@@ -10,9 +10,8 @@ repository or those under the paths. It reports:
 - name: a function whose name contains such a word, or is a verb without an object (BANNED_NAMES)
 
 Code, tables and quoted names (`..`) are left out. prose_allowed.txt lists findings that stay, each
-with its reason, at most 40. LEFT counts the findings of older text: the check fails if there are
-more, and if there are fewer, so that the counts only go down. --list prints every finding of a
-kind. The last line is 'N passed, M failed'.
+with its reason, at most 40. Any other finding fails. --list prints every finding of a kind. The
+last line is 'N passed, M failed'.
 """
 import argparse
 import ast
@@ -40,9 +39,6 @@ FIXED_NAMES = {
 }
 BANNED_PARTS = {"told", "tell", "tells", "stand", "stands", "anew", "behind"}
 PAGE, SOURCE, SCRIPT = "pages", "sources", "scripts"
-# Findings of older text, by kind of file and kind of finding: functions that still need a better
-# name.
-LEFT = {(SOURCE, "name"): 186}
 # The bytes of web/, which web/embed writes.
 GENERATED = {"crates/web_page/src/files.rt"}
 KINDS = ("long", "word", "wide", "name")
@@ -224,17 +220,10 @@ def main():
     for row in allow:
         if not options.paths and row not in used:
             failures.append(f"prose_allowed.txt: nothing is found any more for {' | '.join(row)}")
-    for key in sorted(set(counts) | set(LEFT)):
-        found = counts.get(key, [])
-        most = LEFT.get(key, 0)
-        print(f"{key[0]}, {key[1]}: {len(found)}, where at most {most} may be")
-        if options.list == key[1] or len(found) > most:
-            for line in found if options.list == key[1] else found[:12]:
-                print(f"  {line}")
-        if len(found) > most:
-            failures.append(f"{key[0]}, {key[1]}: {len(found)} findings, {most} at most")
-        elif len(found) < most and not options.paths:
-            failures.append(f"{key[0]}, {key[1]}: {len(found)} findings: lower LEFT, which has {most}")
+    for key, found in sorted(counts.items()):
+        for line in found if options.list == key[1] else found[:12]:
+            print(f"  {line}")
+        failures.append(f"{key[0]}, {key[1]}: {len(found)} findings")
     for line in failures:
         print(f"FAILED {line}")
     print(f"{passed} passed, {len(failures)} failed")

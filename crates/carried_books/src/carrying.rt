@@ -14,4 +14,4 @@ mod standings;
 
 pub use carried::carry_books;
 pub use faults::CarryFault;
-pub use laws::{commands_record_the_same, meters_go_on_where_they_stand};
+pub use laws::{commands_record_the_same, meters_continue_from_their_last_state};

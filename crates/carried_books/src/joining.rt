@@ -18,14 +18,14 @@ mod statements;
 
 pub use days::{EarlierDays, JoinedDays};
 pub use earlier::{
-    EarlierRegister, HeldRegisters, KeptRegister, KeptRegisters, add_kept, hold_kept,
+    ComparedRegisters, EarlierRegister, KeptRegister, KeptRegisters, add_next_file, compare_file,
 };
 pub use files::{JoinedFiles, Unjoined, add_books, no_files};
 pub use keeping::Keeping;
 pub use kept_meters::KeptMeter;
 pub use laws::{
-    both_files_state_the_joined_meter, both_files_tell_the_joined_days, latest_is_of_all_files,
-    one_file_states_its_meters, one_file_tells_its_days,
+    both_files_state_the_joined_meter, days_of_one_file_are_its_own,
+    joined_days_agree_with_both_files, latest_is_of_all_files, one_file_states_its_meters,
 };
 pub use meters::Apart;
 pub use offices::days_over;

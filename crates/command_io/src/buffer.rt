@@ -65,7 +65,7 @@ impl<W: Write> Buffered<W> {
     }
 
     // Passes some of the first `end` buffered bytes to the inner writer, in one write.
-    fn give(&mut self, end: usize) -> io::Result<()>
+    fn write_front(&mut self, end: usize) -> io::Result<()>
         requires some { 0 < end }
         requires within { end ≤ self.old.filled }
         ensures less { OnOk result (self.new.filled < self.old.filled) }
@@ -123,7 +123,7 @@ impl<W: Write> Buffered<W> {
     {
         if count > ROOM - self.filled && self.filled > 0 {
             let end = lines_len(&self.buffered[..self.filled]);
-            self.give(end)?;
+            self.write_front(end)?;
         }
         Ok(())
     }
@@ -157,7 +157,7 @@ impl<W: Write> Write for Buffered<W> {
             if self.filled == 0 {
                 return self.output.flush();
             }
-            match self.give(self.filled) {
+            match self.write_front(self.filled) {
                 Ok(()) => {}
                 Err(error) if error.kind() == ErrorKind::Interrupted => {}
                 Err(error) => return Err(error),

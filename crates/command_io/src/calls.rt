@@ -14,7 +14,7 @@ pub(crate) struct Calls<'r, R: Read> {
 }
 
 impl<'r, R: Read> Calls<'r, R> {
-    pub(crate) fn of(input: &'r mut R) -> Self
+    pub(crate) fn new(input: &'r mut R) -> Self
         ensures input { result.input.now ≡ input.old }
         ensures none { result.made ≡ 0 }
         ensures works { result.failed ≡ false }

@@ -47,7 +47,7 @@ pub fn read_whole<R: Read>(alloc: Global, input: &mut R) -> Result<Vec<u8>, Read
     ensures fits { IfOk result (λ bytes. length bytes.items ≤ most_bytes) }
     ensures long { IfErr result (BlamesLengthRightly (R.remaining input.old)) }
 {
-    let mut calls = Calls::of(input);
+    let mut calls = Calls::new(input);
     read_by(alloc, &mut calls)
 }
 
@@ -99,13 +99,13 @@ pub fn read_input<R: Read, P: Printer>(
 {
     match read_whole(alloc, input) {
         Ok(text) => Ok(text),
-        Err(ReadFault::TooLong) => Err(tell_too_long(output)),
+        Err(ReadFault::TooLong) => Err(print_too_long(output)),
         Err(ReadFault::Failed | ReadFault::Memory) => Err(ExitStatus::Failed),
     }
 }
 
 // Prints the line `too long`, and returns the exit status for an input that is too long.
-fn tell_too_long<P: Printer>(output: &mut P) -> ExitStatus
+fn print_too_long<P: Printer>(output: &mut P) -> ExitStatus
     ensures told { TellsTooLong result (P.contents output.old) (P.contents output.new) }
     ensures failed { result ≡ ExitStatus.Failed → P.has_failed output.new }
 {

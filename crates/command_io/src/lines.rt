@@ -35,7 +35,7 @@ impl<'a> InputLines<'a> {
     ghost use Rattle.std.specs.Prelude.{[], ◌∷◌, MatchOption};
     ghost use Rattle.command_io.specs.Lines.{seen_line, speaking_lines};
 
-    pub fn of(text: &'a [u8]) -> Self
+    pub fn new(text: &'a [u8]) -> Self
         ensures { result ≡ speaking_lines text.now }
     {
         InputLines {

@@ -5,7 +5,7 @@ use Rattle.sun_chain.specs.Image.{Words}
 use Rattle.sun_chain.specs.Tables.{common_table, inverter_table, meter_table, table_of}
 use Rattle.mb_wire.specs.declared.span.ReadFunction.TheVariants.{HoldingRegisters, InputRegisters}
 use Rattle.device_scan.specs.Answers.{Ask, settled}
-use Rattle.device_scan.specs.Counters.{counter_span, shown_by, shown_in, told}
+use Rattle.device_scan.specs.Counters.{counter_span, shown_by, decode_counter, told}
 use Rattle.device_scan.specs.Scans.{nothing}
 use Rattle.device_scan.specs.Stages.{begun, holding, is_known, model_at, stage_after, wanted}
 use Rattle.device_scan.specs.declared.counter.CounterScale.TheVariants.{Fixed, Register}
@@ -158,13 +158,13 @@ half_a_counter = refl
 
 -- The count and the power of ten of a counter in words.
 
-high_word_first : shown_in 10 (1 ∷ 2 ∷ []) 10 (Fixed (pos 0)) ≡ Some (record { raw = 65538; sf = pos 0 })
+high_word_first : decode_counter 10 (1 ∷ 2 ∷ []) 10 (Fixed (pos 0)) ≡ Some (record { raw = 65538; sf = pos 0 })
 high_word_first = refl
 
-scale_is_read : shown_in 10 (1 ∷ 2 ∷ 0xFFFE ∷ []) 10 (Register 12) ≡ Some (record { raw = 65538; sf = negsuc 1 })
+scale_is_read : decode_counter 10 (1 ∷ 2 ∷ 0xFFFE ∷ []) 10 (Register 12) ≡ Some (record { raw = 65538; sf = negsuc 1 })
 scale_is_read = refl
 
-scale_stands_before : shown_in 9 (3 ∷ 0 ∷ 7 ∷ []) 10 (Register 9) ≡ Some (record { raw = 7; sf = pos 3 })
+scale_stands_before : decode_counter 9 (3 ∷ 0 ∷ 7 ∷ []) 10 (Register 9) ≡ Some (record { raw = 7; sf = pos 3 })
 scale_stands_before = refl
 
 least_scale : told 0xFFFD ≡ Some (negsuc 2)
@@ -179,7 +179,7 @@ above_the_greatest = refl
 not_implemented : told 0x8000 ≡ None
 not_implemented = refl
 
-four_by_hand : shown_in 10 (1 ∷ 2 ∷ []) 10 (Fixed (pos 4)) ≡ None
+four_by_hand : decode_counter 10 (1 ∷ 2 ∷ []) 10 (Fixed (pos 4)) ≡ None
 four_by_hand = refl
 
 no_words : shown_by 10 None 10 (Fixed (pos 0)) ≡ None

@@ -1,7 +1,7 @@
 -- Lemmas about the count and the power of ten that a read over a new link returns.
 use Rattle.std.proofs.Common.{◌≡◌, ℕ, List, [], Option, Some, Result, refl, ap, ◌∙◌, subst}
 use Rattle.mb_wire.specs.Spans.{Span}
-use Rattle.device_scan.specs.Counters.{AsksCounter, ShowsCounter, shown_by, shown_in}
+use Rattle.device_scan.specs.Counters.{AsksCounter, ShowsCounter, shown_by, decode_counter}
 use Rattle.device_scan.specs.Lines.{Line, OnlyRequests, Reads}
 use Rattle.device_scan.specs.Scans.{fresh}
 use Rattle.device_scan.specs.declared.counter.CounterScale.{CounterScale}
@@ -30,9 +30,9 @@ shows_read unit asked wanted span bytes given open_bytes next end words address 
     })
 
 -- A counter's value is read from the words at the counter's addresses.
-pub shows_words : (first : ℕ) (read words : List ℕ) (address : ℕ) (scale : CounterScale) (shown : Option Shown) → shown ≡ shown_in first read address scale → read ≡ words → shown ≡ shown_by first (Some words) address scale
+pub shows_words : (first : ℕ) (read words : List ℕ) (address : ℕ) (scale : CounterScale) (shown : Option Shown) → shown ≡ decode_counter first read address scale → read ≡ words → shown ≡ shown_by first (Some words) address scale
 shows_words first read words address scale shown shows same =
-    shows ∙ ap (λ (all : List ℕ). shown_in first all address scale) same
+    shows ∙ ap (λ (all : List ℕ). decode_counter first all address scale) same
 
 pub asks_read : {X E : Type 0} (unit asked : ℕ) (wanted : Option Span) (span : Span) (result : Result X E) (old new : Option (List ℕ)) → Some span ≡ wanted → asked ≡ unit → OnlyRequests asked span result old new → AsksCounter unit wanted result old new
 asks_read unit asked wanted span result old new is same requests =

@@ -22,7 +22,7 @@ use Rattle.sun_chain.specs.Image.{Words}
 use Rattle.sun_points.specs.Writing.{GotPart, GotText}
 use Rattle.device_scan.specs.Answers.{Ask, brought, is_reply, request_frame, words_in, words_seen}
 use Rattle.device_scan.specs.Lines.{AtOnce, Again, Garbles, Hears, HearsAnswer, Inquiry, Line, OnlyInquires, OnlyRequests, Reads, Tries, ask, inquiry_frame, request_under}
-use Rattle.device_scan.specs.Scans.{Scans, AsksInTurn, Exchange, Talks, fresh, nothing, put_answer, words_after, words_told}
+use Rattle.device_scan.specs.Scans.{Scans, AsksInTurn, Exchange, Talks, fresh, nothing, append_answer, words_after, words_told}
 use Rattle.device_scan.specs.Stages.{begun, stage_after, wanted}
 use Rattle.device_scan.specs.declared.stage.Stage.{Stage}
 use Rattle.device_scan.specs.declared.stage.Stage.TheVariants.{Mark, Head, Ending, Registers as InModel, Over}
@@ -237,7 +237,7 @@ pub going_more : (unit : ℕ) (old_bytes old_given bytes given later_bytes later
     Going unit old_bytes old_given bytes given asked_unit open_bytes next word stage old_taken taken → wanted stage ≡ Some span →
     Reads asked_unit (standing bytes given open_bytes next) (standing later_bytes later_given later_open later_next) span words →
     ((inquiries : List Inquiry) × Appends given later_given (flat_map (inquiry_frame asked_unit) inquiries)) →
-    later_unit ≡ asked_unit → later_taken ≤ taken + 2000 → ((address : ℕ) → later address ≡ put_answer word span.address words address) → later_stage ≡ stage_after later stage →
+    later_unit ≡ asked_unit → later_taken ≤ taken + 2000 → ((address : ℕ) → later address ≡ append_answer word span.address words address) → later_stage ≡ stage_after later stage →
     Going unit old_bytes old_given later_bytes later_given later_unit later_open later_next later later_stage old_taken later_taken
 going_more unit old_bytes old_given bytes given later_bytes later_given asked_unit later_unit open_bytes later_open next later_next word later stage later_stage old_taken taken later_taken span words going is read inquires same few told goes =
     let here = standing bytes given open_bytes next in
@@ -250,7 +250,7 @@ going_more unit old_bytes old_given bytes given later_bytes later_given asked_un
     let before : taken ≤ old_taken + 2000 * length going.exchanges = going.takes in
     record {
       exchanges = going.exchanges ++ x ∷ [];
-      progress = progress_more unit (fresh old_bytes old_given) here there word later stage later_stage going.exchanges x going.progress is read_unit (same_words later (put_answer word span.address words) told) goes;
+      progress = progress_more unit (fresh old_bytes old_given) here there word later stage later_stage going.exchanges x going.progress is read_unit (same_words later (append_answer word span.address words) told) goes;
       inquired = (
         going.inquired.0 ++ inquired.0,
         subst (λ (text : List ℕ). Appends old_given later_given text)

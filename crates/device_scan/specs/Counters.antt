@@ -66,8 +66,8 @@ count_in first words address =
 
 -- The count and power of ten of a counter in the words, or `None` if the power of ten is not
 -- allowed.
-abbrev pub shown_in : (first : ℕ) → List ℕ → (address : ℕ) → CounterScale → Option Shown
-shown_in first words address scale =
+abbrev pub decode_counter : (first : ℕ) → List ℕ → (address : ℕ) → CounterScale → Option Shown
+decode_counter first words address scale =
     option_map (λ sf. record { raw = count_in first words address; sf = sf })
     (scale_in first words scale)
 
@@ -75,7 +75,7 @@ shown_in first words address scale =
 -- words.
 abbrev pub shown_by : (first : ℕ) → Option (List ℕ) → (address : ℕ) → CounterScale → Option Shown
 shown_by first words address scale =
-    option_and_then (λ all. shown_in first all address scale) words
+    option_and_then (λ all. decode_counter first all address scale) words
 
 -- True if a read over a new link requested the span, and `shown` is the counter's value in the
 -- words of that read.

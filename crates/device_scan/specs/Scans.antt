@@ -2,7 +2,7 @@
 use Rattle.std.specs.Prelude.{◌≡◌, ℕ, ◌≤◌, List, [], ◌∷◌, length, Some, None}
 use Rattle.std.specs.declared.option.Option.{Option}
 use Rattle.mb_wire.specs.Spans.{Span}
-use Rattle.sun_chain.specs.Image.{Words, put_words, word_in}
+use Rattle.sun_chain.specs.Image.{Words, add_words, word_in}
 use Rattle.device_scan.specs.Stages.{begun, stage_after, wanted}
 use Rattle.device_scan.specs.Lines.{Line, Reads}
 use Rattle.device_scan.specs.declared.scan.Scan.{Scan}
@@ -29,13 +29,13 @@ nothing address = None
 
 -- The image after a read from `address`. The words of the response replace earlier words, and
 -- `None` changes nothing.
-abbrev pub put_answer : Words → ℕ → Option (List ℕ) → Words
-put_answer word address None = word
-put_answer word address (Some words) = put_words word address words
+abbrev pub append_answer : Words → ℕ → Option (List ℕ) → Words
+append_answer word address None = word
+append_answer word address (Some words) = add_words word address words
 
 -- The image after one more read.
 abbrev pub words_after : Words → Exchange → Words
-words_after word exchange = put_answer word exchange.span.address exchange.words
+words_after word exchange = append_answer word exchange.span.address exchange.words
 
 -- The image after a list of reads.
 abbrev pub words_told : Words → List Exchange → Words

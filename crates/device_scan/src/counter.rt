@@ -83,7 +83,7 @@ fn allowed(sf: i16) -> Option<i16>
 
 // Returns the power of ten in a sunssf register, or `None` if it is not implemented or not from -3
 // to 3.
-fn told(word: u16) -> Option<i16>
+fn decode_scale(word: u16) -> Option<i16>
     ensures { result ≡ specs.told word }
 {
     if word == 0x8000 {
@@ -98,12 +98,12 @@ fn scale_in(first: u16, words: &[u16], scale: CounterScale) -> Option<i16>
 {
     match scale {
         CounterScale::Fixed(sf) => allowed(sf),
-        CounterScale::Register(at) => told(word_at(first, words, u32::from(at))),
+        CounterScale::Register(at) => decode_scale(word_at(first, words, u32::from(at))),
     }
 }
 
-fn shown_in(first: u16, words: &[u16], address: u16, scale: CounterScale) -> Option<Shown>
-    ensures { result ≡ specs.shown_in first words.now address scale }
+fn decode_counter(first: u16, words: &[u16], address: u16, scale: CounterScale) -> Option<Shown>
+    ensures { result ≡ specs.decode_counter first words.now address scale }
 {
     let high = word_at(first, words, u32::from(address));
     let low = word_at(first, words, u32::from(address) + 1);
@@ -149,7 +149,7 @@ pub fn read_counter<L: Link>(
     };
     let mut client = Client::new(unit);
     match client.read(alloc, link, span) {
-        Ok(Some(words)) => Ok(shown_in(span.address, &words, address, scale)),
+        Ok(Some(words)) => Ok(decode_counter(span.address, &words, address, scale)),
         Ok(None) => Ok(None),
         Err(fault) => Err(fault),
     }

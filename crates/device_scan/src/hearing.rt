@@ -64,7 +64,7 @@ fn answer(alloc: Global, frame: &Frame<'_>, attempt: &Try) -> Result<Answer, All
 
 // Returns the response to the request after one more frame. An earlier response has precedence over
 // the frame.
-fn hear_frame(
+fn settle_by_frame(
     alloc: Global,
     reader: &FrameReader,
     attempt: &Try,
@@ -76,11 +76,11 @@ fn hear_frame(
 {
     match heard {
         Some(answer) => Ok(Some(answer)),
-        None => hear_held(alloc, reader, attempt),
+        None => settle_by_held_frame(alloc, reader, attempt),
     }
 }
 
-fn hear_held(
+fn settle_by_held_frame(
     alloc: Global,
     reader: &FrameReader,
     attempt: &Try,
@@ -116,7 +116,7 @@ fn hear_piece(
     ensures gone { is_gone result ≡ false }
 {
     let fed = reader.feed(piece);
-    let Ok(later) = hear_frame(alloc, reader, attempt, heard) else {
+    let Ok(later) = settle_by_frame(alloc, reader, attempt, heard) else {
         return Err(ScanFault::Memory);
     };
     match fed.what {

@@ -2,7 +2,7 @@
 ghost use Rattle.std.specs.Prelude.{◌≡◌, ◌<◌, ◌≤◌, ◌+◌, ◌-◌, ℕ, length, min, Some, None, IfSome, IsSome, IsTrue, OnOk, OnErr};
 ghost use Rattle.std.specs.Option.{option_map};
 ghost use Rattle.mb_wire.specs.Spans.{span_view};
-ghost use Rattle.sun_chain.specs.Image.{put_words, word_in};
+ghost use Rattle.sun_chain.specs.Image.{add_words, word_in};
 ghost use Rattle.sun_chain.specs.Chain.{next_after};
 ghost use Rattle.device_scan.specs.Stages.{begun, ending_at, fits, head_at, holding, in_model, model_in, model_of};
 ghost use Rattle.device_scan.specs.Stages.{other_mark, stage_after, wanted};
@@ -78,7 +78,7 @@ impl Scan {
         requires next { wanted (stage_of self.old) ≡ Some (span_view span) }
         requires all { length words.now ≡ span.count }
         ensures words { OnOk result ((at : ℕ)
-            → words_of self.new at ≡ put_words (words_of self.old) span.address words.now at) }
+            → words_of self.new at ≡ add_words (words_of self.old) span.address words.now at) }
         ensures stage { OnOk result
             (stage_of self.new ≡ stage_after (words_of self.new) (stage_of self.old)) }
         ensures err { OnErr result ((address : ℕ)
@@ -87,7 +87,7 @@ impl Scan {
     {
         match self.image.put(span.address, words) {
             Ok(()) => {
-                self.go_on();
+                self.move_on_to_next_read();
                 Ok(())
             }
             Err(_) => Err(AllocError),
@@ -99,7 +99,7 @@ impl Scan {
         ensures words { (address : ℕ) → words_of self.new address ≡ words_of self.old address }
         ensures stage { stage_of self.new ≡ stage_after (words_of self.new) (stage_of self.old) }
     {
-        self.go_on();
+        self.move_on_to_next_read();
     }
 
     /// Consumes the scan, and returns the words that the device sent.
@@ -109,7 +109,7 @@ impl Scan {
         self.image
     }
 
-    fn go_on(&mut self)
+    fn move_on_to_next_read(&mut self)
         ensures words { words_of self.new ≡ words_of self.old }
         ensures stage { stage_of self.new ≡ stage_after (words_of self.old) (stage_of self.old) }
     {

@@ -6,7 +6,7 @@ ghost use Rattle.sun_chain.specs.Image.{word_in};
 ghost use Rattle.device_scan.specs.Lines.{Garbles, OnlyInquires, has_failed, is_gone};
 ghost use Rattle.device_scan.specs.Answers.{words_seen};
 ghost use Rattle.device_scan.specs.Stages.{stage_after, wanted};
-ghost use Rattle.device_scan.specs.Scans.{Scans, put_answer, stage_of, words_of};
+ghost use Rattle.device_scan.specs.Scans.{Scans, append_answer, stage_of, words_of};
 ghost use Rattle.device_scan.specs.declared.hearing.TheConstants.{MOST_TAKES};
 
 use crate::client::Client;
@@ -36,7 +36,7 @@ fn take_in(scan: &mut Scan, span: ReadSpan, answer: Answer) -> Result<(), AllocE
     requires next { wanted (stage_of scan.old) ≡ Some (span_view span) }
     requires all { IfSome answer (λ words. length words.items ≡ span.count) }
     ensures words { OnOk result ((address : ℕ) → words_of scan.new address
-        ≡ put_answer (words_of scan.old) span.address (words_seen answer) address) }
+        ≡ append_answer (words_of scan.old) span.address (words_seen answer) address) }
     ensures stage { OnOk result
         (stage_of scan.new ≡ stage_after (words_of scan.new) (stage_of scan.old)) }
 {

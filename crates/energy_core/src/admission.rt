@@ -102,7 +102,7 @@ fn is_out_of_range(range: u64, entry: &Entry) -> bool
 }
 
 /// Returns the counter's state (time, count and scale factor) after an entry.
-fn stand(last: &Last, entry: &Entry) -> Last
+fn last_after(last: &Last, entry: &Entry) -> Last
     ensures { result ≡ after last.now entry.now }
 {
     match *entry {
@@ -170,5 +170,5 @@ pub fn enter<C: Counter>(
         till,
         mwh,
     };
-    Ok((stand(last, entry), step))
+    Ok((last_after(last, entry), step))
 }

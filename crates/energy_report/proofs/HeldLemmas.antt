@@ -14,8 +14,8 @@ use Rattle.office_events.specs.declared.facts.HeldReading.{HeldReading}
 use Rattle.office_books.specs.Rows.{TakesAll}
 use Rattle.energy_report.specs.declared.form.Format.{Format}
 use Rattle.energy_report.specs.declared.held_counts.HeldCount.{HeldCount}
-use Rattle.energy_report.specs.declared.held_counts.HeldCounts.{HeldCounts}
-use Rattle.energy_report.specs.declared.held_within.HeldWithin.{HeldWithin}
+use Rattle.energy_report.specs.declared.held_counts.RejectedCounts.{RejectedCounts}
+use Rattle.energy_report.specs.declared.held_within.RejectedWithin.{RejectedWithin}
 use Rattle.energy_report.specs.Held.{by_cause, held_within, is_held_within, with_one}
 use Rattle.energy_report.specs.HeldSinks.{CountsReading, HasCountedNone}
 use Rattle.energy_report.specs.StatementTexts.{are_none, count_piece, count_text, counts_or_zero, counts_text, held_mark, held_some}
@@ -23,7 +23,7 @@ use Rattle.energy_report.proofs.TallyLemmas.{counts}
 
 -- ---- counts of rejected readings by cause
 
-abbrev eight : (a b d e f g h i : ℕ) → HeldCounts
+abbrev eight : (a b d e f g h i : ℕ) → RejectedCounts
 eight a b d e f g h i = record {
   not_accumulated = a;
   scale_changed = b;
@@ -51,10 +51,10 @@ one_held zone range before held = alike
     (counts (is_held_within zone range cause.TotalFull) before held)
     (counts (is_held_within zone range cause.NotBelowRange) before held)
 
-counted_on : (zone : Zone) (range : DayRange) (before holds : List HeldReading) (from to : HeldWithin) → from.zone ≡ zone → from.range ≡ range
+counted_on : (zone : Zone) (range : DayRange) (before holds : List HeldReading) (from to : RejectedWithin) → from.zone ≡ zone → from.range ≡ range
     → from.counts ≡ held_within zone range before → TakesAll CountsReading from holds to → to.counts ≡ held_within zone range (before ++ holds)
 counted_on zone range before [] from to z r is took =
-    ap (λ (s : HeldWithin). s.counts) took ∙ is ∙ ap (held_within zone range) (sym (append-nil before))
+    ap (λ (s : RejectedWithin). s.counts) took ∙ is ∙ ap (held_within zone range) (sym (append-nil before))
 counted_on zone range before (held ∷ holds) from to z r is took =
     let next = took.0 in
     let here : next.counts ≡ held_within zone range (before ++ held ∷ []) =
@@ -68,7 +68,7 @@ counted_on zone range before (held ∷ holds) from to z r is took =
 
 -- After a sink receives a list of rejected readings, its counts equal `held_within` of these
 -- readings.
-pub counted_all : (zone : Zone) (range : DayRange) (holds : List HeldReading) (from to : HeldWithin) → HasCountedNone zone range from
+pub counted_all : (zone : Zone) (range : DayRange) (holds : List HeldReading) (from to : RejectedWithin) → HasCountedNone zone range from
     → TakesAll CountsReading from holds to → to.counts ≡ held_within zone range holds
 counted_all zone range holds from to fresh took = counted_on zone range [] holds from to fresh.zone_is fresh.range_is fresh.none took
 
@@ -132,7 +132,7 @@ still_none xs i d none next lt is put =
     ∙ ap (λ those. are_none (some_of those)) (sym (take_more xs i d lt))
 
 -- After the text of the last count is appended, the text of all counts is complete.
-pub all_pieces : (format : Format) (held : HeldCounts) (xs : List HeldCount) (i : ℕ) (old page : List ℕ) (none : Bool) → xs ≡ by_cause held → length xs ≤ i
+pub all_pieces : (format : Format) (held : RejectedCounts) (xs : List HeldCount) (i : ℕ) (old page : List ℕ) (none : Bool) → xs ≡ by_cause held → length xs ≤ i
     → page ≡ old ++ counts_text format (some_of (take i xs)) → none ≡ are_none (some_of (take i xs))
     → (page ≡ old ++ counts_text format (held_some held)) × (none ≡ are_none (held_some held))
 unfolding held_some

@@ -18,7 +18,7 @@ use Rattle.energy_report.specs.declared.form.EnergyUnit.TheVariants.{KilowattHou
 use Rattle.energy_report.specs.declared.form.Format.{Format}
 use Rattle.energy_report.specs.declared.form.Format.TheVariants.{Text, Csv, Json}
 use Rattle.energy_report.specs.declared.form.StatementForm.{StatementForm}
-use Rattle.energy_report.specs.declared.held_counts.HeldCounts.{HeldCounts}
+use Rattle.energy_report.specs.declared.held_counts.RejectedCounts.{RejectedCounts}
 use Rattle.energy_report.specs.declared.meter_statement.MeterStatement.{MeterStatement}
 use Rattle.energy_report.specs.declared.tallies.EntryTally.{EntryTally}
 use Rattle.interval_core.specs.Ranges.{all_days}
@@ -98,7 +98,7 @@ abbrev holds : List HeldReading
 holds = held_at 1500 cause.ScaleChanged ∷ held_at 2500 cause.GapTooLong ∷ held_at 3500 cause.ScaleChanged
     ∷ held_at 4500 cause.ScaleChanged ∷ held_at 4102444801 cause.NotAccumulated ∷ []
 
-abbrev some_held : HeldCounts
+abbrev some_held : RejectedCounts
 some_held = record {
   not_accumulated = 0;
   scale_changed = 3;
@@ -118,7 +118,7 @@ no_holds zone = refl
 
 -- Counts in which each cause has its own number as its count. The first cause has the largest count
 -- instead.
-abbrev all_held : HeldCounts
+abbrev all_held : RejectedCounts
 all_held = record {
   not_accumulated = 18446744073709551615;
   scale_changed = 2;

@@ -11,7 +11,7 @@ use Rattle.office_books.specs.declared.entries.MeterEntry.{MeterEntry}
 use Rattle.interval_core.specs.declared.day_range.DayRange.{DayRange}
 use Rattle.energy_report.specs.declared.tallies.EntryTally.{EntryTally}
 use Rattle.energy_report.specs.RowLines.{counted}
-use Rattle.energy_report.specs.Statements.{is_corrected, is_manual, is_rescale, is_reset, is_voided, stand_of, stands_within, tally_of}
+use Rattle.energy_report.specs.Statements.{is_corrected, is_manual, is_rescale, is_reset, is_voided, counter_after_entry, stands_within, tally_of}
 use Rattle.energy_report.proofs.SnocLemmas.{capped}
 
 count_push : {X : Type 0} (p : X → Bool) (xs : List X) (x : X) → count_by p (xs ++ x ∷ []) ≡ count_by p xs + cond (p x) 1 0
@@ -34,27 +34,27 @@ map_choice f true x other = refl
 map_choice f false x other = refl
 
 first : (p : MeterEntry → Bool) (before : List MeterEntry) (e : MeterEntry)
-    → option_or (option_map stand_of (find p before)) (cond (p e) (Some (stand_of e)) None)
-    ≡ option_map stand_of (find p (before ++ e ∷ []))
+    → option_or (option_map counter_after_entry (find p before)) (cond (p e) (Some (counter_after_entry e)) None)
+    ≡ option_map counter_after_entry (find p (before ++ e ∷ []))
 first p before e = sym (
-    ap (option_map stand_of) (find-append p before (e ∷ []))
-    ∙ map_or stand_of (find p before) (find p (e ∷ []))
-    ∙ ap (option_or (option_map stand_of (find p before))) (map_choice stand_of (p e) e None)
+    ap (option_map counter_after_entry) (find-append p before (e ∷ []))
+    ∙ map_or counter_after_entry (find p before) (find p (e ∷ []))
+    ∙ ap (option_or (option_map counter_after_entry (find p before))) (map_choice counter_after_entry (p e) e None)
     )
 
 last : (p : MeterEntry → Bool) (before : List MeterEntry) (e : MeterEntry)
-    → cond (p e) (Some (stand_of e)) (option_map stand_of (find p (reverse before)))
-    ≡ option_map stand_of (find p (reverse (before ++ e ∷ [])))
+    → cond (p e) (Some (counter_after_entry e)) (option_map counter_after_entry (find p (reverse before)))
+    ≡ option_map counter_after_entry (find p (reverse (before ++ e ∷ [])))
 last p before e = sym (
-    ap (λ (es : List MeterEntry). option_map stand_of (find p es)) (reverse-append before (e ∷ []))
-    ∙ map_choice stand_of (p e) e (find p (reverse before))
+    ap (λ (es : List MeterEntry). option_map counter_after_entry (find p es)) (reverse-append before (e ∷ []))
+    ∙ map_choice counter_after_entry (p e) e (find p (reverse before))
     )
 
 -- The tally of a meter after one more entry is added.
 abbrev pub with_entry : Zone → DayRange → EntryTally → MeterEntry → EntryTally
 with_entry zone range old e = record {
-  first = option_or old.first (cond (stands_within zone range e) (Some (stand_of e)) None);
-  last = cond (stands_within zone range e) (Some (stand_of e)) old.last;
+  first = option_or old.first (cond (stands_within zone range e) (Some (counter_after_entry e)) None);
+  last = cond (stands_within zone range e) (Some (counter_after_entry e)) old.last;
   by_hand = counted (old.by_hand + cond (is_corrected zone range is_manual e) 1 0);
   resets = counted (old.resets + cond (is_corrected zone range is_reset e) 1 0);
   rescales = counted (old.rescales + cond (is_corrected zone range is_rescale e) 1 0);

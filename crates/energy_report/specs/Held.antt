@@ -9,7 +9,7 @@ use Rattle.interval_core.specs.declared.zone.Zone.{Zone}
 use Rattle.interval_core.specs.Ranges.{has_moment}
 use Rattle.office_events.specs.declared.facts.HeldReading.{HeldReading}
 use Rattle.energy_report.specs.declared.held_counts.HeldCount.{HeldCount}
-use Rattle.energy_report.specs.declared.held_counts.HeldCounts.{HeldCounts}
+use Rattle.energy_report.specs.declared.held_counts.RejectedCounts.{RejectedCounts}
 use Rattle.energy_report.specs.RowLines.{counted, one_more_if}
 
 -- True if two causes of rejections are equal.
@@ -26,7 +26,7 @@ abbrev pub held_for : Zone → DayRange → List HeldReading → (why : Cause) �
 held_for zone range holds why = counted (count_by (is_held_within zone range why) holds)
 
 -- The numbers of rejected readings with timestamps in the range, by cause.
-abbrev pub held_within : Zone → DayRange → List HeldReading → HeldCounts
+abbrev pub held_within : Zone → DayRange → List HeldReading → RejectedCounts
 held_within zone range holds = record {
   not_accumulated = held_for zone range holds cause.NotAccumulated;
   scale_changed = held_for zone range holds cause.ScaleChanged;
@@ -39,7 +39,7 @@ held_within zone range holds = record {
 }
 
 -- Each cause with its count, in the order of the causes' numbers.
-abbrev pub by_cause : HeldCounts → List HeldCount
+abbrev pub by_cause : RejectedCounts → List HeldCount
 by_cause counts =
     record { cause = cause.NotAccumulated; count = counts.not_accumulated }
     ∷ record { cause = cause.ScaleChanged; count = counts.scale_changed }
@@ -54,7 +54,7 @@ by_cause counts =
 -- ---- counting rejected readings one by one
 
 -- The counts before any rejected reading, which are all 0.
-abbrev pub none_held : HeldCounts
+abbrev pub none_held : RejectedCounts
 none_held = record {
   not_accumulated = 0;
   scale_changed = 0;
@@ -68,7 +68,7 @@ none_held = record {
 
 -- The counts after one more rejected reading. If `counts` is true, the count of the reading's cause
 -- grows by one. The other counts are unchanged.
-abbrev pub with_one : HeldCounts → (counts : Bool) → (why : Cause) → HeldCounts
+abbrev pub with_one : RejectedCounts → (counts : Bool) → (why : Cause) → RejectedCounts
 with_one old counts why = record {
   not_accumulated = one_more_if (counts && is_one why cause.NotAccumulated) old.not_accumulated;
   scale_changed = one_more_if (counts && is_one why cause.ScaleChanged) old.scale_changed;

@@ -4,18 +4,18 @@ use Rattle.interval_core.specs.declared.day_range.DayRange.{DayRange}
 use Rattle.interval_core.specs.declared.zone.Zone.{Zone}
 use Rattle.interval_core.specs.Ranges.{has_moment}
 use Rattle.office_events.specs.declared.facts.HeldReading.{HeldReading}
-use Rattle.energy_report.specs.declared.held_within.HeldWithin.{HeldWithin}
+use Rattle.energy_report.specs.declared.held_within.RejectedWithin.{RejectedWithin}
 use Rattle.energy_report.specs.Held.{none_held, with_one}
 
 -- True if a sink is new, with the given zone and range and counts that are all 0.
-pub record HasCountedNone (zone : Zone) (range : DayRange) (new : HeldWithin) : Type 0 where
+pub record HasCountedNone (zone : Zone) (range : DayRange) (new : RejectedWithin) : Type 0 where
   pub zone_is : new.zone ≡ zone
   pub range_is : new.range ≡ range
   pub none : new.counts ≡ none_held
 
 -- The effect of a rejected reading on the sink. If the reading's timestamp is in the range, the
 -- sink counts the reading under its cause. Other readings leave the sink unchanged.
-pub record CountsReading (old : HeldWithin) (held : HeldReading) (new : HeldWithin) : Type 0 where
+pub record CountsReading (old : RejectedWithin) (held : HeldReading) (new : RejectedWithin) : Type 0 where
   pub zone : new.zone ≡ old.zone
   pub range : new.range ≡ old.range
   pub counts : new.counts

@@ -10,7 +10,7 @@ use Rattle.energy_report.specs.declared.form.Format.{Format}
 use Rattle.energy_report.specs.declared.form.Format.TheVariants.{Text, Csv, Json}
 use Rattle.energy_report.specs.declared.form.StatementForm.{StatementForm}
 use Rattle.energy_report.specs.declared.held_counts.HeldCount.{HeldCount}
-use Rattle.energy_report.specs.declared.held_counts.HeldCounts.{HeldCounts}
+use Rattle.energy_report.specs.declared.held_counts.RejectedCounts.{RejectedCounts}
 use Rattle.energy_report.specs.declared.meter_statement.MeterStatement.{MeterStatement}
 use Rattle.energy_report.specs.declared.tallies.EntryTally.{EntryTally}
 use Rattle.energy_report.specs.Held.{by_cause}
@@ -70,7 +70,7 @@ abbrev pub counts_text : Format → List HeldCount → List ℕ
 counts_text format counts = join_by (count_text format) (held_mark format) counts
 
 -- The counts that are not 0, in the order of the causes' numbers.
-unfoldable pub held_some : HeldCounts → List HeldCount
+unfoldable pub held_some : RejectedCounts → List HeldCount
 held_some held = filter (λ one. not (one.count == 0)) (by_cause held)
 
 -- The text of several counts of rejected readings, or `0` if the list is empty.
@@ -80,7 +80,7 @@ counts_or_zero format (first ∷ counts) = counts_text format (first ∷ counts)
 
 -- The text of all counts of rejected readings, which is a field in text and CSV, and an object in
 -- JSON.
-abbrev pub held_text : Format → HeldCounts → List ℕ
+abbrev pub held_text : Format → RejectedCounts → List ℕ
 held_text Text held = counts_or_zero Text (held_some held)
 held_text Csv held = counts_or_zero Csv (held_some held)
 held_text Json held = codes "{" ++ counts_text Json (held_some held) ++ codes "}"

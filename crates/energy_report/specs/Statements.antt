@@ -28,9 +28,9 @@ stand_after (step.Step at raw rolls) sf = record { at = at; raw = raw; sf = sf }
 stand_after (step.Change at before after set) sf = record { at = at; raw = after; sf = sf }
 
 -- The counter's state after an entry of a meter, which may be the opening entry.
-abbrev pub stand_of : MeterEntry → Last
-stand_of (entry.Opening last) = last
-stand_of (entry.Later row sf) = stand_after row.entry sf
+abbrev pub counter_after_entry : MeterEntry → Last
+counter_after_entry (entry.Opening last) = last
+counter_after_entry (entry.Later row sf) = stand_after row.entry sf
 
 -- True if an entry is valid, which means that no void names the entry. An opening entry is always
 -- valid.
@@ -62,7 +62,7 @@ has_kind is (entry.Later row sf) = is row.kind
 
 -- True if the timestamp of an entry is in the range.
 abbrev pub is_within : Zone → DayRange → MeterEntry → Bool
-is_within zone range e = has_moment zone range (stand_of e).at
+is_within zone range e = has_moment zone range (counter_after_entry e).at
 
 -- True if an entry is valid and its timestamp is in the range.
 abbrev pub stands_within : Zone → DayRange → MeterEntry → Bool
@@ -85,8 +85,8 @@ count_of does entries = counted (count_by does entries)
 -- whatever the time of its void.
 abbrev pub tally_of : Zone → DayRange → List MeterEntry → EntryTally
 tally_of zone range entries = record {
-  first = option_map stand_of (find (stands_within zone range) entries);
-  last = option_map stand_of (find (stands_within zone range) (reverse entries));
+  first = option_map counter_after_entry (find (stands_within zone range) entries);
+  last = option_map counter_after_entry (find (stands_within zone range) (reverse entries));
   by_hand = count_of (is_corrected zone range is_manual) entries;
   resets = count_of (is_corrected zone range is_reset) entries;
   rescales = count_of (is_corrected zone range is_rescale) entries;
@@ -113,7 +113,7 @@ worth_of last =
 -- True if a meter was installed on at least one day of the range, by the clocks of the time zone.
 -- The meter was installed before the end of the range, and was not closed before the beginning of
 -- the range.
-abbrev pub was_there : Zone → DayRange → Installation → Bool
-was_there zone range row =
+abbrev pub was_installed : Zone → DayRange → Installation → Bool
+was_installed zone range row =
     has_moment zone (record { from = None; till = range.till }) row.opening.at
     && (not row.ended || has_moment zone (record { from = range.from; till = None }) row.last.at)

@@ -9,7 +9,7 @@ use energy_core::Cause;
 
 /// The number of rejected readings for each cause. Each count saturates at 2^64 - 1.
 #[derive(Clone, Copy, Debug, PartialEq, Eq)]
-pub struct HeldCounts {
+pub struct RejectedCounts {
     /// The counter showed 0, which SunSpec defines as an accumulator that does not count.
     pub not_accumulated: u64,
     /// The scale factor of the reading differed from the scale factor of the last entry.
@@ -35,12 +35,12 @@ pub struct HeldCount {
     pub count: u64,
 }
 
-impl HeldCounts {
+impl RejectedCounts {
     /// Creates counts that are all 0.
-    pub fn none() -> HeldCounts
+    pub fn none() -> RejectedCounts
         ensures { result ≡ held.none_held }
     {
-        HeldCounts {
+        RejectedCounts {
             not_accumulated: 0,
             scale_changed: 0,
             not_later: 0,
@@ -94,10 +94,10 @@ impl HeldCounts {
 
     // Returns the counts after one more rejected reading. If `counts` is true, the count of its
     // cause grows by one, otherwise no count changes.
-    pub(crate) fn with_one(&self, counts: bool, cause: Cause) -> HeldCounts
+    pub(crate) fn with_one(&self, counts: bool, cause: Cause) -> RejectedCounts
         ensures { result ≡ held.with_one self.now counts cause }
     {
-        HeldCounts {
+        RejectedCounts {
             not_accumulated: one_more_for(
                 self.not_accumulated,
                 counts,

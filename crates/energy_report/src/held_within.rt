@@ -1,6 +1,6 @@
 //! A sink that counts the rejected readings in a range of civil days by cause.
 
-use crate::held_counts::HeldCounts;
+use crate::held_counts::RejectedCounts;
 use interval_core::{DayRange, Zone};
 use office_books::RowSink;
 use office_events::HeldReading;
@@ -8,36 +8,36 @@ use office_events::HeldReading;
 /// Counts, for each cause, the rejected readings whose timestamps are in a range of days, by the
 /// clocks of a zone.
 #[derive(Drop)]
-pub struct HeldWithin {
+pub struct RejectedWithin {
     zone: Zone,
     range: DayRange,
-    counts: HeldCounts,
+    counts: RejectedCounts,
 }
 
-impl HeldWithin {
+impl RejectedWithin {
     ghost use Rattle.std.specs.Prelude.{◌≡◌};
     ghost use Rattle.energy_report.specs.HeldSinks.{HasCountedNone};
 
     /// Creates a sink whose counts are all 0.
-    pub fn new(zone: Zone, range: DayRange) -> HeldWithin
+    pub fn new(zone: Zone, range: DayRange) -> RejectedWithin
         ensures { HasCountedNone zone range result }
     {
-        HeldWithin {
+        RejectedWithin {
             zone,
             range,
-            counts: HeldCounts::none(),
+            counts: RejectedCounts::none(),
         }
     }
 
     /// Returns the number of rejected readings for each cause that the sink received so far.
-    pub fn counts(&self) -> HeldCounts
+    pub fn counts(&self) -> RejectedCounts
         ensures { result ≡ self.now.counts }
     {
         self.counts
     }
 }
 
-impl RowSink<HeldReading> for HeldWithin {
+impl RowSink<HeldReading> for RejectedWithin {
     ghost use Rattle.energy_report.specs.HeldSinks.{CountsReading};
 
     ghost takes = { CountsReading };

@@ -19,13 +19,13 @@ mod tallies;
 
 pub use energy_within::EnergyWithin;
 pub use form::{EnergyUnit, Format, Period, ReportForm, StatementForm};
-pub use held_counts::{HeldCount, HeldCounts};
-pub use held_within::HeldWithin;
+pub use held_counts::{HeldCount, RejectedCounts};
+pub use held_within::RejectedWithin;
 pub use laws::{
     periods_end_with_their_last_day, plain_reports_are_lists_of_days, ranges_add_up, rows_add_up,
     rows_are_shown, rows_are_whole,
 };
-pub use meter_statement::{MeterStatement, was_there};
+pub use meter_statement::{MeterStatement, was_installed};
 pub use report_rows::ReportRows;
 pub use row::Row;
 pub use row_lines::RowLines;

@@ -2,7 +2,7 @@
 ghost use Rattle.std.specs.Prelude.{◌≡◌};
 ghost use Rattle.energy_report.specs.Statements as statements;
 
-use crate::held_counts::HeldCounts;
+use crate::held_counts::RejectedCounts;
 use crate::tallies::EntryTally;
 use interval_core::{DayRange, Zone};
 use office_events::{Installation, Name};
@@ -14,15 +14,15 @@ pub struct MeterStatement {
     pub meter: Name,
     pub entries: EntryTally,
     pub mwh: u128,
-    pub held: HeldCounts,
+    pub held: RejectedCounts,
 }
 
 /// Returns whether a meter was installed on at least one day of a range, by the clocks of a zone.
 ///
 /// This is the case if the meter was installed before the end of the range, and was not closed
 /// before the beginning of the range.
-pub fn was_there(zone: &Zone, range: &DayRange, row: &Installation) -> bool
-    ensures { result ≡ statements.was_there zone.now range.now row.now }
+pub fn was_installed(zone: &Zone, range: &DayRange, row: &Installation) -> bool
+    ensures { result ≡ statements.was_installed zone.now range.now row.now }
 {
     let until = DayRange {
         from: None,

@@ -107,7 +107,7 @@ impl<'o, W: Write> RowSink<DayTotal> for ReportRows<'o, W> {
             return;
         }
         let Some(open) = self.pending else {
-            self.pending = Some(Row::of(&total));
+            self.pending = Some(Row::new(&total));
             return;
         };
         if self.form.period.has_both(open.first, total.day) {
@@ -115,6 +115,6 @@ impl<'o, W: Write> RowSink<DayTotal> for ReportRows<'o, W> {
             return;
         }
         self.write_row(&open);
-        self.pending = Some(Row::of(&total));
+        self.pending = Some(Row::new(&total));
     }
 }

@@ -17,7 +17,7 @@ pub struct Row {
 
 impl Row {
     /// Returns the row of a report for a single day.
-    pub fn of(total: &DayTotal) -> Row
+    pub fn new(total: &DayTotal) -> Row
         ensures { result ≡ shown (row_of total.now) }
     {
         let none = Row {

@@ -7,7 +7,7 @@ ghost use Rattle.energy_report.specs.StatementTexts as text;
 ghost use Rattle.energy_report.specs.Texts.{ending_by};
 
 use crate::form::{EnergyUnit, Format, StatementForm};
-use crate::held_counts::{HeldCount, HeldCounts};
+use crate::held_counts::{HeldCount, RejectedCounts};
 use crate::meter_statement::MeterStatement;
 use crate::row_text::{energy, unit_word};
 use crate::tallies::{EntryTally, both};
@@ -124,7 +124,7 @@ fn push_row(page: &mut Page, form: &StatementForm, row: &MeterStatement)
 
 // Returns the energy in mWh of the count that a counter shows, or 0 if its scale factor is out of
 // range.
-fn worth(stand: &Last) -> u128
+fn reading_value(stand: &Last) -> u128
     ensures { result ≡ worth_of stand.now }
 {
     if stand.sf < MIN_SCALE || MAX_SCALE < stand.sf {
@@ -179,7 +179,7 @@ fn push_worth(page: &mut Page, format: Format, unit: EnergyUnit, stand: &Option<
         None => page.push(nothing(format)),
         Some(stand) => {
             page.push(quote(format));
-            page.push(energy(unit, worth(stand)).bytes());
+            page.push(energy(unit, reading_value(stand)).bytes());
             page.push(quote(format));
         }
     }
@@ -207,7 +207,7 @@ fn count_mark(format: Format) -> &'static [u8]
     }
 }
 
-fn push_held(page: &mut Page, format: Format, held: &HeldCounts)
+fn push_held(page: &mut Page, format: Format, held: &RejectedCounts)
     requires { length page.old ≤ 700 }
     ensures bytes { page.new ≡ page.old ++ text.held_text format held.now }
     ensures size { length page.new ≤ length page.old + 218 }
@@ -222,7 +222,7 @@ fn push_held(page: &mut Page, format: Format, held: &HeldCounts)
     }
 }
 
-fn push_counts_or_zero(page: &mut Page, format: Format, held: &HeldCounts)
+fn push_counts_or_zero(page: &mut Page, format: Format, held: &RejectedCounts)
     requires { length page.old ≤ 700 }
     ensures bytes { page.new ≡ page.old ++ text.counts_or_zero format (text.held_some held.now) }
     ensures size { length page.new ≤ length page.old + 217 }
@@ -234,7 +234,7 @@ fn push_counts_or_zero(page: &mut Page, format: Format, held: &HeldCounts)
 }
 
 // Appends the counts that are not 0, and returns whether all counts are 0.
-fn push_counts(page: &mut Page, format: Format, held: &HeldCounts) -> bool
+fn push_counts(page: &mut Page, format: Format, held: &RejectedCounts) -> bool
     requires { length page.old ≤ 710 }
     ensures bytes { page.new ≡ page.old ++ text.counts_text format (text.held_some held.now) }
     ensures none { result ≡ text.are_none (text.held_some held.now) }
@@ -284,8 +284,8 @@ fn push_fields(page: &mut Page, form: &StatementForm, mark: &[u8], row: &MeterSt
     ensures size { length page.new ≤ length page.old + 700 }
 {
     page.push(row.meter.as_bytes());
-    push_stand_fields(page, form, mark, &row.entries.first);
-    push_stand_fields(page, form, mark, &row.entries.last);
+    push_counter_fields(page, form, mark, &row.entries.first);
+    push_counter_fields(page, form, mark, &row.entries.last);
     page.push(mark);
     page.push(energy(form.unit, row.mwh).bytes());
     push_count_fields(page, mark, &row.entries);
@@ -293,7 +293,7 @@ fn push_fields(page: &mut Page, form: &StatementForm, mark: &[u8], row: &MeterSt
     push_held(page, form.format, &row.held);
 }
 
-fn push_stand_fields(page: &mut Page, form: &StatementForm, mark: &[u8], stand: &Option<Last>)
+fn push_counter_fields(page: &mut Page, form: &StatementForm, mark: &[u8], stand: &Option<Last>)
     requires room { length page.old ≤ 500 }
     requires few { length mark.now ≤ 1 }
     ensures bytes { page.new ≡ page.old ++ text.stand_fields form.now mark.now stand.now }
@@ -326,8 +326,8 @@ fn push_object(page: &mut Page, unit: EnergyUnit, row: &MeterStatement)
     page.push(b"{\"meter\":\"");
     page.push(row.meter.as_bytes());
     page.push(b"\",");
-    push_stand_members(page, unit, b"first", &row.entries.first);
-    push_stand_members(page, unit, b"last", &row.entries.last);
+    push_counter_members(page, unit, b"first", &row.entries.first);
+    push_counter_members(page, unit, b"last", &row.entries.last);
     page.push(b"\"energy_");
     page.push(unit_word(unit));
     page.push(b"\":\"");
@@ -339,7 +339,7 @@ fn push_object(page: &mut Page, unit: EnergyUnit, row: &MeterStatement)
     page.push(b"}");
 }
 
-fn push_stand_members(page: &mut Page, unit: EnergyUnit, word: &[u8], stand: &Option<Last>)
+fn push_counter_members(page: &mut Page, unit: EnergyUnit, word: &[u8], stand: &Option<Last>)
     requires room { length page.old ≤ 500 }
     requires few { length word.now ≤ 5 }
     ensures bytes { page.new ≡ page.old ++ text.stand_members unit word.now stand.now }

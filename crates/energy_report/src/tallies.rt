@@ -52,25 +52,25 @@ impl EntryTally {
             → self.new ≡ tally_of zone.now range.now (before ++ entries.now) }
     {
         for entry in entries {
-            self.take(zone, range, entry);
+            self.count_entry(zone, range, entry);
         }
     }
 
     // Adds the next entry of the meter to the tally.
-    fn take(&mut self, zone: &Zone, range: &DayRange, entry: &MeterEntry)
+    fn count_entry(&mut self, zone: &Zone, range: &DayRange, entry: &MeterEntry)
         ensures { (before : List Listed) → self.old ≡ tally_of zone.now range.now before
             → self.new ≡ tally_of zone.now range.now (before ++ entry.now ∷ []) }
     {
-        let stand = stand_of(entry);
+        let stand = counter_after_entry(entry);
         let is_within = range.has_moment(zone, stand.at);
-        let counts = both(is_within, stands(entry));
+        let counts = both(is_within, is_valid(entry));
         *self = EntryTally {
             first: earlier(self.first, counts, stand),
             last: later(self.last, counts, stand),
             by_hand: tallied(self.by_hand, both(counts, is_by_hand(entry))),
             resets: tallied(self.resets, both(counts, is_reset(entry))),
             rescales: tallied(self.rescales, both(counts, is_rescale(entry))),
-            voids: tallied(self.voids, both(is_within, !stands(entry))),
+            voids: tallied(self.voids, both(is_within, !is_valid(entry))),
         };
     }
 }
@@ -78,8 +78,8 @@ impl EntryTally {
 // ---- the properties of a meter entry
 
 // Returns the counter's state after a meter entry.
-fn stand_of(entry: &MeterEntry) -> Last
-    ensures { result ≡ statements.stand_of entry.now }
+fn counter_after_entry(entry: &MeterEntry) -> Last
+    ensures { result ≡ statements.counter_after_entry entry.now }
 {
     match entry {
         MeterEntry::Opening(last) => *last,
@@ -94,7 +94,7 @@ fn stand_of(entry: &MeterEntry) -> Last
     }
 }
 
-fn stands(entry: &MeterEntry) -> bool
+fn is_valid(entry: &MeterEntry) -> bool
     ensures { result ≡ statements.stands entry.now }
 {
     match entry {

@@ -282,7 +282,7 @@ fn entries_are_booked_or_refused(rt: HostRuntime) {
 
 /// Checks that an entry with a count that its counter cannot show is refused.
 #[test]
-fn entries_tell_what_the_counter_can_show(rt: HostRuntime) {
+fn entries_match_the_range_of_the_counter(rt: HostRuntime) {
     enters(&rt, &ranged(&rt, 1_000_000), &BELOW_A_MILLION);
     enters(&rt, &ranged(&rt, 65_536), &BELOW_65536);
 }

@@ -98,7 +98,7 @@ fn a_voided_row_gives_none(rt: HostRuntime) {
 
 /// Checks that a voided reading directly after a valid row is checked like a valid reading.
 #[test]
-fn a_voided_row_is_looked_at_after_one_that_stands(rt: HostRuntime) {
+fn a_voided_row_is_checked_after_a_valid_one(rt: HostRuntime) {
     let fast = TableRow {
         raw: 50_000,
         is_voided: true,

@@ -97,7 +97,7 @@ fn folded(
     Ok(fold)
 }
 
-fn is_told(total: &DayTotal, told: &Told) -> bool {
+fn is_reported(total: &DayTotal, told: &Told) -> bool {
     let day = total.day;
     day.year() == told.year
         && day.month() == told.month
@@ -107,12 +107,12 @@ fn is_told(total: &DayTotal, told: &Told) -> bool {
 }
 
 /// Returns whether day totals equal the expected days.
-fn are_told(totals: &[DayTotal], days: &[Told]) -> bool {
+fn are_reported(totals: &[DayTotal], days: &[Told]) -> bool {
     totals.len() == days.len()
         && totals
             .iter()
             .zip(days)
-            .all(|(total, told)| is_told(total, told))
+            .all(|(total, told)| is_reported(total, told))
 }
 
 /// Returns whether rows add up to the expected days. The function checks a fold, a clone of the
@@ -126,8 +126,8 @@ fn folds_to(
 ) -> Result<bool, DayFault> {
     let fold = folded(rt, alloc, rows, zone)?;
     let copy = fold.clone()?;
-    let are_lent = are_told(fold.rows(), days) && are_told(copy.rows(), days);
-    Ok(are_lent && are_told(fold.into_rows().as_slice(), days))
+    let are_lent = are_reported(fold.rows(), days) && are_reported(copy.rows(), days);
+    Ok(are_lent && are_reported(fold.into_rows().as_slice(), days))
 }
 
 fn is_spread_so(rt: &impl Abort, alloc: Global, case: &Case) -> bool {
@@ -172,7 +172,7 @@ static ONE_INTERVAL: [Told; 1] = [told!(2024, 3, 31, 1, 7)];
 fn by_day_adds_up_rows(rt: HostRuntime) {
     let zone = Zone::read(CENTRAL_EUROPE).expect(&rt, "no zone");
     assert!(rt;
-        are_told(
+        are_reported(
             by_day(rt.alloc(), &[], &zone)
                 .expect(&rt, "no days")
                 .as_slice(),
@@ -180,7 +180,7 @@ fn by_day_adds_up_rows(rt: HostRuntime) {
         )
     );
     assert!(rt;
-        are_told(
+        are_reported(
             by_day(rt.alloc(), &ONE_ROW, &zone)
                 .expect(&rt, "no days")
                 .as_slice(),

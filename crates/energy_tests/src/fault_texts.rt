@@ -1,5 +1,5 @@
 //! Tests the texts of causes and faults about energy.
-use crate::texts::tells;
+use crate::texts::assert_texts;
 use energy_core::{Cause, TermFault};
 use interval_core::{DayFault, ZoneFault};
 
@@ -81,8 +81,8 @@ const ZONES: [(ZoneFault, &str); 2] = [
 /// Checks that each cause of a rejection and each fault has its text.
 #[test]
 fn energy(rt: HostRuntime) {
-    tells(&rt, rt.alloc(), &HELD);
-    tells(&rt, rt.alloc(), &ENTRIES);
-    tells(&rt, rt.alloc(), &DAYS);
-    tells(&rt, rt.alloc(), &ZONES)
+    assert_texts(&rt, rt.alloc(), &HELD);
+    assert_texts(&rt, rt.alloc(), &ENTRIES);
+    assert_texts(&rt, rt.alloc(), &DAYS);
+    assert_texts(&rt, rt.alloc(), &ZONES)
 }

@@ -4,7 +4,7 @@ use std::fmt::Display;
 use std::process::Abort;
 
 /// Asserts that each fault has its expected text, without a full stop.
-pub(crate) fn tells<F: Display>(rt: &impl Abort, alloc: Global, texts: &[(F, &str)]) {
+pub(crate) fn assert_texts<F: Display>(rt: &impl Abort, alloc: Global, texts: &[(F, &str)]) {
     for (fault, text) in texts {
         let said = format!(in alloc; "{fault}").expect(rt, "no memory");
         assert!(rt; said.as_str() == *text, "{text}");

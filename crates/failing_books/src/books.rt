@@ -9,7 +9,8 @@ use mb_wire::ReadSpan;
 use memory_books::ListBooks;
 use office_books::{Books, BooksFault, Failures, MeterEntry, Repeat, RowSink, Span, StoreFault};
 use office_events::{
-    Device, EntryPlace, Fact, HeldReading, Installation, Name, PlannedList, Poll, PollRow, Register,
+    Device, EntryContext, Fact, HeldReading, Installation, Name, PlannedList, Poll, PollRow,
+    Register,
 };
 
 /// A store in memory that fails a chosen call, for tests. Every other call fails only for lack of
@@ -21,7 +22,7 @@ pub struct FailingBooks {
     pub(crate) failing: u64,
     pub(crate) failures: Failures,
     /// True if a failing query that passes rows to a sink passes all rows before it fails.
-    pub(crate) rows_come_first: bool,
+    pub(crate) fails_after_rows: bool,
 }
 
 impl FailingBooks {
@@ -42,7 +43,7 @@ impl FailingBooks {
             calls: 0,
             failing,
             failures: Failures::new(),
-            rows_come_first: false,
+            fails_after_rows: false,
         }
     }
 
@@ -163,13 +164,13 @@ impl Books for FailingBooks {
         self.failures.noted(found)
     }
 
-    fn entry(&mut self, meter: &Name, place: u64) -> Result<Option<EntryPlace>, BooksFault> {
+    fn entry(&mut self, meter: &Name, place: u64) -> Result<Option<EntryContext>, BooksFault> {
         self.called()?;
         let found = self.books.entry(meter, place);
         self.failures.noted(found)
     }
 
-    fn entry_near(&mut self, meter: &Name, place: u64) -> Result<Option<EntryPlace>, BooksFault> {
+    fn entry_near(&mut self, meter: &Name, place: u64) -> Result<Option<EntryContext>, BooksFault> {
         self.called()?;
         let found = self.books.entry_near(meter, place);
         self.failures.noted(found)
@@ -227,7 +228,7 @@ impl Books for FailingBooks {
         span: Span,
         sink: &mut K,
     ) -> Result<(), BooksFault> {
-        if self.rows_come_first {
+        if self.fails_after_rows {
             let handed = self.books.intervals(meter, span, sink);
             self.failures.noted(handed)?;
             return self.called();
@@ -243,7 +244,7 @@ impl Books for FailingBooks {
         span: Span,
         sink: &mut K,
     ) -> Result<(), BooksFault> {
-        if self.rows_come_first {
+        if self.fails_after_rows {
             let handed = self.books.register_intervals(register, span, sink);
             self.failures.noted(handed)?;
             return self.called();
@@ -259,7 +260,7 @@ impl Books for FailingBooks {
         span: Span,
         sink: &mut K,
     ) -> Result<(), BooksFault> {
-        if self.rows_come_first {
+        if self.fails_after_rows {
             let handed = self.books.holds(meter, span, sink);
             self.failures.noted(handed)?;
             return self.called();

@@ -20,7 +20,7 @@ impl FailingBooks {
         ensures failures { (⟦<FailingBooks as Books>⟧.ledger result).failures ≡ no_failures }
     {
         FailingBooks {
-            rows_come_first: true,
+            fails_after_rows: true,
             ..FailingBooks::new(books, failing)
         }
     }

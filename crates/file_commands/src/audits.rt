@@ -10,7 +10,7 @@ use std::io::{self, ErrorKind, Read, Write};
 use std::str::from_utf8;
 use stored_files::{
     AuditFault, Databases, Ending, Failure, Joining, Named, audit_stored, check_stored_seal,
-    hold_to_earlier, meters_stored, seal_stored, told_zone, write_audit, write_checked,
+    hold_to_earlier, meters_stored, read_zone_text, seal_stored, write_audit, write_checked,
     write_joins, write_seal,
 };
 
@@ -186,7 +186,7 @@ fn join_next<'a, S: Alter>(
     joining: &mut Joining<'a>,
 ) -> Result<(), AuditFault> {
     let meters = meters_stored(rt.alloc(), connection, file)?;
-    match told_zone(connection) {
+    match read_zone_text(connection) {
         Ok(zone) => hold_to_earlier(rt.alloc(), joining, file, zone, meters),
         Err(fault) => Err(zone_fault(fault)),
     }

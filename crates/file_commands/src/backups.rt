@@ -6,7 +6,7 @@ use stored_files::{CopyFault, Ending, Failure};
 
 /// Maps the fault of a copy to a failure of the command. The failure has the path of the faulty
 /// file, which is the original or the copy.
-pub(crate) fn told_of<'a>(db: &'a str, to: &'a str, fault: CopyFault) -> Failure<'a> {
+pub(crate) fn copy_failure<'a>(db: &'a str, to: &'a str, fault: CopyFault) -> Failure<'a> {
     match fault {
         CopyFault::Changing | CopyFault::Torn | CopyFault::NotOurs => {
             Failure::Uncopied { path: db, fault }
@@ -28,8 +28,8 @@ fn copy_parts<'a>(
 ) -> Result<(), Failure<'a>> {
     match copy_sound(rt, source, part) {
         Ok(true) => Ok(()),
-        Ok(false) => Err(told_of(db, to, CopyFault::Changing)),
-        Err(_) => Err(told_of(db, to, CopyFault::Unwritable)),
+        Ok(false) => Err(copy_failure(db, to, CopyFault::Changing)),
+        Err(_) => Err(copy_failure(db, to, CopyFault::Unwritable)),
     }
 }
 
@@ -37,7 +37,7 @@ fn copy_parts<'a>(
 fn finish<'a>(rt: &HostRuntime, db: &'a str, to: &'a str, part: &Pair) -> Result<(), Failure<'a>> {
     match make_whole(rt, part.file.as_str()) {
         Ok(()) => finish_part(rt, to, part),
-        Err(fault) => Err(told_of(db, to, fault)),
+        Err(fault) => Err(copy_failure(db, to, fault)),
     }
 }
 

@@ -2,7 +2,7 @@
 use crate::carries::write_refusal;
 use crate::files::{OfficeFiles, Opening};
 use crate::joined_reports::{NotJoined, join_in, last_of};
-use carried_books::{EarlierRegister, HeldRegisters, Keeping, KeptRegisters};
+use carried_books::{ComparedRegisters, EarlierRegister, Keeping, KeptRegisters};
 use interval_core::DayRange;
 use office_events::Name;
 use std::io::Write;
@@ -62,9 +62,11 @@ fn keep_all<'a, D: Databases, E: Write>(
 }
 
 // Returns the registers of the earlier files with their merged energy.
-fn registers_of<'a>(held: JoinedOffice<HeldRegisters>) -> Result<Vec<EarlierRegister>, Ending<'a>> {
+fn registers_of<'a>(
+    held: JoinedOffice<ComparedRegisters>,
+) -> Result<Vec<EarlierRegister>, Ending<'a>> {
     let JoinedOffice { kept, .. } = held;
-    let HeldRegisters { kept } = kept;
+    let ComparedRegisters { kept } = kept;
     match kept.into_registers() {
         Ok(registers) => Ok(registers),
         Err(_) => Err(Ending::Failed(Failure::Memory)),
@@ -83,7 +85,7 @@ fn hold<'a, D: Databases, E: Write>(
     errors: &mut E,
 ) -> Result<Vec<EarlierRegister>, Ending<'a>> {
     let JoinedOffice { zone, kept } = joined;
-    let kept = HeldRegisters { kept };
+    let kept = ComparedRegisters { kept };
     let held = Some(JoinedOffice { zone, kept });
     match join(rt, databases, held, before, path, any, is_new, errors) {
         Ok(held) => registers_of(held),

@@ -33,7 +33,7 @@ pub struct Files<'r> {
 
 impl<'r> Files<'r> {
     /// Returns the files of the operating system, each opened in place.
-    pub fn of(rt: &'r HostRuntime) -> Files<'r> {
+    pub fn new(rt: &'r HostRuntime) -> Files<'r> {
         let opening = Opening::InPlace;
         Files { rt, opening }
     }

@@ -1,5 +1,5 @@
 //! Recovers the readable records of an office with a damaged log into a new file.
-use crate::backups::told_of;
+use crate::backups::copy_failure;
 use crate::copies::{Pair, copy_settled, pair_at, remove};
 use crate::escaped::Escaped;
 use crate::files::{OfficeFiles, Opening};
@@ -47,11 +47,11 @@ fn recover_copy<'a>(
         Ok(LogHeader::Sound | LogHeader::Mended) => {}
         Ok(LogHeader::Lost) => say_lost(rt, db),
         Err(FileFault::Memory) => return Err(Failure::Memory),
-        Err(_) => return Err(told_of(db, to, CopyFault::Unwritable)),
+        Err(_) => return Err(copy_failure(db, to, CopyFault::Unwritable)),
     }
     match recovered_file(rt, part.file.as_str(), Unknown) {
         Ok(_files) => Ok(()),
-        Err(fault) => Err(told_of(db, to, fault)),
+        Err(fault) => Err(copy_failure(db, to, fault)),
     }
 }
 
@@ -66,8 +66,8 @@ fn fill_part<'a>(
     remove(rt, part);
     match copy_settled(rt, source, part) {
         Ok(true) => recover_copy(rt, db, to, part),
-        Ok(false) => Err(told_of(db, to, CopyFault::Changing)),
-        Err(_) => Err(told_of(db, to, CopyFault::Unwritable)),
+        Ok(false) => Err(copy_failure(db, to, CopyFault::Changing)),
+        Err(_) => Err(copy_failure(db, to, CopyFault::Unwritable)),
     }
 }
 

@@ -20,9 +20,11 @@ pub use commands::{
 pub use faults::faults_body;
 pub use kinds::{done_body, kind_answered};
 pub use laws::{commands_are_replied_to, faults_are_replied_to, questions_are_replied_to};
-pub use lines::{put_day, put_end, put_share};
-pub use replies::{put_command_fault, put_done, put_fault, put_meter, put_poll, put_refusal};
+pub use lines::{append_day, append_end, write_share};
+pub use replies::{
+    append_fault, append_meter, append_poll, append_refusal, write_command_fault, write_done,
+};
 pub use requests::{asked, kept_request, name_asked, number_asked};
 pub use rows::{meter_body, poll_body};
-pub use sending::{ReplyWriter, fault_body, put_json, put_text_head, refused_body};
+pub use sending::{ResponseWriter, fault_body, refused_body, write_json, write_text_head};
 pub use statuses::status_of;

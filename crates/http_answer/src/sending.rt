@@ -6,5 +6,5 @@ mod reply;
 mod writer;
 
 pub use bodies::{Text, fault_body, refused_body};
-pub use reply::{put_json, put_text_head};
-pub use writer::ReplyWriter;
+pub use reply::{write_json, write_text_head};
+pub use writer::ResponseWriter;

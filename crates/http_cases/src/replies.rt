@@ -5,7 +5,7 @@ use memory_books::ListBooks;
 use office_core::Office;
 use office_http::handle_named;
 use run_http::{
-    PeerReply, RunRoute, ask, for_browsers, reply_energy, reply_entries, reply_intervals,
+    ClientResponse, RunRoute, ask, for_browsers, reply_energy, reply_entries, reply_intervals,
     reply_meters, reply_metrics, reply_status, reply_voids, run_route,
 };
 use run_status::Counts;
@@ -49,8 +49,10 @@ pub(crate) fn run(
     match run_route(&NAMES, request) {
         Some(route) => reply_of_run(alloc, office, at, &route, &mut reply)?,
         None => match ask(alloc, request, office, at) {
-            PeerReply::Replied(replied) => reply = replied,
-            PeerReply::Open | PeerReply::Failed => return printed.extend_from_slice(NO_REPLY),
+            ClientResponse::Replied(replied) => reply = replied,
+            ClientResponse::Open | ClientResponse::Failed => return printed.extend_from_slice(
+                NO_REPLY,
+            ),
         },
     }
     let told = for_browsers(alloc, &NAMES, request, &reply)?;

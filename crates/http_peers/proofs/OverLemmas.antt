@@ -33,9 +33,9 @@ use Rattle.run_http.specs.RegisterReplies.{with_energy_reply}
 use Rattle.http_peers.specs.EnergyOver.{AsksEnergyOver, RepliesEnergyOver, ReportsOver, TellsReportOver}
 
 -- If the status of a write to the output is `Fine`, then the complete text was written.
-pub put_whole : (text : List ℕ) (status : ExitStatus) (had holds : List ℕ) → status ≡ Fine → IsTold text Fine status (Some had) (Some holds) → holds ≡ had ++ text
-put_whole text status had holds fine (inl told) = told.1
-put_whole text status had holds fine (inr failed) = absurd (let e : Fine ≡ Failed = sym fine ∙ failed.0 in cc e)
+pub append_whole : (text : List ℕ) (status : ExitStatus) (had holds : List ℕ) → status ≡ Fine → IsTold text Fine status (Some had) (Some holds) → holds ≡ had ++ text
+append_whole text status had holds fine (inl told) = told.1
+append_whole text status had holds fine (inr failed) = absurd (let e : Fine ≡ Failed = sym fine ∙ failed.0 in cc e)
 
 -- ---- The sums of days over several files.
 
@@ -100,10 +100,10 @@ module _ {B : Type 0} (ledger : B → Ledger) (a b : Office B) (zone : Zone) (ea
 
   -- ---- The response with the energy report.
 
-  put_as : (answer told : Result (Unit {0}) Refusal) (body report from to : List ℕ) → told ≡ answer → OnOk answer (body ≡ report)
+  write_as : (answer told : Result (Unit {0}) Refusal) (body report from to : List ℕ) → told ≡ answer → OnOk answer (body ≡ report)
       → to ≡ with_energy_reply told body from → to ≡ with_energy_reply answer report from
-  put_as (Ok done) told body report from to is same puts = puts ∙ ap (λ t. with_energy_reply t body from) is ∙ ap (λ t. with_energy_reply (Ok done) t from) same
-  put_as (Err why) told body report from to is same puts = puts ∙ ap (λ t. with_energy_reply t body from) is
+  write_as (Ok done) told body report from to is same puts = puts ∙ ap (λ t. with_energy_reply t body from) is ∙ ap (λ t. with_energy_reply (Ok done) t from) same
+  write_as (Err why) told body report from to is same puts = puts ∙ ap (λ t. with_energy_reply t body from) is
 
   alone : (answer : Result (Unit {0}) Refusal) (had holds report : List ℕ) → had ≡ [] → OnOk answer (holds ≡ had ++ report) → OnOk answer (holds ≡ report)
   alone (Ok done) had holds report none is = is ∙ ap (λ t. t ++ report) none
@@ -117,7 +117,7 @@ module _ {B : Type 0} (ledger : B → Ledger) (a b : Office B) (zone : Zone) (ea
     report = asks.report;
     asks = asks.asks;
     tells = asks.tells;
-    puts = put_as asks.answer told body asks.report from to asks.gives (alone asks.answer had body asks.report none asks.puts) puts;
+    puts = write_as asks.answer told body asks.report from to asks.gives (alone asks.answer had body asks.report none asks.puts) puts;
   }
   replied had body from to told (Err why) asks none puts = record {
     answer = asks.answer;

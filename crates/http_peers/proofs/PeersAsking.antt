@@ -27,9 +27,9 @@ use Rattle.run_http.specs.Pieces.{BeginsReply, TellsOn}
 use Rattle.run_http.specs.RegisterReplies.{RepliesEnergy}
 use Rattle.run_http.specs.SiteReply.{RepliesSite}
 use Rattle.run_http.specs.StatusRoute.{IsFor, IsRunRoute}
-use Rattle.run_http.specs.declared.answer.PeerReply.{PeerReply}
-use Rattle.run_http.specs.declared.answer.PeerReply.TheVariants.{Open, Replied, Failed}
-use Rattle.run_http.specs.declared.pieces.RowsLeft.{RowsLeft}
+use Rattle.run_http.specs.declared.answer.ClientResponse.{ClientResponse}
+use Rattle.run_http.specs.declared.answer.ClientResponse.TheVariants.{Open, Replied, Failed}
+use Rattle.run_http.specs.declared.pieces.RemainingRows.{RemainingRows}
 use Rattle.http_peers.specs.EnergyOver.{RepliesEnergyOver}
 use Rattle.http_peers.specs.PeersAsk.{AreAt, PeersAsk}
 
@@ -83,7 +83,7 @@ may_ask_of names request for left read is = record {
   may = may_of (may_ask_in names request for.head_state) request for.head_state for.asks;
 }
 
-asked_once : {B : Type 0} (names : List (List ℕ)) (ledger : B → Ledger) (at : ℕ) (old new : Office B) (request : List ℕ) (asked : PeerReply)
+asked_once : {B : Type 0} (names : List (List ℕ)) (ledger : B → Ledger) (at : ℕ) (old new : Office B) (request : List ℕ) (asked : ClientResponse)
     → ((left read : List ℕ) → request ≡ read ++ left → MayAsk names read)
     → Asks ledger at old new request asked → After ledger old new (λ past. ServesOne names at ledger past new)
 asked_once names ledger at old new request Open may h = handled names ledger at old new _ _ (may h.1.left) h.1.handles
@@ -93,7 +93,7 @@ asked_once names ledger at old new request Failed may (reply, inl h) = handled n
 asked_once names ledger at old new request Failed may (reply, inr (inl h)) = handled names ledger at old new _ _ (may h.left) h.handles
 asked_once names ledger at old new request Failed may (reply, inr (inr h)) = handled names ledger at old new _ _ (may h.left) h.handles
 
-pub one_asks : {B : Type 0} (names : List (List ℕ)) (ledger : B → Ledger) (at : ℕ) (old new : Office B) (request : List ℕ) (asked : PeerReply)
+pub one_asks : {B : Type 0} (names : List (List ℕ)) (ledger : B → Ledger) (at : ℕ) (old new : Office B) (request : List ℕ) (asked : ClientResponse)
     → ((left read : List ℕ) → request ≡ read ++ left → MayAsk names read)
     → Asks ledger at old new request asked → Lasts ledger old new → PeersAsk names at ledger old new
 one_asks names ledger at old new request asked may asks lasts = record {
@@ -145,10 +145,10 @@ pub asks_energy_over : {B E : Type 0} (names : List (List ℕ)) (ledger : B → 
 asks_energy_over names ledger at old new zone earlier register form from to result replies = only_asks names ledger at old new replies.answer replies.asks
 
 pub asks_begun : {B E : Type 0} (names : List (List ℕ)) (ledger : B → Ledger) (at : ℕ) (old new : Office B) (it : Installation) (from till : ℕ)
-    (reply : List Share → List ℕ) (put : List ℕ) (result : Result (Result RowsLeft Refusal) E) → BeginsReply ledger old new it from till reply put result
+    (reply : List Share → List ℕ) (put : List ℕ) (result : Result (Result RemainingRows Refusal) E) → BeginsReply ledger old new it from till reply put result
     → PeersAsk names at ledger old new
 asks_begun names ledger at old new it from till reply put result begins = only_asks names ledger at old new begins.answer begins.asks
 
-pub asks_told : {B E : Type 0} (names : List (List ℕ)) (ledger : B → Ledger) (at : ℕ) (old new : Office B) (left later : RowsLeft) (seconds : ℕ)
+pub asks_told : {B E : Type 0} (names : List (List ℕ)) (ledger : B → Ledger) (at : ℕ) (old new : Office B) (left later : RemainingRows) (seconds : ℕ)
     (from to : List ℕ) (result : Result (Result (Unit {0}) Refusal) E) → TellsOn ledger old new left later seconds from to result → PeersAsk names at ledger old new
 asks_told names ledger at old new left later seconds from to result tells = only_asks names ledger at old new tells.answer tells.asks

@@ -6,8 +6,8 @@ use Rattle.httparse.specs.Spans.{span_bytes}
 use Rattle.http_request.specs.Head.Heads.{Looks}
 use Rattle.http_request.specs.declared.head.head.HeadState.{HeadState}
 use Rattle.http_request.specs.declared.head.head.HeadState.TheVariants.{Open, TooLarge, NoHead, Whole}
-use Rattle.run_http.specs.declared.answer.PeerReply.{PeerReply}
-use Rattle.run_http.specs.declared.answer.PeerReply.TheVariants as reply
+use Rattle.run_http.specs.declared.answer.ClientResponse.{ClientResponse}
+use Rattle.run_http.specs.declared.answer.ClientResponse.TheVariants as reply
 
 -- True if the bytes hold a complete head with the method POST. The request is then a command.
 abbrev pub is_command_in : (bytes : List ℕ) → HeadState → Bool
@@ -24,7 +24,7 @@ pub record IsCommand (bytes : List ℕ) (result : Bool) : Type 0 where
 
 -- True if the response has status 200. Then the command was executed, now or for an earlier request
 -- with the same idempotency key.
-abbrev pub has_acted : PeerReply → Bool
+abbrev pub has_acted : ClientResponse → Bool
 has_acted reply.Open = false
 has_acted (reply.Replied text) = starts_with (λ a b. a == b) text.items (codes "HTTP/1.1 200 ")
 has_acted reply.Failed = false
@@ -51,14 +51,14 @@ pub record Rejects (left : ℕ) (is_lost : Bool) (bytes : List ℕ) (result : Bo
 
 -- An executed command reduces the remaining bytes by the length of its request. Other requests
 -- leave the remaining bytes unchanged.
-pub record Counts (left later : ℕ) (bytes : List ℕ) (reply : PeerReply) : Type 0 where
+pub record Counts (left later : ℕ) (bytes : List ℕ) (reply : ClientResponse) : Type 0 where
   pub is_command : Bool
   pub finds : IsCommand bytes is_command
   pub is : later ≡ if is_command && has_acted reply then left - length bytes else left
 
 -- The result says whether a response acknowledges a command. A response does so exactly if the
 -- request is a command and the response has status 200.
-pub record Acknowledges (bytes : List ℕ) (reply : PeerReply) (result : Bool) : Type 0 where
+pub record Acknowledges (bytes : List ℕ) (reply : ClientResponse) (result : Bool) : Type 0 where
   pub is_command : Bool
   pub finds : IsCommand bytes is_command
   pub is : result ≡ (is_command && has_acted reply)

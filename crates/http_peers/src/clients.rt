@@ -3,7 +3,7 @@ use crate::outbox::{MOST_CALLS, Outbox, Went, went_by};
 use http_request::{MOST_ROOM, Route, is_whole};
 use matchit::Router;
 use mio::net::TcpStream;
-use run_http::{PeerReply, RowsLeft};
+use run_http::{ClientResponse, RemainingRows};
 use std::alloc::Global;
 use std::io::Read;
 use std::net::Shutdown;
@@ -22,7 +22,7 @@ pub(crate) struct Client {
     pub(crate) lingers: Option<u64>,
     reply: Outbox,
     /// The rows of the response that are still to be queried.
-    pub(crate) rows: Option<RowsLeft>,
+    pub(crate) rows: Option<RemainingRows>,
     ended: bool,
     over: bool,
 }
@@ -133,22 +133,22 @@ impl Client {
 
     /// Starts to send the response. `rows` are the rows that follow in later chunks. The bytes of
     /// the request are freed.
-    pub(crate) fn start_reply(&mut self, asked: PeerReply, rows: Option<RowsLeft>) {
+    pub(crate) fn start_reply(&mut self, asked: ClientResponse, rows: Option<RemainingRows>) {
         match asked {
-            PeerReply::Open => self.over = self.ended,
-            PeerReply::Replied(reply) => {
+            ClientResponse::Open => self.over = self.ended,
+            ClientResponse::Replied(reply) => {
                 self.over = reply.is_empty();
-                self.reply = Outbox::of(reply);
+                self.reply = Outbox::new(reply);
                 self.rows = rows;
                 self.request = Vec::new(self.alloc);
             }
-            PeerReply::Failed => self.over = true,
+            ClientResponse::Failed => self.over = true,
         }
     }
 
     /// Replaces the chunk of the response that was written by the next chunk.
     pub(crate) fn append_rows(&mut self, more: Vec<u8>, is_last: bool) {
-        self.reply = Outbox::of(more);
+        self.reply = Outbox::new(more);
         if is_last {
             self.rows = None;
         }

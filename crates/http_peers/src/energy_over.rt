@@ -11,7 +11,7 @@ use interval_core::{DayTotal, Zone, accounts_are_one};
 use office_books::Books;
 use office_core::{Office, span_around};
 use office_events::{Name, Refusal};
-use run_http::put_energy_reply;
+use run_http::write_energy_reply;
 use std::alloc::{AllocError, Global};
 
 /// The accounting registers of earlier files of the store, and the time zone of their days.
@@ -22,7 +22,7 @@ pub struct EarlierFiles<'a> {
 }
 
 // Writes the energy report on these days. Fails only if memory runs out.
-fn put_days(days: &[DayTotal], form: &ReportForm, output: &mut Vec<u8>) -> Result<(), AllocError>
+fn write_days(days: &[DayTotal], form: &ReportForm, output: &mut Vec<u8>) -> Result<(), AllocError>
     ensures { OnOk result (output.new.items
         ≡ output.old.items ++ report_text form.now days.now) }
 {
@@ -33,7 +33,7 @@ fn put_days(days: &[DayTotal], form: &ReportForm, output: &mut Vec<u8>) -> Resul
 }
 
 // Writes the energy report on an accounting register over earlier files and the current file.
-fn put_energy_over<B: Books>(
+fn write_energy_over<B: Books>(
     office: &mut Office<B>,
     zone: Zone,
     earlier: &EarlierDays,
@@ -48,7 +48,7 @@ fn put_energy_over<B: Books>(
     match days_over(office, zone, earlier, register, span_around(form.range)) {
         Err(why) => Ok(Err(why)),
         Ok(days) => {
-            put_days(&days, form, output)?;
+            write_days(&days, form, output)?;
             Ok(Ok(()))
         }
     }
@@ -71,8 +71,8 @@ pub fn reply_energy_over<B: Books>(
         form.now text.old.items text.new.items result }
 {
     let mut body = Vec::new(alloc);
-    let answer = put_energy_over(office, zone, earlier, register, form, &mut body)?;
-    put_energy_reply(text, &answer, &body)
+    let answer = write_energy_over(office, zone, earlier, register, form, &mut body)?;
+    write_energy_reply(text, &answer, &body)
 }
 
 // Returns whether the accounting register of an earlier file has this name. `None` is an invalid

@@ -24,9 +24,12 @@ use mio::{Interest, Registry, Token};
 use office_books::Books;
 use office_core::Office;
 use run_http::{
-    PeerReply, RowsLeft, RunRoute, StatusRoute, ask, asks_energy, for_browsers, may_void, run_route,
+    ClientResponse, RemainingRows, RunRoute, StatusRoute, ask, asks_energy, for_browsers, may_void,
+    run_route,
 };
-use run_schedule::{MOST_PEERS, PEER_SECONDS, Peers, TurnShare, may_reply, place_at, place_for};
+use run_schedule::{
+    MOST_CLIENTS, PEER_SECONDS, Peers, TurnShare, choose_slot, may_reply, place_at,
+};
 use std::alloc::{AllocError, Global};
 use std::io::ErrorKind;
 use std::mem;
@@ -37,7 +40,7 @@ const MOST_PIECES: u32 = 64;
 
 /// The event token of the listening socket. The token of a connection is its slot number, which is
 /// lower.
-pub const PORT_TOKEN: usize = MOST_PEERS;
+pub const PORT_TOKEN: usize = MOST_CLIENTS;
 
 /// A listening socket and up to 64 connections. The event loop marks the connections that are
 /// ready, and serves one slot after the other.
@@ -63,10 +66,10 @@ pub struct HttpPort {
 }
 
 // Returns the number of bytes of a response.
-fn size_of(asked: &PeerReply) -> usize {
+fn size_of(asked: &ClientResponse) -> usize {
     match asked {
-        PeerReply::Replied(reply) => reply.len(),
-        PeerReply::Open | PeerReply::Failed => 0,
+        ClientResponse::Replied(reply) => reply.len(),
+        ClientResponse::Open | ClientResponse::Failed => 0,
     }
 }
 
@@ -184,8 +187,8 @@ impl HttpPort {
 
     // Drops the connection in a slot, and frees the slot.
     fn drop_client(&mut self, slot: usize) {
-        if slot < MOST_PEERS && slot < self.connections.len() {
-            self.peers.end(slot);
+        if slot < MOST_CLIENTS && slot < self.connections.len() {
+            self.peers.free_slot(slot);
             self.connections[slot] = None;
         }
     }
@@ -193,7 +196,7 @@ impl HttpPort {
     /// Drops connections whose deadline has passed or whose client got the complete response.
     /// `time` is in seconds since 1970-01-01 UTC.
     pub fn sweep(&mut self, time: u64) {
-        for slot in 0..MOST_PEERS {
+        for slot in 0..MOST_CLIENTS {
             let is_late = self.peers.is_over(slot, time);
             if is_late || slot < self.connections.len() && is_done(&self.connections[slot], time) {
                 self.drop_client(slot);
@@ -204,10 +207,10 @@ impl HttpPort {
     // Returns whether a new connection can get a slot. The slot is free, or its client got the
     // response, or its client has sent no request for a second.
     fn has_room(&self, time: u64) -> bool {
-        let Some(slot) = place_for(&self.peers.places) else {
+        let Some(slot) = choose_slot(&self.peers.places) else {
             return false;
         };
-        if slot >= MOST_PEERS {
+        if slot >= MOST_CLIENTS {
             return false;
         }
         match self.peers.places[slot].silent_until() {
@@ -240,7 +243,7 @@ impl HttpPort {
 
     /// Accepts the connections that wait at the listening socket, as many as can get a slot.
     pub fn accept(&mut self, registry: &Registry, time: u64) {
-        for _connection in 0..MOST_PEERS {
+        for _connection in 0..MOST_CLIENTS {
             if !self.waiting || !self.has_room(time) {
                 return;
             }
@@ -264,8 +267,8 @@ impl HttpPort {
         office: &mut Office<B>,
         told: &RunTold<'_>,
         now: Now,
-        rows: &mut Option<RowsLeft>,
-    ) -> PeerReply
+        rows: &mut Option<RemainingRows>,
+    ) -> ClientResponse
         ensures { PeersAsk (texts names.now) now.moment B.ledger office.old office.new }
     {
         let alloc = self.alloc;
@@ -304,12 +307,12 @@ impl HttpPort {
         office: &mut Office<B>,
         told: &RunTold<'_>,
         now: Now,
-        rows: &mut Option<RowsLeft>,
-    ) -> PeerReply
+        rows: &mut Option<RemainingRows>,
+    ) -> ClientResponse
         ensures { PeersAsk (texts names.now) now.moment B.ledger office.old office.new }
     {
         if let Some(reply) = self.repeats.again(self.alloc, request) {
-            return PeerReply::Replied(reply);
+            return ClientResponse::Replied(reply);
         }
         let asked = self.reply(names, request, office, told, now, rows);
         self.keep_reply(names, request, &asked);
@@ -318,11 +321,11 @@ impl HttpPort {
 
     // Stores a response about energy for repeated requests. A command drops the stored response,
     // since it may change the energy.
-    fn keep_reply(&mut self, names: &[&str], request: &[u8], asked: &PeerReply) {
+    fn keep_reply(&mut self, names: &[&str], request: &[u8], asked: &ClientResponse) {
         if is_command(request) {
             self.repeats.forget();
         }
-        if let PeerReply::Replied(reply) = asked {
+        if let ClientResponse::Replied(reply) = asked {
             if asks_energy(names, request) {
                 self.repeats.keep(self.alloc, request, reply);
             }
@@ -330,14 +333,21 @@ impl HttpPort {
     }
 
     // Adds the response headers that protect users of browsers.
-    fn add_browser_headers(&self, names: &[&str], request: &[u8], asked: PeerReply) -> PeerReply {
+    fn add_browser_headers(
+        &self,
+        names: &[&str],
+        request: &[u8],
+        asked: ClientResponse,
+    ) -> ClientResponse {
         match asked {
-            PeerReply::Replied(reply) => match for_browsers(self.alloc, names, request, &reply) {
-                Ok(told) => PeerReply::Replied(told),
-                Err(_) => PeerReply::Failed,
+            ClientResponse::Replied(reply) => match for_browsers(
+                self.alloc, names, request, &reply,
+            ) {
+                Ok(told) => ClientResponse::Replied(told),
+                Err(_) => ClientResponse::Failed,
             },
-            PeerReply::Open => PeerReply::Open,
-            PeerReply::Failed => PeerReply::Failed,
+            ClientResponse::Open => ClientResponse::Open,
+            ClientResponse::Failed => ClientResponse::Failed,
         }
     }
 
@@ -365,7 +375,7 @@ impl HttpPort {
         client.write_reply(time);
         if client.is_over() {
             self.drop_client(slot);
-        } else if slot < MOST_PEERS && slot < self.connections.len() {
+        } else if slot < MOST_CLIENTS && slot < self.connections.len() {
             record_state(&mut self.peers, slot, &client);
             self.connections[slot] = Some(client);
         }
@@ -374,7 +384,7 @@ impl HttpPort {
     // Cuts off all responses with rows still to be sent, because a void may have changed these
     // rows.
     fn cut_replies(&mut self) {
-        for slot in 0..MOST_PEERS {
+        for slot in 0..MOST_CLIENTS {
             if slot < self.connections.len() && has_rows_left(&self.connections[slot]) {
                 self.drop_client(slot);
             }
@@ -392,7 +402,13 @@ impl HttpPort {
 
     // Updates the counts after a response: the limits of this iteration, the limit for stored
     // commands, and the responses that a void may change.
-    fn count_reply(&mut self, slot: usize, request: &[u8], asked: &PeerReply, milliseconds: u64) {
+    fn count_reply(
+        &mut self,
+        slot: usize,
+        request: &[u8],
+        asked: &ClientResponse,
+        milliseconds: u64,
+    ) {
         self.record_reply(slot, size_of(asked), milliseconds);
         self.is_full = self.is_full || self.room.lacks(request);
         self.room.count(request, asked);
@@ -406,9 +422,9 @@ impl HttpPort {
         &mut self,
         rt: &R,
         request: &[u8],
-        asked: PeerReply,
+        asked: ClientResponse,
         told: &RunTold<'_>,
-    ) -> PeerReply
+    ) -> ClientResponse
         ensures { (result ≡ asked) ⊎ (self.new.is_lost ≡ true) }
     {
         if !is_acknowledged(request, &asked) || rt.are_files_there() {

@@ -8,8 +8,8 @@ use office_books::{Books, Span};
 use office_core::Office;
 use office_events::{Name, Refusal};
 use run_http::{
-    PeerReply, RowsLeft, all_rows_asked, are_many, begin_all_intervals, begin_intervals, end_rows,
-    has_more, reply_intervals, tell_rows,
+    ClientResponse, RemainingRows, all_rows_asked, begin_all_intervals, begin_intervals, has_more,
+    is_long_response, reply_intervals, write_last_rows, write_next_rows,
 };
 use std::alloc::{AllocError, Global};
 
@@ -24,13 +24,13 @@ fn answer_intervals<B: Books>(
     office: &mut Office<B>,
     meter: &Option<Name>,
     span: Span,
-) -> PeerReply
+) -> ClientResponse
     ensures { (names : List (List ℕ)) (at : ℕ) → PeersAsk names at B.ledger office.old office.new }
 {
     let mut text = Vec::new(alloc);
     match reply_intervals(alloc, &mut text, office, meter, span) {
-        Ok(()) => PeerReply::Replied(text),
-        Err(_) => PeerReply::Failed,
+        Ok(()) => ClientResponse::Replied(text),
+        Err(_) => ClientResponse::Failed,
     }
 }
 
@@ -38,16 +38,16 @@ fn answer_intervals<B: Books>(
 // query; the caller then makes a complete response.
 fn begun_answer(
     text: Vec<u8>,
-    begun: Result<Result<RowsLeft, Refusal>, AllocError>,
-    rows: &mut Option<RowsLeft>,
-) -> Option<PeerReply> {
+    begun: Result<Result<RemainingRows, Refusal>, AllocError>,
+    rows: &mut Option<RemainingRows>,
+) -> Option<ClientResponse> {
     match begun {
         Ok(Ok(left)) => {
             *rows = Some(left);
-            Some(PeerReply::Replied(text))
+            Some(ClientResponse::Replied(text))
         }
         Ok(Err(_)) => None,
-        Err(_) => Some(PeerReply::Failed),
+        Err(_) => Some(ClientResponse::Failed),
     }
 }
 
@@ -58,8 +58,8 @@ fn begin_span<B: Books>(
     office: &mut Office<B>,
     meter: &Option<Name>,
     span: Span,
-    rows: &mut Option<RowsLeft>,
-) -> Option<PeerReply>
+    rows: &mut Option<RemainingRows>,
+) -> Option<ClientResponse>
     ensures { (names : List (List ℕ)) (at : ℕ) → PeersAsk names at B.ledger office.old office.new }
 {
     let Span::Between { from, till } = span else {
@@ -68,7 +68,7 @@ fn begin_span<B: Books>(
     let Ok(it) = office.meter(meter) else {
         return None;
     };
-    if !are_many(&it, from, till, PIECE_SECONDS) {
+    if !is_long_response(&it, from, till, PIECE_SECONDS) {
         return None;
     }
     let mut text = Vec::new(alloc);
@@ -82,8 +82,8 @@ pub(crate) fn answer_span<B: Books>(
     office: &mut Office<B>,
     meter: &Option<Name>,
     span: Span,
-    rows: &mut Option<RowsLeft>,
-) -> PeerReply
+    rows: &mut Option<RemainingRows>,
+) -> ClientResponse
     ensures { (names : List (List ℕ)) (at : ℕ) → PeersAsk names at B.ledger office.old office.new }
 {
     match begin_span(alloc, office, meter, span, rows) {
@@ -100,8 +100,8 @@ pub(crate) fn begin_all<B: Books>(
     router: &Router<Route>,
     request: &[u8],
     office: &mut Office<B>,
-    rows: &mut Option<RowsLeft>,
-) -> Option<PeerReply>
+    rows: &mut Option<RemainingRows>,
+) -> Option<ClientResponse>
     ensures { (names : List (List ℕ)) (at : ℕ) → PeersAsk names at B.ledger office.old office.new }
 {
     let Some(meter) = all_rows_asked(router, request) else {
@@ -110,7 +110,7 @@ pub(crate) fn begin_all<B: Books>(
     let Ok(it) = office.meter(&meter) else {
         return None;
     };
-    if !are_many(&it, 0, u64::MAX, PIECE_SECONDS) {
+    if !is_long_response(&it, 0, u64::MAX, PIECE_SECONDS) {
         return None;
     }
     let mut text = Vec::new(alloc);
@@ -124,18 +124,18 @@ pub(crate) fn begin_all<B: Books>(
 pub(crate) fn append_piece<B: Books>(
     alloc: Global,
     text: &mut Vec<u8>,
-    rows: &mut RowsLeft,
+    rows: &mut RemainingRows,
     office: &mut Office<B>,
 ) -> Option<bool>
     ensures { (names : List (List ℕ)) (at : ℕ) → PeersAsk names at B.ledger office.old office.new }
 {
     if !has_more(rows) {
-        return match end_rows(text, rows) {
+        return match write_last_rows(text, rows) {
             Ok(()) => Some(true),
             Err(_) => None,
         };
     }
-    match tell_rows(alloc, text, office, rows, PIECE_SECONDS) {
+    match write_next_rows(alloc, text, office, rows, PIECE_SECONDS) {
         Ok(Ok(())) => Some(false),
         Ok(Err(_)) => None,
         Err(_) => None,

@@ -4,7 +4,7 @@ ghost use Rattle.http_peers.specs.KeptRoom as kept;
 ghost use Rattle.http_peers.specs.KeptRoom.{Acknowledges, Counts, IsCommand, Lacks, Rejects};
 
 use http_request::{HeadState, parse_head};
-use run_http::PeerReply;
+use run_http::ClientResponse;
 
 /// The number of bytes of commands that may still be stored. The store records each executed
 /// command permanently, and reads all of them whenever it is opened.
@@ -27,18 +27,18 @@ pub(crate) fn is_command(request: &[u8]) -> bool
 
 // Returns whether a response has status 200. Then the command was executed, now or for an earlier
 // request with the same idempotency key.
-fn has_acted(reply: &PeerReply) -> bool
+fn has_acted(reply: &ClientResponse) -> bool
     ensures { result ≡ kept.has_acted reply.now }
 {
     match reply {
-        PeerReply::Replied(text) => text.starts_with(b"HTTP/1.1 200 "),
-        PeerReply::Open | PeerReply::Failed => false,
+        ClientResponse::Replied(text) => text.starts_with(b"HTTP/1.1 200 "),
+        ClientResponse::Open | ClientResponse::Failed => false,
     }
 }
 
 /// Returns whether a response acknowledges a command. The client may then rely on the command being
 /// stored.
-pub(crate) fn is_acknowledged(request: &[u8], reply: &PeerReply) -> bool
+pub(crate) fn is_acknowledged(request: &[u8], reply: &ClientResponse) -> bool
     ensures { Acknowledges request.now reply.now result }
 {
     is_command(request) && has_acted(reply)
@@ -74,7 +74,7 @@ impl KeptRoom {
 
     /// Subtracts an executed command from the remaining bytes, by the length of its complete
     /// request. The store records less: no head, and no retry.
-    pub fn count(&mut self, request: &[u8], reply: &PeerReply)
+    pub fn count(&mut self, request: &[u8], reply: &ClientResponse)
         ensures { Counts self.old.left self.new.left request.now reply.now }
     {
         if is_command(request) && has_acted(reply) {

@@ -40,7 +40,7 @@ pub struct Outbox {
 
 impl Outbox {
     /// Makes an output buffer with these unsent bytes.
-    pub fn of(bytes: Vec<u8>) -> Outbox
+    pub fn new(bytes: Vec<u8>) -> Outbox
         ensures bytes { result.bytes.items ≡ bytes.items }
         ensures written { result.written ≡ 0 }
     {
@@ -52,7 +52,7 @@ impl Outbox {
         ensures bytes { result.bytes.items ≡ [] }
         ensures written { result.written ≡ 0 }
     {
-        Outbox::of(Vec::new(alloc))
+        Outbox::new(Vec::new(alloc))
     }
 
     /// Returns whether the output buffer has no bytes, sent or unsent.
@@ -77,7 +77,7 @@ impl Outbox {
     }
 
     /// Appends bytes to the unsent bytes. Fails if memory runs out.
-    pub fn put(&mut self, bytes: &[u8]) -> Result<(), AllocError>
+    pub fn push_bytes(&mut self, bytes: &[u8]) -> Result<(), AllocError>
         ensures { OnOk result (drop self.new.written self.new.bytes.items
             ≡ drop self.old.written self.old.bytes.items ++ bytes.now) }
     {

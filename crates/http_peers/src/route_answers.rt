@@ -12,13 +12,17 @@ use office_books::Books;
 use office_core::Office;
 use office_events::Name;
 use run_http::{
-    PeerReply, StatusRoute, reply_energy, reply_entries, reply_meters, reply_metrics, reply_status,
-    reply_voids,
+    ClientResponse, StatusRoute, reply_energy, reply_entries, reply_meters, reply_metrics,
+    reply_status, reply_voids,
 };
 use std::alloc::Global;
 
 /// Makes the response of a route that needs no data of the store, such as `/status`.
-pub(crate) fn answer_status(alloc: Global, route: StatusRoute, told: &RunTold<'_>) -> PeerReply {
+pub(crate) fn answer_status(
+    alloc: Global,
+    route: StatusRoute,
+    told: &RunTold<'_>,
+) -> ClientResponse {
     let mut text = Vec::new(alloc);
     let monitor = told.monitor;
     match reply_status(
@@ -29,8 +33,8 @@ pub(crate) fn answer_status(alloc: Global, route: StatusRoute, told: &RunTold<'_
         &monitor.states,
         told.lacks,
     ) {
-        Ok(()) => PeerReply::Replied(text),
-        Err(_) => PeerReply::Failed,
+        Ok(()) => ClientResponse::Replied(text),
+        Err(_) => ClientResponse::Failed,
     }
 }
 
@@ -41,14 +45,14 @@ pub(crate) fn answer_metrics<B: Books>(
     alloc: Global,
     office: &mut Office<B>,
     told: &RunTold<'_>,
-) -> PeerReply
+) -> ClientResponse
     ensures { (names : List (List ℕ)) (at : ℕ) → PeersAsk names at B.ledger office.old office.new }
 {
     let mut text = Vec::new(alloc);
     let monitor = told.monitor;
     match reply_metrics(alloc, &mut text, office, &monitor.counts, &monitor.states) {
-        Ok(()) => PeerReply::Replied(text),
-        Err(_) => PeerReply::Failed,
+        Ok(()) => ClientResponse::Replied(text),
+        Err(_) => ClientResponse::Failed,
     }
 }
 
@@ -60,13 +64,13 @@ pub(crate) fn answer_site<B: Books>(
     office: &mut Office<B>,
     earlier: &[EarlierRegister],
     moment: u64,
-) -> PeerReply
+) -> ClientResponse
     ensures { (names : List (List ℕ)) → PeersAsk names moment B.ledger office.old office.new }
 {
     let mut text = Vec::new(alloc);
     match reply_site_over(alloc, &mut text, office, earlier, moment) {
-        Ok(()) => PeerReply::Replied(text),
-        Err(_) => PeerReply::Failed,
+        Ok(()) => ClientResponse::Replied(text),
+        Err(_) => ClientResponse::Failed,
     }
 }
 
@@ -77,13 +81,13 @@ pub(crate) fn answer_entries<B: Books>(
     office: &mut Office<B>,
     meter: &Option<Name>,
     from: u64,
-) -> PeerReply
+) -> ClientResponse
     ensures { (names : List (List ℕ)) (at : ℕ) → PeersAsk names at B.ledger office.old office.new }
 {
     let mut text = Vec::new(alloc);
     match reply_entries(alloc, &mut text, office, meter, from) {
-        Ok(()) => PeerReply::Replied(text),
-        Err(_) => PeerReply::Failed,
+        Ok(()) => ClientResponse::Replied(text),
+        Err(_) => ClientResponse::Failed,
     }
 }
 
@@ -93,13 +97,13 @@ pub(crate) fn answer_voids<B: Books>(
     alloc: Global,
     office: &mut Office<B>,
     meter: &Option<Name>,
-) -> PeerReply
+) -> ClientResponse
     ensures { (names : List (List ℕ)) (at : ℕ) → PeersAsk names at B.ledger office.old office.new }
 {
     let mut text = Vec::new(alloc);
     match reply_voids(alloc, &mut text, office, meter) {
-        Ok(()) => PeerReply::Replied(text),
-        Err(_) => PeerReply::Failed,
+        Ok(()) => ClientResponse::Replied(text),
+        Err(_) => ClientResponse::Failed,
     }
 }
 
@@ -110,13 +114,13 @@ fn answer_energy<B: Books>(
     office: &mut Office<B>,
     register: &Option<Name>,
     form: &ReportForm,
-) -> PeerReply
+) -> ClientResponse
     ensures { (names : List (List ℕ)) (at : ℕ) → PeersAsk names at B.ledger office.old office.new }
 {
     let mut text = Vec::new(alloc);
     match reply_energy(alloc, &mut text, office, register, form) {
-        Ok(()) => PeerReply::Replied(text),
-        Err(_) => PeerReply::Failed,
+        Ok(()) => ClientResponse::Replied(text),
+        Err(_) => ClientResponse::Failed,
     }
 }
 
@@ -129,13 +133,13 @@ fn answer_energy_over<B: Books>(
     zone: Zone,
     it: &EarlierRegister,
     form: &ReportForm,
-) -> PeerReply
+) -> ClientResponse
     ensures { (names : List (List ℕ)) (at : ℕ) → PeersAsk names at B.ledger office.old office.new }
 {
     let mut text = Vec::new(alloc);
     match reply_energy_over(alloc, &mut text, office, zone, &it.days, &it.name, form) {
-        Ok(()) => PeerReply::Replied(text),
-        Err(_) => PeerReply::Failed,
+        Ok(()) => ClientResponse::Replied(text),
+        Err(_) => ClientResponse::Failed,
     }
 }
 
@@ -147,7 +151,7 @@ pub(crate) fn answer_days<B: Books>(
     earlier: &EarlierFiles<'_>,
     register: &Option<Name>,
     form: &ReportForm,
-) -> PeerReply
+) -> ClientResponse
     ensures { (names : List (List ℕ)) (at : ℕ) → PeersAsk names at B.ledger office.old office.new }
 {
     match place_among(earlier.registers, register) {
@@ -164,12 +168,12 @@ pub(crate) fn answer_meters<B: Books>(
     alloc: Global,
     office: &mut Office<B>,
     register: &Option<Name>,
-) -> PeerReply
+) -> ClientResponse
     ensures { (names : List (List ℕ)) (at : ℕ) → PeersAsk names at B.ledger office.old office.new }
 {
     let mut text = Vec::new(alloc);
     match reply_meters(alloc, &mut text, office, register) {
-        Ok(()) => PeerReply::Replied(text),
-        Err(_) => PeerReply::Failed,
+        Ok(()) => ClientResponse::Replied(text),
+        Err(_) => ClientResponse::Failed,
     }
 }

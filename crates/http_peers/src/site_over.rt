@@ -7,7 +7,7 @@ use carried_books::{EarlierRegister, earlier_meters, latest_meter};
 use office_books::Books;
 use office_core::{Office, SiteRow};
 use office_events::{Installation, Refusal};
-use run_http::{SiteLine, put_site_reply};
+use run_http::{SiteLine, write_site_reply};
 use std::alloc::{AllocError, Global};
 
 // Returns the line of an accounting register with the latest of its meters in the current and
@@ -48,7 +48,7 @@ fn lines_over(
 }
 
 // Returns the lines of all accounting registers, or the program's refusal of the query.
-fn told_of(
+fn current_part(
     alloc: Global,
     earlier: &[EarlierRegister],
     answer: &Result<Vec<SiteRow>, Refusal>,
@@ -65,7 +65,7 @@ fn told_of(
 }
 
 // Writes the response with the lines of the accounting registers, or with the program's refusal.
-fn put_answer(
+fn append_answer(
     alloc: Global,
     text: &mut Vec<u8>,
     earlier: &[EarlierRegister],
@@ -75,8 +75,8 @@ fn put_answer(
     ensures { OnOk result (text.new.items
         ≡ site.with_site_over earlier.now moment answer.now text.old.items) }
 {
-    let told = told_of(alloc, earlier, answer)?;
-    put_site_reply(alloc, text, moment, &told)
+    let told = current_part(alloc, earlier, answer)?;
+    write_site_reply(alloc, text, moment, &told)
 }
 
 /// Appends the response of `/site`: each accounting register with its latest meter in the current
@@ -93,5 +93,5 @@ pub fn reply_site_over<B: Books>(
         text.old.items text.new.items result }
 {
     let answer = office.site();
-    put_answer(alloc, text, earlier, moment, &answer)
+    append_answer(alloc, text, earlier, moment, &answer)
 }

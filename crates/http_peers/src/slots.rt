@@ -2,7 +2,7 @@
 ghost use Rattle.std.specs.Prelude.{◌<◌};
 
 use crate::clients::Client;
-use run_schedule::{MOST_PEERS, Peers, TurnShare};
+use run_schedule::{MOST_CLIENTS, Peers, TurnShare};
 use std::alloc::{AllocError, Global};
 
 /// Returns whether the connection in a slot is ready for input or output and may be served now. If
@@ -56,7 +56,7 @@ pub(crate) fn is_done(connection: &Option<Client>, time: u64) -> bool {
 /// slots are closed.
 pub(crate) fn open_slots(clients: usize) -> Peers {
     let mut peers = Peers::new();
-    for slot in clients..MOST_PEERS {
+    for slot in clients..MOST_CLIENTS {
         peers.shut(slot);
     }
     peers
@@ -67,7 +67,7 @@ pub(crate) fn record_state(peers: &mut Peers, slot: usize, client: &Client)
     requires { slot < 64 }
 {
     match client.lingers {
-        Some(until) => peers.linger(slot, until),
+        Some(until) => peers.set_idle(slot, until),
         None => {
             if client.has_reply() {
                 peers.ask(slot);
@@ -79,7 +79,7 @@ pub(crate) fn record_state(peers: &mut Peers, slot: usize, client: &Client)
 /// Makes one empty slot for each possible connection.
 pub(crate) fn empty_slots(alloc: Global) -> Result<Vec<Option<Client>>, AllocError> {
     let mut connections = Vec::new(alloc);
-    for _place in 0..MOST_PEERS {
+    for _place in 0..MOST_CLIENTS {
         connections.push(None)?;
     }
     Ok(connections)

@@ -73,7 +73,7 @@ fn is_given(given: &[&str], value: &[u8]) -> bool
 
 // Returns whether the `Host` header of a head lets the program serve the request. The header is
 // either missing, or given once with an accepted name.
-fn names_known(given: &[&str], bytes: &[u8], head: &Head) -> bool
+fn has_known_host(given: &[&str], bytes: &[u8], head: &Head) -> bool
     requires placed { IsPlaced bytes.now head.now }
     ensures { result ≡ hosts.may_ask (texts given.now) (start_at bytes.now head.now) }
 {
@@ -95,7 +95,7 @@ pub fn may_ask(given: &[&str], bytes: &[u8], head_state: &HeadState) -> bool
     ensures { result ≡ hosts.may_ask_in (texts given.now) bytes.now head_state.now }
 {
     match head_state {
-        HeadState::Whole(head) => names_known(given, bytes, head),
+        HeadState::Whole(head) => has_known_host(given, bytes, head),
         HeadState::Open | HeadState::TooLarge | HeadState::NoHead => true,
     }
 }

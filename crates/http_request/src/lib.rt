@@ -24,6 +24,6 @@ pub use routing::{Found, Route, has_query, router};
 pub use sites::is_cross_site;
 pub use status::Status;
 pub use whole::{
-    MOST_ROOM, a_command_tells_its_size, a_look_finds_the_request, ask_in, body_in, is_whole,
-    no_request, one_head, read_request, requests_are_one,
+    MOST_ROOM, head_gives_body_size, incomplete_is_no_request, is_whole, parses_agree,
+    parsing_finds_the_request, read_request, request_body, requests_are_one, test_request,
 };

@@ -81,7 +81,7 @@ pub fn is_whole(router: &Router<Route>, bytes: &[u8]) -> bool
 ///
 /// A head past the limits gets status 431, and a malformed head gets 400. [`ask_of`] tests any
 /// other head.
-pub fn ask_in<'b>(
+pub fn test_request<'b>(
     router: &Router<Route>,
     bytes: &'b [u8],
     head_state: &HeadState,
@@ -98,7 +98,7 @@ pub fn ask_in<'b>(
 }
 
 /// Returns the body of a complete command (POST): the bytes that follow its head.
-pub fn body_in<'b>(bytes: &'b [u8], head: &Head, posted: &Posted) -> &'b [u8]
+pub fn request_body<'b>(bytes: &'b [u8], head: &Head, posted: &Posted) -> &'b [u8]
     requires whole { head.now.len + posted.now.size ≤ length bytes.now }
     ensures { result.now ≡ take posted.now.size (drop head.now.len bytes.now) }
 {
@@ -107,7 +107,7 @@ pub fn body_in<'b>(bytes: &'b [u8], head: &Head, posted: &Posted) -> &'b [u8]
 }
 
 /// Theorem: the body of a complete command has as many bytes as its `Content-Length` says.
-pub fn a_command_tells_its_size(
+pub fn head_gives_body_size(
     router: &Router<Route>,
     bytes: &[u8],
     head: &Head,
@@ -120,7 +120,7 @@ pub fn a_command_tells_its_size(
 {}
 
 /// Theorem: two results of parsing a head from the same bytes have the same spans.
-pub fn one_head(bytes: &[u8], one: &Head, other: &Head)
+pub fn parses_agree(bytes: &[u8], one: &Head, other: &Head)
     requires one { IsHeadAt bytes.now one.now }
     requires other { IsHeadAt bytes.now other.now }
     ensures start { start_at bytes.now one.now ≡ start_at bytes.now other.now }
@@ -128,13 +128,13 @@ pub fn one_head(bytes: &[u8], one: &Head, other: &Head)
 {}
 
 /// Theorem: bytes without a complete head or body hold no complete request.
-pub fn no_request(router: &Router<Route>, bytes: &[u8], head: &Head)
+pub fn incomplete_is_no_request(router: &Router<Route>, bytes: &[u8], head: &Head)
     requires { IsUnfinished router.now bytes.now }
     ensures { IsWhole router.now bytes.now head.now → ⊥ }
 {}
 
 /// Theorem: bytes with a complete head and body hold the request with this head and this body.
-pub fn a_look_finds_the_request(router: &Router<Route>, bytes: &[u8], head: &Head)
+pub fn parsing_finds_the_request(router: &Router<Route>, bytes: &[u8], head: &Head)
     requires { IsWhole router.now bytes.now head.now }
     ensures { HoldsRequest router.now bytes.now (start_at bytes.now head.now)
         (body_of router.now bytes.now head.now) }

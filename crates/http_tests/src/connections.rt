@@ -3,7 +3,7 @@ use crate::office::metered;
 use memory_books::ListBooks;
 use office_core::Office;
 use office_events::Name;
-use office_http::{serve_named_on, serve_on};
+use office_http::{serve_connections, serve_on};
 use socket_link::FixedClock;
 use std::alloc::Global;
 use std::cell::Cell;
@@ -146,7 +146,7 @@ pub(crate) struct Stepping {
 }
 
 impl Stepping {
-    pub(crate) fn of(seconds: u64, step: u64) -> Stepping {
+    pub(crate) fn new(seconds: u64, step: u64) -> Stepping {
         Stepping {
             seconds: Cell::new(seconds),
             step,
@@ -179,9 +179,9 @@ fn serves(
     let mut clock = FixedClock::new(&[2800]);
     match step {
         Some(step) => {
-            let time = Stepping::of(7, step);
+            let time = Stepping::new(7, step);
             let names = ["office.example"];
-            serve_named_on(&time, alloc, listener, clients, &names, office, &mut clock).is_ok()
+            serve_connections(&time, alloc, listener, clients, &names, office, &mut clock).is_ok()
         }
         None => serve_on(alloc, listener, clients, office, &mut clock).is_ok(),
     }

@@ -1,6 +1,6 @@
 //! Tests of report lines with the greatest numbers, and of the texts of days.
 use energy_report::read_day;
-use http_answer::{ReplyWriter, put_day, put_end, put_share};
+use http_answer::{ResponseWriter, append_day, append_end, write_share};
 use interval_core::{Day, DayRange, DayTotal, Share};
 use jiff::civil::date;
 use mb_wire::MemoryLink;
@@ -24,11 +24,11 @@ static LINES: &[u8] =
 fn reports_have_lines(rt: HostRuntime) {
     let mut output = [0; 200];
     let mut link = MemoryLink::new(b"", &mut output, 200, None);
-    let mut writer = ReplyWriter::new(&mut link);
+    let mut writer = ResponseWriter::new(&mut link);
     for row in &QUARTERS {
-        put_share(row, &mut writer);
+        write_share(row, &mut writer);
     }
-    put_end(2, &mut writer);
+    append_end(2, &mut writer);
     let days = [
         (date(2024, 3, 31), 92, 920_000),
         (
@@ -38,9 +38,9 @@ fn reports_have_lines(rt: HostRuntime) {
         ),
     ];
     for (day, count, mwh) in days {
-        put_day(&DayTotal { day, count, mwh }, &mut writer);
+        append_day(&DayTotal { day, count, mwh }, &mut writer);
     }
-    put_end(10, &mut writer);
+    append_end(10, &mut writer);
     assert!(rt; writer.finish().is_ok());
     assert!(rt; link.given() == LINES);
 }

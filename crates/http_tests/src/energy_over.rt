@@ -18,7 +18,7 @@ fn days_of(rt: &impl Abort, alloc: Global, rows: &[Share]) -> EarlierDays {
     for row in rows {
         days.put(*row);
     }
-    EarlierDays::of(days)
+    EarlierDays::new(days)
 }
 
 /// Returns an accounting register of earlier files, with its meters and without energy.
@@ -37,7 +37,7 @@ pub(crate) fn earlier_register(
 
 // Appends the response to a request for energy, over the current file and these days of earlier
 // files.
-fn put_energy<B: Books>(
+fn write_energy<B: Books>(
     rt: &impl Abort,
     alloc: Global,
     text: &mut Vec<u8>,
@@ -67,7 +67,7 @@ fn assert_energy<B: Books>(
     let earlier = days_of(rt, alloc, rows);
     for (request, status, body) in asked {
         let mut text = Vec::new(alloc);
-        put_energy(rt, alloc, &mut text, office, &earlier, request);
+        write_energy(rt, alloc, &mut text, office, &earlier, request);
         let wanted = sized_reply(alloc, status, body).expect(rt, "no memory");
         assert!(rt; text.as_slice() == wanted.as_bytes(), "{body}");
     }

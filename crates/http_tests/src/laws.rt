@@ -1,7 +1,7 @@
 //! Calls the theorems about copies, chunks and inputs that no other code calls.
 use crate::failing_commands::NoFiles;
 use office_program::{MOST_FILE, inputs_act_once, requests_are_repeated};
-use run_http::{entries_come_after, pieces_are_whole, rows_before_stay, text_stays};
+use run_http::{chunks_form_response, entries_come_after, rows_before_stay, text_stays};
 
 // The theorems about chunks of responses, copies of rows, and entered inputs can be called as
 // functions.
@@ -10,7 +10,7 @@ fn theorems_are_called(rt: HostRuntime) {
     rows_before_stay();
     entries_come_after();
     text_stays();
-    pieces_are_whole();
+    chunks_form_response();
     requests_are_repeated();
     inputs_act_once(&NoFiles);
     assert!(rt; MOST_FILE == 65_536);

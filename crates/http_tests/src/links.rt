@@ -1,9 +1,9 @@
 //! Tests of requests that are cut off, and of responses over links that fail.
-use http_answer::{ReplyWriter, put_json};
+use http_answer::{ResponseWriter, write_json};
 use http_request::{Inbox, Route, Status, TakeFault, is_whole, read_request, router};
 use matchit::Router;
 use mb_wire::{Link, MemoryLink};
-use office_http::{HandleFault, turn_away};
+use office_http::{HandleFault, write_misdirected};
 use std::alloc::Global;
 use std::process::Abort;
 
@@ -65,8 +65,8 @@ fn each_write_of_a_reply_may_fail(rt: HostRuntime) {
     for call in 1..12u64 {
         let mut output = [0; 200];
         let mut link = MemoryLink::new(b"", &mut output, 10, Some(call));
-        let mut writer = ReplyWriter::new(&mut link);
-        put_json(Status::NotFound, b"{\"refused\":1}", &mut writer);
+        let mut writer = ResponseWriter::new(&mut link);
+        write_json(Status::NotFound, b"{\"refused\":1}", &mut writer);
         assert!(rt; writer.finish().is_err());
         assert!(rt; link.failures() == 1);
         assert!(rt; JSON.starts_with(link.given()));
@@ -80,9 +80,9 @@ static BLOCK: [u8; 300] = [b'x'; 300];
 fn nothing_is_written_after_a_failed_write(rt: HostRuntime) {
     let mut output = [0; 2000];
     let mut link = MemoryLink::new(b"", &mut output, 100, Some(2));
-    let mut writer = ReplyWriter::new(&mut link);
+    let mut writer = ResponseWriter::new(&mut link);
     for _ in 0..4 {
-        writer.put(&BLOCK);
+        writer.write_bytes(&BLOCK);
     }
     assert!(rt; writer.finish().is_err());
     assert!(rt; link.given().len() == 100);
@@ -94,7 +94,7 @@ fn nothing_is_written_after_a_failed_write(rt: HostRuntime) {
 fn a_link_that_fails_rejects_nobody(rt: HostRuntime) {
     let mut output = [0; 400];
     let mut link = MemoryLink::new(b"", &mut output, 400, Some(1));
-    assert!(rt; turn_away(&mut link) == Err(HandleFault::Write));
+    assert!(rt; write_misdirected(&mut link) == Err(HandleFault::Write));
     let mut office_link = MemoryLink::new(b"GET", &mut [], 400, None);
-    assert!(rt; turn_away(&mut office_link).is_err());
+    assert!(rt; write_misdirected(&mut office_link).is_err());
 }

@@ -8,8 +8,8 @@ use http_peers::{
 use memory_books::ListBooks;
 use mio::{Events, Interest, Poll, Token};
 use office_core::Office;
-use run_http::PeerReply;
-use run_schedule::{MOST_PEERS, place_at};
+use run_http::ClientResponse;
+use run_schedule::{MOST_CLIENTS, place_at};
 use run_status::RunMonitor;
 use std::alloc::{AllocError, Global};
 use std::io::{self, ErrorKind, Read};
@@ -60,7 +60,7 @@ fn registered(listener: TcpListener, poll: &Poll) -> io::Result<mio::net::TcpLis
 }
 
 impl Listening {
-    fn of(
+    fn new(
         alloc: Global,
         poll: Poll,
         listener: mio::net::TcpListener,
@@ -68,12 +68,12 @@ impl Listening {
     ) -> Result<Listening, AllocError> {
         Ok(Listening {
             system: System {
-                clock: Stepping::of(7, 0),
+                clock: Stepping::new(7, 0),
                 are_there: true,
             },
             poll,
             events: Events::with_capacity(alloc, 8)?,
-            port: HttpPort::new(alloc, listener, room, MOST_PEERS)?,
+            port: HttpPort::new(alloc, listener, room, MOST_CLIENTS)?,
             monitor: RunMonitor::new(alloc, &[])?,
         })
     }
@@ -81,7 +81,7 @@ impl Listening {
     fn open(rt: &HostRuntime, listener: TcpListener, room: KeptRoom) -> Result<Listening, Fail> {
         let poll = Poll::new(rt)?;
         let listener = registered(listener, &poll)?;
-        Ok(Listening::of(rt.alloc(), poll, listener, room)?)
+        Ok(Listening::new(rt.alloc(), poll, listener, room)?)
     }
 
     // Accepts the clients that wait, serves each client, and drops the clients that got their
@@ -91,7 +91,7 @@ impl Listening {
         self.port.begin_turn();
         self.port.accept(self.poll.registry(), time);
         let first = self.port.first();
-        for step in 0..MOST_PEERS {
+        for step in 0..MOST_CLIENTS {
             let told = RunTold {
                 monitor: &self.monitor,
                 lacks: &[],
@@ -277,11 +277,11 @@ fn commands_that_acted_take_room(rt: HostRuntime) {
     let acted = b"HTTP/1.1 200 OK"
         .to_vec(rt.alloc())
         .expect(&rt, "no memory");
-    let acted = PeerReply::Replied(acted);
+    let acted = ClientResponse::Replied(acted);
     let mut room = KeptRoom::new(Some(100), 60);
     assert!(rt; !room.lacks(POST));
-    room.count(POST, &PeerReply::Open);
-    room.count(POST, &PeerReply::Replied(refused));
+    room.count(POST, &ClientResponse::Open);
+    room.count(POST, &ClientResponse::Replied(refused));
     room.count(GET, &acted);
     assert!(rt; !room.lacks(POST));
     room.count(POST, &acted);
@@ -289,7 +289,7 @@ fn commands_that_acted_take_room(rt: HostRuntime) {
     assert!(rt; !room.lacks(GET));
     let mut unlimited = KeptRoom::new(None, u64::MAX);
     assert!(rt; !unlimited.lacks(POST));
-    unlimited.count(POST, &PeerReply::Failed);
+    unlimited.count(POST, &ClientResponse::Failed);
     assert!(rt; KeptRoom::new(Some(10), 11).lacks(POST));
 }
 
@@ -313,16 +313,16 @@ fn written(rt: &HostRuntime, outbox: &mut Outbox) -> Result<Vec<u8>, Fail> {
 fn bytes_that_are_put_are_written_once(rt: HostRuntime) -> Result<(), Fail> {
     let mut empty = Outbox::empty(rt.alloc());
     assert!(rt; empty.is_empty() && empty.is_written());
-    empty.put(b"one").expect(&rt, "no memory");
+    empty.push_bytes(b"one").expect(&rt, "no memory");
     assert!(rt; empty.len() == 3);
     let bytes = b"one".to_vec(rt.alloc()).expect(&rt, "no memory");
-    let mut outbox = Outbox::of(bytes);
-    outbox.put(b"two").expect(&rt, "no memory");
+    let mut outbox = Outbox::new(bytes);
+    outbox.push_bytes(b"two").expect(&rt, "no memory");
     assert!(rt; outbox.len() == 6);
     assert!(rt; !outbox.is_written());
     assert!(rt; written(&rt, &mut outbox)?.as_slice() == b"onetwo".as_slice());
     assert!(rt; !outbox.is_empty());
-    outbox.put(b"more").expect(&rt, "no memory");
+    outbox.push_bytes(b"more").expect(&rt, "no memory");
     assert!(rt; outbox.len() == 4);
     Ok(())
 }
@@ -334,5 +334,5 @@ fn errors_of_sockets_have_a_meaning(rt: HostRuntime) {
     assert!(rt; went_by(ErrorKind::WouldBlock) == Went::Waits);
     assert!(rt; went_by(ErrorKind::Interrupted) == Went::On);
     assert!(rt; went_by(ErrorKind::ConnectionReset) == Went::Over);
-    assert!(rt; even_milliseconds(&Stepping::of(6, 1)) == 7000);
+    assert!(rt; even_milliseconds(&Stepping::new(6, 1)) == 7000);
 }

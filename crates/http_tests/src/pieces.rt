@@ -6,8 +6,8 @@ use office_books::{Books, Span};
 use office_core::Office;
 use office_events::{Installation, Name};
 use run_http::{
-    PeerReply, RowsLeft, all_rows_asked, are_many, ask, begin_all_intervals, begin_intervals,
-    end_rows, has_more, may_void, reply_intervals, tell_rows,
+    ClientResponse, RemainingRows, all_rows_asked, ask, begin_all_intervals, begin_intervals,
+    has_more, is_long_response, may_void, reply_intervals, write_last_rows, write_next_rows,
 };
 use std::alloc::Global;
 use std::process::Abort;
@@ -28,7 +28,7 @@ fn begun<B: Books>(
     text: &mut Vec<u8>,
     office: &mut Office<B>,
     span: Option<(u64, u64)>,
-) -> RowsLeft {
+) -> RemainingRows {
     let it = meter(rt, office);
     let started = match span {
         Some((from, till)) => begin_intervals(alloc, text, office, &it, from, till),
@@ -47,18 +47,18 @@ fn write_rest<B: Books>(
     alloc: Global,
     text: &mut Vec<u8>,
     office: &mut Office<B>,
-    left: &mut RowsLeft,
+    left: &mut RemainingRows,
     seconds: u64,
 ) -> u32 {
     let mut count = 0u32;
     for _chunk in 0..20 {
         if has_more(left) {
-            let chunk = tell_rows(alloc, text, office, left, seconds).expect(rt, "no memory");
+            let chunk = write_next_rows(alloc, text, office, left, seconds).expect(rt, "no memory");
             assert!(rt; chunk.is_ok());
             count = count.saturating_add(1);
         }
     }
-    end_rows(text, left).expect(rt, "no memory");
+    write_last_rows(text, left).expect(rt, "no memory");
     count
 }
 
@@ -130,14 +130,14 @@ fn assert_chunks<B: Books>(rt: &impl Abort, alloc: Global, office: &mut Office<B
     assert_spans(rt, alloc, office);
     let text = in_chunks(rt, alloc, office, None, 900);
     match ask(alloc, ALL_ROWS, office, 1900) {
-        PeerReply::Replied(reply) => assert!(rt; text.as_slice() == reply.as_slice()),
+        ClientResponse::Replied(reply) => assert!(rt; text.as_slice() == reply.as_slice()),
         _ => panic!(rt; "no reply"),
     }
     let it = meter(rt, office);
-    assert!(rt; are_many(&it, 0, u64::MAX, 899));
-    assert!(rt; !are_many(&it, 0, u64::MAX, 900));
-    assert!(rt; !are_many(&it, 1800, 900, 0));
-    assert!(rt; !are_many(&it, 0, 1000, 100));
+    assert!(rt; is_long_response(&it, 0, u64::MAX, 899));
+    assert!(rt; !is_long_response(&it, 0, u64::MAX, 900));
+    assert!(rt; !is_long_response(&it, 1800, 900, 0));
+    assert!(rt; !is_long_response(&it, 0, 1000, 100));
     assert_earlier_rows(rt, alloc, office);
 }
 

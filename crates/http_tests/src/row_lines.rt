@@ -5,7 +5,7 @@ use meter_journal::{EntryKind, EntryRow};
 use office_books::MeterEntry;
 use office_core::SiteRow;
 use office_events::Installation;
-use run_http::{SiteLine, put_entries, put_register_meters, put_site};
+use run_http::{SiteLine, write_entries, write_register_meters, write_site};
 use std::alloc::Global;
 use std::process::Abort;
 
@@ -81,7 +81,7 @@ static ENTRY_LINES: &str =
 #[test]
 fn each_kind_of_entry_has_its_line(rt: HostRuntime) {
     let mut text = Vec::new(rt.alloc());
-    put_entries(&mut text, &ENTRIES).expect(&rt, "no memory");
+    write_entries(&mut text, &ENTRIES).expect(&rt, "no memory");
     assert!(rt; text.as_slice() == ENTRY_LINES.as_bytes());
 }
 
@@ -133,7 +133,7 @@ fn a_site_has_its_line(rt: HostRuntime) {
         },
     ];
     let mut text = Vec::new(rt.alloc());
-    put_site(&mut text, 7, &lines).expect(&rt, "no memory");
+    write_site(&mut text, 7, &lines).expect(&rt, "no memory");
     assert!(rt; text.as_slice() == SITE.as_bytes());
 }
 
@@ -159,6 +159,6 @@ fn each_number_of_a_meter_may_be_the_greatest(rt: HostRuntime) {
     };
     open.total = 0;
     let mut text = Vec::new(rt.alloc());
-    put_register_meters(&mut text, &[closed, open]).expect(&rt, "no memory");
+    write_register_meters(&mut text, &[closed, open]).expect(&rt, "no memory");
     assert!(rt; text.as_slice() == METERS.as_bytes());
 }

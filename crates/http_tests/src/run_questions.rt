@@ -13,7 +13,7 @@ use std::alloc::{AllocError, Global};
 use std::process::Abort;
 
 // Appends the response to one of the tested requests at time 2800 s.
-fn put_reply<B: Books>(
+fn append_reply<B: Books>(
     alloc: Global,
     text: &mut Vec<u8>,
     office: &mut Office<B>,
@@ -38,7 +38,7 @@ fn replied_over<B: Books>(
         return None;
     };
     let mut text = Vec::new(alloc);
-    put_reply(alloc, &mut text, &mut office, request).expect(rt, "no memory");
+    append_reply(alloc, &mut text, &mut office, request).expect(rt, "no memory");
     Some(text)
 }
 

@@ -32,11 +32,11 @@ inserted old new name other x updates =
 
 -- After a result is cached, at most the cached result for its name has changed, even if memory ran
 -- out.
-pub put_in : {T E : Type 0} (r : Result (Option T) E) (old new : BTreeMap Key T) (name : List ℕ) (x : T)
+pub write_in : {T E : Type 0} (r : Result (Option T) E) (old new : BTreeMap Key T) (name : List ℕ) (x : T)
     → OnOk r (Updates key_cmp old new (named name) (Some x)) → OnErr r (IsUnchanged old new) → (other : List ℕ)
     → (get key_cmp new (named other) ≡ get key_cmp old (named other)) ⊎ ((other ≡ name) × (get key_cmp new (named other) ≡ Some x))
-put_in (Ok was) old new name x ok err other = inserted old new name other x ok
-put_in {T = T} (Err e) old new name x ok err other = inl (ap (λ (es : List (Key × T)). lookup (is_at (key_cmp (named other))) es) err)
+write_in (Ok was) old new name x ok err other = inserted old new name other x ok
+write_in {T = T} (Err e) old new name x ok err other = inl (ap (λ (es : List (Key × T)). lookup (is_at (key_cmp (named other))) es) err)
 
 pub none_and_some : {T P : Type 0} (o : Option T) (x : T) → o ≡ None → o ≡ Some x → P
 none_and_some o x n s = absurd (let e : None ≡ Some x = sym n ∙ s in cc)

@@ -3,7 +3,7 @@ use Rattle.std.specs.Prelude.{◌≡◌, ◌↔◌, List}
 use Rattle.office_events.specs.declared.facts.Fact.{Fact}
 use Rattle.office_books.specs.Ledgers.{Ledger}
 use Rattle.kept_books.specs.declared.known.Known.{Known}
-use Rattle.kept_books.specs.declared.kept.KeptBooks.{KeptBooks}
+use Rattle.kept_books.specs.declared.kept.CachedBooks.{CachedBooks}
 use Rattle.kept_books.specs.Known.{AreTrue}
 
 -- The model of a store with a cache. It equals the model of the store below, and in addition the
@@ -19,11 +19,11 @@ keeping kept under = record {
 }
 
 -- The store below the cache.
-abbrev pub beneath : {B : Type 0} → KeptBooks B → B
+abbrev pub beneath : {B : Type 0} → CachedBooks B → B
 beneath kept = kept.books
 
 -- The model of a store with a cache, given the model of the store below.
-abbrev pub ledger_over : {B : Type 0} → (B → Ledger) → KeptBooks B → Ledger
+abbrev pub ledger_over : {B : Type 0} → (B → Ledger) → CachedBooks B → Ledger
 ledger_over ledger kept = keeping kept.known (ledger kept.books)
 
 -- True if two stores have the same state. They have the same records, a crash may leave the same

@@ -36,7 +36,7 @@ impl<T: Drop> Answers<T> {
     }
 
     /// Caches the result for a name, unless the cache is full or memory runs out.
-    pub(crate) fn put(&mut self, name: &Name, answer: T)
+    pub(crate) fn insert(&mut self, name: &Name, answer: T)
         ensures { MayAnswer name.now answer self.old self.new }
     {
         if self.rows.len() < self.most {
@@ -46,7 +46,7 @@ impl<T: Drop> Answers<T> {
     }
 
     /// Removes the cached result for a name, and returns it.
-    pub(crate) fn take(&mut self, name: &Name) -> Option<T>
+    pub(crate) fn remove(&mut self, name: &Name) -> Option<T>
         ensures taken { result ≡ answer_to self.old name.now }
         ensures forgets { Forgets name.now self.old self.new }
     {

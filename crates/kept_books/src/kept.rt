@@ -5,9 +5,12 @@ ghost use Rattle.kept_books.specs.Keeping.{StandsAs, beneath, ledger_over};
 use crate::known::Known;
 use interval_core::{Share, Zone};
 use mb_wire::ReadSpan;
-use office_books::{Books, BooksFault, MeterEntry, Repeat, RowSink, Span, keep_read, read_count};
+use office_books::{
+    Books, BooksFault, MeterEntry, Repeat, RowSink, Span, read_count, retain_covered,
+};
 use office_events::{
-    Device, EntryPlace, Fact, HeldReading, Installation, Name, PlannedList, Poll, PollRow, Register,
+    Device, EntryContext, Fact, HeldReading, Installation, Name, PlannedList, Poll, PollRow,
+    Register,
 };
 use std::alloc::Global;
 
@@ -15,19 +18,19 @@ use std::alloc::Global;
 /// the store below. New records update the cache or remove results from it, and a failed write
 /// empties the cache.
 #[derive(Drop)]
-pub struct KeptBooks<B> {
+pub struct CachedBooks<B> {
     alloc: Global,
     books: B,
     known: Known,
 }
 
-impl<B: Books> KeptBooks<B> {
+impl<B: Books> CachedBooks<B> {
     /// Creates a store with an empty cache over the store `books`.
-    pub fn new(alloc: Global, books: B) -> KeptBooks<B>
+    pub fn new(alloc: Global, books: B) -> CachedBooks<B>
         ensures books { beneath result ≡ books }
         ensures stands { StandsAs (B.ledger books) (ledger_over B.ledger result) }
     {
-        KeptBooks {
+        CachedBooks {
             alloc,
             books,
             known: Known::new(alloc),
@@ -43,7 +46,7 @@ impl<B: Books> KeptBooks<B> {
     }
 }
 
-impl<B: Books> Books for KeptBooks<B> {
+impl<B: Books> Books for CachedBooks<B> {
     ghost use Rattle.kept_books.specs.Keeping.{ledger_over};
 
     ghost ledger = { ledger_over B.ledger };
@@ -120,7 +123,7 @@ impl<B: Books> Books for KeptBooks<B> {
         }
         let mut found = self.books.registers(device)?;
         self.known.keep_registers(device, &found);
-        keep_read(&mut found, span);
+        retain_covered(&mut found, span);
         Ok(found)
     }
 
@@ -152,11 +155,11 @@ impl<B: Books> Books for KeptBooks<B> {
         self.books.installation_count()
     }
 
-    fn entry(&mut self, meter: &Name, place: u64) -> Result<Option<EntryPlace>, BooksFault> {
+    fn entry(&mut self, meter: &Name, place: u64) -> Result<Option<EntryContext>, BooksFault> {
         self.books.entry(meter, place)
     }
 
-    fn entry_near(&mut self, meter: &Name, place: u64) -> Result<Option<EntryPlace>, BooksFault> {
+    fn entry_near(&mut self, meter: &Name, place: u64) -> Result<Option<EntryContext>, BooksFault> {
         self.books.entry_near(meter, place)
     }
 

@@ -12,7 +12,7 @@ ghost use Rattle.office_books.specs.Plans.{read_count_of, reads_from};
 
 use crate::answers::Answers;
 use crate::polls::Polls;
-use crate::standing::go_on;
+use crate::standing::advance_installation;
 use mb_wire::ReadSpan;
 use office_books::{is_sound, read_count, reads_from, registers_read};
 use office_events::{
@@ -110,7 +110,7 @@ impl Known {
             return;
         };
         if let Ok(copy) = list.clone() {
-            self.lists.put(device, copy);
+            self.lists.insert(device, copy);
         }
     }
 
@@ -168,7 +168,7 @@ impl Known {
             return;
         }
         if let Ok(copy) = found.to_vec(self.alloc) {
-            self.registers.put(device, copy);
+            self.registers.insert(device, copy);
         }
     }
 
@@ -209,9 +209,9 @@ impl Known {
             → AreTrue self.old known → AreTrue self.new known }
     {
         if let Some(row) = found {
-            self.meters.take(register);
-            self.meters.put(register, row.opening.meter);
-            self.standing.put(&row.opening.meter, *row);
+            self.meters.remove(register);
+            self.meters.insert(register, row.opening.meter);
+            self.standing.insert(&row.opening.meter, *row);
         }
     }
 
@@ -252,15 +252,15 @@ impl Known {
     {
         match fact {
             Fact::List(put) => {
-                self.lists.take(&put.device);
+                self.lists.remove(&put.device);
             }
             Fact::Register(register) => {
-                self.registers.take(&register.device);
+                self.registers.remove(&register.device);
             }
             Fact::Opening(_) => self.standing.clear(),
-            Fact::Entry(booked) => go_on(&mut self.standing, booked),
+            Fact::Entry(booked) => advance_installation(&mut self.standing, booked),
             Fact::Void(voided) => {
-                self.standing.take(&voided.meter);
+                self.standing.remove(&voided.meter);
             }
             Fact::Device(_) | Fact::Hold(_) | Fact::Poll(_) | Fact::Outcome(_) | Fact::Reply(_) =>
                 {}
@@ -276,7 +276,7 @@ impl Known {
         entries_move_on();
         installations_are_in_range();
         self.change(fact);
-        self.polls.go_on(fact);
+        self.polls.apply_record(fact);
     }
 
     /// Updates the cache after these records were added to the store.

@@ -8,4 +8,4 @@ mod known;
 mod polls;
 mod standing;
 
-pub use kept::KeptBooks;
+pub use kept::CachedBooks;

@@ -64,7 +64,7 @@ impl Polls {
         }
     }
 
-    fn end(&mut self, number: u64)
+    fn end_poll(&mut self, number: u64)
         ensures waiting { WaitsNoMore number self.old self.new }
         ensures started { self.new.started ≡ self.old.started }
     {
@@ -72,12 +72,12 @@ impl Polls {
     }
 
     /// Updates the cached polls after one more record.
-    pub(crate) fn go_on(&mut self, fact: &Fact)
+    pub(crate) fn apply_record(&mut self, fact: &Fact)
         ensures { PollsChange fact.now self.old self.new }
     {
         match fact {
             Fact::Poll(poll) => self.start(poll),
-            Fact::Outcome(ended) => self.end(ended.poll),
+            Fact::Outcome(ended) => self.end_poll(ended.poll),
             Fact::Device(_)
             | Fact::List(_)
             | Fact::Register(_)

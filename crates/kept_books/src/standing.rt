@@ -7,11 +7,11 @@ use office_events::{BookedEntry, Installation};
 
 /// Advances the cached installation of the entry's meter by the entry. Does nothing if the
 /// installation is not cached.
-pub(crate) fn go_on(rows: &mut Answers<Installation>, booked: &BookedEntry)
+pub(crate) fn advance_installation(rows: &mut Answers<Installation>, booked: &BookedEntry)
     ensures { EntryKeepsAnswers booked.now rows.old rows.new }
 {
-    if let Some(row) = rows.take(&booked.meter) {
+    if let Some(row) = rows.remove(&booked.meter) {
         let after = moved(&row, booked);
-        rows.put(&booked.meter, after);
+        rows.insert(&booked.meter, after);
     }
 }

@@ -9,7 +9,7 @@ static TEXT: &[u8] = b"name,function,area,address,type,scale\na,3,0,5,int16,0\n"
 
 // Returns whether the writer received exactly the first `room` bytes of the list's text, and the
 // result is the fault `Write`.
-fn is_told(alloc: Global, list: &PointList, room: usize, fails: bool) -> bool {
+fn fails_after(alloc: Global, list: &PointList, room: usize, fails: bool) -> bool {
     let mut output = Narrow::new(alloc, room, fails);
     write_list(alloc, list, &mut output) == Err(WriteListFault::Write)
         && Some(output.taken.as_slice()) == TEXT.get(..room)
@@ -21,9 +21,12 @@ fn is_told(alloc: Global, list: &PointList, room: usize, fails: bool) -> bool {
 fn fails_at_each_byte(rt: HostRuntime) {
     let list = list_of(&rt, rt.alloc(), TEXT);
     for room in 0..TEXT.len() {
-        assert!(rt; is_told(rt.alloc(), &list, room, true), "fails at {room}");
         assert!(rt;
-            is_told(rt.alloc(), &list, room, false),
+            fails_after(rt.alloc(), &list, room, true),
+            "fails at {room}"
+        );
+        assert!(rt;
+            fails_after(rt.alloc(), &list, room, false),
             "takes nothing at {room}"
         );
     }

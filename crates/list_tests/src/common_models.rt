@@ -1,5 +1,5 @@
 //! Tests the identity of a device, which SunSpec model 1 (common) contains.
-use crate::given::{Line, assert_same, chain_of, image_of, put};
+use crate::given::{Line, assert_same, chain_of, image_of, write_image};
 use std::alloc::Global;
 use std::io::{self, Write};
 use std::process::Abort;
@@ -56,8 +56,8 @@ const ABSENT: [Line; 3] = [
 // Returns the image of a device whose last model is a model 1 of this length.
 fn device(rt: &impl Abort, alloc: Global, lines: &[Line], length: u16) -> Image {
     let mut image = image_of(rt, alloc, lines);
-    put(rt, &mut image, 3, &[length]);
-    put(rt, &mut image, length.saturating_add(4), &[0xFFFF]);
+    write_image(rt, &mut image, 3, &[length]);
+    write_image(rt, &mut image, length.saturating_add(4), &[0xFFFF]);
     image
 }
 
@@ -101,7 +101,7 @@ static SAYINGS: [(&[Line], u16, &str); 4] = [
 // The identity of a device has each text and the device address. A missing or absent field is
 // empty.
 #[test]
-fn a_device_says_what_it_is(rt: HostRuntime) {
+fn identity_has_each_field(rt: HostRuntime) {
     for (lines, length, want) in &SAYINGS {
         let image = device(&rt, rt.alloc(), lines, *length);
         assert_same(&rt, said(&rt, rt.alloc(), &image).as_slice(), want);

@@ -81,7 +81,7 @@ const WRITES: [(WriteListFault, &str); 2] = [
 
 // Each fault of an image, a scan, a chain or a point list is printed as its expected text.
 #[test]
-fn faults_say_their_texts(rt: HostRuntime) {
+fn each_fault_has_its_text(rt: HostRuntime) {
     assert_texts(&rt, rt.alloc(), &IMAGES);
     assert_texts(&rt, rt.alloc(), &SCANS);
     assert_texts(&rt, rt.alloc(), &CHAINS);
@@ -111,7 +111,7 @@ fn faulty(rt: &impl Abort, alloc: Global, count: usize) -> FaultyRows {
 
 // The text for the faults of a point list has the first faulty row and the number of faulty rows.
 #[test]
-fn lists_tell_their_first_row(rt: HostRuntime) {
+fn list_fault_shows_its_first_row(rt: HostRuntime) {
     let lists = [
         (
             ListFault::Faults(faulty(&rt, rt.alloc(), 0)),

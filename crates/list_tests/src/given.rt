@@ -9,7 +9,7 @@ pub fn assert_same(rt: &impl Abort, found: &[u8], want: &str) {
     assert!(rt; found == want.as_bytes(), "{want}");
 }
 
-pub fn put(rt: &impl Abort, image: &mut Image, address: u16, words: &[u16]) {
+pub fn write_image(rt: &impl Abort, image: &mut Image, address: u16, words: &[u16]) {
     image.put(address, words).ok().expect(rt, "not put");
 }
 
@@ -22,7 +22,7 @@ pub struct Line {
 pub fn image_of(rt: &impl Abort, alloc: Global, lines: &[Line]) -> Image {
     let mut image = Image::new(alloc);
     for line in lines {
-        put(rt, &mut image, line.address, line.words);
+        write_image(rt, &mut image, line.address, line.words);
     }
     image
 }

@@ -1,5 +1,5 @@
 //! Tests writing words into the memory image of a device.
-use crate::given::put;
+use crate::given::write_image;
 use sun_chain::{Image, ImageFault};
 
 static WORDS: [(u16, Option<u16>); 4] = [
@@ -14,8 +14,8 @@ static WORDS: [(u16, Option<u16>); 4] = [
 #[test]
 fn words_are_put_up_to_the_last_address(rt: HostRuntime) {
     let mut image = Image::new(rt.alloc());
-    put(&rt, &mut image, 65534, &[1, 2]);
-    put(&rt, &mut image, 65535, &[5]);
+    write_image(&rt, &mut image, 65534, &[1, 2]);
+    write_image(&rt, &mut image, 65535, &[5]);
     assert!(rt; image.put(65535, &[3, 4]) == Err(ImageFault::PastEnd));
     for (address, word) in &WORDS {
         assert!(rt; image.word(*address) == *word, "{address}");

@@ -1,7 +1,7 @@
 //! Tests the point lists of devices' chains of SunSpec models.
 
 use crate::full_models::full_image;
-use crate::given::{Line, assert_same, chain_of, image_of, put, written};
+use crate::given::{Line, assert_same, chain_of, image_of, write_image, written};
 use point_list::{FaultyRow, ListFault, PointList, RowFault, from_chain};
 use std::alloc::Global;
 use std::process::Abort;
@@ -231,15 +231,15 @@ m3.Evt,3,0,40227,bitfield32,
 // model.
 fn meters(rt: &impl Abort, alloc: Global, count: u16, more: &[u16]) -> Image {
     let mut image = Image::new(alloc);
-    put(rt, &mut image, 0, &[0x5375, 0x6E53]);
+    write_image(rt, &mut image, 0, &[0x5375, 0x6E53]);
     for model in 0..count {
-        put_meter(rt, &mut image, model, &[0; 105]);
+        append_meter(rt, &mut image, model, &[0; 105]);
     }
     if more.is_empty() {
-        put(rt, &mut image, address_of(count), &[0xFFFF]);
+        write_image(rt, &mut image, address_of(count), &[0xFFFF]);
     } else {
-        put_meter(rt, &mut image, count, more);
-        put(
+        append_meter(rt, &mut image, count, more);
+        write_image(
             rt,
             &mut image,
             address_of(count.saturating_add(1)),
@@ -253,9 +253,9 @@ fn address_of(model: u16) -> u16 {
     model.saturating_mul(107).saturating_add(2)
 }
 
-fn put_meter(rt: &impl Abort, image: &mut Image, model: u16, words: &[u16]) {
-    put(rt, image, address_of(model), &[203, 105]);
-    put(rt, image, address_of(model).saturating_add(2), words)
+fn append_meter(rt: &impl Abort, image: &mut Image, model: u16, words: &[u16]) {
+    write_image(rt, image, address_of(model), &[203, 105]);
+    write_image(rt, image, address_of(model).saturating_add(2), words)
 }
 
 // The number of complete meter models, the words of one more model, and the expected number of

@@ -25,7 +25,7 @@ impl Narrow {
         }
     }
 
-    fn take(&mut self, bytes: &[u8]) -> io::Result<usize>
+    fn write_some(&mut self, bytes: &[u8]) -> io::Result<usize>
         ensures { IfOk result (λ n. n ≤ length bytes.now) }
     {
         let count = bytes.len().min(self.room).min(3);
@@ -44,7 +44,7 @@ impl io::Write for Narrow {
         if self.fails && self.room == 0 {
             return Err(io::Error::from(ErrorKind::StorageFull));
         }
-        self.take(bytes)
+        self.write_some(bytes)
     }
 
     fn flush(&mut self) -> io::Result<()> {

@@ -1,5 +1,5 @@
 //! Tests the reading of a device's counters over a link.
-use crate::stand_in_link::StandInLink;
+use crate::stand_in_link::SimulatorLink;
 use device_scan::{CounterScale, ScanFault, Shown, read_counter};
 use mb_device::{Area, Bank, Kind, Trick};
 use mb_wire::{MemoryLink, ReadFunction};
@@ -97,7 +97,7 @@ fn shown(count: Count) -> Option<Shown> {
 // A counter and its scale are read by one request, which is sent once more if no words arrive.
 #[test]
 fn a_counter_is_read_with_its_scale(rt: HostRuntime) {
-    let mut link = StandInLink::new(meter(&rt, rt.alloc()), &[]);
+    let mut link = SimulatorLink::new(meter(&rt, rt.alloc()), &[]);
     for (function, address, scale, count, requests) in &COUNTERS {
         let before = link.gives();
         let found = read_counter(rt.alloc(), &mut link, 1, *function, *address, *scale);
@@ -115,7 +115,7 @@ fn tricked(
     alloc: Global,
     tricks: &[(u64, Trick)],
 ) -> Result<Option<Shown>, ScanFault> {
-    let mut link = StandInLink::new(meter(rt, alloc), tricks);
+    let mut link = SimulatorLink::new(meter(rt, alloc), tricks);
     let scale = CounterScale::Register(40014);
     read_counter(alloc, &mut link, 1, INPUT, 40010, scale)
 }

@@ -1,7 +1,7 @@
 //! Tests scans of a simulated device for SunSpec models, without faults and with each injected
 //! fault.
 use crate::full_models::full_image;
-use crate::stand_in_link::StandInLink;
+use crate::stand_in_link::SimulatorLink;
 use device_scan::{ScanFault, ScanObserver, scan_over};
 use mb_device::{Area, Bank, Kind, Trick};
 use std::alloc::Global;
@@ -52,7 +52,7 @@ struct Scanned {
 
 // Scans a simulated device with injected faults.
 fn scan_bank(alloc: Global, bank: Bank, tricks: &[(u64, Trick)]) -> Scanned {
-    let mut link = StandInLink::new(bank, tricks);
+    let mut link = SimulatorLink::new(bank, tricks);
     let mut shown = Shown(0);
     let found = scan_over(alloc, &mut link, 1, &mut shown);
     Scanned {
@@ -120,7 +120,7 @@ fn a_connection_that_breaks_ends_the_scan(rt: HostRuntime) {
 // If a read fails twice, its registers are missing from the image. In this test they are the
 // registers of the inverter model.
 #[test]
-fn what_fails_twice_is_unread(rt: HostRuntime) {
+fn a_read_that_fails_twice_is_missing(rt: HostRuntime) {
     let tricks = [(5, Trick::Drop), (6, Trick::Drop)];
     let image = scanned_full(&rt, rt.alloc(), &tricks)
         .ok()

@@ -10,7 +10,7 @@ const ROOM: usize = 1024;
 /// A link to a simulated device that responds to each write immediately. A read without a response
 /// times out. After an injected fault closes the connection, the link's input ends.
 #[derive(Drop)]
-pub(crate) struct StandInLink<'t> {
+pub(crate) struct SimulatorLink<'t> {
     server: Server<'t>,
     bank: Bank,
     answers: [u8; ROOM],
@@ -26,9 +26,9 @@ pub(crate) struct StandInLink<'t> {
     ghost within: { end ≤ 1024 },
 }
 
-impl<'t> StandInLink<'t> {
-    pub(crate) fn new(bank: Bank, tricks: &'t [(u64, Trick)]) -> StandInLink<'t> {
-        StandInLink {
+impl<'t> SimulatorLink<'t> {
+    pub(crate) fn new(bank: Bank, tricks: &'t [(u64, Trick)]) -> SimulatorLink<'t> {
+        SimulatorLink {
             server: Server::tricked(tricks),
             bank,
             answers: [0; ROOM],
@@ -78,7 +78,7 @@ fn copy(bytes: &[u8], piece: &mut [u8]) -> usize
     count
 }
 
-impl Link for StandInLink<'_> {
+impl Link for SimulatorLink<'_> {
     ghost failed = { λ link. 0 };
 
     ghost taken = { λ link. link.takes };

@@ -67,7 +67,7 @@ impl Kind {
 
 impl Area {
     // Returns the address after the last address of the area.
-    fn end(&self) -> u64
+    fn end_address(&self) -> u64
         ensures { result ≡ self.now.start + self.now.count }
     {
         u64::from(self.start) + u64::from(self.count)
@@ -78,19 +78,20 @@ impl Area {
     {
         self.kind.number() == kind.number()
             && u64::from(self.start) <= address
-            && address < self.end()
+            && address < self.end_address()
     }
 
     pub(crate) fn overlaps(&self, other: &Area) -> bool
         ensures { result ≡ overlap self.now other.now }
     {
         let start = u64::from(self.start).max(u64::from(other.start));
-        self.kind.number() == other.kind.number() && start < self.end().min(other.end())
+        self.kind.number() == other.kind.number()
+            && start < self.end_address().min(other.end_address())
     }
 
     pub(crate) fn is_out_of_range(&self) -> bool
         ensures { result ≡ is_out_of_range self.now }
     {
-        self.count == 0 || u64::from(ADDRESSES) < self.end()
+        self.count == 0 || u64::from(ADDRESSES) < self.end_address()
     }
 }

@@ -40,7 +40,7 @@ pub(crate) fn pack_coils(values: &[Option<u16>], out: &mut [u8; MAX_BYTES]) -> u
 }
 
 // Writes the value into `out` as register `i`, two bytes, high byte first.
-fn put_word(out: &mut [u8; MAX_BYTES], i: usize, value: u16)
+fn write_word(out: &mut [u8; MAX_BYTES], i: usize, value: u16)
     requires { i < MAX_READ_REGISTERS }
     ensures { take (2 * i + 2) out.new ≡ take (2 * i) out.old ++ word value }
 {
@@ -56,7 +56,7 @@ pub(crate) fn pack_words(values: &[Option<u16>], out: &mut [u8; MAX_BYTES]) -> u
     ensures written { take result out.new ≡ word_bytes (map kept_value values.now) }
 {
     for (i, value) in values.iter().enumerate() {
-        put_word(out, i, value.unwrap_or(0));
+        write_word(out, i, value.unwrap_or(0));
     }
     2 * values.len()
 }

@@ -149,7 +149,7 @@ impl<'t> Sender<'t> {
 
     // Advances the sender to the next frame, after a frame with this injected fault and this
     // response.
-    fn go_on(&mut self, trick: Option<Trick>, frame: [u8; MAX_ADU], end: usize)
+    fn advance_frame(&mut self, trick: Option<Trick>, frame: [u8; MAX_ADU], end: usize)
         requires { end ≤ MAX_ADU }
         ensures { self.new ≡ following trick (take end frame) self.old }
     {
@@ -189,7 +189,7 @@ impl<'t> Sender<'t> {
         let mut frame = [0; MAX_ADU];
         let end = write_by(trick, tid, unit, pdu, &mut frame);
         let given = give_by(link, trick, &frame[..end], &self.later[..self.len]);
-        self.go_on(trick, frame, end);
+        self.advance_frame(trick, frame, end);
         given
     }
 }

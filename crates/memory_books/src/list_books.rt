@@ -13,7 +13,8 @@ use interval_core::{Share, Zone};
 use mb_wire::ReadSpan;
 use office_books::{Books, BooksFault, MeterEntry, Repeat, RowSink, Span};
 use office_events::{
-    Device, EntryPlace, Fact, HeldReading, Installation, Name, PlannedList, Poll, PollRow, Register,
+    Device, EntryContext, Fact, HeldReading, Installation, Name, PlannedList, Poll, PollRow,
+    Register,
 };
 use std::alloc::{AllocError, Global};
 
@@ -72,7 +73,7 @@ impl ListBooks {
         ensures figures { self.new.figures ≡ self.old.figures }
     {
         let done = self.catch_up();
-        told(&mut self.last_failure, done)
+        note_failure(&mut self.last_failure, done)
     }
 
     /// Adds all of the records to the store, or none if memory runs out.
@@ -95,7 +96,7 @@ impl ListBooks {
 }
 
 /// Returns the result of a call, and notes a lack of memory as the last failure.
-fn told<T>(
+fn note_failure<T>(
     last_failure: &mut Option<BooksFault>,
     done: Result<T, AllocError>,
 ) -> Result<T, BooksFault>
@@ -130,13 +131,13 @@ impl Books for ListBooks {
     fn devices(&mut self) -> Result<Vec<Device>, BooksFault> {
         let alloc = *self.facts.allocator();
         let found = lookups::devices(alloc, &self.facts);
-        told(&mut self.last_failure, found)
+        note_failure(&mut self.last_failure, found)
     }
 
     fn list(&mut self, device: &Name) -> Result<Option<PlannedList>, BooksFault> {
         self.ready()?;
         let found = self.tables.list(&self.facts, device);
-        told(&mut self.last_failure, found)
+        note_failure(&mut self.last_failure, found)
     }
 
     fn read_count(&mut self, device: &Name) -> Result<Option<usize>, BooksFault> {
@@ -153,7 +154,7 @@ impl Books for ListBooks {
         self.ready()?;
         let alloc = *self.facts.allocator();
         let found = self.tables.reads(alloc, &self.facts, device, from, most);
-        told(&mut self.last_failure, found)
+        note_failure(&mut self.last_failure, found)
     }
 
     fn register(&mut self, name: &Name) -> Result<Option<Register>, BooksFault> {
@@ -165,7 +166,7 @@ impl Books for ListBooks {
         self.ready()?;
         let alloc = *self.facts.allocator();
         let found = self.tables.registers(alloc, &self.facts, device);
-        told(&mut self.last_failure, found)
+        note_failure(&mut self.last_failure, found)
     }
 
     fn registers_read(
@@ -176,7 +177,7 @@ impl Books for ListBooks {
         self.ready()?;
         let alloc = *self.facts.allocator();
         let found = self.tables.registers_read(alloc, &self.facts, device, span);
-        told(&mut self.last_failure, found)
+        note_failure(&mut self.last_failure, found)
     }
 
     fn register_count(&mut self, device: &Name) -> Result<usize, BooksFault> {
@@ -198,19 +199,19 @@ impl Books for ListBooks {
         self.ready()?;
         let alloc = *self.facts.allocator();
         let found = self.tables.installations(alloc, &self.facts, register);
-        told(&mut self.last_failure, found)
+        note_failure(&mut self.last_failure, found)
     }
 
     fn installation_count(&mut self) -> Result<usize, BooksFault> {
         Ok(self.figures.installations)
     }
 
-    fn entry(&mut self, meter: &Name, place: u64) -> Result<Option<EntryPlace>, BooksFault> {
+    fn entry(&mut self, meter: &Name, place: u64) -> Result<Option<EntryContext>, BooksFault> {
         self.ready()?;
         Ok(self.tables.entry(meter, place))
     }
 
-    fn entry_near(&mut self, meter: &Name, place: u64) -> Result<Option<EntryPlace>, BooksFault> {
+    fn entry_near(&mut self, meter: &Name, place: u64) -> Result<Option<EntryContext>, BooksFault> {
         self.ready()?;
         Ok(self.tables.entry_near(meter, place))
     }
@@ -224,7 +225,7 @@ impl Books for ListBooks {
         self.ready()?;
         let alloc = *self.facts.allocator();
         let found = self.tables.entries(alloc, meter, from, most);
-        told(&mut self.last_failure, found)
+        note_failure(&mut self.last_failure, found)
     }
 
     fn poll(&mut self, number: u64) -> Result<Option<PollRow>, BooksFault> {
@@ -241,7 +242,7 @@ impl Books for ListBooks {
         self.ready()?;
         let alloc = *self.facts.allocator();
         let found = self.tables.pending(alloc);
-        told(&mut self.last_failure, found)
+        note_failure(&mut self.last_failure, found)
     }
 
     fn latest(&mut self) -> Result<u64, BooksFault> {
@@ -299,7 +300,7 @@ impl Books for ListBooks {
                 let _ = self.catch_up();
                 Ok(())
             }
-            Err(lacks) => told(&mut self.last_failure, Err(lacks)),
+            Err(lacks) => note_failure(&mut self.last_failure, Err(lacks)),
         }
     }
 }

@@ -56,12 +56,12 @@ alone_fits meter (row ∷ rows) h =
       | inr off ↦ subst (λ (rs : List EntryRow). AreFitting meter (entering rs)) (sym (stands_on row rows false off)) rest
     ]
 
-pub fitting_rows_stand_alone : FittingRowsStandAlone
-fitting_rows_stand_alone meter rows h =
+pub matching_rows_are_independent : FittingRowsStandAlone
+matching_rows_are_independent meter rows h =
     record { fit = alone_fits meter rows h; entries = entries_alone meter.opening (standing rows) }
 
 -- The valid entries of rows that the rules accept have an account.
 pub fitting_account : (meter : Installed) (rows : List EntryRow) → IsWellInstalled meter → AllFit meter rows → HasAccount meter (entries_in rows)
 fitting_account meter rows well h =
-    let alone = fitting_rows_stand_alone meter rows h in
+    let alone = matching_rows_are_independent meter rows h in
     subst (HasAccount meter) alone.entries (journals_are_kept meter (entering (standing rows)) well alone.fit).account

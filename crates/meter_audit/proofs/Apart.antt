@@ -68,14 +68,14 @@ same_head x y xs ys h = cc
 pub same_tail : {X : Type 0} (x y : X) (xs ys : List X) → x ∷ xs ≡ y ∷ ys → xs ≡ ys
 same_tail x y xs ys h = cc
 
-pub rows_are_told_apart : RowsAreToldApart
-rows_are_told_apart meter [] [] fit fit' h = refl
-rows_are_told_apart meter [] (row' ∷ rows') fit fit' h = absurd (cc)
-rows_are_told_apart meter (row ∷ rows) [] fit fit' h = absurd (cc)
-rows_are_told_apart meter (row ∷ rows) (row' ∷ rows') fit fit' h =
+pub rows_are_distinct : RowsAreToldApart
+rows_are_distinct meter [] [] fit fit' h = refl
+rows_are_distinct meter [] (row' ∷ rows') fit fit' h = absurd (cc)
+rows_are_distinct meter (row ∷ rows) [] fit fit' h = absurd (cc)
+rows_are_distinct meter (row ∷ rows) (row' ∷ rows') fit fit' h =
     let head = same_head (told_after meter rows row) (told_after meter rows' row') (later_rows meter rows) (later_rows meter rows') h in
     let tail = same_tail (told_after meter rows row) (told_after meter rows' row') (later_rows meter rows) (later_rows meter rows') h in
-    let rest : rows ≡ rows' = rows_are_told_apart meter rows rows' fit.1 fit'.1 tail in
+    let rest : rows ≡ rows' = rows_are_distinct meter rows rows' fit.1 fit'.1 tail in
     let first : row ≡ row' = sym (is_back meter rows row fit.0) ∙ ap decoded head ∙ is_back meter rows' row' fit'.0 in
     ap (λ (r : EntryRow). r ∷ rows) first ∙ ap (λ (rs : List EntryRow). row' ∷ rs) rest
 
@@ -88,7 +88,7 @@ refused_next meter rows told f [] well fit why all h = absurd (cc)
 refused_next meter rows told f (row ∷ rows') well fit why all h =
     let head : told ≡ told_after meter rows' row = same_head told (told_after meter rows' row) (later_rows meter rows) (later_rows meter rows') h in
     let tail = same_tail told (told_after meter rows' row) (later_rows meter rows) (later_rows meter rows') h in
-    let rest : rows ≡ rows' = rows_are_told_apart meter rows rows' fit all.1 tail in
+    let rest : rows ≡ rows' = rows_are_distinct meter rows rows' fit all.1 tail in
     let passes : IsOk (passed meter (check_after meter rows') (told_after meter rows' row)) =
     fitting_rows_pass meter rows' (check_after meter rows') row well (record { fit = all.1; check_is = refl }) all.0 in
     let same : passed meter (check_after meter rows') (told_after meter rows' row) ≡ Err f =

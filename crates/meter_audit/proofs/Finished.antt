@@ -11,7 +11,7 @@ use Rattle.meter_audit.specs.Fitting.{Tables, tables_of, AreFine}
 use Rattle.meter_audit.specs.Passing.{passed}
 use Rattle.meter_audit.specs.Laws.{check_after}
 use Rattle.meter_audit.specs.Going.{HasGone, Agrees, FinishedIsFine, RefusedIsNotFine}
-use Rattle.meter_audit.proofs.Apart.{rows_are_told_apart, refused_below, same_tail, same_head}
+use Rattle.meter_audit.proofs.Apart.{rows_are_distinct, refused_below, same_tail, same_head}
 
 -- If two lists with the same last element are equal, their other elements are equal.
 same_but_last : {X : Type 0} (xs ys : List X) (z : X) → xs ++ z ∷ [] ≡ ys ++ z ∷ [] → xs ≡ ys
@@ -42,7 +42,7 @@ agrees_where_fine meter told done progress tables gone entries fine =
     sym entries ∙ ap (λ (t : Tables). t.entries) fine.are in
     let same : later_rows meter fine.rows ≡ later_rows meter gone.rows =
     sym (same_but_last told (later_rows meter fine.rows) (opening_row meter.opening) both) ∙ gone.told_is in
-    let rows : fine.rows ≡ gone.rows = rows_are_told_apart meter fine.rows gone.rows fine.fit gone.taken.fit same in
+    let rows : fine.rows ≡ gone.rows = rows_are_distinct meter fine.rows gone.rows fine.fit gone.taken.fit same in
     let are : tables ≡ tables_of meter gone.rows = fine.are ∙ ap (tables_of meter) rows in
     let check : progress.check ≡ check_after meter gone.rows = gone.taken.check_is in
     record {

@@ -17,7 +17,7 @@ use Rattle.meter_journal.specs.Fitting.{reading_at, IsAcceptedAs, EntryFits, IsN
 use Rattle.meter_journal.specs.Journal.{Entered, Held, Voided, Journal, Around, is_read, is_closing, is_ended as journal_ended, entries_in, rows_of, rolled, struck, with_void, if_standing, passed, row_at}
 use Rattle.meter_journal.specs.Lists.{AreNumbered}
 use Rattle.meter_journal.specs.Standing.{AllStillFit}
-use Rattle.meter_journal.proofs.AsEntered.{AreRowsOf, rows_are_entered, rows_stand}
+use Rattle.meter_journal.proofs.AsEntered.{AreRowsOf, rows_are_entered, rows_are_kept}
 use Rattle.meter_journal.proofs.Chains.{last_moment}
 use Rattle.meter_journal.proofs.Keeping.{Leaves, all_three, entries_standing, entries_struck, follow_rest, above, by_read, unrolled, mapped_some, leaves, rows_are_sound}
 use Rattle.meter_journal.proofs.StillFitting.{NextFits, rolls_of, terms_after, rolled_fits}
@@ -372,6 +372,6 @@ all_fit meter (row ∷ rows) numbers unended still voided following = (
 pub rows_of_journals_fit : RowsOfJournalsFit
 rows_of_journals_fit meter lines well h =
     let rows : List EntryRow = rows_of meter.opening lines in
-    all_fit meter rows (rows_stand meter lines well h).places
+    all_fit meter rows (rows_are_kept meter lines well h).places
     (all_unended meter lines lines rows h (rows_are_entered meter lines h).rows)
     (rows_are_sound meter lines well.raw h).still (all_voided_fit meter lines well h) (all_after_fit meter lines well h)

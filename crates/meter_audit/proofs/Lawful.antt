@@ -16,7 +16,7 @@ use Rattle.meter_journal.specs.Standing.{entering}
 use Rattle.meter_journal.proofs.AsEntered.{stands_on}
 use Rattle.meter_audit.specs.Fitting.{is_ended, VoidedFits, MayCome, AllFit, Tables}
 use Rattle.meter_audit.specs.Laws.{FineTablesAreLawful, LawfulTablesAreFine}
-use Rattle.meter_audit.proofs.Alone.{fitting_rows_stand_alone}
+use Rattle.meter_audit.proofs.Alone.{matching_rows_are_independent}
 use Rattle.meter_audit.proofs.Journals.{rows_of_journals_fit}
 
 -- A voided row is never a closing.
@@ -49,7 +49,7 @@ alone_ended meter (row ∷ rows) h =
 pub fine_tables_are_lawful : IntervalRowsAddUp → FineTablesAreLawful
 fine_tables_are_lawful law meter tables well fine =
     let rows : List EntryRow = fine.rows in
-    let alone = fitting_rows_stand_alone meter rows fine.fit in
+    let alone = matching_rows_are_independent meter rows fine.fit in
     let lines : Journal = entering (standing rows) in
     let total : tables.total ≡ total_in meter lines =
     ap (λ (t : Tables). t.total) fine.are ∙ ap (total_after meter) (sym alone.entries) in

@@ -49,9 +49,9 @@ told_by_both old new = record {
 }
 
 -- The joint report about a meter of a file and of all later files.
-abbrev pub told_by_all : Tables → (later : List InFile) → Tables
-told_by_all old [] = old
-told_by_all old (new ∷ later) = told_by_all (told_by_both old new.tables) later
+abbrev pub entry_from_all_rows : Tables → (later : List InFile) → Tables
+entry_from_all_rows old [] = old
+entry_from_all_rows old (new ∷ later) = entry_from_all_rows (told_by_both old new.tables) later
 
 -- Theorem: the joint report of several files is that of one lawful journal if the energy of all
 -- files stays within the limit of one meter.
@@ -59,5 +59,5 @@ abbrev pub FilesAreOneHistory : Type 0
 FilesAreOneHistory = (first : InFile) (later : List InFile) → IsWellInstalled first.meter
     → AreFine first.meter first.tables
     → GoOn first later
-    → ((told_by_all first.tables later).total ≤ MAX_TOTAL)
-    → AreLawful first.meter (told_by_all first.tables later)
+    → ((entry_from_all_rows first.tables later).total ≤ MAX_TOTAL)
+    → AreLawful first.meter (entry_from_all_rows first.tables later)

@@ -168,7 +168,7 @@ fn voided_fault(meter: &Installed, check: &Check, row: &TableRow) -> Option<RowF
 
 /// Returns the state of the check after a valid row, and the step to the row's entry. On error,
 /// returns the first fault of the row.
-fn stand(
+fn check_valid_row(
     meter: &Installed,
     check: &Check,
     kind: EntryKind,
@@ -227,7 +227,7 @@ pub fn pass(
 {
     let kind = shape(check, row)?;
     if !row.is_voided {
-        return stand(meter, check, kind, row);
+        return check_valid_row(meter, check, kind, row);
     }
     if let Some(fault) = voided_fault(meter, check, row) {
         return Err(fault);

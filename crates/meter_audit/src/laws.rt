@@ -16,7 +16,7 @@ pub fn rows_of_journals_fit()
 
 /// Theorem: if the rules accept each row of a list after the rows before it, the valid rows alone
 /// form a lawful journal.
-pub fn fitting_rows_stand_alone()
+pub fn matching_rows_are_independent()
     ensures { FittingRowsStandAlone }
 {}
 
@@ -44,7 +44,7 @@ pub fn fitting_rows_pass()
 {}
 
 /// Theorem: two different lists of entry rows that the rules accept never have the same table rows.
-pub fn rows_are_told_apart()
+pub fn rows_are_distinct()
     ensures { RowsAreToldApart }
 {}
 

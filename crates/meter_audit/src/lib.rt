@@ -20,8 +20,8 @@ pub use checks::{Check, begin, pass};
 pub use faults::RowFault;
 pub use intervals::{IntervalDifference, IntervalFault, first_difference};
 pub use laws::{
-    fine_tables_are_lawful, finished_is_fine, fitting_rows_pass, fitting_rows_stand_alone,
-    lawful_tables_are_fine, passed_rows_fit, refused_is_not_fine, rows_are_told_apart,
+    fine_tables_are_lawful, finished_is_fine, fitting_rows_pass, lawful_tables_are_fine,
+    matching_rows_are_independent, passed_rows_fit, refused_is_not_fine, rows_are_distinct,
     rows_of_journals_fit,
 };
 pub use lists::{RefusedRow, check_rows};

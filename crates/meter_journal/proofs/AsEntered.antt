@@ -272,8 +272,8 @@ numbered whole (Entered k e ∷ lines) (row ∷ rows) h =
 numbered whole (Held reading cause ∷ lines) rows h = numbered whole lines rows h
 numbered whole (Voided place ∷ lines) rows h = numbered whole lines rows h
 
-pub rows_stand : RowsStand
-rows_stand meter lines well h =
+pub rows_are_kept : RowsStand
+rows_are_kept meter lines well h =
     let rows : List EntryRow = rows_of meter.opening lines in
     let all : AreRowsOf lines lines rows = (rows_are_entered meter lines h).rows in
     record {

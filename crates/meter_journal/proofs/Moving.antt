@@ -380,10 +380,10 @@ shares_move_energy shares rows = record { added = all_added shares rows; taken =
 
 -- ---- the rows after a void
 
-put_have : SharesAddUp → (opened last : ℕ) (steps : List Step) (rows : List Share) → AllBetween opened last steps
+write_have : SharesAddUp → (opened last : ℕ) (steps : List Step) (rows : List Share) → AllBetween opened last steps
     → ((s : ℕ) → Lies opened last s → Among s rows) → HaveRows (all_shares steps) rows
-put_have law opened last [] rows h there = tt
-put_have law opened last (step ∷ steps) rows h there =
+write_have law opened last [] rows h there = tt
+write_have law opened last (step ∷ steps) rows h there =
     let spread = law step h.1 in
     have_append (shares_of step) (all_shares steps) rows
     (have_all (shares_of step) rows (λ s found.
@@ -394,7 +394,7 @@ put_have law opened last (step ∷ steps) rows h there =
       before = omega (arith, t.1, h.2);
       gone_on = omega (arith, h.0, h.1, h.2);
     })))
-    (put_have law opened last steps rows h.3 there)
+    (write_have law opened last steps rows h.3 there)
 
 none_there : (rows : List Share) → ((s : ℕ) → Among s rows → ⊥) → rows ≡ []
 none_there [] h = refl
@@ -457,7 +457,7 @@ exchanged law meter es es' out put follow follow' le moved =
     let more_put : List Share = with_each (all_shares put) less_out in
     let starts_out : starts_of less_out ≡ starts_of rows = starts_without (all_shares out) rows in
     let have : HaveRows (all_shares put) less_out =
-    have_same (all_shares put) rows less_out (sym starts_out) (put_have law opened last put rows moved.put_between back) in
+    have_same (all_shares put) rows less_out (sym starts_out) (write_have law opened last put rows moved.write_between back) in
     let starts_put : starts_of more_put ≡ starts_of rows = starts_with_each (all_shares put) less_out have ∙ starts_out in
     let up_out : Rising less_out = rising_same rows less_out (sym starts_out) has.rising in
     let each_out : EachIs (λ s. f s - amount_at (all_shares out) s) less_out = each_without f (all_shares out) rows has.each in
@@ -474,7 +474,7 @@ exchanged law meter es es' out put follow follow' le moved =
     let found : Among s rows = among_same s more_put rows starts_put there in
     let whole = (lie s found).whole in
     let outs = amount_of_steps law opened last out s moved.out_between whole in
-    let puts = amount_of_steps law opened last put s moved.put_between whole in
+    let puts = amount_of_steps law opened last put s moved.write_between whole in
     let old = total_is (steps_after meter es) s in
     let new = total_is (steps_after meter es') s in
     due_then (f s) (f' s) (amount_at (all_shares out) s) (amount_at (all_shares put) s)

@@ -113,14 +113,14 @@ pub record AreMoved (meter : Installed) (es es' : List Entry) (out put : List St
   pub was : (step : Step) → IsOneOf step out → IsOneOf step (steps_after meter es)
   pub is : (step : Step) → IsOneOf step put → IsOneOf step (steps_after meter es')
   pub out_between : AllBetween meter.opening.at (last_after meter es).at out
-  pub put_between : AllBetween meter.opening.at (last_after meter es).at put
+  pub write_between : AllBetween meter.opening.at (last_after meter es).at put
 
 -- The steps that a void removes if `next` is the next valid row.
 abbrev pub out_to : Installed → Around → Option EntryRow → List Step
 out_to meter x next = steps_out meter (record { before = x.before; row = x.row; next = next })
 
-abbrev pub put_to : Installed → Around → Option EntryRow → List Step
-put_to meter x next = steps_put meter (record { before = x.before; row = x.row; next = next })
+abbrev pub write_to : Installed → Around → Option EntryRow → List Step
+write_to meter x next = steps_put meter (record { before = x.before; row = x.row; next = next })
 
 -- The voided entry was the last valid entry of the meter.
 pub record IsLast (meter : Installed) (place : ℕ) (rows : List EntryRow) (x : Around) : Type 0 where
@@ -132,7 +132,7 @@ pub record IsFollowed (meter : Installed) (place : ℕ) (rows : List EntryRow) (
   pub rows_are : with_void meter.opening place rows ≡ map (changed_by place (Some next) (last_before meter.opening x)) rows
   pub last : last_after meter (entries_in (with_void meter.opening place rows)) ≡ last_after meter (entries_in rows)
   pub below : next.place < length rows + 2
-  pub moved : AreMoved meter (entries_in rows) (entries_in (with_void meter.opening place rows)) (out_to meter x (Some next)) (put_to meter x (Some next))
+  pub moved : AreMoved meter (entries_in rows) (entries_in (with_void meter.opening place rows)) (out_to meter x (Some next)) (write_to meter x (Some next))
 
 abbrev pub Changes : Installed → (place : ℕ) → List EntryRow → Around → Option EntryRow → Type 0
 Changes meter place rows x None = IsLast meter place rows x
@@ -203,7 +203,7 @@ row_after meter place row rows x next off numbers fits follow h =
         is = λ step there.
             subst (λ (es : List Entry). IsOneOf step (steps_after meter es)) (sym entries) (one_below meter row rest step (h.moved.is step there));
         out_between = between_later meter.opening.at l.at (last_after meter (entries_in (row ∷ rows))).at (out_to meter x (Some next)) grown h.moved.out_between;
-        put_between = between_later meter.opening.at l.at (last_after meter (entries_in (row ∷ rows))).at (put_to meter x (Some next)) grown h.moved.put_between;
+        write_between = between_later meter.opening.at l.at (last_after meter (entries_in (row ∷ rows))).at (write_to meter x (Some next)) grown h.moved.write_between;
       };
     }
 
@@ -269,7 +269,7 @@ next_moved meter before e0 at raw rolls rolls' h =
       ];
       is = λ step there. elim there [ inl first ↦ inl first | inr none ↦ absurd none ];
       out_between = (omega (arith, begun, there, first), second, omega arith, (begun, first, omega (arith, there, second), tt));
-      put_between = (begun, omega (arith, there, first, second), omega arith, tt);
+      write_between = (begun, omega (arith, there, first, second), omega arith, tt);
     }
 
 -- If the voided entry was the last valid entry, the next valid reading becomes the entry after it

@@ -16,7 +16,7 @@ use Rattle.meter_journal.specs.Books.{IsWellInstalled, last_after, total_in, ste
 use Rattle.meter_journal.specs.Journal.{Voided, Journal, Around, is_read, entries_in, entries_of, rows_of, with_void}
 use Rattle.meter_journal.specs.Fitting.{is_free, VoidFits, AreFitting}
 use Rattle.meter_journal.specs.Voids.{last_before, energy_in, steps_out, steps_put, ExchangesSteps, ExchangesShares, IsVoided, VoidsChangeTwoRows}
-use Rattle.meter_journal.proofs.AsEntered.{rows_stand}
+use Rattle.meter_journal.proofs.AsEntered.{rows_are_kept}
 use Rattle.meter_journal.proofs.Chains.{last_moment, not_before, voids_go_no_further}
 use Rattle.meter_journal.proofs.Keeping.{all_three, rows_are_sound, journals_are_kept}
 use Rattle.meter_journal.proofs.Moving.{exchanged}
@@ -36,7 +36,7 @@ last_gone meter e es h =
       was = λ step there. elim there [ inl first ↦ inl first | inr none ↦ absurd none ];
       is = λ step there. absurd there;
       out_between = (not_before meter es h.1, h.0.later, omega (arith, now), tt);
-      put_between = tt;
+      write_between = tt;
     }
 
 moved_last : (meter : Installed) (place : ℕ) (rows : List EntryRow) (a : Around) → AllFollow meter.range meter.opening (entries_in rows)
@@ -128,6 +128,6 @@ voids_change_two_rows law meter lines place around well h there =
     let is : a ≡ around = same_Some a around (sym fits.there ∙ there) in
     let may = all_three a.row.stands (is_read a.row.kind a.row.entry) (is_free a.next) fits.voidable in
     let sound = rows_are_sound meter lines well.raw h.1 in
-    let numbers = (rows_stand meter lines well h.1).places in
+    let numbers = (rows_are_kept meter lines well h.1).places in
     let changed = changes meter place (rows_of meter.opening lines) a fits.there may.0 may.1 may.2 numbers sound.still sound.account.follow in
     subst (IsVoided meter lines place) is (voided law meter lines place a a.next well h changed)

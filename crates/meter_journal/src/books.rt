@@ -23,7 +23,7 @@ pub struct Tally {
 }
 
 /// Advances the tally by one entry, and returns the step from the previous entry to this entry.
-fn go_on(meter: &Installed, tally: &mut Tally, entry: &Entry) -> Step
+fn advance_entry(meter: &Installed, tally: &mut Tally, entry: &Entry) -> Step
     requires range_low { MIN_RANGE ≤ meter.now.range }
     requires range_high { meter.now.range ≤ MAX_RANGE }
     requires follows { lists.MayGoOn meter.now tally.old.last tally.old.total entry.now }
@@ -63,7 +63,7 @@ fn go_past(meter: &Installed, tally: &mut Tally, row: &EntryRow) -> Option<Step>
     if !row.stands {
         return None;
     }
-    Some(go_on(meter, tally, &row.entry))
+    Some(advance_entry(meter, tally, &row.entry))
 }
 
 /// Returns the tally of a meter after the valid entries of a list of rows, the oldest row first.

@@ -46,7 +46,7 @@ pub fn truth_is_kept()
 }
 
 /// Theorem: the valid entries of a journal are the entries that no void in the journal names.
-pub fn rows_stand()
+pub fn rows_are_kept()
     ensures { RowsStand }
 {}
 

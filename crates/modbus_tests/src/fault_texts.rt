@@ -1,5 +1,5 @@
 //! Tests the English texts of the faults of frames, servers and sessions.
-use crate::texts::tells;
+use crate::texts::assert_texts;
 use mb_device::{BankFault, ServeFault};
 use mb_wire::{ReplyFault, RequestFault};
 use poll_core::{LostCause, Malformation, StartFault};
@@ -123,21 +123,21 @@ const LOST: [(LostCause, &str); 4] = [
 /// Each fault of a request or a response, and each kind of malformed outcome, has its text.
 #[test]
 fn frames(rt: HostRuntime) {
-    tells(&rt, rt.alloc(), &REQUESTS);
-    tells(&rt, rt.alloc(), &REPLIES);
-    tells(&rt, rt.alloc(), &MALFORMED)
+    assert_texts(&rt, rt.alloc(), &REQUESTS);
+    assert_texts(&rt, rt.alloc(), &REPLIES);
+    assert_texts(&rt, rt.alloc(), &MALFORMED)
 }
 
 /// Each fault of a device's areas or of a server has its text.
 #[test]
 fn servers(rt: HostRuntime) {
-    tells(&rt, rt.alloc(), &BANKS);
-    tells(&rt, rt.alloc(), &SERVERS)
+    assert_texts(&rt, rt.alloc(), &BANKS);
+    assert_texts(&rt, rt.alloc(), &SERVERS)
 }
 
 /// Each fault of starting a poll, and each cause of a lost poll, has its text.
 #[test]
 fn sessions(rt: HostRuntime) {
-    tells(&rt, rt.alloc(), &STARTS);
-    tells(&rt, rt.alloc(), &LOST)
+    assert_texts(&rt, rt.alloc(), &STARTS);
+    assert_texts(&rt, rt.alloc(), &LOST)
 }

@@ -46,7 +46,7 @@ fn an_output_is_given_in_pieces(rt: HostRuntime) {
 }
 
 // Returns whether, of two reads and two writes in turn, exactly call number `fails` fails.
-fn is_told(fails: u64) -> bool {
+fn is_reported(fails: u64) -> bool {
     let mut output = [0; 4];
     let mut link = MemoryLink::new(&[1, 2], &mut output, 1, Some(fails));
     let mut piece = [0; 4];
@@ -61,6 +61,6 @@ fn is_told(fails: u64) -> bool {
 #[test]
 fn each_call_fails_in_turn(rt: HostRuntime) {
     for fails in 1..5u64 {
-        assert!(rt; is_told(fails), "call {fails}");
+        assert!(rt; is_reported(fails), "call {fails}");
     }
 }

@@ -67,7 +67,7 @@ pub(crate) fn request_of(
 
 // Returns the number of the PDU's fault as a request, or 0 if the PDU decodes and encodes to the
 // same bytes.
-fn told(pdu: &[u8]) -> Option<u8> {
+fn reported_quantity(pdu: &[u8]) -> Option<u8> {
     if is_written_as(pdu, pdu) {
         Some(0)
     } else {
@@ -80,7 +80,7 @@ fn told(pdu: &[u8]) -> Option<u8> {
 fn requests_have_lawful_quantities(rt: HostRuntime) {
     for (function, number, count, length, fault) in REQUESTS {
         let pdu = request_of(function, 0, number, count, 1);
-        let found = told(&pdu[..length.min(254)]);
+        let found = reported_quantity(&pdu[..length.min(254)]);
         assert!(rt; found == Some(fault), "function {function}, {number}");
     }
 }
@@ -119,7 +119,7 @@ fn reply_of(function: u8, count: u8) -> [u8; 254] {
 
 // Returns the number of the PDU's fault as a response, or 0 if the PDU decodes and encodes to the
 // same bytes.
-fn told_of_reply(asked: &[u8], pdu: &[u8]) -> Option<u8> {
+fn reported_response(asked: &[u8], pdu: &[u8]) -> Option<u8> {
     if comes_back(asked, pdu) == Some(true) {
         return Some(0);
     }
@@ -133,7 +133,7 @@ fn replies_bring_what_was_asked_for(rt: HostRuntime) {
     for (function, quantity, count, length, fault) in REPLIES {
         let asked = request_of(function, 0, quantity, 0, 1);
         let pdu = reply_of(function, count);
-        let found = told_of_reply(&asked[..5], &pdu[..length.min(254)]);
+        let found = reported_response(&asked[..5], &pdu[..length.min(254)]);
         assert!(rt; found == Some(fault), "function {function}, {quantity}");
     }
 }

@@ -18,7 +18,7 @@ fn words_are_lent(rt: HostRuntime) {
 
 /// A call of `next` that reported a poll is still in progress, and must be called again.
 #[test]
-fn a_call_that_told_is_under_way(rt: HostRuntime) {
+fn a_reported_call_is_under_way(rt: HostRuntime) {
     let mut session = first_poll(&rt, 5, 2);
     assert!(rt; !session.settling());
     assert!(rt; session.next(104, &GOOD).expect(&rt, "no turn").taken == 15);

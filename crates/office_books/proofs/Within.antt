@@ -17,7 +17,7 @@ use Rattle.meter_journal.proofs.Keeping.{entries_standing, entries_struck, mappe
 use Rattle.office_events.specs.declared.facts.Opening.{Opening}
 use Rattle.office_events.specs.declared.facts.Fact.{Fact}
 use Rattle.office_events.specs.declared.questions.Installation.{Installation}
-use Rattle.office_events.specs.declared.questions.EntryPlace.{EntryPlace}
+use Rattle.office_events.specs.declared.questions.EntryContext.{EntryContext}
 use Rattle.office_rules.specs.Facts.{opening_of}
 use Rattle.office_rules.specs.Lawful.{AreLawful}
 use Rattle.office_rules.specs.Meters.{opened, installed, journal_of, rows_of, installation_of, meter_of, place_in, entry_at}
@@ -65,20 +65,20 @@ module _ (kept : JournalsAreKept) (places : PlacesWereKept) (facts : List Fact) 
       let less = less_before o.range (opened o) place (rows_of facts o) around at in
       omega (arith, whole, before, less)
 
-  by_opening : (meter : List ℕ) (place : ℕ) (opening : Option Opening) (whole : Installation) (p : EntryPlace) → opening_of facts meter ≡ opening → option_map (installation_of facts) opening ≡ Some whole
+  by_opening : (meter : List ℕ) (place : ℕ) (opening : Option Opening) (whole : Installation) (p : EntryContext) → opening_of facts meter ≡ opening → option_map (installation_of facts) opening ≡ Some whole
       → option_and_then (λ o. option_map (place_in facts o) (row_at place (rows_of facts o))) opening ≡ Some p → p.before.total ≤ whole.total
   by_opening meter place None whole p named is at = absurd (let e = is in cc)
   by_opening meter place (Some o) whole p named is at =
       let around = mapped_some (place_in facts o) (row_at place (rows_of facts o)) p at in
       let less = of_opening o place around.0 (installed_so facts meter o named) around.1 in
-      subst (λ (w : Installation). p.before.total ≤ w.total) (same_Some _ whole is) (subst (λ (q : EntryPlace). q.before.total ≤ (installation_of facts o).total) around.2 less)
+      subst (λ (w : Installation). p.before.total ≤ w.total) (same_Some _ whole is) (subst (λ (q : EntryContext). q.before.total ≤ (installation_of facts o).total) around.2 less)
 
   -- The energy of a meter before any of its entries is at most the meter's total energy.
   pub within_whole : (meter : List ℕ) (place : ℕ) → IsWithinWhole facts meter place
   within_whole meter place = λ whole p is at. by_opening meter place (opening_of facts meter) whole p refl is at
 
 -- The result of a lookup of an entry is correct if its meter is installed.
-pub tells_near : (facts : List Fact) (meter : List ℕ) (place : ℕ) (whole : Installation) (found : Option EntryPlace) → Some whole ≡ meter_of facts meter → found ≡ entry_at facts meter place
+pub tells_near : (facts : List Fact) (meter : List ℕ) (place : ℕ) (whole : Installation) (found : Option EntryContext) → Some whole ≡ meter_of facts meter → found ≡ entry_at facts meter place
     → IsWithinWhole facts meter place → TellsNear facts meter place (option_map (with_energy whole.total) found)
 tells_near facts meter place whole found is at within = record {
   near = ap (option_map (with_energy whole.total)) at ∙ ap (option_and_then (λ (w : Installation). option_map (with_energy w.total) (entry_at facts meter place))) is;

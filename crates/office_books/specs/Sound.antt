@@ -14,7 +14,7 @@ use Rattle.meter_journal.specs.Journal.{entries_in}
 use Rattle.meter_journal.specs.Lists.{latest_first}
 use Rattle.office_events.specs.declared.facts.Opening.{Opening}
 use Rattle.office_events.specs.declared.questions.Installation.{Installation}
-use Rattle.office_events.specs.declared.questions.EntryPlace.{EntryPlace}
+use Rattle.office_events.specs.declared.questions.EntryContext.{EntryContext}
 use Rattle.office_rules.specs.Meters.{opened, installed}
 use Rattle.office_rules.specs.Ranges.{IsSound}
 use Rattle.office_books.specs.declared.faults.BooksFault.{BooksFault}
@@ -45,7 +45,7 @@ pub record ReadsInstallation (old new : Ledger) (result : Result (Option Install
 
 -- The guarantees of a lookup of an entry: it changes nothing, and all numbers of the meter's state
 -- before the entry are in range.
-pub record ReadsPlace (old new : Ledger) (result : Result (Option EntryPlace) BooksFault) : Type 0
+pub record ReadsPlace (old new : Ledger) (result : Result (Option EntryContext) BooksFault) : Type 0
   where
     pub reads : OnlyReads old new result
     pub sound : IfOk result (λ place. IfSome place (λ p. IsSound p.before))

@@ -6,7 +6,7 @@ use crate::spans::Span;
 use interval_core::{Share, Zone};
 use mb_wire::ReadSpan;
 use office_events::{
-    CommandKind, Device, EntryPlace, Fact, HeldReading, Installation, Name, PlannedList, Poll,
+    CommandKind, Device, EntryContext, Fact, HeldReading, Installation, Name, PlannedList, Poll,
     PollRow, Register,
 };
 
@@ -157,7 +157,7 @@ pub trait Books: Drop {
     /// Returns the entry of a meter with a sequence number of at least 2, or `None` if the meter
     /// has no such entry. The result includes the meter's state before the entry, and the next
     /// valid entry.
-    fn entry(&mut self, meter: &Name, place: u64) -> Result<Option<EntryPlace>, BooksFault>
+    fn entry(&mut self, meter: &Name, place: u64) -> Result<Option<EntryContext>, BooksFault>
         ensures found { Finds (ledger self.old) (ledger self.new) result
             (λ known row. row ≡ entry_at known meter.now place) }
         ensures reads { ReadsPlace (ledger self.old) (ledger self.new) result };
@@ -165,7 +165,7 @@ pub trait Books: Drop {
     /// Returns the entry of a meter with a sequence number, reading only the rows around the entry.
     /// The meter's state in the result has the present total energy, which is at least the energy
     /// before the entry.
-    fn entry_near(&mut self, meter: &Name, place: u64) -> Result<Option<EntryPlace>, BooksFault>
+    fn entry_near(&mut self, meter: &Name, place: u64) -> Result<Option<EntryContext>, BooksFault>
         ensures found { Finds (ledger self.old) (ledger self.new) result
             (λ known row. TellsNear known meter.now place row) }
         ensures reads { ReadsPlace (ledger self.old) (ledger self.new) result };

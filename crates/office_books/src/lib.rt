@@ -25,6 +25,6 @@ pub use near::with_whole_energy;
 pub use next_entry::{after_entry, moved, verdict_at};
 pub use openings::{begun, has_numbers, installed, opened};
 pub use plans::{read_count, reads_from};
-pub use readings::{is_read_by, keep_read, registers_read};
+pub use readings::{is_read_by, registers_read, retain_covered};
 pub use soundness::is_sound;
 pub use spans::Span;

@@ -3,14 +3,14 @@ ghost use Rattle.std.specs.Prelude.{◌≡◌};
 ghost use Rattle.office_books.specs.Near.{with_energy};
 ghost use Rattle.office_rules.specs.Ranges.{IsSound};
 
-use office_events::{EntryPlace, Installation};
+use office_events::{EntryContext, Installation};
 
 /// Returns the entry with its meter's total energy in place of the meter's energy before the entry.
-pub fn with_whole_energy(place: &EntryPlace, whole: &Installation) -> EntryPlace
+pub fn with_whole_energy(place: &EntryContext, whole: &Installation) -> EntryContext
     ensures same { result ≡ with_energy whole.now.total place.now }
     ensures sound { IsSound place.now.before → IsSound whole.now → IsSound result.before }
 {
-    EntryPlace {
+    EntryContext {
         before: Installation {
             opening: place.before.opening,
             last: place.before.last,

@@ -57,7 +57,7 @@ pub fn registers_read(
 }
 
 /// Removes the accounting registers that the Modbus read does not cover, without allocating memory.
-pub fn keep_read(registers: &mut Vec<Register>, span: ReadSpan)
+pub fn retain_covered(registers: &mut Vec<Register>, span: ReadSpan)
     ensures { registers.new.items ≡ filter (readings.is_read_by span) registers.old.items }
 {
     registers.retain(|register| is_read_by(span, register));

@@ -59,7 +59,7 @@ pub fn stops(event: &Event, given: &Result<Answer, Refusal>) -> bool
 }
 
 /// Proves that a point list in the event has a plan of its reads.
-pub fn asks_planned(event: &Event)
+pub fn prove_list_is_planned(event: &Event)
     ensures { PutsPlanned (command_in event.now) }
 {
     match event {

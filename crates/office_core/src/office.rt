@@ -28,7 +28,7 @@ ghost use Rattle.office_core.specs.Taking.{AnswersEvent, Ends, IsQuiet, IsTold, 
 ghost use Rattle.office_core.specs.Taking.{MayTake, Passes, SettlesNothing};
 ghost use Rattle.office_core.specs.Taking.{TakesAccepted, TakesAny};
 
-use crate::decisions::{asks_planned, decide, is_command, stops};
+use crate::decisions::{decide, is_command, prove_list_is_planned, stops};
 use crate::reopened_office::reopen;
 use crate::site::SiteRow;
 use crate::{questions, site};
@@ -147,7 +147,7 @@ impl<B: Books> Office<B> {
 
     /// Processes an event while the office is running. A retry gets its stored answer, and an
     /// invalid event is refused. Any other event ends polls or executes its command.
-    fn take(&mut self, moment: u64, event: &Event) -> Result<Answer, Refusal>
+    fn process_event(&mut self, moment: u64, event: &Event) -> Result<Answer, Refusal>
         ensures takes { TakesAny B.ledger moment event.now self.old self.new result }
         ensures quiet { (past : History) → MayTake B.ledger past event.now self.old
             → SettlesNothing past moment event.now → IsQuiet self.old self.new result }
@@ -191,8 +191,8 @@ impl<B: Books> Office<B> {
         if self.stopped {
             return Err(Refusal::Stopped);
         }
-        asks_planned(event);
-        let answer = self.take(moment, event);
+        prove_list_is_planned(event);
+        let answer = self.process_event(moment, event);
         self.stopped = stops(event, &answer);
         answer
     }

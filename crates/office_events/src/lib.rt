@@ -30,7 +30,7 @@ pub use limits::{
 pub use meter_journal::{EntryKind, EntryRow};
 pub use names::Name;
 pub use observer::Observer;
-pub use questions::{EntryPlace, Installation, PollRow};
+pub use questions::{EntryContext, Installation, PollRow};
 pub use read_plan::PlannedList;
 pub use refusals::{Refusal, StoreCause};
 pub use terms::{Timeout, Window};

@@ -146,8 +146,8 @@ replied ledger at old new inbox full seen result remaining mid later given given
 
 -- ---- Writers whose buffered bytes were all written.
 
-pub put_first : (base given : Option (List ℕ)) (out : Outgoing) → out.given ≡ given → out.buffered ≡ [] → Keeps base given → HasPut base out []
-put_first base given out is none keeps = record {
+pub write_first : (base given : Option (List ℕ)) (out : Outgoing) → out.given ≡ given → out.buffered ≡ [] → Keeps base given → HasPut base out []
+write_first base given out is none keeps = record {
   sent = [];
   left = [];
   in_order = refl;

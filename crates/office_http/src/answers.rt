@@ -8,8 +8,8 @@ ghost use Rattle.office_http.specs.Serving.{AreDaysAsked, AreIntervalsAsked, IsP
 use crate::rows::{Replied, RowLines};
 use crate::wants::Want;
 use http_answer::{
-    ReplyWriter, kind_answered, name_asked, number_asked, put_command_fault, put_done, put_fault,
-    put_meter, put_poll, put_refusal,
+    ResponseWriter, append_fault, append_meter, append_poll, append_refusal, kind_answered,
+    name_asked, number_asked, write_command_fault, write_done,
 };
 use http_request::{Found, Route};
 use mb_wire::Link;
@@ -21,7 +21,7 @@ use office_rules::facts_are_lawful;
 
 // Converts the program's answer to a command into the command's kind. The answer `Noted` belongs to
 // no command, so it is reported as a damaged store.
-fn told(answer: Result<Answer, Refusal>) -> Result<CommandKind, Refusal>
+fn command_result(answer: Result<Answer, Refusal>) -> Result<CommandKind, Refusal>
     ensures { result ≡ answering.told answer }
 {
     match kind_answered(answer?) {
@@ -31,29 +31,29 @@ fn told(answer: Result<Answer, Refusal>) -> Result<CommandKind, Refusal>
 }
 
 // Executes a command, and writes the response to a link.
-fn put_asked<'l, L: Link, B: Books>(
+fn write_asked<'l, L: Link, B: Books>(
     bytes: &[u8],
     asked: Asked,
     office: &mut Office<B>,
     moment: u64,
-    mut writer: ReplyWriter<'l, L>,
+    mut writer: ResponseWriter<'l, L>,
 ) -> Replied<'l, L>
     requires { IsAskedFor routes bytes.now asked }
     ensures { PutsReply B.ledger moment bytes.now office.old office.new
         writer.entry result.writer result.cut }
 {
     let answer = office.feed(moment, &Event::Asked(asked));
-    put_done(told(answer), &mut writer);
+    write_done(command_result(answer), &mut writer);
     Replied { writer, cut: None }
 }
 
 // Queries the poll with this number from the store, and writes the response to a link.
-fn put_poll_asked<'l, L: Link, B: Books>(
+fn write_poll_asked<'l, L: Link, B: Books>(
     bytes: &[u8],
     number: Option<u64>,
     office: &mut Office<B>,
     moment: u64,
-    mut writer: ReplyWriter<'l, L>,
+    mut writer: ResponseWriter<'l, L>,
 ) -> Replied<'l, L>
     requires { IsPollAsked bytes.now number }
     ensures { PutsReply B.ledger moment bytes.now office.old office.new
@@ -61,24 +61,24 @@ fn put_poll_asked<'l, L: Link, B: Books>(
 {
     match number {
         None => {
-            put_refusal(Refusal::NotFound, &mut writer);
+            append_refusal(Refusal::NotFound, &mut writer);
             Replied { writer, cut: None }
         }
         Some(number) => {
             let answer = office.poll(number);
-            put_poll(&answer, &mut writer);
+            append_poll(&answer, &mut writer);
             Replied { writer, cut: None }
         }
     }
 }
 
 // Queries the interval rows of a meter, and writes them to the response one after another.
-fn put_intervals<'l, L: Link, B: Books>(
+fn write_intervals<'l, L: Link, B: Books>(
     bytes: &[u8],
     meter: &Option<Name>,
     office: &mut Office<B>,
     moment: u64,
-    writer: ReplyWriter<'l, L>,
+    writer: ResponseWriter<'l, L>,
 ) -> Replied<'l, L>
     requires { AreIntervalsAsked bytes.now meter.now }
     ensures { PutsReply B.ledger moment bytes.now office.old office.new
@@ -90,16 +90,16 @@ fn put_intervals<'l, L: Link, B: Books>(
     voids_go_no_further();
     let mut lines = RowLines::new(writer);
     let answer = office.intervals(meter, &mut lines);
-    lines.end(answer)
+    lines.finish_report(answer)
 }
 
 // Queries the daily energy of an accounting register, and writes one line a day to the response.
-fn put_days<'l, L: Link, B: Books>(
+fn write_days<'l, L: Link, B: Books>(
     bytes: &[u8],
     register: &Option<Name>,
     office: &mut Office<B>,
     moment: u64,
-    writer: ReplyWriter<'l, L>,
+    writer: ResponseWriter<'l, L>,
 ) -> Replied<'l, L>
     requires { AreDaysAsked bytes.now register.now }
     ensures { PutsReply B.ledger moment bytes.now office.old office.new
@@ -107,15 +107,15 @@ fn put_days<'l, L: Link, B: Books>(
 {
     let mut lines = RowLines::new(writer);
     let answer = office.days(register, &mut lines);
-    lines.end(answer)
+    lines.finish_report(answer)
 }
 
-fn put_question<'l, L: Link, B: Books>(
+fn write_question<'l, L: Link, B: Books>(
     bytes: &[u8],
     found: &Found<'_>,
     office: &mut Office<B>,
     moment: u64,
-    mut writer: ReplyWriter<'l, L>,
+    mut writer: ResponseWriter<'l, L>,
 ) -> Replied<'l, L>
     requires { IsQuestion routes bytes.now found.now }
     ensures { PutsReply B.ledger moment bytes.now office.old office.new
@@ -124,12 +124,12 @@ fn put_question<'l, L: Link, B: Books>(
     match found.route {
         Route::Meter => {
             let answer = office.meter(&name_asked(found.name));
-            put_meter(&answer, &mut writer);
+            append_meter(&answer, &mut writer);
             Replied { writer, cut: None }
         }
-        Route::Poll => put_poll_asked(bytes, number_asked(found.name), office, moment, writer),
-        Route::Intervals => put_intervals(bytes, &name_asked(found.name), office, moment, writer),
-        Route::Days => put_days(bytes, &name_asked(found.name), office, moment, writer),
+        Route::Poll => write_poll_asked(bytes, number_asked(found.name), office, moment, writer),
+        Route::Intervals => write_intervals(bytes, &name_asked(found.name), office, moment, writer),
+        Route::Days => write_days(bytes, &name_asked(found.name), office, moment, writer),
         Route::Devices
         | Route::List
         | Route::Registers
@@ -144,12 +144,12 @@ fn put_question<'l, L: Link, B: Books>(
 }
 
 /// Executes the query or command of a request, and writes the response.
-pub fn put_reply<'l, L: Link, B: Books>(
+pub fn append_reply<'l, L: Link, B: Books>(
     bytes: &[u8],
     want: Want<'_>,
     office: &mut Office<B>,
     moment: u64,
-    mut writer: ReplyWriter<'l, L>,
+    mut writer: ResponseWriter<'l, L>,
 ) -> Replied<'l, L>
     requires wants { Wants routes bytes.now want }
     requires few { HasFewFaults want }
@@ -158,14 +158,14 @@ pub fn put_reply<'l, L: Link, B: Books>(
 {
     match want {
         Want::Rejected(status) => {
-            put_fault(status, &mut writer);
+            append_fault(status, &mut writer);
             Replied { writer, cut: None }
         }
         Want::Refused(why) => {
-            put_command_fault(&why, &mut writer);
+            write_command_fault(&why, &mut writer);
             Replied { writer, cut: None }
         }
-        Want::Answer(found) => put_question(bytes, &found, office, moment, writer),
-        Want::Command(asked) => put_asked(bytes, asked, office, moment, writer),
+        Want::Answer(found) => write_question(bytes, &found, office, moment, writer),
+        Want::Command(asked) => write_asked(bytes, asked, office, moment, writer),
     }
 }

@@ -4,5 +4,5 @@ mod connections;
 mod named;
 mod time;
 
-pub use connections::{MOST_SECONDS, serve_named_on, serve_on};
-pub use named::{handle_named, turn_away};
+pub use connections::{MOST_SECONDS, serve_connections, serve_on};
+pub use named::{handle_named, write_misdirected};

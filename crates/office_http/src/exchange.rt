@@ -9,11 +9,11 @@ ghost use Rattle.office_http.specs.Exchange.{CountsLink, GivesReplyTo, Handles, 
 ghost use Rattle.office_http.specs.Exchange.{ended, is_link_fault, passage};
 ghost use Rattle.office_http.specs.Serving.{Lasts};
 
-use crate::answers::put_reply;
+use crate::answers::append_reply;
 use crate::fault::HandleFault;
 use crate::rows::Replied;
 use crate::wants::{Want, wanted};
-use http_answer::{ReplyWriter, put_refusal};
+use http_answer::{ResponseWriter, append_refusal};
 use http_request::{Inbox, MOST_BYTES, MOST_ROOM, Route, read_head, read_request, router};
 use matchit::Router;
 use mb_wire::{Link, LinkFailed};
@@ -44,8 +44,8 @@ pub(crate) fn refuse<L: Link>(link: &mut L) -> Result<(), HandleFault>
     let mut room = [0; MOST_BYTES];
     let mut inbox = Inbox::new(&mut room);
     read_head(&mut inbox, link)?;
-    let mut writer = ReplyWriter::new(link);
-    put_refusal(Refusal::Memory, &mut writer);
+    let mut writer = ResponseWriter::new(link);
+    append_refusal(Refusal::Memory, &mut writer);
     let sent = writer.finish();
     writer.into_link();
     ended(sent, None)
@@ -70,8 +70,8 @@ pub(crate) fn reply<L: Link, B: Books>(
     ensures takes { L.taken link.new ≡ L.taken link.old }
     ensures lasts { Lasts B.ledger office.old office.new }
 {
-    let writer = ReplyWriter::new(link);
-    let Replied { mut writer, cut } = put_reply(bytes, want, office, moment, writer);
+    let writer = ResponseWriter::new(link);
+    let Replied { mut writer, cut } = append_reply(bytes, want, office, moment, writer);
     let sent = writer.finish();
     writer.into_link();
     ended(sent, cut)

@@ -9,7 +9,7 @@ mod laws;
 mod rows;
 mod wants;
 
-pub use connections::{handle_named, serve_named_on, serve_on, turn_away};
+pub use connections::{handle_named, serve_connections, serve_on, write_misdirected};
 pub use exchange::handle;
 pub use fault::HandleFault;
 pub use laws::replies_are_one;

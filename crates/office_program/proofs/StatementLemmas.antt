@@ -44,15 +44,15 @@ use Rattle.office_core.specs.Standing.{After}
 use Rattle.office_core.specs.Taking.{failures_of}
 use Rattle.office_core.specs.declared.office.Office.{Office}
 use Rattle.energy_report.specs.declared.energy_within.EnergyWithin.{EnergyWithin}
-use Rattle.energy_report.specs.declared.held_counts.HeldCounts.{HeldCounts}
-use Rattle.energy_report.specs.declared.held_within.HeldWithin.{HeldWithin}
+use Rattle.energy_report.specs.declared.held_counts.RejectedCounts.{RejectedCounts}
+use Rattle.energy_report.specs.declared.held_within.RejectedWithin.{RejectedWithin}
 use Rattle.energy_report.specs.declared.meter_statement.MeterStatement.{MeterStatement}
 use Rattle.interval_core.specs.declared.day_range.DayRange.{DayRange}
 use Rattle.energy_report.specs.declared.tallies.EntryTally.{EntryTally}
 use Rattle.energy_report.specs.Energies.{AddsShare, IsFresh}
 use Rattle.energy_report.specs.Held.{held_within}
 use Rattle.energy_report.specs.HeldSinks.{CountsReading, HasCountedNone}
-use Rattle.energy_report.specs.Statements.{energy_within, tally_of, was_there}
+use Rattle.energy_report.specs.Statements.{energy_within, tally_of, was_installed}
 use Rattle.energy_report.proofs.EnergyLemmas.{added_up}
 use Rattle.energy_report.proofs.HeldLemmas.{counted_all}
 use Rattle.office_program.specs.Texts.EndTexts.{IsTold}
@@ -213,17 +213,17 @@ module _ {B : Type 0} (ledger : B → Ledger) (zone : Zone) (range : DayRange) w
   abbrev holds_if : List Fact → (name : List ℕ) → Opening → List HeldReading
   holds_if facts name opening = holds_within span.All (holds_of facts name)
 
-  abbrev held_if : List Fact → (name : List ℕ) → Opening → HeldCounts
+  abbrev held_if : List Fact → (name : List ℕ) → Opening → RejectedCounts
   held_if facts name opening = held_within zone range (holds_of facts name)
 
-  held_of_name : (facts : List Fact) (name : List ℕ) (o : Option Opening) (from to : HeldWithin) → HasCountedNone zone range from
+  held_of_name : (facts : List Fact) (name : List ℕ) (o : Option Opening) (from to : RejectedWithin) → HasCountedNone zone range from
       → is_there (option_map (holds_if facts name) o) ≡ Some tt → TakesAll CountsReading from (rows_in (option_map (holds_if facts name) o)) to
       → option_map (held_if facts name) o ≡ Some to.counts
   held_of_name facts name None from to fresh is took = absurd (cc is)
   held_of_name facts name (Some x) from to fresh is took =
       ap Some (sym (counted_all zone range (holds_if facts name x) from to fresh took ∙ ap (held_within zone range) (all_pass (holds_of facts name))))
 
-  held_of_holds : (facts : List Fact) (meter : Option (List ℕ)) (from to : HeldWithin) → HasCountedNone zone range from
+  held_of_holds : (facts : List Fact) (meter : Option (List ℕ)) (from to : RejectedWithin) → HasCountedNone zone range from
       → is_there (holds_named facts meter span.All) ≡ Some tt → TakesAll CountsReading from (rows_in (holds_named facts meter span.All)) to
       → held_in zone range facts meter ≡ Some to.counts
   held_of_holds facts None from to fresh is took = absurd (cc is)
@@ -233,7 +233,7 @@ module _ {B : Type 0} (ledger : B → Ledger) (zone : Zone) (range : DayRange) w
   no_holds facts None is = refl
   no_holds facts (Some name) is = nothing (holds_if facts name) (held_if facts name) (opening_of facts name) is
 
-  pub held_told : (a d : Office B) (meter : Option (List ℕ)) (from to : HeldWithin) (held : HeldCounts) → HasCountedNone zone range from
+  pub held_told : (a d : Office B) (meter : Option (List ℕ)) (from to : RejectedWithin) (held : RejectedCounts) → HasCountedNone zone range from
       → held ≡ to.counts → TellsRows CountsReading ledger a d from to (Ok tt) (λ facts. holds_named facts meter span.All)
       → AnswersOf ledger a d (Ok held) (λ facts. held_in zone range facts meter)
   held_told a d meter from to held fresh is rows = λ past stands clean.
@@ -243,9 +243,9 @@ module _ {B : Type 0} (ledger : B → Ledger) (zone : Zone) (range : DayRange) w
       found_so (Unit {0}) (held_in zone range facts meter) (failures_of ledger a) (failures_of ledger d) held
       (held_of_holds facts meter from to fresh there.0 hands.whole ∙ ap Some (sym is)) there.1
 
-  pub holds_refused : (a d : Office B) (meter : Option (List ℕ)) (from to : HeldWithin) (why : Refusal)
+  pub holds_refused : (a d : Office B) (meter : Option (List ℕ)) (from to : RejectedWithin) (why : Refusal)
       → TellsRows CountsReading ledger a d from to (Err why) (λ facts. holds_named facts meter span.All)
-      → AnswersOf {T = HeldCounts} ledger a d (Err why) (λ facts. held_in zone range facts meter)
+      → AnswersOf {T = RejectedCounts} ledger a d (Err why) (λ facts. held_in zone range facts meter)
   holds_refused a d meter from to why rows = λ past stands clean.
       let facts = facts_of past in
       let hands = rows past stands clean in
@@ -257,7 +257,7 @@ module _ {B : Type 0} (ledger : B → Ledger) (zone : Zone) (range : DayRange) w
   abbrev by_opening : List Fact → (meter : List ℕ) → Opening → MeterStatement
   by_opening facts meter opening = told_of zone range facts meter (Some opening)
 
-  all_told : (facts : List Fact) (meter : List ℕ) (o : Option Opening) (tally : EntryTally) (mwh : ℕ) (held : HeldCounts)
+  all_told : (facts : List Fact) (meter : List ℕ) (o : Option Opening) (tally : EntryTally) (mwh : ℕ) (held : RejectedCounts)
       → option_map (λ x. tally_of zone range (entries_at facts (Some x))) o ≡ Some tally
       → option_map (energy_within zone range) (option_map (rows_of_opening facts) o) ≡ Some mwh
       → option_map (held_if facts meter) o ≡ Some held
@@ -267,12 +267,12 @@ module _ {B : Type 0} (ledger : B → Ledger) (zone : Zone) (range : DayRange) w
       let t : tally_of zone range (entries_at facts (Some x)) ≡ tally = some_same _ _ first in
       let e : energy_within zone range (rows_of_opening facts x) ≡ mwh = some_same _ _ second in
       let h : held_within zone range (holds_of facts meter) ≡ held = some_same _ _ third in
-      let made : EntryTally → ℕ → HeldCounts → MeterStatement = λ tally mwh held. record { meter = meter; entries = tally; mwh = mwh; held = held } in
+      let made : EntryTally → ℕ → RejectedCounts → MeterStatement = λ tally mwh held. record { meter = meter; entries = tally; mwh = mwh; held = held } in
       ap (λ y. Some (made y (energy_within zone range (rows_of_opening facts x)) (held_within zone range (holds_of facts meter)))) t
       ∙ ap (λ n. Some (made tally n (held_within zone range (holds_of facts meter)))) e
       ∙ ap (λ y. Some (made tally mwh y)) h
 
-  pub statement_told : (a b d e : Office B) (meter : List ℕ) (tally : EntryTally) (mwh : ℕ) (held : HeldCounts)
+  pub statement_told : (a b d e : Office B) (meter : List ℕ) (tally : EntryTally) (mwh : ℕ) (held : RejectedCounts)
       → OnlyAsks ledger a b (Ok tally) → OnlyAsks ledger b d (Ok mwh) → OnlyAsks ledger d e (Ok held)
       → AnswersOf ledger a b (Ok tally) (λ facts. tally_in zone range facts (Some meter))
       → AnswersOf ledger b d (Ok mwh) (λ facts. energy_in zone range facts (Some meter))
@@ -319,7 +319,7 @@ module _ {B : Type 0} (ledger : B → Ledger) (zone : Zone) (range : DayRange) w
       (gone_rows facts (by_opening facts meter) (opening_of facts meter)) kept.failures (told past (kept.stands past stands) clean)
 
   pub held_refused : (a b d : Office B) (meter : List ℕ) (why : Refusal) → Keeps ledger a b
-      → AnswersOf {T = HeldCounts} ledger b d (Err why) (λ facts. held_in zone range facts (Some meter))
+      → AnswersOf {T = RejectedCounts} ledger b d (Err why) (λ facts. held_in zone range facts (Some meter))
       → AnswersOf {T = MeterStatement} ledger a d (Err why) (λ facts. statement_in zone range facts meter)
   held_refused a b d meter why kept told = λ past stands clean.
       let facts = facts_of past in
@@ -330,7 +330,7 @@ module _ {B : Type 0} (ledger : B → Ledger) (zone : Zone) (range : DayRange) w
 
   -- ---- The statements of the meters at a register, one by one
 
-  pub not_there : (a : Office B) (row : Installation) (before : List MeterStatement) → was_there zone range row ≡ false
+  pub not_there : (a : Office B) (row : Installation) (before : List MeterStatement) → was_installed zone range row ≡ false
       → States ledger zone range (row ∷ []) a a before before (Ok tt)
   not_there a row before absent = λ past stands clean recorded.
       let facts = facts_of past in (
@@ -343,7 +343,7 @@ module _ {B : Type 0} (ledger : B → Ledger) (zone : Zone) (range : DayRange) w
   by_name facts meter None s is = absurd (cc is)
   by_name facts meter (Some x) s is = some_same _ _ is
 
-  pub one_stated : (a b : Office B) (row : Installation) (before after : List MeterStatement) (s : MeterStatement) → was_there zone range row ≡ true
+  pub one_stated : (a b : Office B) (row : Installation) (before after : List MeterStatement) (s : MeterStatement) → was_installed zone range row ≡ true
       → after ≡ before ++ s ∷ [] → AnswersOf ledger a b (Ok s) (λ facts. statement_in zone range facts row.opening.meter)
       → States ledger zone range (row ∷ []) a b before after (Ok tt)
   one_stated a b row before after s there put told = λ past stands clean recorded.
@@ -381,8 +381,8 @@ module _ {B : Type 0} (ledger : B → Ledger) (zone : Zone) (range : DayRange) w
   stated_both : (facts : List Fact) (xs ys : List Installation)
       → statements_of zone range facts (xs ++ ys) ≡ statements_of zone range facts xs ++ statements_of zone range facts ys
   stated_both facts xs ys =
-      ap (map (λ (r : Installation). statement_of zone range facts r.opening.meter)) (filter-append (was_there zone range) xs ys)
-      ∙ map-append (λ (r : Installation). statement_of zone range facts r.opening.meter) (filter (was_there zone range) xs) (filter (was_there zone range) ys)
+      ap (map (λ (r : Installation). statement_of zone range facts r.opening.meter)) (filter-append (was_installed zone range) xs ys)
+      ∙ map-append (λ (r : Installation). statement_of zone range facts r.opening.meter) (filter (was_installed zone range) xs) (filter (was_installed zone range) ys)
 
   -- True if the statements of the first `i` meters were appended to the list of statements.
   abbrev pub AreStated : (a b : Office B) → List Installation → (before after : List MeterStatement) → (i : ℕ) → Type 0

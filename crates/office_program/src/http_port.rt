@@ -10,7 +10,7 @@ use crate::texts::open_office;
 use command_io::ExitStatus;
 use office_books::Books;
 use office_core::Office;
-use office_http::serve_named_on;
+use office_http::serve_connections;
 use socket_link::Clock;
 use std::alloc::Global;
 use std::io::Write;
@@ -46,7 +46,7 @@ fn serve_port<R: Net + std::rt::Clock, B: Books, C: Clock>(
     let Ok(listener) = TcpListener::bind(rt, place) else {
         return ServeEnd::NoPort;
     };
-    match serve_named_on(
+    match serve_connections(
         rt,
         alloc,
         &listener,
@@ -63,7 +63,7 @@ fn serve_port<R: Net + std::rt::Clock, B: Books, C: Clock>(
 /// Opens an office over a store at the clock's time, and serves requests by HTTP/1.1 on a port.
 ///
 /// The command serves `connections` connections on the port of a host, under the given host names,
-/// as `serve_named_on` does. If the opening is refused, the command prints only `refused N` and
+/// as `serve_connections` does. If the opening is refused, the command prints only `refused N` and
 /// does not open the port. Returns the store.
 pub fn serve_books<R: Net + std::rt::Clock, B: Books, C: Clock, W: Write>(
     rt: &R,

@@ -8,4 +8,4 @@ mod table;
 pub use polls::{MOST_WAITING, Sum};
 pub use round::Round;
 pub use stage::Stage;
-pub use table::{first_wishing, hear_all};
+pub use table::{apply_notes_to_all, find_requesting};

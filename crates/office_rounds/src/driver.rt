@@ -6,4 +6,4 @@ mod feed;
 mod turns;
 
 pub use device_events::DeviceEvent;
-pub use turns::{MOST_STEPS, turn};
+pub use turns::{MAX_REQUESTS, turn};

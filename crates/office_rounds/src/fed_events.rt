@@ -67,7 +67,7 @@ pub(crate) fn latest_after(fault: RoundFault, at: u64, latest: u64) -> u64
 }
 
 /// Feeds the next event of a polling round to the office, with the clock's time as its timestamp.
-pub(crate) fn tell<B: Books, C: Clock, W: Write>(
+pub(crate) fn feed_next<B: Books, C: Clock, W: Write>(
     progress: &mut Progress,
     event: &Event,
     office: &mut Office<B>,

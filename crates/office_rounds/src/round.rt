@@ -8,10 +8,10 @@ ghost use Rattle.office_rounds.specs.Rounds.{IsToldOf};
 ghost use Rattle.office_rounds.specs.Stepping.{IsNew};
 
 use crate::fault::RoundFault;
-use crate::fed_events::tell;
+use crate::fed_events::feed_next;
 use crate::progress::Progress;
 use crate::round_end::close;
-use crate::steps::{go_on, turn};
+use crate::steps::{feed_requested, turn};
 use mb_wire::Link;
 use office_books::Books;
 use office_core::Office;
@@ -36,8 +36,8 @@ fn connect<B: Books, C: Clock, W: Write>(
     ensures kind { OfOffice result }
     ensures lasts { Lasts B.ledger office.old office.new }
 {
-    match progress.round.event_wanted() {
-        Some(connected) => tell(progress, &connected, office, clock, output),
+    match progress.round.requested_event() {
+        Some(connected) => feed_next(progress, &connected, office, clock, output),
         None => Ok(()),
     }
 }
@@ -84,7 +84,7 @@ fn poll_connected<L: Link, B: Books, C: Clock, W: Write>(
         → AreTakes 100000 (L.taken link.old) (L.taken link.new) }
     ensures lasts { Lasts B.ledger office.old office.new }
 {
-    match go_on(progress, link, office, clock, output) {
+    match feed_requested(progress, link, office, clock, output) {
         Ok(()) => take_turns(alloc, progress, link, office, clock, output),
         Err(fault) => Err(fault),
     }

@@ -10,7 +10,7 @@ ghost use Rattle.office_rounds.specs.Passing.{Lasts};
 ghost use Rattle.office_rounds.specs.Taking.{Brings, TurnTakes, brought};
 
 use crate::fault::RoundFault;
-use crate::fed_events::tell;
+use crate::fed_events::feed_next;
 use crate::progress::Progress;
 use mb_wire::{Link, LinkFailed, Took, give_all};
 use office_books::Books;
@@ -63,7 +63,7 @@ pub(crate) fn take_event<L: Link>(
 
 // Feeds the next event of a polling round to the office, and writes the office's frames to the
 // link.
-fn put<L: Link, B: Books, C: Clock, W: Write>(
+fn feed_and_send<L: Link, B: Books, C: Clock, W: Write>(
     event: &Event,
     progress: &mut Progress,
     link: &mut L,
@@ -78,7 +78,7 @@ fn put<L: Link, B: Books, C: Clock, W: Write>(
     ensures on { TakesOn result }
     ensures lasts { Lasts B.ledger office.old office.new }
 {
-    match tell(progress, event, office, clock, output) {
+    match feed_next(progress, event, office, clock, output) {
         Ok(()) => send(link, office.outgoing()),
         Err(fault) => Err(fault),
     }
@@ -86,7 +86,7 @@ fn put<L: Link, B: Books, C: Clock, W: Write>(
 
 /// Feeds the event that the polling round requests to the office. If the round requests no event,
 /// does nothing.
-pub(crate) fn go_on<L: Link, B: Books, C: Clock, W: Write>(
+pub(crate) fn feed_requested<L: Link, B: Books, C: Clock, W: Write>(
     progress: &mut Progress,
     link: &mut L,
     office: &mut Office<B>,
@@ -100,8 +100,8 @@ pub(crate) fn go_on<L: Link, B: Books, C: Clock, W: Write>(
     ensures on { TakesOn result }
     ensures lasts { Lasts B.ledger office.old office.new }
 {
-    match progress.round.event_wanted() {
-        Some(event) => put(&event, progress, link, office, clock, output),
+    match progress.round.requested_event() {
+        Some(event) => feed_and_send(&event, progress, link, office, clock, output),
         None => Ok(()),
     }
 }
@@ -122,7 +122,7 @@ fn follow<L: Link, B: Books, C: Clock, W: Write>(
     ensures on { TakesOn result }
     ensures lasts { Lasts B.ledger office.old office.new }
 {
-    match go_on(progress, link, office, clock, output) {
+    match feed_requested(progress, link, office, clock, output) {
         Ok(()) => Ok(progress.is_over()),
         Err(fault) => Err(fault),
     }
@@ -145,7 +145,7 @@ fn feed_taken<L: Link, B: Books, C: Clock, W: Write>(
     ensures on { TakesOn result }
     ensures lasts { Lasts B.ledger office.old office.new }
 {
-    match put(event, progress, link, office, clock, output) {
+    match feed_and_send(event, progress, link, office, clock, output) {
         Ok(()) => follow(progress, link, office, clock, output),
         Err(fault) => Err(fault),
     }

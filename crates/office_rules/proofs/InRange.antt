@@ -11,7 +11,7 @@ use Rattle.office_events.specs.declared.facts.Opening.{Opening}
 use Rattle.office_events.specs.declared.facts.Fact.{Fact}
 use Rattle.office_events.specs.declared.facts.Fact.TheVariants as fact
 use Rattle.office_events.specs.declared.questions.Installation.{Installation}
-use Rattle.office_events.specs.declared.questions.EntryPlace.{EntryPlace}
+use Rattle.office_events.specs.declared.questions.EntryContext.{EntryContext}
 use Rattle.office_rules.specs.Facts.{opening_of, installed_at}
 use Rattle.office_rules.specs.Lawful.{OpeningFits, AreLawful}
 use Rattle.office_rules.specs.Meters.{installed, journal_of, rows_of, installation_of, meter_of, installation_at, if_open, open_at, place_in, entry_at}
@@ -81,11 +81,11 @@ open_in_range law facts r row h there =
     let other = bound_some if_open (installation_at facts r) row there in
     subst IsSound (open_is row other.0 other.2) (installed_in_range law facts r other.0 h other.1)
 
-placed_in_range : PlacesWereKept → (facts : List Fact) (m : List ℕ) (place : ℕ) (p : EntryPlace) → AreLawful facts → entry_at facts m place ≡ Some p → IsSound p.before
+placed_in_range : PlacesWereKept → (facts : List Fact) (m : List ℕ) (place : ℕ) (p : EntryContext) → AreLawful facts → entry_at facts m place ≡ Some p → IsSound p.before
 placed_in_range law facts m place p h there =
     let o = bound_some (λ (x : Opening). option_map (place_in facts x) (journal.row_at place (rows_of facts x))) (opening_of facts m) p there in
     let a = mapped_some (place_in facts o.0) (journal.row_at place (rows_of facts o.0)) p o.2 in
-    subst (λ (x : EntryPlace). IsSound x.before) a.2 (place_in_range law facts o.0 place a.0 h (installed_so facts m o.0 o.1) a.1)
+    subst (λ (x : EntryContext). IsSound x.before) a.2 (place_in_range law facts o.0 place a.0 h (installed_so facts m o.0 o.1) a.1)
 
 pub installations_are_in_range : JournalsAreKept → PlacesWereKept → InstallationsAreInRange
 installations_are_in_range kept places facts h =

@@ -73,10 +73,10 @@ record StandsOnce (n : ℕ) (polls : List Poll) : Type 0 where
   once : times n (poll_numbers polls) ≤ 1
   none_above : length polls < n → times n (poll_numbers polls) ≡ 0
 
-stands_once : (n : ℕ) (polls : List Poll) → AreNumbered polls → StandsOnce n polls
-stands_once n [] h = record { once = omega (arith, times-nil n); none_above = λ above. times-nil n }
-stands_once n (p ∷ polls) h =
-    let rest = stands_once n polls h.1 in
+assert_recorded_once : (n : ℕ) (polls : List Poll) → AreNumbered polls → StandsOnce n polls
+assert_recorded_once n [] h = record { once = omega (arith, times-nil n); none_above = λ above. times-nil n }
+assert_recorded_once n (p ∷ polls) h =
+    let rest = assert_recorded_once n polls h.1 in
     let is : p.number ≡ length polls + 1 = h.0 in
     let cons = times-cons n p.number (poll_numbers polls) in
     one_if_cases n p.number
@@ -105,7 +105,7 @@ open_once facts ns h at_most n among =
     let parted = times_parted (λ (p : Poll). p.number) (λ p. length (ends_of facts p.number) == 0) n (reverse (polls_in facts)) in
     let pending : length (ends_of facts n) == 0 ≡ true =
     passes_if_among (λ (p : Poll). p.number) (λ k. length (ends_of facts k) == 0) n (reverse (polls_in facts)) waits in (
-      omega (arith, at_most n, among, back, parted, (stands_once n (polls_in facts) h).once),
+      omega (arith, at_most n, among, back, parted, (assert_recorded_once n (polls_in facts) h).once),
       record {
         started = found_if_among (λ (p : Poll). p.number) n (polls_in facts) (omega (arith, waits, back, parted));
         pending = none_from_length (ends_of facts n) pending;

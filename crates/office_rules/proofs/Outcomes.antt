@@ -160,17 +160,17 @@ record StandsOnce (n : ℕ) (polls : List Poll) : Type 0 where
   once : times n (poll_numbers polls) ≤ 1
   none_above : length polls < n → times n (poll_numbers polls) ≡ 0
 
-stands_once : (n : ℕ) (facts : List Fact) → AreLawful facts → StandsOnce n (polls_in facts)
-stands_once n [] h = record { once = omega (arith, times-nil n); none_above = λ above. times-nil n }
-stands_once n (fact.Device d ∷ facts) h = stands_once n facts h.1
-stands_once n (fact.List l ∷ facts) h = stands_once n facts h.1
-stands_once n (fact.Register r ∷ facts) h = stands_once n facts h.1
-stands_once n (fact.Opening o ∷ facts) h = stands_once n facts h.1
-stands_once n (fact.Entry b ∷ facts) h = stands_once n facts h.1
-stands_once n (fact.Hold b ∷ facts) h = stands_once n facts h.1
-stands_once n (fact.Void v ∷ facts) h = stands_once n facts h.1
-stands_once n (fact.Poll p ∷ facts) h =
-    let rest = stands_once n facts h.1 in
+assert_recorded_once : (n : ℕ) (facts : List Fact) → AreLawful facts → StandsOnce n (polls_in facts)
+assert_recorded_once n [] h = record { once = omega (arith, times-nil n); none_above = λ above. times-nil n }
+assert_recorded_once n (fact.Device d ∷ facts) h = assert_recorded_once n facts h.1
+assert_recorded_once n (fact.List l ∷ facts) h = assert_recorded_once n facts h.1
+assert_recorded_once n (fact.Register r ∷ facts) h = assert_recorded_once n facts h.1
+assert_recorded_once n (fact.Opening o ∷ facts) h = assert_recorded_once n facts h.1
+assert_recorded_once n (fact.Entry b ∷ facts) h = assert_recorded_once n facts h.1
+assert_recorded_once n (fact.Hold b ∷ facts) h = assert_recorded_once n facts h.1
+assert_recorded_once n (fact.Void v ∷ facts) h = assert_recorded_once n facts h.1
+assert_recorded_once n (fact.Poll p ∷ facts) h =
+    let rest = assert_recorded_once n facts h.1 in
     let is : p.number ≡ length (polls_in facts) + 1 = h.0.0.number in
     let cons = times-cons n p.number (poll_numbers (polls_in facts)) in
     one_if_cases n p.number
@@ -183,8 +183,8 @@ stands_once n (fact.Poll p ∷ facts) h =
       once = omega (arith, cons, none, rest.once);
       none_above = λ above. let below : length (polls_in facts) < n = omega arith in omega (arith, cons, none, rest.none_above below);
     })
-stands_once n (fact.Outcome e ∷ facts) h = stands_once n facts h.1
-stands_once n (fact.Reply r ∷ facts) h = stands_once n facts h.1
+assert_recorded_once n (fact.Outcome e ∷ facts) h = assert_recorded_once n facts h.1
+assert_recorded_once n (fact.Reply r ∷ facts) h = assert_recorded_once n facts h.1
 
 none_from_length : {X : Type 0} (xs : List X) → length xs == 0 ≡ true → xs ≡ []
 none_from_length [] h = refl
@@ -201,7 +201,7 @@ open_once facts ns h at_most n among =
     let parted = times_parted (λ (p : Poll). p.number) (λ p. length (ends_of facts p.number) == 0) n (reverse (polls_in facts)) in
     let pending : length (ends_of facts n) == 0 ≡ true =
     passes_if_among (λ (p : Poll). p.number) (λ k. length (ends_of facts k) == 0) n (reverse (polls_in facts)) waits in (
-      omega (arith, at_most n, among, back, parted, (stands_once n facts h).once),
+      omega (arith, at_most n, among, back, parted, (assert_recorded_once n facts h).once),
       record {
         started = found_if_among (λ (p : Poll). p.number) n (polls_in facts) (omega (arith, waits, back, parted));
         pending = none_from_length (ends_of facts n) pending;

@@ -15,7 +15,7 @@ use Rattle.office_events.specs.declared.facts.HeldReading.{HeldReading}
 use Rattle.office_events.specs.declared.facts.Fact.{Fact}
 use Rattle.office_events.specs.declared.facts.Fact.TheVariants as fact
 use Rattle.office_events.specs.declared.questions.Installation.{Installation}
-use Rattle.office_events.specs.declared.questions.EntryPlace.{EntryPlace}
+use Rattle.office_events.specs.declared.questions.EntryContext.{EntryContext}
 use Rattle.office_rules.specs.Facts.{same, opening_of, installed_at}
 
 -- The line of a rejected reading in its meter's journal, with the cause of the rejection.
@@ -96,7 +96,7 @@ open_at facts register = option_and_then if_open (installation_at facts register
 
 -- An entry in its context: the meter's state before the entry, the entry's row, and the next valid
 -- entry.
-abbrev pub place_in : List Fact → Opening → journal.Around → EntryPlace
+abbrev pub place_in : List Fact → Opening → journal.Around → EntryContext
 place_in facts opening around = record {
   before = standing opening (journal.entries_in around.before) (is_ended facts opening);
   row = around.row;
@@ -105,7 +105,7 @@ place_in facts opening around = record {
 
 -- The entry with the sequence number `place`, at least 2, of the meter with a given name. `None` if
 -- no such entry exists.
-abbrev pub entry_at : List Fact → (meter : List ℕ) → (place : ℕ) → Option EntryPlace
+abbrev pub entry_at : List Fact → (meter : List ℕ) → (place : ℕ) → Option EntryContext
 entry_at facts meter place =
     option_and_then
     (λ opening. option_map (place_in facts opening)

@@ -5,7 +5,7 @@ use Rattle.energy_core.specs.Account.{IsScale}
 use Rattle.office_events.specs.declared.facts.Opening.{Opening}
 use Rattle.office_events.specs.declared.facts.Fact.{Fact}
 use Rattle.office_events.specs.declared.questions.Installation.{Installation}
-use Rattle.office_events.specs.declared.questions.EntryPlace.{EntryPlace}
+use Rattle.office_events.specs.declared.questions.EntryContext.{EntryContext}
 use Rattle.office_rules.specs.Lawful.{AreLawful}
 use Rattle.office_rules.specs.Meters.{installation_of, meter_of, installation_at, open_at, entry_at}
 use Rattle.office_rules.specs.Laws.{IsRecorded}
@@ -30,7 +30,7 @@ pub record AreInRange (facts : List Fact) : Type 0 where
       → installation_at facts register ≡ Some row → IsSound row
   pub unended : (register : List ℕ) (row : Installation) → open_at facts register ≡ Some row
       → IsSound row
-  pub placed : (meter : List ℕ) (place : ℕ) (found : EntryPlace)
+  pub placed : (meter : List ℕ) (place : ℕ) (found : EntryContext)
       → entry_at facts meter place ≡ Some found
       → IsSound found.before
 

@@ -32,7 +32,7 @@ use Rattle.office_events.specs.declared.facts.Opening.{Opening}
 use Rattle.office_events.specs.declared.facts.Reply.{Reply}
 use Rattle.office_events.specs.declared.facts.Fact.{Fact}
 use Rattle.office_events.specs.declared.questions.Installation.{Installation}
-use Rattle.office_events.specs.declared.questions.EntryPlace.{EntryPlace}
+use Rattle.office_events.specs.declared.questions.EntryContext.{EntryContext}
 use Rattle.office_events.specs.declared.refusals.Refusal.{Refusal}
 use Rattle.office_events.specs.declared.refusals.Refusal.TheVariants as refusal
 use Rattle.office_events.specs.declared.refusals.StoreCause.TheVariants as store
@@ -244,12 +244,12 @@ asks_past_numbers slots facts at c =
 
 -- Refusal `NotVoidable`: the entry does not exist, is already voided, or is not a reading from the
 -- device. The same reason applies if the next valid entry is not a reading from the device.
-abbrev pub is_not_voidable : Option EntryPlace → Bool
+abbrev pub is_not_voidable : Option EntryContext → Bool
 is_not_voidable None = true
 is_not_voidable (Some place) = not (is_voidable place.row place.next)
 
 -- The entry that a command voids. `None` if the command voids no entry or the entry does not exist.
-abbrev pub voided_place : List Fact → Command → Option EntryPlace
+abbrev pub voided_place : List Fact → Command → Option EntryContext
 voided_place facts (command.Void c) =
     option_and_then (λ meter. entry_at facts meter c.place) c.meter
 voided_place facts _ = None
@@ -268,7 +268,7 @@ verdict_between before (entry.Change at set_before after sf) = None
 
 -- The verdict on the entry after a voided entry, judged without the voided entry. `None` if no
 -- valid entry follows.
-abbrev pub verdict_at : Option EntryPlace → Option Verdict
+abbrev pub verdict_at : Option EntryContext → Option Verdict
 verdict_at place =
     option_and_then
     (λ p. option_and_then (λ (next : EntryRow). verdict_between p.before next.entry) p.next) place

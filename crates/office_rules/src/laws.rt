@@ -4,7 +4,7 @@ ghost use Rattle.office_rules.specs.Ranges.{InstallationsAreInRange};
 
 use meter_journal::{
     interval_rows_add_up, interval_rows_are_accounts, journals_are_kept, journals_balance,
-    places_were_kept, rows_stand, truth_is_kept, voids_leave_no_trace as journal_voids,
+    places_were_kept, rows_are_kept, truth_is_kept, voids_leave_no_trace as journal_voids,
 };
 
 /// Proves that the rules of the journal accept each line of a meter's journal in lawful records
@@ -40,7 +40,7 @@ pub fn truth_is_recorded()
 pub fn voids_leave_no_trace()
     ensures { VoidsLeaveNoTrace }
 {
-    rows_stand();
+    rows_are_kept();
     journal_voids();
 }
 

@@ -26,7 +26,7 @@ use Rattle.office_rounds.specs.Driver.Going.{Start, TakesTurn as TakesDeviceTurn
 use Rattle.office_events.specs.Showing.{Shown}
 use Rattle.office_rounds.specs.Driver.Turns as table
 use Rattle.office_rounds.specs.Driver.Turns.{Table, Wished}
-use Rattle.office_rounds.specs.DeviceRounds.Rounds.{is_wishing, wish_at, wish_of}
+use Rattle.office_rounds.specs.DeviceRounds.Rounds.{has_request, wish_at, wish_of}
 use Rattle.office_rounds.specs.declared.device_rounds.round.Round.{Round}
 use Rattle.office_rounds.specs.declared.device_rounds.stage.Stage.{Stage}
 use Rattle.office_rounds.specs.declared.device_rounds.stage.Stage.TheVariants.{Off, Joining, Starting, Waiting, Leaving}
@@ -113,8 +113,8 @@ from_is : (place : Option ℕ) (rounds : List Round) → IsWishedOfRound (table.
 from_is None rounds = tt
 from_is (Some place) rounds = in_is place (slice_get rounds place)
 
-first_is : (rounds : List Round) → IsWishedOfRound (table.first_wish rounds)
-first_is rounds = from_is (position is_wishing rounds) rounds
+first_is : (rounds : List Round) → IsWishedOfRound (table.first_request rounds)
+first_is rounds = from_is (position has_request rounds) rounds
 
 next_is : (first : Option Wished) (rounds : List Round) → IsWishedOfRound first → IsWishedOfRound (table.next_by first rounds)
 next_is None rounds h = first_is rounds

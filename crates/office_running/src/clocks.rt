@@ -56,10 +56,10 @@ pub(crate) fn read_clock<C: Clock>(
     let told = clock.now();
     let reading = steady.read(told);
     if let Some(seconds) = reading.set_back {
-        voice.tell_set_back(reading.moment, seconds);
+        voice.report_set_back(reading.moment, seconds);
     }
     if let Some(before) = reading.ahead_from {
-        voice.tell_ahead(before, reading.moment);
+        voice.report_ahead(before, reading.moment);
     }
     reading.moment
 }

@@ -1,6 +1,6 @@
 //! Determines how many file descriptors a run of `sunreg run` may open.
 use mio::Poll;
-use run_schedule::{MOST_PEERS, clients_for, needed_limit, wanted_descriptors};
+use run_schedule::{MOST_CLIENTS, clients_for, needed_limit, wanted_descriptors};
 use std::alloc::{AllocError, Global};
 use std::net::Net;
 
@@ -40,7 +40,7 @@ pub(crate) fn find_clients<R: Net>(
 ) -> Result<(usize, Option<FewClients>), AllocError> {
     let found = count_descriptors(rt, alloc, wanted_descriptors(devices))?;
     let clients = clients_for(found, devices);
-    if clients >= MOST_PEERS {
+    if clients >= MOST_CLIENTS {
         return Ok((clients, None));
     }
     let limit = needed_limit(devices.max(MOST_DEVICES));

@@ -24,7 +24,7 @@ const MOST_PIECES: u32 = 64;
 //
 // The round of the device gets the answer only while it waits for responses. A round that is about
 // to start reads would take the answer for that of its start.
-fn tell_rounds(
+fn pass_answer_to_rounds(
     rounds: &mut [Round],
     place: usize,
     answer: Result<Answer, Refusal>,
@@ -94,7 +94,7 @@ impl Polling {
             slot.fail(every, now.time);
             slot.standing = Standing::Unreachable;
             let name = slot.site.name;
-            voice.tell_standing(now.moment, &name, before, Standing::Unreachable);
+            voice.report_state(now.moment, &name, before, Standing::Unreachable);
         }
     }
 
@@ -139,7 +139,7 @@ impl Polling {
             let every = self.every;
             let slot = &mut self.slots[place];
             let name = slot.site.name;
-            slot.standing = voice.tell_round(now.moment, &name, slot.standing, sum);
+            slot.standing = voice.report_round(now.moment, &name, slot.standing, sum);
             slot.rest(every, now.time);
         }
     }
@@ -193,7 +193,7 @@ impl Polling {
             Seen::Stands => {
                 if place < self.slots.len() {
                     let every = self.every;
-                    self.slots[place].timing.stand(every, now.time);
+                    self.slots[place].timing.begin_round(every, now.time);
                 }
                 Some(DeviceEvent::Connected(place))
             }
@@ -297,7 +297,7 @@ impl Polling {
         let event = Event::Bytes(device, Piece::new(bytes));
         let answer = office.feed(now.moment, &event);
         let notes = office.notes();
-        tell_rounds(&mut self.rounds, place, answer, notes);
+        pass_answer_to_rounds(&mut self.rounds, place, answer, notes);
         voice.observe(
             Some(place),
             now.moment,

@@ -44,7 +44,7 @@ pub(crate) struct Slot {
 }
 
 // Returns whether a new connection is established; `None` if it is still pending.
-fn stands(stream: &TcpStream) -> Option<bool> {
+fn is_connected(stream: &TcpStream) -> Option<bool> {
     match stream.take_error() {
         Ok(None) => {}
         _ => return Some(false),
@@ -141,7 +141,7 @@ impl Slot {
     // Checks whether a new connection is established.
     fn connection(&self) -> Seen {
         match &self.stream {
-            Some(stream) => match stands(stream) {
+            Some(stream) => match is_connected(stream) {
                 Some(true) => Seen::Stands,
                 Some(false) => Seen::Failed,
                 None => Seen::Nothing,
@@ -159,7 +159,7 @@ impl Slot {
     }
 
     // Reads the bytes that arrived from the device, at most one chunk.
-    fn take(&self) -> Seen {
+    fn read_bytes(&self) -> Seen {
         let mut room = [0u8; 260];
         let got = match &self.stream {
             Some(stream) => {
@@ -193,7 +193,7 @@ impl Slot {
     /// Queues frames after the unsent bytes, and sends as much as the socket accepts. If sending
     /// fails, the next check of the connection reports the failure.
     pub(crate) fn send_more(&mut self, frames: &[u8]) {
-        let done = self.unsent.put(frames);
+        let done = self.unsent.push_bytes(frames);
         if done.is_err() || !self.send() {
             self.ready = true;
         }
@@ -212,7 +212,7 @@ impl Slot {
             Phase::Connecting => self.connection(),
             Phase::Polling => {
                 if self.send() {
-                    self.take()
+                    self.read_bytes()
                 } else {
                     Seen::Failed
                 }

@@ -21,7 +21,7 @@ use office_books::Books;
 use office_core::Office;
 use office_rounds::DeviceEvent;
 use poll_core::Closing;
-use run_schedule::{MOST_PEERS, RunTime, SteadyClock, place_at};
+use run_schedule::{MOST_CLIENTS, RunTime, SteadyClock, place_at};
 use run_status::DeviceLack;
 use socket_link::Clock;
 use std::alloc::{AllocError, Global};
@@ -168,9 +168,9 @@ impl Running {
         if self.port.take_full() {
             self.voice.say_full();
         }
-        self.sayings.put(now.moment, &self.voice.take_said());
+        self.sayings.push_lines(now.moment, &self.voice.take_said());
         let _said = self.sayings.write(errors);
-        self.lines.put(now.moment, &self.voice.take_lines());
+        self.lines.push_lines(now.moment, &self.voice.take_lines());
         match self.lines.write(output) {
             Ok(()) => Ok(()),
             Err(_) => Err(RunFault::Output),
@@ -239,8 +239,8 @@ impl Running {
     {
         self.port.accept(self.poll.registry(), now.time);
         let first = self.port.first();
-        let system = Watching::of(rt, !self.files.is_lost(rt));
-        for step in 0..MOST_PEERS {
+        let system = Watching::new(rt, !self.files.is_lost(rt));
+        for step in 0..MOST_CLIENTS {
             let place = place_at(first, step);
             let told = RunTold {
                 monitor: &self.voice.monitor,
@@ -299,7 +299,7 @@ impl Running {
     }
 
     // Processes the next event of each device, and serves the clients.
-    fn go_on<R: Net + std::rt::Clock + Files, B: Books>(
+    fn attend_all<R: Net + std::rt::Clock + Files, B: Books>(
         &mut self,
         rt: &R,
         names: &[&str],
@@ -345,7 +345,7 @@ impl Running {
     ) -> bool
         ensures { Goes (texts names.now) now.moment B.ledger office.old office.new }
     {
-        self.go_on(rt, names, earlier, events, office, now);
+        self.attend_all(rt, names, earlier, events, office, now);
         if !end.has_come(now) {
             return false;
         }
@@ -551,7 +551,7 @@ fn open<R: Net + Files, W: Write>(
 ) -> Result<Running, RunFault> {
     match Running::open(rt, alloc, settings, sites, lacks, time) {
         Ok(mut running) => {
-            running.voice.tell_opened(left, settings.listen.port());
+            running.voice.report_opened(left, settings.listen.port());
             Ok(running)
         }
         Err(fault) => {

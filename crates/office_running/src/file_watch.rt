@@ -139,7 +139,7 @@ pub(crate) struct Watching<'r, R: std::rt::Clock> {
 }
 
 impl<'r, R: std::rt::Clock> Watching<'r, R> {
-    pub(crate) fn of(rt: &'r R, are_there: bool) -> Watching<'r, R> {
+    pub(crate) fn new(rt: &'r R, are_there: bool) -> Watching<'r, R> {
         Watching { rt, are_there }
     }
 }

@@ -93,10 +93,10 @@ impl Outlet {
 
     /// Queues lines for the output. If earlier lines were dropped, first queues a line with
     /// timestamp `at` that reports the number of dropped lines.
-    pub(crate) fn put(&mut self, at: u64, lines: &[u8]) {
-        self.queue.tell_dropped(at);
+    pub(crate) fn push_lines(&mut self, at: u64, lines: &[u8]) {
+        self.queue.append_dropped(at);
         if !lines.is_empty() {
-            self.queue.put(lines);
+            self.queue.push_lines(lines);
         }
     }
 
@@ -156,6 +156,6 @@ pub fn write_without_waiting<R: Net, W: Write>(
     output: &mut W,
 ) -> io::Result<()> {
     let mut outlet = Outlet::open(rt, alloc, descriptor);
-    outlet.put(0, lines);
+    outlet.push_lines(0, lines);
     outlet.write(output)
 }

@@ -7,8 +7,8 @@ use office_rounds::Sum;
 use poll_core::Closing;
 use run_schedule::FileLoss;
 use run_status::{
-    DeviceLack, Lack, RunMonitor, Told, ToldNumber, Topic, put, put_head, put_held, put_lack,
-    put_lines, put_number, put_refusal, put_sum,
+    DeviceLack, Lack, ReportedNumber, RunMonitor, Told, Topic, append_bytes, append_refusal,
+    write_head, write_held, write_lack, write_lines, write_number, write_sum,
 };
 use script_text::write_note;
 use std::alloc::{AllocError, Global};
@@ -91,12 +91,12 @@ fn is_usual(event: &Event, answer: Result<Answer, Refusal>) -> bool {
 }
 
 // Appends the line for a poll that ended, or for a reading that was accepted.
-fn put_poll(text: &mut Vec<u8>, at: u64, name: &Option<Name>, note: &Note) -> io::Result<()> {
+fn append_poll(text: &mut Vec<u8>, at: u64, name: &Option<Name>, note: &Note) -> io::Result<()> {
     if matches!(note, Note::Held { .. }) {
         return Ok(());
     }
-    put_head(text, at, name)?;
-    put(text, b" ")?;
+    write_head(text, at, name)?;
+    append_bytes(text, b" ")?;
     write_note(note, text)
 }
 
@@ -123,13 +123,13 @@ impl Voice {
 
     // Reports what a device lacks. Later refusals for the same reason are not reported again.
     fn say_lack(&mut self, lack: &DeviceLack) {
-        let _done = put_lack(&mut self.said, lack);
+        let _done = write_lack(&mut self.said, lack);
         let topic = match lack.lack {
             Lack::NoDevice => Topic::Connection,
             Lack::NoList => Topic::Round,
             _ => return,
         };
-        let _told = self.told.tell(ToldNumber {
+        let _told = self.told.report_once(ReportedNumber {
             topic,
             name: lack.device,
             number: Refusal::NotFound.number(),
@@ -167,36 +167,36 @@ impl Voice {
 
     /// Reports the latest record and the pending polls that the store had before the run, and the
     /// HTTP port.
-    pub(crate) fn tell_opened(&mut self, left: Option<Left>, port: u16) {
+    pub(crate) fn report_opened(&mut self, left: Option<Left>, port: u16) {
         if let Some(left) = left {
-            let _done = put_number(&mut self.lines, b"books to ", left.latest);
-            let _done = put_number(&mut self.lines, b" lost ", left.waiting as u64);
-            let _done = put(&mut self.lines, b"\n");
+            let _done = write_number(&mut self.lines, b"books to ", left.latest);
+            let _done = write_number(&mut self.lines, b" lost ", left.waiting as u64);
+            let _done = append_bytes(&mut self.lines, b"\n");
         }
-        let _done = put_number(&mut self.lines, b"listening ", u64::from(port));
-        let _done = put(&mut self.lines, b"\n");
+        let _done = write_number(&mut self.lines, b"listening ", u64::from(port));
+        let _done = append_bytes(&mut self.lines, b"\n");
     }
 
     /// Reports that the clock is `seconds` seconds before the latest timestamp of the run.
-    pub(crate) fn tell_set_back(&mut self, moment: u64, seconds: u64) {
-        let _done = put_number(&mut self.lines, b"", moment);
-        let _done = put_number(&mut self.lines, b" clock set back ", seconds);
-        let _done = put(&mut self.lines, b"\n");
-        let _done = put_number(&mut self.said, b"sunreg: the clock is ", seconds);
-        let _done = put_number(&mut self.said, b" seconds behind the last record, ", moment);
-        let _done = put_number(
+    pub(crate) fn report_set_back(&mut self, moment: u64, seconds: u64) {
+        let _done = write_number(&mut self.lines, b"", moment);
+        let _done = write_number(&mut self.lines, b" clock set back ", seconds);
+        let _done = append_bytes(&mut self.lines, b"\n");
+        let _done = write_number(&mut self.said, b"sunreg: the clock is ", seconds);
+        let _done = write_number(&mut self.said, b" seconds behind the last record, ", moment);
+        let _done = write_number(
             &mut self.said,
             b"; until the clock catches up, new records get the time ",
             moment,
         );
-        let _done = put(&mut self.said, b"\n");
+        let _done = append_bytes(&mut self.said, b"\n");
     }
 
     /// Reports that the clock jumped ahead, from one timestamp to a much later one.
-    pub(crate) fn tell_ahead(&mut self, before: u64, moment: u64) {
-        let _done = put_number(&mut self.said, b"sunreg: the clock jumped from ", before);
-        let _done = put_number(&mut self.said, b" to ", moment);
-        let _done = put(
+    pub(crate) fn report_ahead(&mut self, before: u64, moment: u64) {
+        let _done = write_number(&mut self.said, b"sunreg: the clock jumped from ", before);
+        let _done = write_number(&mut self.said, b" to ", moment);
+        let _done = append_bytes(
             &mut self.said,
             b"; if the new time is wrong, set the clock and restart run: records keep the time at which they are made\n",
         );
@@ -206,7 +206,7 @@ impl Voice {
     pub(crate) fn say_full(&mut self) {
         if !self.is_full {
             self.is_full = true;
-            let _done = put(
+            let _done = append_bytes(
                 &mut self.said,
                 b"sunreg: HTTP commands are answered with 503, because the stored commands have reached the limit of --most-kept; restart run with a larger limit or a new file\n",
             );
@@ -215,23 +215,23 @@ impl Voice {
 
     /// Reports that the run serves only few clients at once, because file descriptors are scarce.
     pub(crate) fn say_few(&mut self, few: FewClients) {
-        let _done = put_number(
+        let _done = write_number(
             &mut self.said,
             b"sunreg: few file descriptors: run serves only ",
             few.clients as u64,
         );
-        let _done = put_number(
+        let _done = write_number(
             &mut self.said,
             b" HTTP clients at a time, because devices come first; for 64 devices and 64 clients, set ulimit -n ",
             few.limit as u64,
         );
-        let _done = put(&mut self.said, b"\n");
+        let _done = append_bytes(&mut self.said, b"\n");
     }
 
     /// Reports that a file of the office is missing. Control bytes of its path are written as `?`,
     /// so that the report is one line.
     pub(crate) fn say_lost(&mut self, path: &str, loss: FileLoss) {
-        let _done = put(&mut self.said, b"sunreg: ");
+        let _done = append_bytes(&mut self.said, b"sunreg: ");
         for byte in path.as_bytes() {
             let shown = if *byte < 32 || *byte == 127 {
                 b'?'
@@ -240,9 +240,9 @@ impl Voice {
             };
             let _done = self.said.push(shown);
         }
-        let _done = put(&mut self.said, b": ");
-        let _done = put(&mut self.said, how_lost(loss));
-        let _done = put(
+        let _done = append_bytes(&mut self.said, b": ");
+        let _done = append_bytes(&mut self.said, how_lost(loss));
+        let _done = append_bytes(
             &mut self.said,
             b"; new records would be lost, so run answers commands with 503 and stops; move the file back, or restore a backup\n",
         );
@@ -251,14 +251,14 @@ impl Voice {
     /// Reports that a file of the office was missing when a command was committed, and that the run
     /// stops.
     pub(crate) fn say_gone(&mut self) {
-        let _done = put(
+        let _done = append_bytes(
             &mut self.said,
             b"sunreg: a file of the office was missing when a command was committed, so run stops; put the files back, then start run again\n",
         );
     }
 
     /// Reports the state `now` of a device, if it differs from the earlier state `before`.
-    pub(crate) fn tell_standing(
+    pub(crate) fn report_state(
         &mut self,
         at: u64,
         name: &Option<Name>,
@@ -266,14 +266,14 @@ impl Voice {
         now: Standing,
     ) {
         if before != now {
-            let _done = put_head(&mut self.lines, at, name);
-            let _done = put(&mut self.lines, word_of(now));
+            let _done = write_head(&mut self.lines, at, name);
+            let _done = append_bytes(&mut self.lines, word_of(now));
         }
     }
 
     /// Reports the outcomes of a polling round. Returns the state of the polled device after this
     /// polling round.
-    pub(crate) fn tell_round(
+    pub(crate) fn report_round(
         &mut self,
         at: u64,
         name: &Option<Name>,
@@ -284,8 +284,8 @@ impl Voice {
             return before;
         }
         let now = standing_by(sum);
-        self.tell_standing(at, name, before, now);
-        let _done = put_sum(
+        self.report_state(at, name, before, now);
+        let _done = write_sum(
             &mut self.lines,
             at,
             name,
@@ -297,9 +297,9 @@ impl Voice {
     }
 
     // Reports the poll or the accepted reading in each notification.
-    fn tell_polls(&mut self, at: u64, name: &Option<Name>, notes: &[Note]) {
+    fn report_polls(&mut self, at: u64, name: &Option<Name>, notes: &[Note]) {
         for note in notes {
-            let _done = put_poll(&mut self.lines, at, name, note);
+            let _done = append_poll(&mut self.lines, at, name, note);
         }
     }
 }
@@ -316,13 +316,13 @@ impl Voice {
     // Reports why an event of a device was refused, unless the last report on the device gave the
     // reason.
     fn say_refusal(&mut self, device: &Option<Name>, event: &Event, why: Refusal) {
-        let is_new = self.told.tell(ToldNumber {
+        let is_new = self.told.report_once(ReportedNumber {
             topic: topic_of(event),
             name: *device,
             number: why.number(),
         });
         if is_new {
-            let _done = put_refusal(&mut self.said, device, event, why);
+            let _done = append_refusal(&mut self.said, device, event, why);
         }
     }
 
@@ -352,13 +352,13 @@ impl Voice {
             Note::Outcome { .. } => {}
             Note::Reading { meter, .. } => self.told.forget(Topic::Meter, Some(*meter)),
             Note::Held { meter, cause, .. } => {
-                let is_new = self.told.tell(ToldNumber {
+                let is_new = self.told.report_once(ReportedNumber {
                     topic: Topic::Meter,
                     name: Some(*meter),
                     number: cause.number(),
                 });
                 if is_new {
-                    let _done = put_held(&mut self.said, meter, *cause);
+                    let _done = write_held(&mut self.said, meter, *cause);
                 }
             }
         }
@@ -393,10 +393,10 @@ impl Observer for Voice {
     ) {
         let name = self.name(place);
         if self.verbose || !is_usual(event, answer) {
-            let _done = put_lines(&mut self.lines, at, &name, event, answer, notes);
+            let _done = write_lines(&mut self.lines, at, &name, event, answer, notes);
         }
         if self.verbose {
-            self.tell_polls(at, &name, notes);
+            self.report_polls(at, &name, notes);
         }
         self.say(&name, event, answer, notes);
         if matches!(answer, Err(Refusal::Stopped)) {

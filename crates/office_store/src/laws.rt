@@ -3,6 +3,7 @@
 mod laws;
 
 pub use laws::{
-    databases_tell_their_facts, found_files_keep_theirs, left_facts_are_found, new_files_have_none,
-    newest_files_have_theirs, opened_files_keep_theirs, tables_tell_their_facts,
+    databases_give_their_records, found_files_keep_theirs, left_facts_are_found,
+    new_files_have_none, newest_files_have_theirs, opened_files_keep_theirs,
+    tables_give_their_records,
 };

@@ -3,5 +3,5 @@
 mod connection_end;
 mod laws;
 
-pub use connection_end::end;
+pub use connection_end::close_connection;
 pub use laws::{opened_files_are_found, stops_leave_facts};

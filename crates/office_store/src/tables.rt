@@ -2,12 +2,13 @@
 //! database.
 use crate::books::SqlBooks;
 use crate::fault_counts::answered;
-use crate::laws::databases_tell_their_facts;
+use crate::laws::databases_give_their_records;
 use interval_core::{Share, Zone};
 use mb_wire::ReadSpan;
 use office_books::{Books, BooksFault, MeterEntry, Repeat, RowSink, Span};
 use office_events::{
-    Device, EntryPlace, Fact, HeldReading, Installation, Name, PlannedList, Poll, PollRow, Register,
+    Device, EntryContext, Fact, HeldReading, Installation, Name, PlannedList, Poll, PollRow,
+    Register,
 };
 use sqlite::Alter;
 
@@ -25,7 +26,7 @@ impl<S: Alter + Drop> Books for SqlBooks<S> {
     }
 
     fn tables_are_known(&self) {
-        databases_tell_their_facts();
+        databases_give_their_records();
     }
 
     fn devices(&mut self) -> Result<Vec<Device>, BooksFault> {
@@ -97,12 +98,12 @@ impl<S: Alter + Drop> Books for SqlBooks<S> {
         answered(&mut self.failures, found)
     }
 
-    fn entry(&mut self, meter: &Name, place: u64) -> Result<Option<EntryPlace>, BooksFault> {
+    fn entry(&mut self, meter: &Name, place: u64) -> Result<Option<EntryContext>, BooksFault> {
         let found = store_queries::entry(self.alloc, &mut self.connection, meter, place);
         answered(&mut self.failures, found)
     }
 
-    fn entry_near(&mut self, meter: &Name, place: u64) -> Result<Option<EntryPlace>, BooksFault> {
+    fn entry_near(&mut self, meter: &Name, place: u64) -> Result<Option<EntryContext>, BooksFault> {
         let found = store_queries::entry_near(self.alloc, &mut self.connection, meter, place);
         answered(&mut self.failures, found)
     }
@@ -184,7 +185,7 @@ impl<S: Alter + Drop> Books for SqlBooks<S> {
     }
 
     fn book(&mut self, facts: Vec<Fact>) -> Result<(), BooksFault> {
-        databases_tell_their_facts();
+        databases_give_their_records();
         let done = crate::bookings::book_facts(self.alloc, &mut self.connection, &facts);
         answered(&mut self.failures, done)
     }

@@ -1,7 +1,7 @@
 //! Tests a complete run of events over a store. A device is polled, and the reading of its meter is
 //! recorded.
 use crate::offices::event_of;
-use crate::runs::run_anew;
+use crate::runs::run_created;
 use interval_core::Zone;
 use office_books::Books;
 use office_core::{Run, run};
@@ -101,7 +101,7 @@ fn assert_run<B: Books>(rt: &impl Abort, alloc: Global, mut done: Run<B>) {
 fn a_run_keeps_each_answer(rt: HostRuntime) {
     let zone = Zone::read("UTC0").expect(&rt, "a zone");
     let events = events(&rt, rt.alloc());
-    let done = run_anew(rt.alloc(), zone, 0, &events)
+    let done = run_created(rt.alloc(), zone, 0, &events)
         .ok()
         .expect(&rt, "a run");
     assert_run(&rt, rt.alloc(), done);

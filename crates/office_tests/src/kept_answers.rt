@@ -4,7 +4,7 @@ use crate::offices::LIST;
 use crate::steps::{Step, try_step};
 use crate::tried::{Trial, try_failing};
 use energy_core::Cause;
-use kept_books::KeptBooks;
+use kept_books::CachedBooks;
 use mb_wire::ReadFunction;
 use meter_journal::EntryKind;
 use office_books::{Books, BooksFault, Span, StoreFault};
@@ -151,7 +151,7 @@ fn assert_steps<B: Books>(rt: &impl Abort, alloc: Global, books: &mut B, steps: 
 // Executes test steps over a store with a cache, then the last step over the store below the cache.
 // Returns the number of failures before the last step.
 fn play<B: Books>(rt: &impl Abort, alloc: Global, beneath: B, steps: &[Step]) -> u64 {
-    let mut books = KeptBooks::new(alloc, beneath);
+    let mut books = CachedBooks::new(alloc, beneath);
     assert_steps(rt, alloc, &mut books, steps);
     let faults = books.faults();
     let mut beneath = books.into_books();

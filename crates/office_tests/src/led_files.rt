@@ -3,7 +3,7 @@
 use energy_report::Period;
 use interval_core::{Day, Zone};
 use run_schedule::{
-    LedPeriod, OnwardTime, Plan, next_try, nothing_goes_back, period_until, plan_of,
+    ActivePeriod, OnwardTime, Plan, next_try, nothing_goes_back, period_until, plan_of,
 };
 use std::alloc::Global;
 use std::process::Abort;
@@ -51,7 +51,7 @@ static FOLDERS: [(&str, &str, &str); 8] = [
 ];
 
 fn assert_led(rt: &impl Abort, alloc: Global, names: &str, period: Period, wanted: &str) {
-    let mut led = LedPeriod::none();
+    let mut led = ActivePeriod::none();
     for name in names.split(' ') {
         led.see(alloc, b"office.db", period, name.as_bytes())
             .expect(rt, "memory");
@@ -140,10 +140,10 @@ fn no_run_begins_before_the_one_before_it(rt: HostRuntime) {
     let mut time = OnwardTime::new();
     assert!(rt; time.read(50) == 50);
     assert!(rt; time.read(40) == 40);
-    time.go_on();
+    time.advance_least();
     assert!(rt; time.read(45) == 50);
     assert!(rt; time.read(51) == 51);
     assert!(rt; time.read(45) == 50);
-    time.go_on();
+    time.advance_least();
     assert!(rt; time.read(0) == 51);
 }

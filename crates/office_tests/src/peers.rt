@@ -24,7 +24,7 @@ fn places_are_given_in_order(rt: HostRuntime) {
     for place in 0..64 {
         assert!(rt; peers.admit(100, 10) == at(place));
     }
-    peers.end(7);
+    peers.free_slot(7);
     assert!(rt; peers.admit(101, 10) == at(7));
 }
 
@@ -48,7 +48,7 @@ fn none_makes_room_where_all_have_asked(rt: HostRuntime) {
         peers.ask(place);
     }
     assert!(rt; peers.admit(64, 10) == None);
-    peers.end(63);
+    peers.free_slot(63);
     assert!(rt; peers.admit(64, 10) == at(63));
 }
 
@@ -61,6 +61,6 @@ fn a_silent_connection_lasts_ten_seconds(rt: HostRuntime) {
     assert!(rt; peers.is_over(5, 15));
     peers.ask(5);
     assert!(rt; peers.is_over(5, 15));
-    peers.end(5);
+    peers.free_slot(5);
     assert!(rt; !peers.is_over(5, 1000));
 }

@@ -4,7 +4,7 @@ use crate::offices::{inv, new_books};
 use office_events::{Answer, Event, Refusal};
 use office_rounds::Sum;
 use poll_core::Closing;
-use run_status::{RunMonitor, put_lines, put_sum};
+use run_status::{RunMonitor, write_lines, write_sum};
 use std::alloc::Global;
 use std::process::Abort;
 use std::str;
@@ -108,8 +108,8 @@ fn lines_are_for_people(rt: HostRuntime) {
     ];
     let mut text = Vec::new(rt.alloc());
     for (at, event, answer) in &events {
-        assert!(rt; put_lines(&mut text, *at, &inv(), event, *answer, &[]).is_ok());
+        assert!(rt; write_lines(&mut text, *at, &inv(), event, *answer, &[]).is_ok());
     }
-    assert!(rt; put_sum(&mut text, 1_700_000_002, &inv(), 3, 1, 0).is_ok());
+    assert!(rt; write_sum(&mut text, 1_700_000_002, &inv(), 3, 1, 0).is_ok());
     assert!(rt; str::from_utf8(&text) == Ok(LINES));
 }

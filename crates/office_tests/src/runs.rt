@@ -11,7 +11,7 @@ use std::alloc::Global;
 
 /// Processes a list of events over a new store in memory. By the contract, the promise in
 /// `Headline.antt` holds for any events, without a precondition.
-pub(crate) fn run_anew(
+pub(crate) fn run_created(
     alloc: Global,
     zone: Zone,
     opened: u64,

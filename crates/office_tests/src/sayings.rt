@@ -1,17 +1,17 @@
 //! Tests messages that are printed only once, and log lines that no reader reads.
 use office_events::Name;
-use run_status::{LineQueue, Told, ToldNumber, Topic};
+use run_status::{LineQueue, ReportedNumber, Told, Topic};
 
-fn refused(name: &[u8], number: u8) -> ToldNumber {
-    ToldNumber {
+fn refused(name: &[u8], number: u8) -> ReportedNumber {
+    ReportedNumber {
         topic: Topic::Round,
         name: Name::new(name),
         number,
     }
 }
 
-fn held(name: &[u8], number: u8) -> ToldNumber {
-    ToldNumber {
+fn held(name: &[u8], number: u8) -> ReportedNumber {
+    ReportedNumber {
         topic: Topic::Meter,
         name: Name::new(name),
         number,
@@ -21,7 +21,7 @@ fn held(name: &[u8], number: u8) -> ToldNumber {
 /// A refusal is reported once for each device. After a different refusal, or after the report was
 /// forgotten, the refusal is reported again.
 #[test]
-fn a_number_is_told_until_it_changes(rt: HostRuntime) {
+fn a_number_is_reported_once_until_it_changes(rt: HostRuntime) {
     let mut told = Told::new(rt.alloc());
     let cases = [
         (refused(b"inv", 1), true),
@@ -33,11 +33,11 @@ fn a_number_is_told_until_it_changes(rt: HostRuntime) {
         (held(b"inv", 1), false),
     ];
     for (number, is_told) in cases {
-        assert!(rt; told.tell(number) == is_told);
+        assert!(rt; told.report_once(number) == is_told);
     }
     told.forget(Topic::Round, Name::new(b"inv"));
-    assert!(rt; told.tell(refused(b"inv", 1)));
-    assert!(rt; !told.tell(refused(b"two", 1)));
+    assert!(rt; told.report_once(refused(b"inv", 1)));
+    assert!(rt; !told.report_once(refused(b"two", 1)));
 }
 
 const FIRST: &[u8] = b"one\ntwo\n";
@@ -50,17 +50,17 @@ const DROPPED: &[u8] = b"1700000000 - dropped 3 lines\n";
 fn lines_that_nobody_reads_are_counted(rt: HostRuntime) {
     let long = vec![in rt.alloc(); b'x'; 65_528].expect(&rt, "some room");
     let mut queue = LineQueue::new(rt.alloc());
-    queue.put(FIRST);
-    queue.put(&long);
-    queue.put(b"dropped\n");
-    queue.put(b"two more\ndropped\n");
-    queue.tell_dropped(1_699_999_999);
+    queue.push_lines(FIRST);
+    queue.push_lines(&long);
+    queue.push_lines(b"dropped\n");
+    queue.push_lines(b"two more\ndropped\n");
+    queue.append_dropped(1_699_999_999);
     assert!(rt; queue.waiting().len() == 65_536);
     assert!(rt; queue.waiting().starts_with(FIRST));
     queue.advance(65_536);
-    queue.tell_dropped(1_700_000_000);
+    queue.append_dropped(1_700_000_000);
     assert!(rt; queue.waiting() == DROPPED);
     queue.advance(11);
-    queue.put(FIRST);
+    queue.push_lines(FIRST);
     assert!(rt; queue.waiting() == b"- dropped 3 lines\none\ntwo\n".as_slice());
 }

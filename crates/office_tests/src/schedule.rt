@@ -45,7 +45,7 @@ fn a_round_lasts_a_minute_at_least(rt: HostRuntime) {
 /// If the clock was set back, this is reported once. In this test the clock is set back by 40
 /// seconds and then catches up.
 #[test]
-fn a_clock_that_is_set_back_is_told_once(rt: HostRuntime) {
+fn a_clock_that_is_set_back_is_reported_once(rt: HostRuntime) {
     let mut steady_clock = SteadyClock::new(1000);
     let cases = [
         (1001, 1001, None),
@@ -65,7 +65,7 @@ fn a_clock_that_is_set_back_is_told_once(rt: HostRuntime) {
 /// If the clock jumps ahead by more than a minute, the jump is reported. In this test the clock
 /// jumps by a minute, by 61 seconds, and by an hour after it was set back.
 #[test]
-fn a_clock_that_goes_ahead_is_told(rt: HostRuntime) {
+fn a_clock_that_goes_ahead_is_reported(rt: HostRuntime) {
     let mut steady_clock = SteadyClock::new(1000);
     let cases = [
         (1060, None),
@@ -94,7 +94,7 @@ fn a_device_is_tried_again(rt: HostRuntime) {
             assert!(rt; timing.at == again);
         }
     }
-    timing.stand(60, 129);
+    timing.begin_round(60, 129);
     assert!(rt; timing.phase == Phase::Polling);
     assert!(rt; timing.is_over(189));
     timing.rest(60, 130);

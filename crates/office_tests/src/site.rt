@@ -75,7 +75,7 @@ pub(crate) fn ask<B: Books>(rt: &impl Abort, alloc: Global, books: B) -> u64 {
 /// A query for the accounting registers of all devices makes six calls of the store. If one of the
 /// calls fails, a repeated query succeeds.
 #[test]
-fn a_site_is_told_where_the_store_refuses_a_call(rt: HostRuntime) {
+fn a_site_is_reported_while_the_store_refuses_a_call(rt: HostRuntime) {
     let mut refused = 0u64;
     for failing in 1..100 {
         let asked = try_failing(&rt, rt.alloc(), failing, Trial::Site);

@@ -4,8 +4,8 @@ use mb_wire::ReadFunction;
 use office_core::SiteRow;
 use office_events::{Installation, Name, Note, Opening, Register, ScaleSource};
 use poll_core::{LostCause, Outcome};
-use run_http::put_metrics;
-use run_status::{Counts, DeviceLack, DeviceState, Lack, put_lack, put_status};
+use run_http::write_metrics;
+use run_status::{Counts, DeviceLack, DeviceState, Lack, write_lack, write_status};
 use std::str;
 
 fn outcome(outcome: Outcome) -> Note {
@@ -69,7 +69,7 @@ const STATUS: &str =
 #[test]
 fn the_status_is_json(rt: HostRuntime) {
     let mut text = Vec::new(rt.alloc());
-    assert!(rt; put_status(&mut text, &counts(), &devices(), &[]).is_ok());
+    assert!(rt; write_status(&mut text, &counts(), &devices(), &[]).is_ok());
     assert!(rt; str::from_utf8(&text) == Ok(STATUS));
 }
 
@@ -157,7 +157,7 @@ fn site() -> Option<[SiteRow; 4]> {
 fn the_metrics_are_in_text_format(rt: HostRuntime) {
     let mut text = Vec::new(rt.alloc());
     if let Some(rows) = site() {
-        assert!(rt; put_metrics(&mut text, &counts(), &devices(), &rows).is_ok());
+        assert!(rt; write_metrics(&mut text, &counts(), &devices(), &rows).is_ok());
     }
     assert!(rt; str::from_utf8(&text) == Ok(METRICS));
 }
@@ -208,7 +208,7 @@ const LACKS: &str =
 fn what_devices_lack_is_in_the_status(rt: HostRuntime) {
     let mut text = Vec::new(rt.alloc());
     if let Some(import) = import() {
-        assert!(rt; put_status(&mut text, &Counts::new(), &[], &lacks(&import)).is_ok());
+        assert!(rt; write_status(&mut text, &Counts::new(), &[], &lacks(&import)).is_ok());
     }
     assert!(rt; text.ends_with(LACKS.as_bytes()));
 }
@@ -227,7 +227,7 @@ fn what_devices_lack_is_said(rt: HostRuntime) {
     let mut text = Vec::new(rt.alloc());
     if let Some(import) = import() {
         for lack in &lacks(&import) {
-            assert!(rt; put_lack(&mut text, lack).is_ok());
+            assert!(rt; write_lack(&mut text, lack).is_ok());
         }
     }
     assert!(rt; str::from_utf8(&text) == Ok(SENTENCES));

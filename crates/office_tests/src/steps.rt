@@ -6,7 +6,7 @@ use energy_core::Cause;
 use mb_wire::ReadSpan;
 use office_books::{Books, BooksFault, RowSink, Span, with_whole_energy};
 use office_events::{
-    DeviceList, EntryPlace, Fact, HeldReading, Installation, Name, Poll, Register,
+    DeviceList, EntryContext, Fact, HeldReading, Installation, Name, Poll, Register,
 };
 use std::alloc::Global;
 use std::process::Abort;
@@ -125,7 +125,7 @@ fn is_meter(found: &Option<Installation>, meter: &[u8], total: u64, ended: bool)
     }
 }
 
-fn is_entry(found: &Option<EntryPlace>, total: u64, is_voided: bool) -> bool {
+fn is_entry(found: &Option<EntryContext>, total: u64, is_voided: bool) -> bool {
     match found {
         Some(place) => place.before.total == total && place.row.stands != is_voided,
         None => false,

@@ -43,7 +43,7 @@ fn is_there(points: &[NamedPoint<'_>], name: &str) -> bool
     has_point(points, name)
 }
 
-fn scale_there(
+fn named_scale_of(
     alloc: Global,
     place: usize,
     others: &[NamedPoint<'_>],
@@ -71,7 +71,7 @@ fn chain_scale(
         IfOk result (λ made. made ≡ chain_scale place (map seen others.now) named) }
 {
     match scale {
-        Some(name) => scale_there(alloc, place, others, name),
+        Some(name) => named_scale_of(alloc, place, others, name),
         None => Ok(PointScale::Unscaled),
     }
 }

@@ -29,7 +29,7 @@ pub fn is_scaled_type(kind: PointType) -> bool
 }
 
 // Returns the address after the last register of a point.
-fn end(point: &ListedPoint) -> u32
+fn end_address(point: &ListedPoint) -> u32
     ensures { result ≡ end_of point.now }
 {
     u32::from(point.address) + u32::from(point.kind.registers())
@@ -41,7 +41,7 @@ pub fn is_group(point: &ListedPoint, scale: &ListedPoint) -> bool
     ensures { IsTrue result ↔ IsGroup point.now scale.now }
 {
     let first = u32::from(point.address).min(u32::from(scale.address));
-    let last = end(point).max(end(scale));
+    let last = end_address(point).max(end_address(scale));
     point.function == scale.function
         && point.area == scale.area
         && last <= first + u32::from(MAX_READ_REGISTERS)
@@ -113,7 +113,7 @@ fn all_have_registers(points: &[ListedPoint]) -> bool
 fn are_inside(points: &[ListedPoint]) -> bool
     ensures { IsTrue result ↔ All (λ point. end_of point ≤ ADDRESSES) points.now }
 {
-    points.iter().all(|point| end(point) <= ADDRESSES)
+    points.iter().all(|point| end_address(point) <= ADDRESSES)
 }
 
 fn are_scaled(points: &[ListedPoint]) -> bool

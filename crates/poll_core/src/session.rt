@@ -137,7 +137,7 @@ impl Session {
         let step = self.advance(moment, piece)?;
         Ok(Turn {
             taken: step.taken,
-            settled: tell_any(step.settled, &self.inner.reader),
+            settled: report_any(step.settled, &self.inner.reader),
         })
     }
 
@@ -167,7 +167,7 @@ impl Session {
         ensures reply { IfOk result (λ settled. IfSome settled LendsReply) }
     {
         let taken = self.tick_once(moment)?;
-        Ok(tell_any(taken, &self.inner.reader))
+        Ok(report_any(taken, &self.inner.reader))
     }
 
     fn tick_once(&mut self, moment: u64) -> Result<Option<SettledPoll>, ClockBack>
@@ -193,7 +193,7 @@ impl Session {
         ensures reply { IfOk result (λ settled. IfSome settled LendsReply) }
     {
         let taken = self.close_once(moment, closing)?;
-        Ok(tell_any(taken, &self.inner.reader))
+        Ok(report_any(taken, &self.inner.reader))
     }
 
     fn close_once(
@@ -214,7 +214,7 @@ impl Session {
 }
 
 // Returns the completed poll, if any, with its response from the frame in the reader.
-fn tell_any(taken: Option<SettledPoll>, reader: &FrameReader) -> Option<Settled<'_>>
+fn report_any(taken: Option<SettledPoll>, reader: &FrameReader) -> Option<Settled<'_>>
     requires { CanTell taken reader.now.frame }
     ensures told { option_map settled_of result ≡ told_of taken reader.now.frame }
     ensures variant { is_some result ≡ is_some taken }
@@ -222,12 +222,12 @@ fn tell_any(taken: Option<SettledPoll>, reader: &FrameReader) -> Option<Settled<
 {
     match taken {
         None => None,
-        Some(taken) => Some(tell(taken, reader)),
+        Some(taken) => Some(report_settled(taken, reader)),
     }
 }
 
 // Returns the completed poll with its response from the frame in the reader.
-fn tell(settled: SettledPoll, reader: &FrameReader) -> Settled<'_>
+fn report_settled(settled: SettledPoll, reader: &FrameReader) -> Settled<'_>
     requires { HasFrame settled.by reader.now.frame }
     ensures told { settled_of result ≡ told_by settled reader.now.frame }
     ensures reply { LendsReply result }

@@ -5,7 +5,7 @@ use point_list::{ListedPoint, PointList, PointName, PointScale};
 use std::alloc::{AllocError, Global};
 
 /// Copies the name of a point.
-fn copy_name(alloc: Global, name: &PointName) -> Result<PointName, AllocError>
+fn clone_name(alloc: Global, name: &PointName) -> Result<PointName, AllocError>
     ensures { IfOk result (λ copy. copy ≡ name.now) }
 {
     let bytes = name.as_bytes().to_vec(alloc)?;
@@ -22,7 +22,7 @@ fn copy_scale(alloc: Global, scale: &PointScale) -> Result<PointScale, AllocErro
     match scale {
         PointScale::Unscaled => Ok(PointScale::Unscaled),
         PointScale::Fixed(exponent) => Ok(PointScale::Fixed(*exponent)),
-        PointScale::Named(name) => Ok(PointScale::Named(copy_name(alloc, name)?)),
+        PointScale::Named(name) => Ok(PointScale::Named(clone_name(alloc, name)?)),
     }
 }
 
@@ -31,7 +31,7 @@ fn copy_point(alloc: Global, point: &ListedPoint) -> Result<ListedPoint, AllocEr
     ensures { IfOk result (λ copy. copy ≡ point.now) }
 {
     Ok(ListedPoint {
-        name: copy_name(alloc, &point.name)?,
+        name: clone_name(alloc, &point.name)?,
         function: point.function,
         area: point.area,
         address: point.address,

@@ -7,8 +7,8 @@ use Rattle.office_http.specs.Exchange.{Handles, passage}
 use Rattle.office_http.specs.declared.fault.HandleFault.{HandleFault}
 use Rattle.office_http.specs.declared.fault.HandleFault.TheVariants as fault
 use Rattle.mb_wire.specs.declared.link.LastTake.{LastTake}
-use Rattle.run_http.specs.declared.answer.PeerReply.{PeerReply}
-use Rattle.run_http.specs.declared.answer.PeerReply.TheVariants.{Open, Replied, Failed}
+use Rattle.run_http.specs.declared.answer.ClientResponse.{ClientResponse}
+use Rattle.run_http.specs.declared.answer.ClientResponse.TheVariants.{Open, Replied, Failed}
 
 -- A call of `handle` in `office_http` over the client's bytes ends with this result, and has
 -- written this response.
@@ -23,7 +23,7 @@ pub record Serves {B : Type 0} (ledger : B → Ledger) (at : ℕ) (old new : Off
 -- complete request. Replied has the response, which is cut off if the store failed. Failed means
 -- that memory ran out, or the request took too many reads.
 abbrev pub Asks : {B : Type 0} → (B → Ledger) → (at : ℕ) → (old new : Office B)
-    → (request : List ℕ) → PeerReply → Type 0
+    → (request : List ℕ) → ClientResponse → Type 0
 Asks ledger at old new request Open =
     (reply : List ℕ) × Serves ledger at old new request (Err fault.Short) reply
 Asks ledger at old new request (Replied reply) =

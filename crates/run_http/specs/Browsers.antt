@@ -39,13 +39,13 @@ abbrev pub first_line_end : List ℕ → Option ℕ
 first_line_end reply = position (λ byte. byte == 10) reply
 
 -- The response with `more` inserted after this index. Without an index, the response is unchanged.
-abbrev pub put_at : (more reply : List ℕ) → Option ℕ → List ℕ
-put_at more reply None = reply
-put_at more reply (Some at) = take (at + 1) reply ++ more ++ drop (at + 1) reply
+abbrev pub append_at : (more reply : List ℕ) → Option ℕ → List ℕ
+append_at more reply None = reply
+append_at more reply (Some at) = take (at + 1) reply ++ more ++ drop (at + 1) reply
 
 -- The response with the headers `more` inserted after its status line.
 abbrev pub with_headers : (more reply : List ℕ) → List ℕ
-with_headers more reply = put_at more reply (first_line_end reply)
+with_headers more reply = append_at more reply (first_line_end reply)
 
 -- The response `told` is the response `reply` with the headers for browsers inserted.
 pub record IsForBrowsers (names : List (List ℕ)) (bytes reply told : List ℕ) : Type 0 where

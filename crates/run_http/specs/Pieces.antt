@@ -27,7 +27,7 @@ use Rattle.office_rules.specs.Lawful.{AreLawful}
 use Rattle.office_rules.specs.Meters.{meter_of}
 use Rattle.run_http.specs.Copies.{VoidsFrom, next_place, quarter_of}
 use Rattle.run_http.specs.StatusRoute.{with_reply, with_start_of}
-use Rattle.run_http.specs.declared.pieces.RowsLeft.{RowsLeft}
+use Rattle.run_http.specs.declared.pieces.RemainingRows.{RemainingRows}
 use Rattle.run_http.specs.declared.row_sizes.RowSizes.{RowSizes}
 use Rattle.run_http.specs.declared.row_sizes.Sizes.{Sizes}
 
@@ -37,18 +37,18 @@ rows_between facts meter from till = rows_in (intervals_within facts meter (Betw
 
 -- The rows that are still to be written: the rows not yet queried, followed by the stored last
 -- rows.
-abbrev pub rows_left : List Fact → RowsLeft → List Share
+abbrev pub rows_left : List Fact → RemainingRows → List Share
 rows_left facts left = rows_between facts left.meter left.from left.till ++ left.last.items
 
 -- The text that is still to be written: the lines of the remaining rows, and the line with the
 -- number of all rows.
-abbrev pub text_left : List Fact → RowsLeft → List ℕ
+abbrev pub text_left : List Fact → RemainingRows → List ℕ
 text_left facts left =
     flat_map share_line (rows_left facts left)
     ++ end_line (left.told + length (rows_left facts left))
 
 -- True if some rows of the response are still to be queried.
-abbrev pub has_more : RowsLeft → Bool
+abbrev pub has_more : RemainingRows → Bool
 has_more left = nat_lt left.from left.till
 
 -- The start of the quarter hour of the meter's last entry; 0 if there is no meter.
@@ -58,7 +58,7 @@ last_quarter (Some it) = quarter_of it.last.at
 
 -- The rows still to be queried start before the quarter hour of the meter's last entry, so that new
 -- entries change none of them.
-abbrev pub IsSettled : List Fact → RowsLeft → Type 0
+abbrev pub IsSettled : List Fact → RemainingRows → Type 0
 IsSettled facts left =
     left.from < left.till
     → left.till ≤ last_quarter (option_and_then (meter_of facts) left.meter)
@@ -66,7 +66,7 @@ IsSettled facts left =
 -- If later records void no entry that the meter has now, they do not change the text still to be
 -- written. All chunks then belong to the time at which the response began.
 abbrev pub TextStays : Type 0
-TextStays = (further facts : List Fact) (meter : List ℕ) (opening : Opening) (left : RowsLeft)
+TextStays = (further facts : List Fact) (meter : List ℕ) (opening : Opening) (left : RemainingRows)
     → AreLawful (further ++ facts) → opening_of facts meter ≡ Some opening
     → left.meter ≡ Some meter → IsSettled facts left
     → All (VoidsFrom meter (next_place facts opening)) further
@@ -81,17 +81,17 @@ first_asked it from = max from (quarter_of it.opening.at)
 
 -- The end of the rows that are queried chunk by chunk: `till`, or the quarter hour of the meter's
 -- last entry if that is earlier. New entries change no row before that quarter hour.
-abbrev pub asked_till : Installation → (from till : ℕ) → ℕ
-asked_till it from till = max (first_asked it from) (min till (quarter_of it.last.at))
+abbrev pub end_of_streamed : Installation → (from till : ℕ) → ℕ
+end_of_streamed it from till = max (first_asked it from) (min till (quarter_of it.last.at))
 
 -- True if the rows that are queried chunk by chunk span more than `seconds` seconds.
-abbrev pub are_many : Installation → (from till seconds : ℕ) → Bool
-are_many it from till seconds = nat_lt seconds (asked_till it from till - first_asked it from)
+abbrev pub is_long_response : Installation → (from till seconds : ℕ) → Bool
+is_long_response it from till seconds = nat_lt seconds (end_of_streamed it from till - first_asked it from)
 
 -- The written bytes, followed by the remaining text, are the response with all requested rows.
 -- Later entries do not change the remaining text.
 pub record IsBegun (facts : List Fact) (meter : List ℕ) (from till : ℕ)
-    (reply : List Share → List ℕ) (put : List ℕ) (left : RowsLeft) : Type 0 where
+    (reply : List Share → List ℕ) (put : List ℕ) (left : RemainingRows) : Type 0 where
   pub tells : put ++ text_left facts left ≡ reply (rows_between facts (Some meter) from till)
   pub settled : IsSettled facts left
 
@@ -99,7 +99,7 @@ pub record IsBegun (facts : List Fact) (meter : List ℕ) (from till : ℕ)
 -- the store failed. Memory may also have run out.
 abbrev pub AreBegun : {B E : Type 0} → (B → Ledger) → (old new : Office B) → Installation
     → (from till : ℕ) → (reply : List Share → List ℕ) → (put : List ℕ)
-    → (answer : Result (Unit {0}) Refusal) → Result (Result RowsLeft Refusal) E → Type 0
+    → (answer : Result (Unit {0}) Refusal) → Result (Result RemainingRows Refusal) E → Type 0
 AreBegun ledger old new it from till reply put answer (Ok (Ok left)) =
     (answer ≡ Ok tt) × (left.meter ≡ Some it.opening.meter)
     × After ledger old new (λ past. meter_of (facts_of past) it.opening.meter ≡ Some it
@@ -113,7 +113,7 @@ AreBegun ledger old new it from till reply put answer (Err fault) = Unit {0}
 -- The call queries the store, which changes no record, and begins the response as in `AreBegun`.
 pub record BeginsReply {B : Type 0} (ledger : B → Ledger) (old new : Office B) (it : Installation)
     (from till : ℕ) (reply : List Share → List ℕ) (put : List ℕ) {E : Type 0}
-    (result : Result (Result RowsLeft Refusal) E) : Type 0 where
+    (result : Result (Result RemainingRows Refusal) E) : Type 0 where
   pub answer : Result (Unit {0}) Refusal
   pub asks : OnlyAsks ledger old new answer
   pub begins : AreBegun ledger old new it from till reply put answer result
@@ -143,7 +143,7 @@ SizesRow old row new = new.is_whole ≡ true
 
 -- The result has the sizes of the rows that are still to be queried, unless the store failed or
 -- memory ran out.
-abbrev pub AreSized : {B E : Type 0} → (B → Ledger) → (old new : Office B) → RowsLeft
+abbrev pub AreSized : {B E : Type 0} → (B → Ledger) → (old new : Office B) → RemainingRows
     → (answer : Result (Unit {0}) Refusal) → Result (Result Sizes Refusal) E → Type 0
 AreSized ledger old new left answer (Ok (Ok sizes)) =
     (answer ≡ Ok tt) × After ledger old new (λ past.
@@ -156,7 +156,7 @@ AreSized ledger old new left answer (Ok (Err why)) =
 AreSized ledger old new left answer (Err fault) = Unit {0}
 
 -- The size in bytes of a response's body, given the sizes of its rows that are still to be queried.
-abbrev pub body_size : RowsLeft → Sizes → ℕ
+abbrev pub body_size : RemainingRows → Sizes → ℕ
 body_size left sizes =
     sizes.bytes
     + length (flat_map share_line left.last.items
@@ -168,7 +168,7 @@ with_head size text = with_start_of Fine (codes "text/plain") size text ++ codes
 
 -- The call queries the store for the rows that are still to be written. Its result is the sizes of
 -- these rows.
-pub record SizesRows {B : Type 0} (ledger : B → Ledger) (old new : Office B) (left : RowsLeft)
+pub record SizesRows {B : Type 0} (ledger : B → Ledger) (old new : Office B) (left : RemainingRows)
     {E : Type 0} (result : Result (Result Sizes Refusal) E) : Type 0 where
   pub answer : Result (Unit {0}) Refusal
   pub asks : OnlyAsks ledger old new answer
@@ -179,7 +179,7 @@ pub record SizesRows {B : Type 0} (ledger : B → Ledger) (old new : Office B) (
 -- A chunk was written to the response, with rows that start within `seconds` seconds. If rows were
 -- still to be queried before the chunk, then fewer rows are after it. The meter and the end of the
 -- rows are unchanged.
-pub record MovesOn (left later : RowsLeft) (seconds : ℕ) : Type 0 where
+pub record MovesOn (left later : RemainingRows) (seconds : ℕ) : Type 0 where
   pub meter : later.meter ≡ left.meter
   pub till : later.till ≡ left.till
   pub some : left.from < left.till → 0 < seconds → left.from < later.from
@@ -189,7 +189,7 @@ pub record MovesOn (left later : RowsLeft) (seconds : ℕ) : Type 0 where
 -- The written bytes and the remaining text together are the same before and after the chunk, unless
 -- the store failed or memory ran out.
 abbrev pub HasTold : {B E : Type 0} → (B → Ledger) → (old new : Office B)
-    → (answer : Result (Vec Share Global) Refusal) → (left later : RowsLeft) → (seconds : ℕ)
+    → (answer : Result (Vec Share Global) Refusal) → (left later : RemainingRows) → (seconds : ℕ)
     → (from to : List ℕ) → Result (Result (Unit {0}) Refusal) E → Type 0
 HasTold ledger old new answer left later seconds from to (Ok (Ok done)) =
     MovesOn left later seconds
@@ -200,7 +200,7 @@ HasTold ledger old new answer left later seconds from to (Err fault) = Unit {0}
 
 -- The call queries the store for the rows of one chunk, and writes the lines of these rows to the
 -- response.
-pub record TellsOn {B : Type 0} (ledger : B → Ledger) (old new : Office B) (left later : RowsLeft)
+pub record TellsOn {B : Type 0} (ledger : B → Ledger) (old new : Office B) (left later : RemainingRows)
     (seconds : ℕ) (from to : List ℕ) {E : Type 0} (result : Result (Result (Unit {0}) Refusal) E)
     : Type 0 where
   pub answer : Result (Vec Share Global) Refusal
@@ -208,7 +208,7 @@ pub record TellsOn {B : Type 0} (ledger : B → Ledger) (old new : Office B) (le
   pub tells : HasTold ledger old new answer left later seconds from to result
 
 -- If no rows are still to be queried, then the call writes the remaining text of the response.
-abbrev pub TellsRest : RowsLeft → (from to : List ℕ) → Type 0
+abbrev pub TellsRest : RemainingRows → (from to : List ℕ) → Type 0
 TellsRest left from to =
     (facts : List Fact) → left.till ≤ left.from → to ≡ from ++ text_left facts left
 
@@ -218,11 +218,11 @@ TellsRest left from to =
 -- the text written so far.
 pub record Piece : Type 0 where
   pub further : List Fact
-  pub later : RowsLeft
+  pub later : RemainingRows
   pub text : List ℕ
 
 -- The state of a streamed response after some chunks, the latest chunk first.
-abbrev pub left_after : RowsLeft → List Piece → RowsLeft
+abbrev pub left_after : RemainingRows → List Piece → RemainingRows
 left_after left [] = left
 left_after left (piece ∷ earlier) = piece.later
 
@@ -233,7 +233,7 @@ text_after text (piece ∷ earlier) = piece.text
 
 -- True if a chunk has the next rows of a response that is sent in chunks. The records added since
 -- the response began void no meter entry that was recorded by then.
-pub record IsPiece (facts : List Fact) (meter : List ℕ) (opening : Opening) (left : RowsLeft)
+pub record IsPiece (facts : List Fact) (meter : List ℕ) (opening : Opening) (left : RemainingRows)
     (text : List ℕ) (piece : Piece) : Type 0 where
   pub lawful : AreLawful (piece.further ++ facts)
   pub voids : All (VoidsFrom meter (next_place facts opening)) piece.further
@@ -244,7 +244,7 @@ pub record IsPiece (facts : List Fact) (meter : List ℕ) (opening : Opening) (l
 
 -- Each chunk in the list continues the response after the chunks before it. The latest chunk comes
 -- first.
-abbrev pub ArePieces : List Fact → (meter : List ℕ) → Opening → RowsLeft → (text : List ℕ)
+abbrev pub ArePieces : List Fact → (meter : List ℕ) → Opening → RemainingRows → (text : List ℕ)
     → List Piece → Type 0
 ArePieces facts meter opening left text [] = Unit {0}
 ArePieces facts meter opening left text (piece ∷ earlier) =
@@ -255,7 +255,7 @@ ArePieces facts meter opening left text (piece ∷ earlier) =
 -- chunks together are complete. The written text and the remaining text are then the response as of
 -- its beginning.
 abbrev pub PiecesAreWhole : Type 0
-PiecesAreWhole = (facts : List Fact) (meter : List ℕ) (opening : Opening) (left : RowsLeft)
+PiecesAreWhole = (facts : List Fact) (meter : List ℕ) (opening : Opening) (left : RemainingRows)
     (text : List ℕ) (pieces : List Piece) → opening_of facts meter ≡ Some opening
     → left.meter ≡ Some meter → IsSettled facts left
     → ArePieces facts meter opening left text pieces

@@ -10,7 +10,7 @@ use std::alloc::Global;
 
 /// The result of looking for a request in the bytes that a client has sent so far.
 #[derive(Drop)]
-pub enum PeerReply {
+pub enum ClientResponse {
     /// The bytes hold no complete request, and nothing was executed.
     Open,
     /// The bytes of the response. It is cut off if the store failed while rows were written.
@@ -28,17 +28,17 @@ pub fn ask<B: Books>(
     request: &[u8],
     office: &mut Office<B>,
     moment: u64,
-) -> PeerReply
+) -> ClientResponse
     ensures asks { Asks B.ledger moment office.old office.new request.now result }
     ensures lasts { Lasts B.ledger office.old office.new }
 {
     let mut link = ReplyLink::new(alloc, request);
     match handle(alloc, &mut link, office, moment) {
-        Ok(()) => PeerReply::Replied(link.into_reply()),
-        Err(HandleFault::Cut) => PeerReply::Replied(link.into_reply()),
-        Err(HandleFault::Short) => PeerReply::Open,
-        Err(HandleFault::Read) => PeerReply::Failed,
-        Err(HandleFault::Write) => PeerReply::Failed,
-        Err(HandleFault::TurnsUsed) => PeerReply::Failed,
+        Ok(()) => ClientResponse::Replied(link.into_reply()),
+        Err(HandleFault::Cut) => ClientResponse::Replied(link.into_reply()),
+        Err(HandleFault::Short) => ClientResponse::Open,
+        Err(HandleFault::Read) => ClientResponse::Failed,
+        Err(HandleFault::Write) => ClientResponse::Failed,
+        Err(HandleFault::TurnsUsed) => ClientResponse::Failed,
     }
 }

@@ -5,7 +5,7 @@ ghost use Rattle.run_http.specs.Browsers as browsers;
 ghost use Rattle.run_http.specs.Browsers.{IsForBrowsers};
 
 use crate::route::{RunRoute, StatusRoute, run_route};
-use run_status::put;
+use run_status::append_bytes;
 use std::alloc::{AllocError, Global};
 
 static OF_PAGE: &[u8] =
@@ -44,8 +44,8 @@ fn with_headers(alloc: Global, more: &[u8], reply: &[u8]) -> Result<Vec<u8>, All
         return Vec::from_slice(alloc, reply);
     };
     let mut told = Vec::from_slice(alloc, &reply[..at + 1])?;
-    put(&mut told, more)?;
-    put(&mut told, &reply[at + 1..])?;
+    append_bytes(&mut told, more)?;
+    append_bytes(&mut told, &reply[at + 1..])?;
     Ok(told)
 }
 

@@ -21,19 +21,19 @@ mod site;
 mod texts;
 mod voids;
 
-pub use answer::{PeerReply, ask};
+pub use answer::{ClientResponse, ask};
 pub use browsers::for_browsers;
 pub use laws::{entries_come_after, rows_before_stay};
 pub use meter_replies::{MOST_ENTRIES, reply_entries, reply_intervals};
 pub use metrics::reply_metrics;
 pub use office_requests::{all_rows_asked, may_void};
 pub use pieces::{
-    RowsLeft, are_many, begin_all_intervals, begin_intervals, end_rows, has_more, pieces_are_whole,
-    tell_rows, text_stays,
+    RemainingRows, begin_all_intervals, begin_intervals, chunks_form_response, has_more,
+    is_long_response, text_stays, write_last_rows, write_next_rows,
 };
 pub use register_meters::reply_meters;
-pub use register_replies::{put_energy_reply, reply_energy};
+pub use register_replies::{reply_energy, write_energy_reply};
 pub use route::{RunRoute, StatusRoute, asks_energy, reply_status, run_route};
-pub use site::put_site_reply;
-pub use texts::{SiteLine, put_entries, put_metrics, put_register_meters, put_site};
+pub use site::write_site_reply;
+pub use texts::{SiteLine, write_entries, write_metrics, write_register_meters, write_site};
 pub use voids::reply_voids;

@@ -6,9 +6,9 @@ ghost use Rattle.run_http.specs.MeterReplies.{AsksRows, RepliesRows, with_rows_r
 ghost use Rattle.run_http.specs.Texts.MeterLines.{entries_text};
 
 use crate::kept_rows::KeptRows;
-use crate::route::put_reply;
-use crate::site::put_refusal;
-use crate::texts::{put_entries, put_shares};
+use crate::route::append_reply;
+use crate::site::append_refusal;
+use crate::texts::{write_entries, write_shares};
 use http_request::Status;
 use interval_core::Share;
 use office_books::{Books, MeterEntry, Span};
@@ -39,7 +39,7 @@ pub(crate) fn ask_intervals<B: Books>(
 }
 
 // Appends the response with the quarter hours of a meter, or with the program's refusal.
-fn put_intervals_told(
+fn write_reported_intervals(
     alloc: Global,
     text: &mut Vec<u8>,
     answer: &Result<Vec<Share>, Refusal>,
@@ -50,10 +50,10 @@ fn put_intervals_told(
     match answer {
         Ok(rows) => {
             let mut body = Vec::new(alloc);
-            put_shares(&mut body, rows)?;
-            put_reply(text, Status::Fine, b"text/plain", &body)
+            write_shares(&mut body, rows)?;
+            append_reply(text, Status::Fine, b"text/plain", &body)
         }
-        Err(why) => put_refusal(text, *why),
+        Err(why) => append_refusal(text, *why),
     }
 }
 
@@ -71,11 +71,11 @@ pub fn reply_intervals<B: Books>(
         text.old.items text.new.items result }
 {
     let answer = ask_intervals(alloc, office, meter, span)?;
-    put_intervals_told(alloc, text, &answer)
+    write_reported_intervals(alloc, text, &answer)
 }
 
 // Appends the response with the entries of a meter, or with the program's refusal.
-fn put_entries_told(
+fn write_reported_entries(
     alloc: Global,
     text: &mut Vec<u8>,
     answer: &Result<Vec<MeterEntry>, Refusal>,
@@ -86,10 +86,10 @@ fn put_entries_told(
     match answer {
         Ok(entries) => {
             let mut body = Vec::new(alloc);
-            put_entries(&mut body, entries)?;
-            put_reply(text, Status::Fine, b"text/plain", &body)
+            write_entries(&mut body, entries)?;
+            append_reply(text, Status::Fine, b"text/plain", &body)
         }
-        Err(why) => put_refusal(text, *why),
+        Err(why) => append_refusal(text, *why),
     }
 }
 
@@ -107,5 +107,5 @@ pub fn reply_entries<B: Books>(
         text.old.items text.new.items result }
 {
     let answer = office.entries(meter, from, MOST_ENTRIES);
-    put_entries_told(alloc, text, &answer)
+    write_reported_entries(alloc, text, &answer)
 }

@@ -3,9 +3,9 @@ ghost use Rattle.std.specs.Prelude.{◌≡◌, OnOk};
 ghost use Rattle.run_http.specs.MetricsReply.{with_metrics_reply};
 ghost use Rattle.run_http.specs.SiteReply.{RepliesSite};
 
-use crate::route::put_reply;
-use crate::site::put_refusal;
-use crate::texts::put_metrics;
+use crate::route::append_reply;
+use crate::site::append_refusal;
+use crate::texts::write_metrics;
 use http_request::Status;
 use office_books::Books;
 use office_core::{Office, SiteRow};
@@ -14,7 +14,7 @@ use run_status::{Counts, DeviceState};
 use std::alloc::{AllocError, Global};
 
 // Appends the response with the metrics, or with the program's refusal.
-fn put_answer(
+fn append_answer(
     alloc: Global,
     text: &mut Vec<u8>,
     counts: &Counts,
@@ -27,10 +27,10 @@ fn put_answer(
     match answer {
         Ok(rows) => {
             let mut body = Vec::new(alloc);
-            put_metrics(&mut body, counts, devices, rows)?;
-            put_reply(text, Status::Fine, b"text/plain; version=0.0.4", &body)
+            write_metrics(&mut body, counts, devices, rows)?;
+            append_reply(text, Status::Fine, b"text/plain; version=0.0.4", &body)
         }
-        Err(why) => put_refusal(text, *why),
+        Err(why) => append_refusal(text, *why),
     }
 }
 
@@ -47,5 +47,5 @@ pub fn reply_metrics<B: Books>(
         (with_metrics_reply counts.now devices.now) text.old.items text.new.items result }
 {
     let answer = office.site();
-    put_answer(alloc, text, counts, devices, &answer)
+    append_answer(alloc, text, counts, devices, &answer)
 }

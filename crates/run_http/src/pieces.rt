@@ -8,9 +8,9 @@ ghost use Rattle.run_http.specs.Pieces.{BeginsReply, PiecesAreWhole, SizesRows, 
 ghost use Rattle.run_http.specs.Pieces.{TextStays};
 
 use crate::meter_replies::ask_intervals;
-use crate::route::put_start_of;
+use crate::route::write_start_of;
 use crate::row_sizes::{RowSizes, Sizes};
-use crate::texts::{put_end, put_share_lines};
+use crate::texts::{append_end, write_share_lines};
 use energy_core::INTERVAL_SECONDS;
 use http_request::Status;
 use interval_core::{Share, shares_add_up};
@@ -18,12 +18,12 @@ use office_books::{Books, Span};
 use office_core::Office;
 use office_events::{Installation, Name, Refusal};
 use office_rules::facts_are_lawful;
-use run_status::{put, put_number, put_word};
+use run_status::{append_bytes, write_number, write_word};
 use std::alloc::{AllocError, Global};
 
 /// The remaining part of a streamed response with quarter hours of a meter.
 #[derive(Drop)]
-pub struct RowsLeft {
+pub struct RemainingRows {
     meter: Option<Name>,
     /// Rows that start at `from` or later and before `till` are still to be queried.
     from: u64,
@@ -51,18 +51,18 @@ fn first_asked(it: &Installation, from: u64) -> u64
 
 // Returns the end of the rows that are queried chunk by chunk: `till`, or the quarter hour of the
 // meter's last entry if that is earlier.
-fn asked_till(it: &Installation, from: u64, till: u64) -> u64
-    ensures { result ≡ pieces.asked_till it.now from till }
+fn end_of_streamed(it: &Installation, from: u64, till: u64) -> u64
+    ensures { result ≡ pieces.end_of_streamed it.now from till }
 {
     first_asked(it, from).max(till.min(quarter_of(it.last.at)))
 }
 
 /// Returns whether the rows that are queried chunk by chunk span more than `seconds` seconds. The
 /// response has the quarter hours between `from` and `till`.
-pub fn are_many(it: &Installation, from: u64, till: u64, seconds: u64) -> bool
-    ensures { result ≡ pieces.are_many it.now from till seconds }
+pub fn is_long_response(it: &Installation, from: u64, till: u64, seconds: u64) -> bool
+    ensures { result ≡ pieces.is_long_response it.now from till seconds }
 {
-    asked_till(it, from, till).saturating_sub(first_asked(it, from)) > seconds
+    end_of_streamed(it, from, till).saturating_sub(first_asked(it, from)) > seconds
 }
 
 // Queries and stores the rows that new entries may change. All other rows are queried later, chunk
@@ -73,17 +73,17 @@ fn begin_rows<B: Books>(
     it: &Installation,
     from: u64,
     till: u64,
-) -> Result<Result<RowsLeft, Refusal>, AllocError>
+) -> Result<Result<RemainingRows, Refusal>, AllocError>
     ensures { BeginsReply B.ledger office.old office.new it.now from till intervals_text [] result }
 {
     shares_add_up();
     facts_are_lawful();
     let first = first_asked(it, from);
-    let end = asked_till(it, from, till);
+    let end = end_of_streamed(it, from, till);
     let meter = Some(it.opening.meter);
     let answer = ask_intervals(alloc, office, &meter, Span::Between { from: end, till })?;
     match answer {
-        Ok(last) => Ok(Ok(RowsLeft {
+        Ok(last) => Ok(Ok(RemainingRows {
             meter,
             from: first,
             till: end,
@@ -98,7 +98,7 @@ fn begin_rows<B: Books>(
 fn ask_sizes<B: Books>(
     alloc: Global,
     office: &mut Office<B>,
-    left: &RowsLeft,
+    left: &RemainingRows,
 ) -> Result<Result<Sizes, Refusal>, AllocError>
     ensures { SizesRows B.ledger office.old office.new left.now result }
 {
@@ -124,15 +124,15 @@ fn sum_of(a: usize, b: usize, c: usize) -> Option<usize>
 
 // Returns the size in bytes of a response's body, given the sizes of the rows that are still to be
 // queried.
-fn body_size(alloc: Global, left: &RowsLeft, sizes: Sizes) -> Result<usize, AllocError>
+fn body_size(alloc: Global, left: &RemainingRows, sizes: Sizes) -> Result<usize, AllocError>
     ensures { IfOk result (λ size. size ≡ pieces.body_size left.now sizes) }
 {
     let Some(count) = sum_of(left.told, sizes.count, left.last.len()) else {
         return Err(AllocError);
     };
     let mut rest = Vec::new(alloc);
-    put_share_lines(&mut rest, &left.last)?;
-    put_end(&mut rest, count)?;
+    write_share_lines(&mut rest, &left.last)?;
+    append_end(&mut rest, count)?;
     match sizes.bytes.checked_add(rest.len()) {
         Some(size) => Ok(size),
         None => Err(AllocError),
@@ -140,11 +140,11 @@ fn body_size(alloc: Global, left: &RowsLeft, sizes: Sizes) -> Result<usize, Allo
 }
 
 // Appends the head of a plain-text response with a body of `size` bytes.
-fn put_head(text: &mut Vec<u8>, size: usize) -> Result<(), AllocError>
+fn write_head(text: &mut Vec<u8>, size: usize) -> Result<(), AllocError>
     ensures { OnOk result (text.new.items ≡ pieces.with_head size text.old.items) }
 {
-    put_start_of(text, Status::Fine, b"text/plain", size)?;
-    put(text, b"\r\n\r\n")
+    write_start_of(text, Status::Fine, b"text/plain", size)?;
+    append_bytes(text, b"\r\n\r\n")
 }
 
 /// Begins a streamed response with the quarter hours of a meter that start at `from` or later and
@@ -159,7 +159,7 @@ pub fn begin_intervals<B: Books>(
     it: &Installation,
     from: u64,
     till: u64,
-) -> Result<Result<RowsLeft, Refusal>, AllocError>
+) -> Result<Result<RemainingRows, Refusal>, AllocError>
     ensures { BeginsReply B.ledger office.old office.new it.now from till
         (pieces.with_rows text.old.items) text.new.items result }
 {
@@ -172,17 +172,17 @@ pub fn begin_intervals<B: Books>(
         Err(why) => return Ok(Err(why)),
     };
     let size = body_size(alloc, &left, sizes)?;
-    put_head(text, size)?;
+    write_head(text, size)?;
     Ok(Ok(left))
 }
 
 // Appends the head of a plain-text response without `Content-Length`.
-fn put_text_head(text: &mut Vec<u8>) -> Result<(), AllocError>
+fn write_text_head(text: &mut Vec<u8>) -> Result<(), AllocError>
     ensures { OnOk result (text.new.items ≡ text.old.items ++ text_head) }
 {
-    put_number(text, b"HTTP/1.1 ", u64::from(Status::Fine.number()))?;
-    put_word(text, b" ", Status::Fine.reason())?;
-    put(
+    write_number(text, b"HTTP/1.1 ", u64::from(Status::Fine.number()))?;
+    write_word(text, b" ", Status::Fine.reason())?;
+    append_bytes(
         text,
         b"\r\nContent-Type: text/plain\r\nConnection: close\r\n\r\n",
     )
@@ -195,14 +195,14 @@ pub fn begin_all_intervals<B: Books>(
     text: &mut Vec<u8>,
     office: &mut Office<B>,
     it: &Installation,
-) -> Result<Result<RowsLeft, Refusal>, AllocError>
+) -> Result<Result<RemainingRows, Refusal>, AllocError>
     ensures { BeginsReply B.ledger office.old office.new it.now 0 18446744073709551615
         (pieces.with_all_rows text.old.items) text.new.items result }
 {
     let begun = begin_rows(alloc, office, it, 0, u64::MAX)?;
     match begun {
         Ok(left) => {
-            put_text_head(text)?;
+            write_text_head(text)?;
             Ok(Ok(left))
         }
         Err(why) => Ok(Err(why)),
@@ -225,9 +225,9 @@ fn piece_end(from: u64, till: u64, seconds: u64) -> u64
 }
 
 // Appends the lines of a chunk's rows, and records that the chunk ends at `till`.
-fn put_piece(
+fn add_piece(
     text: &mut Vec<u8>,
-    left: &mut RowsLeft,
+    left: &mut RemainingRows,
     rows: &[Share],
     till: u64,
 ) -> Result<(), AllocError>
@@ -238,14 +238,14 @@ fn put_piece(
     let Some(told) = left.told.checked_add(rows.len()) else {
         return Err(AllocError);
     };
-    put_share_lines(text, rows)?;
+    write_share_lines(text, rows)?;
     left.told = told;
     left.from = till;
     Ok(())
 }
 
 /// Returns whether some rows of the response are still to be queried.
-pub fn has_more(left: &RowsLeft) -> bool
+pub fn has_more(left: &RemainingRows) -> bool
     ensures { result ≡ pieces.has_more left.now }
 {
     left.from < left.till
@@ -253,11 +253,11 @@ pub fn has_more(left: &RowsLeft) -> bool
 
 /// Queries the next rows of a response, which start within `seconds` seconds, and appends their
 /// lines. If memory runs out, a part of the lines remains.
-pub fn tell_rows<B: Books>(
+pub fn write_next_rows<B: Books>(
     alloc: Global,
     text: &mut Vec<u8>,
     office: &mut Office<B>,
-    left: &mut RowsLeft,
+    left: &mut RemainingRows,
     seconds: u64,
 ) -> Result<Result<(), Refusal>, AllocError>
     ensures { TellsOn B.ledger office.old office.new left.old left.new seconds
@@ -273,7 +273,7 @@ pub fn tell_rows<B: Books>(
     let answer = ask_intervals(alloc, office, &left.meter, span)?;
     match answer {
         Ok(rows) => {
-            put_piece(text, left, &rows, till)?;
+            add_piece(text, left, &rows, till)?;
             Ok(Ok(()))
         }
         Err(why) => Ok(Err(why)),
@@ -282,7 +282,7 @@ pub fn tell_rows<B: Books>(
 
 // Returns the number of rows in the complete response, when only the stored last rows are left to
 // write.
-fn count_of(left: &RowsLeft) -> Option<usize>
+fn count_of(left: &RemainingRows) -> Option<usize>
     ensures { IfSome result (λ count. count ≡ left.now.told + length left.now.last.items) }
 {
     left.told.checked_add(left.last.len())
@@ -290,14 +290,14 @@ fn count_of(left: &RowsLeft) -> Option<usize>
 
 /// Appends the stored last rows of a response, and the line with the number of all its rows. All
 /// other rows must already be written. If memory runs out, a part of the text remains.
-pub fn end_rows(text: &mut Vec<u8>, left: &RowsLeft) -> Result<(), AllocError>
+pub fn write_last_rows(text: &mut Vec<u8>, left: &RemainingRows) -> Result<(), AllocError>
     ensures { OnOk result (TellsRest left.now text.old.items text.new.items) }
 {
     let Some(count) = count_of(left) else {
         return Err(AllocError);
     };
-    put_share_lines(text, &left.last)?;
-    put_end(text, count)
+    write_share_lines(text, &left.last)?;
+    append_end(text, count)
 }
 
 /// Theorem: later records do not change the text of a response that is still to be written. The
@@ -309,7 +309,7 @@ pub fn text_stays()
 }
 
 /// Theorem: the chunks of a response together are the response as of the time at which it began.
-pub fn pieces_are_whole()
+pub fn chunks_form_response()
     ensures { PiecesAreWhole }
 {
     shares_add_up();

@@ -4,9 +4,9 @@ ghost use Rattle.office_core.specs.Parts.{meters_named};
 ghost use Rattle.run_http.specs.MeterReplies.{RepliesRows, with_rows_reply};
 ghost use Rattle.run_http.specs.Texts.RegisterLines.{meters_text};
 
-use crate::route::put_reply;
-use crate::site::put_refusal;
-use crate::texts::put_register_meters;
+use crate::route::append_reply;
+use crate::site::append_refusal;
+use crate::texts::write_register_meters;
 use http_request::Status;
 use office_books::Books;
 use office_core::Office;
@@ -14,7 +14,7 @@ use office_events::{Installation, Name, Refusal};
 use std::alloc::{AllocError, Global};
 
 // Appends the response with the meters at an accounting register, or with the program's refusal.
-fn put_meters_told(
+fn write_reported_meters(
     alloc: Global,
     text: &mut Vec<u8>,
     answer: &Result<Vec<Installation>, Refusal>,
@@ -25,10 +25,10 @@ fn put_meters_told(
     match answer {
         Ok(meters) => {
             let mut body = Vec::new(alloc);
-            put_register_meters(&mut body, meters)?;
-            put_reply(text, Status::Fine, b"text/plain", &body)
+            write_register_meters(&mut body, meters)?;
+            append_reply(text, Status::Fine, b"text/plain", &body)
         }
-        Err(why) => put_refusal(text, *why),
+        Err(why) => append_refusal(text, *why),
     }
 }
 
@@ -45,5 +45,5 @@ pub fn reply_meters<B: Books>(
         text.old.items text.new.items result }
 {
     let answer = office.meters(register);
-    put_meters_told(alloc, text, &answer)
+    write_reported_meters(alloc, text, &answer)
 }

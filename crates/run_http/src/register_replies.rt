@@ -3,8 +3,8 @@ ghost use Rattle.std.specs.Prelude.{◌≡◌, IfOk, OnOk};
 ghost use Rattle.run_http.specs.RegisterReplies.{AsksEnergy, PutsLast, RepliesEnergy};
 ghost use Rattle.run_http.specs.RegisterReplies.{with_energy_reply};
 
-use crate::route::put_reply;
-use crate::site::put_refusal;
+use crate::route::append_reply;
+use crate::site::append_refusal;
 use energy_report::{ReportForm, ReportRows};
 use http_request::Status;
 use office_books::Books;
@@ -15,7 +15,7 @@ use std::io::Write;
 
 // Writes the rest of an energy report, unless the program refused the query. A failed write means
 // that memory ran out.
-fn put_rest<W: Write>(
+fn add_rest<W: Write>(
     told: Result<(), Refusal>,
     rows: &mut ReportRows<'_, W>,
 ) -> Result<Result<(), Refusal>, AllocError>
@@ -37,7 +37,7 @@ fn put_rest<W: Write>(
 }
 
 // Queries the daily energy of an accounting register, and writes the report.
-fn put_energy<B: Books, W: Write>(
+fn write_energy<B: Books, W: Write>(
     office: &mut Office<B>,
     register: &Option<Name>,
     form: &ReportForm,
@@ -48,12 +48,12 @@ fn put_energy<B: Books, W: Write>(
 {
     let mut rows = ReportRows::to(*form, output);
     let told = office.days_within(register, form.range, &mut rows);
-    put_rest(told, &mut rows)
+    add_rest(told, &mut rows)
 }
 
 /// Appends the response to a query for the energy of an accounting register: the report, or the
 /// refusal. If memory runs out, a part of the response remains.
-pub fn put_energy_reply(
+pub fn write_energy_reply(
     text: &mut Vec<u8>,
     answer: &Result<(), Refusal>,
     body: &[u8],
@@ -62,8 +62,8 @@ pub fn put_energy_reply(
         ≡ with_energy_reply answer.now body.now text.old.items) }
 {
     match answer {
-        Ok(()) => put_reply(text, Status::Fine, b"text/plain", body),
-        Err(why) => put_refusal(text, *why),
+        Ok(()) => append_reply(text, Status::Fine, b"text/plain", body),
+        Err(why) => append_refusal(text, *why),
     }
 }
 
@@ -82,6 +82,6 @@ pub fn reply_energy<B: Books>(
         text.old.items text.new.items result }
 {
     let mut body = Vec::new(alloc);
-    let answer = put_energy(office, register, form, &mut body)?;
-    put_energy_reply(text, &answer, &body)
+    let answer = write_energy(office, register, form, &mut body)?;
+    write_energy_reply(text, &answer, &body)
 }

@@ -12,7 +12,9 @@ use energy_report::ReportForm;
 use http_request::{HeadState, Status, has_query, is_cross_site, may_ask, parse_head};
 use office_books::Span;
 use office_events::Name;
-use run_status::{Counts, DeviceLack, DeviceState, put, put_number, put_status, put_word};
+use run_status::{
+    Counts, DeviceLack, DeviceState, append_bytes, write_number, write_status, write_word,
+};
 use std::alloc::{AllocError, Global};
 use web_page::{PagePart, part_of};
 
@@ -199,7 +201,7 @@ pub fn asks_energy(names: &[&str], request: &[u8]) -> bool
 }
 
 /// Appends the status line and the headers of a response, for a body with this type and size.
-pub(crate) fn put_start_of(
+pub(crate) fn write_start_of(
     text: &mut Vec<u8>,
     status: Status,
     kind: &[u8],
@@ -208,22 +210,27 @@ pub(crate) fn put_start_of(
     ensures { OnOk result (text.new.items
         ≡ texts.with_start_of status kind.now size text.old.items) }
 {
-    put_number(text, b"HTTP/1.1 ", u64::from(status.number()))?;
-    put_word(text, b" ", status.reason())?;
-    put_word(text, b"\r\nContent-Type: ", kind)?;
-    put_number(text, b"\r\nContent-Length: ", size as u64)?;
-    put(text, b"\r\nConnection: close")
+    write_number(text, b"HTTP/1.1 ", u64::from(status.number()))?;
+    write_word(text, b" ", status.reason())?;
+    write_word(text, b"\r\nContent-Type: ", kind)?;
+    write_number(text, b"\r\nContent-Length: ", size as u64)?;
+    append_bytes(text, b"\r\nConnection: close")
 }
 
-fn put_start(text: &mut Vec<u8>, status: Status, kind: &[u8], body: &[u8]) -> Result<(), AllocError>
+fn write_start(
+    text: &mut Vec<u8>,
+    status: Status,
+    kind: &[u8],
+    body: &[u8],
+) -> Result<(), AllocError>
     ensures { OnOk result (text.new.items
         ≡ texts.with_start status kind.now body.now text.old.items) }
 {
-    put_start_of(text, status, kind, body.len())
+    write_start_of(text, status, kind, body.len())
 }
 
 /// Appends a complete response with a body of this content type.
-pub(crate) fn put_reply(
+pub(crate) fn append_reply(
     text: &mut Vec<u8>,
     status: Status,
     kind: &[u8],
@@ -232,35 +239,35 @@ pub(crate) fn put_reply(
     ensures { OnOk result (text.new.items
         ≡ texts.with_reply status kind.now body.now text.old.items) }
 {
-    put_start(text, status, kind, body)?;
-    put_word(text, b"\r\n\r\n", body)
+    write_start(text, status, kind, body)?;
+    write_word(text, b"\r\n\r\n", body)
 }
 
 // Appends the response headers for a part of the web page.
-fn put_page_headers(text: &mut Vec<u8>) -> Result<(), AllocError>
+fn write_page_headers(text: &mut Vec<u8>) -> Result<(), AllocError>
     ensures { OnOk result (text.new.items ≡ texts.with_page_headers text.old.items) }
 {
-    put(
+    append_bytes(
         text,
         b"\r\nContent-Security-Policy: default-src 'self'; frame-ancestors 'none'",
     )?;
-    put(text, b"\r\nCache-Control: no-cache")
+    append_bytes(text, b"\r\nCache-Control: no-cache")
 }
 
-fn put_page(text: &mut Vec<u8>, part: PagePart) -> Result<(), AllocError>
+fn write_page(text: &mut Vec<u8>, part: PagePart) -> Result<(), AllocError>
     ensures { OnOk result (text.new.items ≡ texts.with_page_reply part text.old.items) }
 {
-    put_start(text, Status::Fine, part.content_type(), part.body())?;
-    put_page_headers(text)?;
-    put_word(text, b"\r\n\r\n", part.body())
+    write_start(text, Status::Fine, part.content_type(), part.body())?;
+    write_page_headers(text)?;
+    write_word(text, b"\r\n\r\n", part.body())
 }
 
 fn fault_body(alloc: Global, status: Status) -> Result<Vec<u8>, AllocError>
     ensures { IfOk result (λ body. body.items ≡ fault_text status) }
 {
     let mut body = Vec::new(alloc);
-    put_number(&mut body, b"{\"fault\":", u64::from(status.number()))?;
-    put(&mut body, b"}")?;
+    write_number(&mut body, b"{\"fault\":", u64::from(status.number()))?;
+    append_bytes(&mut body, b"}")?;
     Ok(body)
 }
 
@@ -279,13 +286,13 @@ pub fn reply_status(
     match route {
         StatusRoute::Status => {
             let mut body = Vec::new(alloc);
-            put_status(&mut body, counts, devices, lacks)?;
-            put_reply(text, Status::Fine, b"application/json", &body)
+            write_status(&mut body, counts, devices, lacks)?;
+            append_reply(text, Status::Fine, b"application/json", &body)
         }
-        StatusRoute::Page(part) => put_page(text, part),
+        StatusRoute::Page(part) => write_page(text, part),
         StatusRoute::Rejected(status) => {
             let body = fault_body(alloc, status)?;
-            put_reply(text, status, b"application/json", &body)
+            append_reply(text, status, b"application/json", &body)
         }
     }
 }

@@ -1,5 +1,5 @@
 //! A row visitor that measures the lines of interval rows without storing the rows.
-use crate::texts::put_share;
+use crate::texts::write_share;
 use interval_core::Share;
 use office_books::RowSink;
 use std::alloc::{AllocError, Global};
@@ -54,7 +54,7 @@ impl RowSizes {
         ensures whole { self.new.is_whole ≡ self.old.is_whole }
     {
         self.line.clear();
-        put_share(&mut self.line, row)?;
+        write_share(&mut self.line, row)?;
         match self.with_line(self.line.len()) {
             Some(sizes) => {
                 self.sizes = sizes;

@@ -2,24 +2,24 @@
 ghost use Rattle.std.specs.Prelude.{◌≡◌, OnOk};
 ghost use Rattle.run_http.specs.SiteReply.{with_refusal, with_site_reply};
 
-use crate::route::put_reply;
-use crate::texts::{SiteLine, put_site};
+use crate::route::append_reply;
+use crate::texts::{SiteLine, write_site};
 use http_answer::{refused_body, status_of};
 use http_request::Status;
 use office_events::Refusal;
 use std::alloc::{AllocError, Global};
 
 /// Appends the response that reports the program's refusal of a query.
-pub(crate) fn put_refusal(text: &mut Vec<u8>, why: Refusal) -> Result<(), AllocError>
+pub(crate) fn append_refusal(text: &mut Vec<u8>, why: Refusal) -> Result<(), AllocError>
     ensures { OnOk result (text.new.items ≡ with_refusal why text.old.items) }
 {
     let body = refused_body(why.number());
-    put_reply(text, status_of(why), b"application/json", body.bytes())
+    append_reply(text, status_of(why), b"application/json", body.bytes())
 }
 
 /// Appends the response to a query for `/site`: the registers and meters, or the refusal. `moment`
 /// is in seconds since 1970-01-01 UTC. If memory runs out, a part of the response remains.
-pub fn put_site_reply(
+pub fn write_site_reply(
     alloc: Global,
     text: &mut Vec<u8>,
     moment: u64,
@@ -30,9 +30,9 @@ pub fn put_site_reply(
     match answer {
         Ok(lines) => {
             let mut body = Vec::new(alloc);
-            put_site(&mut body, moment, lines)?;
-            put_reply(text, Status::Fine, b"application/json", &body)
+            write_site(&mut body, moment, lines)?;
+            append_reply(text, Status::Fine, b"application/json", &body)
         }
-        Err(why) => put_refusal(text, *why),
+        Err(why) => append_refusal(text, *why),
     }
 }

@@ -7,8 +7,8 @@ mod metrics;
 mod register_lines;
 mod site;
 
-pub(crate) use meter_lines::{put_end, put_share, put_share_lines};
-pub use meter_lines::{put_entries, put_shares, put_voids};
-pub use metrics::put_metrics;
-pub use register_lines::put_register_meters;
-pub use site::{SiteLine, put_site};
+pub(crate) use meter_lines::{append_end, write_share, write_share_lines};
+pub use meter_lines::{write_entries, write_shares, write_voids};
+pub use metrics::write_metrics;
+pub use register_lines::write_register_meters;
+pub use site::{SiteLine, write_site};

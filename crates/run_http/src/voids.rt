@@ -5,9 +5,9 @@ ghost use Rattle.run_http.specs.Texts.MeterLines.{voids_text};
 ghost use Rattle.run_http.specs.Voids as voids;
 ghost use Rattle.run_http.specs.Voids.{voids_of};
 
-use crate::route::put_reply;
-use crate::site::put_refusal;
-use crate::texts::put_voids;
+use crate::route::append_reply;
+use crate::site::append_refusal;
+use crate::texts::write_voids;
 use http_request::Status;
 use office_books::{Books, MeterEntry};
 use office_core::Office;
@@ -73,7 +73,7 @@ fn ask_voids<B: Books>(
 }
 
 // Appends the response with the voided entries of a meter, or with the program's refusal.
-fn put_voids_told(
+fn write_reported_voids(
     alloc: Global,
     text: &mut Vec<u8>,
     answer: &Result<Vec<MeterEntry>, Refusal>,
@@ -84,10 +84,10 @@ fn put_voids_told(
     match answer {
         Ok(entries) => {
             let mut body = Vec::new(alloc);
-            put_voids(&mut body, entries)?;
-            put_reply(text, Status::Fine, b"text/plain", &body)
+            write_voids(&mut body, entries)?;
+            append_reply(text, Status::Fine, b"text/plain", &body)
         }
-        Err(why) => put_refusal(text, *why),
+        Err(why) => append_refusal(text, *why),
     }
 }
 
@@ -103,5 +103,5 @@ pub fn reply_voids<B: Books>(
         voids_text text.old.items text.new.items result }
 {
     let answer = ask_voids(alloc, office, meter)?;
-    put_voids_told(alloc, text, &answer)
+    write_reported_voids(alloc, text, &answer)
 }

@@ -7,9 +7,9 @@ mod peers;
 mod place;
 mod turn_share;
 
-pub use choice::place_for;
+pub use choice::choose_slot;
 pub use clients::{clients_for, needed_limit, wanted_descriptors};
 pub use held_replies::{little_is_held, may_reply};
-pub use peers::{Admission, MOST_PEERS, Peers};
+pub use peers::{Admission, MOST_CLIENTS, Peers};
 pub use place::Place;
 pub use turn_share::{TurnShare, place_at, replies_are_few, turns_go_round};

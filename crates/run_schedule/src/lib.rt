@@ -9,11 +9,11 @@ mod timing;
 
 pub use file_marks::{FileLoss, FileMark, file_loss};
 pub use http_peers::{
-    Admission, MOST_PEERS, Peers, TurnShare, clients_for, little_is_held, may_reply, needed_limit,
-    place_at, place_for, replies_are_few, turns_go_round, wanted_descriptors,
+    Admission, MOST_CLIENTS, Peers, TurnShare, choose_slot, clients_for, little_is_held, may_reply,
+    needed_limit, place_at, replies_are_few, turns_go_round, wanted_descriptors,
 };
 pub use periods::{
-    LedPeriod, Plan, file_of_period, last_round, next_try, nothing_goes_back, period_end,
+    ActivePeriod, Plan, file_of_period, last_round, next_try, nothing_goes_back, period_end,
     period_of_file, period_until, plan_of,
 };
 pub use timing::{

@@ -7,6 +7,6 @@ mod names;
 mod plans;
 
 pub use ends::{last_round, period_end};
-pub use led::LedPeriod;
+pub use led::ActivePeriod;
 pub use names::{file_of_period, period_of_file};
 pub use plans::{Plan, next_try, nothing_goes_back, period_until, plan_of};

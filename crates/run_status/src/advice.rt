@@ -5,5 +5,5 @@ mod sentences;
 mod told;
 
 pub use lacks::{DeviceLack, Lack, add_lacks};
-pub use sentences::{put_held, put_lack, put_refusal};
-pub use told::{MOST_TOLD, Told, ToldNumber, Topic};
+pub use sentences::{append_refusal, write_held, write_lack};
+pub use told::{MOST_TOLD, ReportedNumber, Told, Topic};

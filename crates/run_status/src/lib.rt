@@ -7,8 +7,11 @@ mod monitor;
 mod status;
 
 pub use advice::{
-    DeviceLack, Lack, MOST_TOLD, Told, ToldNumber, Topic, add_lacks, put_held, put_lack,
-    put_refusal,
+    DeviceLack, Lack, MOST_TOLD, ReportedNumber, Told, Topic, add_lacks, append_refusal,
+    write_held, write_lack,
 };
-pub use monitor::{LineQueue, MOST_WAITING, RunMonitor, put_head, put_lines, put_sum};
-pub use status::{Counts, DeviceState, put, put_name, put_number, put_scale, put_status, put_word};
+pub use monitor::{LineQueue, MOST_WAITING, RunMonitor, write_head, write_lines, write_sum};
+pub use status::{
+    Counts, DeviceState, append_bytes, append_name, write_number, write_scale, write_status,
+    write_word,
+};

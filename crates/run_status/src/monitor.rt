@@ -8,5 +8,5 @@ mod output;
 mod run_monitor;
 
 pub use line_queue::{LineQueue, MOST_WAITING};
-pub use lines::{put_head, put_lines, put_sum};
+pub use lines::{write_head, write_lines, write_sum};
 pub use run_monitor::RunMonitor;

@@ -7,5 +7,5 @@ mod pieces;
 mod status;
 
 pub use counts::Counts;
-pub use pieces::{put, put_number, put_scale, put_word};
-pub use status::{DeviceState, put_name, put_status};
+pub use pieces::{append_bytes, write_number, write_scale, write_word};
+pub use status::{DeviceState, append_name, write_status};

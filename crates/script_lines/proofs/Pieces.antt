@@ -5,7 +5,7 @@ use Rattle.std.specs.Result.{result_ok}
 use Rattle.hex.specs.Hex.{decode_of}
 use Rattle.hex.specs.declared.error.FromHexError.{FromHexError}
 use Rattle.hex.proofs.HexLemmas.{decode_of-ok}
-use Rattle.script_lines.specs.LineWords.Fields.{AnyName, Hex, first_value, nothing_more, ◌>>=◌}
+use Rattle.script_lines.specs.LineWords.Fields.{AnyName, Hex, first_value, end_of_words, ◌>>=◌}
 use Rattle.script_lines.specs.LineReader.{SaysPiece, device_bytes_said, made}
 use Rattle.script_lines.specs.LineWords.Values.{bytes_of}
 use Rattle.script_lines.proofs.Chosen.{chosen, same}
@@ -51,7 +51,7 @@ only_piece device hex bytes h =
     made_again {X = List ℕ} {Y = Pair} (Hex ∷ []) (λ values. values.0) (with_device device) (hex ∷ []) bytes alone
 
 pub piece_said : (words following rest : List (List ℕ)) (device : Option (List ℕ)) (hex : List ℕ) → Some (device, following) ≡ first_value AnyName words
-    → following ≡ hex ∷ rest → Some tt ≡ nothing_more rest → IsSome (bytes_of hex) → SaysPiece (device_bytes_said words)
+    → following ≡ hex ∷ rest → Some tt ≡ end_of_words rest → IsSome (bytes_of hex) → SaysPiece (device_bytes_said words)
 piece_said words following (word ∷ rest) device hex first next none some = cc none
 piece_said words following [] device hex first next none some =
     let bytes = some_bytes hex (bytes_of hex) refl some in

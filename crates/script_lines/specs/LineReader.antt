@@ -4,7 +4,7 @@ use Rattle.std.specs.Prelude.{◌≡◌, ◌<◌, ℕ, List, [], ◌∷◌, Opti
 use Rattle.office_events.specs.declared.commands.Command.TheVariants as command
 use Rattle.office_events.specs.declared.events.Event.TheVariants as event
 use Rattle.poll_core.specs.declared.outcome.Closing.TheVariants as closing
-use Rattle.script_lines.specs.LineWords.Fields.{Kind, AnyName, Number, Signed, Scale, Hex, Range, Moment, Value, first_value, nothing_more, ◌>>=◌}
+use Rattle.script_lines.specs.LineWords.Fields.{Kind, AnyName, Number, Signed, Scale, Hex, Range, Moment, Value, first_value, end_of_words, ◌>>=◌}
 use Rattle.script_lines.specs.LineWords.Meanings.{meaning_in}
 use Rattle.script_lines.specs.Seen.{bytes_in}
 use Rattle.script_lines.specs.LineWords.Values.{number_of}
@@ -22,12 +22,12 @@ Values (kind ∷ kinds) = Value kind × Values kinds
 
 -- The given script line if no word of the line is left to parse, otherwise `None`.
 abbrev pub said_last : ScriptLine → List (List ℕ) → Option ScriptLine
-said_last line words = nothing_more words >>= λ none. Some line
+said_last line words = end_of_words words >>= λ none. Some line
 
 -- Parses each word as a value of its expected kind, and applies `make` to the values. `None` if a
 -- word has another kind, or if words are left over.
 abbrev pub made : {X : Type 0} (kinds : List Kind) → (Values kinds → X) → List (List ℕ) → Option X
-made [] make words = nothing_more words >>= λ none. Some (make none)
+made [] make words = end_of_words words >>= λ none. Some (make none)
 made (kind ∷ kinds) make words =
     first_value kind words >>= λ first. made kinds (λ values. make (first.0, values)) first.1
 

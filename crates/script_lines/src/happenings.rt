@@ -4,7 +4,7 @@ ghost use Rattle.script_lines.specs.LineReader.{asked_by, said_by, said_last};
 ghost use Rattle.script_lines.specs.declared.script.ScriptLine.TheVariants as line;
 ghost use Rattle.script_lines.specs.declared.verbs.Verb.TheVariants as verb;
 
-use crate::line_words::{Words, next_name, next_number, nothing_more};
+use crate::line_words::{Words, end_of_words, next_name, next_number};
 use crate::script::{GivenStart, ScriptLine};
 use crate::verbs::Question;
 use office_events::Event;
@@ -14,7 +14,7 @@ use poll_core::Closing;
 pub(crate) fn event_line(at: u64, event: Event, words: &mut Words<'_>) -> Option<ScriptLine>
     ensures { result ≡ said_last (line.Event at event) words.old }
 {
-    nothing_more(words)?;
+    end_of_words(words)?;
     Some(ScriptLine::Event { at, event })
 }
 
@@ -29,7 +29,7 @@ pub(crate) fn start(at: u64, words: &mut Words<'_>) -> Option<ScriptLine>
         address: next_number(words)?,
         count: next_number(words)?,
     };
-    nothing_more(words)?;
+    end_of_words(words)?;
     Some(ScriptLine::Start { at, start })
 }
 
@@ -74,22 +74,22 @@ pub(crate) fn asked(question: Question, words: &mut Words<'_>) -> Option<ScriptL
     match question {
         Question::Meter => {
             let name = next_name(words)?;
-            nothing_more(words)?;
+            end_of_words(words)?;
             Some(ScriptLine::Meter { name })
         }
         Question::Intervals => {
             let name = next_name(words)?;
-            nothing_more(words)?;
+            end_of_words(words)?;
             Some(ScriptLine::Intervals { name })
         }
         Question::Days => {
             let name = next_name(words)?;
-            nothing_more(words)?;
+            end_of_words(words)?;
             Some(ScriptLine::Days { name })
         }
         Question::Poll => {
             let number = next_number(words)?;
-            nothing_more(words)?;
+            end_of_words(words)?;
             Some(ScriptLine::Poll { number })
         }
     }

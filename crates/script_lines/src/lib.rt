@@ -13,7 +13,7 @@ mod verbs;
 pub use bank::{BankLine, GivenArea, GivenCell};
 pub use line_fault::LineFault;
 pub use line_words::{
-    Words, hex_bytes, next_moment, next_name, next_number, next_range, next_scale, next_signed,
-    nothing_more, number,
+    Words, end_of_words, hex_bytes, next_moment, next_name, next_number, next_range, next_scale,
+    next_signed, number,
 };
 pub use script::{GivenList, GivenStart, ScriptLine};

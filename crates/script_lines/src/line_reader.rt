@@ -9,7 +9,7 @@ use crate::commands::{
 };
 use crate::happenings::{asked, connect, failed, gone, start, tick};
 use crate::line_fault::LineFault;
-use crate::line_words::{Words, hex_bytes, next_name, nothing_more, number};
+use crate::line_words::{Words, end_of_words, hex_bytes, next_name, number};
 use crate::script::{GivenList, ScriptLine};
 use crate::verbs::{Verb, question_of, verb_of};
 use office_events::{Event, Name, Piece};
@@ -36,7 +36,7 @@ fn line_in(alloc: Global, line: &[u8]) -> Result<Option<ScriptLine>, AllocError>
     ensures value { IfOk result (λ found. found ≡ line_said (words_of line.now)) }
     ensures memory { IsErr result → SaysBytes (line_said (words_of line.now)) }
 {
-    let mut words = Words::of(line);
+    let mut words = Words::new(line);
     match words.next_word() {
         Some(first) => line_from(alloc, first, &mut words),
         None => Ok(None),
@@ -164,7 +164,7 @@ fn device_bytes(
     let Some(hex) = words.next_word() else {
         return Ok(Some((device, Piece::new(Vec::new(alloc)))));
     };
-    let Some(()) = nothing_more(words) else {
+    let Some(()) = end_of_words(words) else {
         return Ok(None);
     };
     match hex_bytes(alloc, hex)? {

@@ -6,7 +6,7 @@ mod values;
 mod words;
 
 pub use fields::{
-    next_moment, next_name, next_number, next_range, next_scale, next_signed, nothing_more,
+    end_of_words, next_moment, next_name, next_number, next_range, next_scale, next_signed,
 };
 pub(crate) use meanings::meaning_in;
 pub use values::{hex_bytes, number};

@@ -119,7 +119,7 @@ fn play_text<B: Books, W: Write>(
     text: &[u8],
     output: &mut W,
 ) -> Result<ExitStatus, io::Error> {
-    let mut lines = InputLines::of(text);
+    let mut lines = InputLines::new(text);
     // A script has fewer than 2^64 - 1 lines, so the bound of the loop is never reached.
     for _ in 0..u64::MAX {
         let Some(line) = lines.next_line() else {

@@ -109,7 +109,7 @@ static CASES: [Case; 5] = [
 // Every failed write of the notifications or of the answer is reported, and the notifications are
 // written before the answer.
 #[test]
-fn each_failing_write_is_told(rt: HostRuntime) {
+fn each_failing_write_is_reported(rt: HostRuntime) {
     let notes = notes(&rt);
     let count = assert_failing_writes(&rt, rt.alloc(), &notes, b"\x00\xff", 2, WHOLE);
     assert!(rt; count < 79);

@@ -27,7 +27,7 @@ static ANSWERS: [(Option<u64>, Result<u64, ServeFault>, &[u8]); 2] = [
 ];
 
 #[test]
-fn a_trick_is_played_on_a_link_and_a_link_that_fails_is_told(rt: HostRuntime) {
+fn tricks_are_played_and_failing_links_are_reported(rt: HostRuntime) {
     for (failing, answer, written) in &ANSWERS {
         let mut bank = bank_with_nine(&rt, rt.alloc());
         let mut output = [0; 64];

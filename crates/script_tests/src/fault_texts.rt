@@ -53,7 +53,7 @@ const PARTS: [(ListFault, &str); 2] = [
 ];
 
 #[test]
-fn faults_say_their_texts(rt: HostRuntime) {
+fn each_fault_has_its_text(rt: HostRuntime) {
     assert_texts(&rt, rt.alloc(), &LINES);
     assert_texts(&rt, rt.alloc(), &INPUTS);
     assert_texts(&rt, rt.alloc(), &DEVICES);

@@ -134,7 +134,7 @@ fn each_failing_read_ends_it(rt: HostRuntime) {
     for (task, text, _, _) in &CASES {
         for kind in [ErrorKind::Interrupted, ErrorKind::BrokenPipe] {
             for failing in 1..text.len() + 2 {
-                let mut slow = Slow::of(text.as_bytes(), failing, kind);
+                let mut slow = Slow::new(text.as_bytes(), failing, kind);
                 let kept = Kept::whole(rt.alloc());
                 let ended = task.carry_out(&rt, rt.alloc(), &mut slow, kept);
                 assert!(rt; ended.status == ExitStatus::Failed);

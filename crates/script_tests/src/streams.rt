@@ -14,7 +14,7 @@ pub(crate) struct Slow<'a> {
 
 impl<'a> Slow<'a> {
     /// Returns a reader whose call with number `failing` fails. Calls are numbered from 1.
-    pub(crate) fn of(text: &'a [u8], failing: usize, kind: ErrorKind) -> Slow<'a> {
+    pub(crate) fn new(text: &'a [u8], failing: usize, kind: ErrorKind) -> Slow<'a> {
         Slow {
             text,
             calls: 0,
@@ -25,7 +25,7 @@ impl<'a> Slow<'a> {
 
     /// Returns a reader whose calls all succeed.
     pub(crate) fn whole(text: &'a [u8]) -> Slow<'a> {
-        Slow::of(text, 0, ErrorKind::Other)
+        Slow::new(text, 0, ErrorKind::Other)
     }
 }
 

@@ -62,12 +62,12 @@ fn write_piece<W: Write>(bytes: &[u8], output: &mut W) -> io::Result<()>
 {
     let mut digits = [0; DIGITS];
     let text = &mut digits[..2 * bytes.len()];
-    put_digits(bytes, text);
+    write_digits(bytes, text);
     write_text(text, output)
 }
 
 /// Encodes bytes in lower-case hex into `text`, which has two digits for each byte.
-fn put_digits(bytes: &[u8], text: &mut [u8])
+fn write_digits(bytes: &[u8], text: &mut [u8])
     requires { length text.old ≡ 2 * length bytes.now }
     ensures { text.new ≡ encode_lower bytes.now }
 {

@@ -28,7 +28,7 @@ impl Counts {
     }
 
     /// Counts a read from the link into a buffer of `room` bytes with the result `answer`.
-    pub fn take(&mut self, room: usize, answer: Result<Took, LinkFailed>)
+    pub fn count_read(&mut self, room: usize, answer: Result<Took, LinkFailed>)
         ensures failures { self.new.failures ≡ risen (is_err answer) self.old.failures }
         ensures takes { self.new.takes ≡ risen true self.old.takes }
         ensures ends { self.new.ends ≡ risen (is_end answer) self.old.ends }
@@ -44,7 +44,7 @@ impl Counts {
     }
 
     /// Counts a write of `bytes` to the link with the result `answer`.
-    pub fn give(&mut self, bytes: &[u8], answer: Result<usize, LinkFailed>)
+    pub fn count_write(&mut self, bytes: &[u8], answer: Result<usize, LinkFailed>)
         ensures failures { self.new.failures ≡
             risen (is_failed_give answer bytes.now) self.old.failures }
         ensures takes { self.new.takes ≡ self.old.takes }

@@ -60,7 +60,7 @@ impl<L: Link, C: Clock> Link for DeadlineLink<'_, L, C> {
         } else {
             self.link.take(piece)
         };
-        self.counts.take(piece.len(), answer);
+        self.counts.count_read(piece.len(), answer);
         answer
     }
 
@@ -70,7 +70,7 @@ impl<L: Link, C: Clock> Link for DeadlineLink<'_, L, C> {
         } else {
             self.link.give(bytes)
         };
-        self.counts.give(bytes, answer);
+        self.counts.count_write(bytes, answer);
         answer
     }
 

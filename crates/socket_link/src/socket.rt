@@ -92,7 +92,7 @@ impl<S: Read + Write + Drop> Link for SocketLink<S> {
 
     fn take(&mut self, piece: &mut [u8]) -> Result<Took, LinkFailed> {
         let answer = self.read(piece);
-        self.counts.take(piece.len(), answer);
+        self.counts.count_read(piece.len(), answer);
         answer
     }
 
@@ -101,7 +101,7 @@ impl<S: Read + Write + Drop> Link for SocketLink<S> {
             Ok(count) => Ok(count),
             Err(_) => Err(LinkFailed),
         };
-        self.counts.give(bytes, answer);
+        self.counts.count_write(bytes, answer);
         answer
     }
 

@@ -12,7 +12,7 @@ pub use devices::{
     replace_points,
 };
 pub use polls::{
-    HoldRow, OutcomeRow, Poll, PollRow, Repeat, insert_hold, insert_outcome, insert_poll,
-    insert_reply, last_hold_rows, last_poll, latest_hold, latest_outcome, latest_reply,
-    latest_start, outcome_of, pending_rows, poll_at, read_poll, repeat_of,
+    OutcomeRow, Poll, PollRow, RejectedRow, Repeat, insert_kept_request, insert_outcome,
+    insert_poll, insert_rejected, last_hold_rows, last_poll, latest_hold, latest_outcome,
+    latest_reply, latest_start, outcome_of, pending_rows, poll_at, read_poll, repeat_of,
 };

@@ -11,9 +11,9 @@ mod replies;
 mod rows;
 
 pub use columns::read_poll;
-pub use holds::{insert_hold, last_hold_rows};
+pub use holds::{insert_rejected, last_hold_rows};
 pub use latest::{latest_hold, latest_outcome, latest_reply, latest_start};
 pub use outcomes::{insert_outcome, outcome_of};
 pub use polls::{insert_poll, last_poll, pending_rows, poll_at};
-pub use replies::{insert_reply, repeat_of};
-pub use rows::{HoldRow, OutcomeRow, Poll, PollRow, Repeat};
+pub use replies::{insert_kept_request, repeat_of};
+pub use rows::{OutcomeRow, Poll, PollRow, RejectedRow, Repeat};

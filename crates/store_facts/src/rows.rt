@@ -13,7 +13,7 @@ ghost use Rattle.store_facts.specs.Rows as rows;
 use energy_core::{Entry, Last, MAX_CEILING, MAX_RANGE, MAX_SCALE, MIN_RANGE, MIN_SCALE};
 use meter_journal::EntryKind;
 use office_events::{Device, EndedPoll, HeldReading, Opening, Poll, Register, ScaleSource};
-use store_devices::{DeviceRow, HoldRow, OutcomeRow, PollRow, RegisterRow, RegisterScale};
+use store_devices::{DeviceRow, OutcomeRow, PollRow, RegisterRow, RegisterScale, RejectedRow};
 use store_tables::{EntryRow, InstallationRow, LATEST_MOMENT, LastRow};
 
 /// Returns the row of `devices` for a device at index `place`.
@@ -214,10 +214,10 @@ pub fn outcome_row(ended: EndedPoll) -> OutcomeRow
 }
 
 /// Returns the row of `holds` for a rejected reading at index `place`.
-pub fn hold_row(held: HeldReading, place: u64) -> HoldRow
+pub fn hold_row(held: HeldReading, place: u64) -> RejectedRow
     ensures { result ≡ (rows.held_row place held).row }
 {
-    HoldRow {
+    RejectedRow {
         place,
         poll: held.poll,
         moment: held.at,

@@ -35,7 +35,7 @@ fn fill<S: Alter>(tx: &mut Transaction<'_, S>, zone: &str) -> Result<usize, Erro
 }
 
 /// Creates all tables of a store and inserts the row of `meta`, in one transaction.
-fn made<S: Alter>(conn: &mut Connection<S>, zone: &str) -> Result<(), Error>
+fn create_in_transaction<S: Alter>(conn: &mut Connection<S>, zone: &str) -> Result<(), Error>
     requires autocommit { conn.old.in_transaction ≡ false }
     ensures autocommit { conn.new.in_transaction ≡ false }
     ensures does { TransactsTo (state S.Store conn.old) (state S.Store conn.new) result
@@ -54,7 +54,7 @@ fn make<S: Alter>(conn: &mut Connection<S>, zone: &str) -> Result<(), OpenFault>
         (Makes zone.now) }
     ensures fault { IfErr result (λ e. (e ≡ OpenFault.Store) ⊎ (e ≡ OpenFault.Memory)) }
 {
-    match made(conn, zone) {
+    match create_in_transaction(conn, zone) {
         Ok(()) => Ok(()),
         Err(error) => Err(fault_of(error)),
     }

@@ -50,7 +50,7 @@ fn has_version(row: &Row, version: u64) -> bool
 }
 
 /// Reads the time zone from the row of `meta`.
-fn told_zone(row: &Row) -> Result<Zone, OpenFault>
+fn read_zone_text(row: &Row) -> Result<Zone, OpenFault>
     ensures fault { (m : Meta) → row.now ≡ meta_shown m
         → IfErr result (λ e. (e ≡ OpenFault.Zone) ⊎ (e ≡ OpenFault.Memory)) }
     ensures zone { (m : Meta) → row.now ≡ meta_shown m
@@ -73,7 +73,7 @@ fn zone_in(rows: &[Row], version: u64) -> Result<Zone, OpenFault>
     match rows {
         [row] => {
             if has_version(row, version) {
-                told_zone(row)
+                read_zone_text(row)
             } else {
                 Err(OpenFault::NotOurs)
             }

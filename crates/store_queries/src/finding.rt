@@ -13,7 +13,7 @@ mod register_rows;
 pub use device_rows::devices;
 pub use kept::repeat;
 pub use last_moment::latest;
-pub(crate) use memory::{put, want_of_memory};
+pub(crate) use memory::{push_item, want_of_memory};
 pub use point_lists::{list, read_count, reads};
 pub use poll_rows::{pending, poll, poll_count};
 pub use register_rows::{register, register_count, registers, registers_read};

@@ -19,7 +19,7 @@ use Rattle.sqlite.specs.Edit.{is_taken, are_fresh, without_all, put_all, numbere
 use Rattle.sqlite.specs.Rowids.TheVariants.{Given}
 use Rattle.sqlite_rules.specs.Calls.{ids_of}
 use Rattle.store_tables.specs.Content.{id_of, same_id, AreApart}
-use Rattle.store_tables.proofs.Fresh.{put_fresh}
+use Rattle.store_tables.proofs.Fresh.{write_fresh}
 
 abbrev pub picks : List ℤ → Row → Bool
 picks ids r = list_any (λ id. has_rowid id r) ids
@@ -122,12 +122,12 @@ first_free : (b c : Bool) → not b && c ≡ true → (b ≡ false) × (c ≡ tr
 first_free true c e = absurd (let f = e in cc)
 first_free false c e = (refl, e)
 
-pub put_many : (news rows : List Row) → are_fresh rows news ≡ true → IsPermutation (news ++ rows) (put_all rows news)
-put_many [] rows fresh = IsPermutation-refl rows
-put_many (n ∷ news) rows fresh =
+pub write_many : (news rows : List Row) → are_fresh rows news ≡ true → IsPermutation (news ++ rows) (put_all rows news)
+write_many [] rows fresh = IsPermutation-refl rows
+write_many (n ∷ news) rows fresh =
     let free = first_free (is_taken rows n) (are_fresh (put_row n rows) news) fresh in
     IsPermutation-trans _ _ _ (IsPermutation-sym _ _ (IsPermutation-middle news n rows))
-    (IsPermutation-trans _ _ _ (IsPermutation-append_right news (n ∷ rows) (put_row n rows) (put_fresh n rows free.0)) (put_many news (put_row n rows) free.1))
+    (IsPermutation-trans _ _ _ (IsPermutation-append_right news (n ∷ rows) (put_row n rows) (write_fresh n rows free.0)) (write_many news (put_row n rows) free.1))
 
 pub given_are : (rows news : List Row) → numbered Given rows news ≡ news
 given_are rows [] = refl
@@ -164,7 +164,7 @@ module _ (p : Row → Bool) (f : Row → Row) where
       → IsPermutation (map changed rows) (put_all (without_all rows ids) news)
   edited_rows rows news ids apart same_ids same_news fresh =
       let left = left_are p rows ids apart same_ids in
-      let put = put_many news (without_all rows ids) fresh in
+      let put = write_many news (without_all rows ids) fresh in
       let joined : IsPermutation (map f (filter p rows) ++ filter (λ r. not (p r)) rows) (news ++ without_all rows ids) =
       subst (λ ls. IsPermutation (map f (filter p rows) ++ filter (λ r. not (p r)) rows) (news ++ ls)) (sym left) (IsPermutation-append_left (filter (λ r. not (p r)) rows) (map f (filter p rows)) news same_news) in
       IsPermutation-trans _ _ _ (IsPermutation-sym _ _ (parted rows)) (IsPermutation-trans _ _ _ joined put)

@@ -23,7 +23,7 @@ use Rattle.sqlite_rules.specs.Edit.{taken_by}
 use Rattle.store_tables.specs.Schema.{books_schema}
 use Rattle.store_tables.specs.Content.{Edits, is_numbered, with_row}
 use Rattle.store_tables.specs.Steps.{Turns}
-use Rattle.store_tables.proofs.Fresh.{put_fresh}
+use Rattle.store_tables.proofs.Fresh.{write_fresh}
 use Rattle.store_tables.proofs.Frames.{frame, tree_at}
 use Rattle.store_tables.proofs.Apart.{apart_permutation, apart_more}
 use Rattle.store_tables.proofs.Laid.{laid, laid_more, laid_permuted}
@@ -73,7 +73,7 @@ module _ (t : Table) (at : ℕ) (place : slice_get books_schema.tables at ≡ So
       let step = one_step books_schema Enforced db written.0 edit (nothing_acts t.tree (taken_by db edit) edit.news) wrote in
       let free = not_taken (is_taken (db t.tree) (new_row db source)) step.fresh in
       let all : new.now.trees ≡ written.0 = ap (λ (d : Database). d.trees) now ∙ trees in
-      let row = subst (IsPermutation (new_row db source ∷ db t.tree)) (sym (ap (λ (f : Trees). f t.tree) all ∙ step.rows)) (put_fresh (new_row db source) (db t.tree) free) in
+      let row = subst (IsPermutation (new_row db source ∷ db t.tree)) (sym (ap (λ (f : Trees). f t.tree) all ∙ step.rows)) (write_fresh (new_row db source) (db t.tree) free) in
       record {
         rewrites = record {
           schema = ap (λ (d : Database). d.schema) now;

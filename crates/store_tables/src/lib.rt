@@ -12,12 +12,12 @@ mod probe;
 pub use columns::{first_whole, function, scale, text, whole};
 pub use entries::{
     EntryKind, EntryRow, entry_at, entry_rows, insert_entry, insert_void, last_entry_rows,
-    latest_entry, latest_void, read_entry, read_void, set_rolls, void_rows,
+    latest_entry, latest_void, read_entry, read_void, set_rollovers, void_rows,
 };
 pub use faults::RowFault;
 pub use limits::{GREATEST_PLACE, LATEST_MOMENT};
 pub use meters::{
-    Installation, InstallationRow, LastRow, end_installation, insert_installation, insert_range,
+    Installation, InstallationRow, LastRow, close_installation, insert_installation, insert_range,
     installation_at, installation_of, installation_rows, last_installation, last_installation_rows,
     range_of, range_rows, read_installation, read_range, update_last,
 };

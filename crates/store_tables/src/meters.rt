@@ -7,7 +7,7 @@ mod rows;
 
 pub use columns::{read_installation, read_range};
 pub use installations::{
-    end_installation, insert_installation, installation_at, installation_of, installation_rows,
+    close_installation, insert_installation, installation_at, installation_of, installation_rows,
     last_installation, last_installation_rows, update_last,
 };
 pub use ranges::{insert_range, range_of, range_rows};

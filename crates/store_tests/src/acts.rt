@@ -3,7 +3,7 @@
 use crate::stops::asked::Asked;
 use crate::stops::files::{Stop, Stopping, connected, files};
 use crate::stops::offices::play;
-use crate::stops::standing::stands;
+use crate::stops::standing::assert_recovered;
 use crate::stops::work::{bring, is_brought, prepare};
 use crate::{damage, databases, held_readings, laws, refused_facts};
 use sqlite::{Alter, Connection, Files};
@@ -47,7 +47,7 @@ fn act_over<S: Alter + Drop>(
         Act::Bring => bring(rt, connection),
         Act::Play(asked) => play(rt, alloc, connection, asked),
         Act::Brought(steps) => (0, is_brought(rt, connection, steps)),
-        Act::Played(asked, steps) => (0, stands(rt, alloc, connection, asked, steps)),
+        Act::Played(asked, steps) => (0, assert_recovered(rt, alloc, connection, asked, steps)),
         Act::Damage => (0, damage::failures_are_counted(rt, alloc, connection)),
         Act::Databases => (0, databases::each_is_handed_back(rt, alloc, connection)),
         Act::HeldReadings => (0, held_readings::they_are_handed_on(rt, alloc, connection)),

@@ -5,7 +5,7 @@ use meter_audit::Standing;
 use meter_journal::Installed;
 use std::alloc::Global;
 use std::process::Abort;
-use table_seals::{FiledMeter, FiledOffice, Joining, put_joins};
+use table_seals::{FiledMeter, FiledOffice, Joining, append_joins};
 
 const STAND: Last = Last {
     at: 1900,
@@ -60,7 +60,7 @@ fn the_energy_of_all_files_has_a_limit(rt: HostRuntime) {
         let new = file_of(&rt, rt.alloc(), "new.db", *total);
         joining.join(rt.alloc(), new).expect(&rt, "no join");
         let mut text = Vec::new(rt.alloc());
-        put_joins(&mut text, joining.lines.as_slice()).expect(&rt, "no memory");
+        append_joins(&mut text, joining.lines.as_slice()).expect(&rt, "no memory");
         assert!(rt; text.as_slice() == *printed);
     }
 }

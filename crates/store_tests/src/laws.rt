@@ -1,10 +1,10 @@
 //! Applies the theorems about the energy of several files and about the days of a range to
 //! examples.
-use crate::made::{made, opened};
+use crate::made::{create_store, opened};
 use crate::stops::offices::accepts;
 use carried_books::{
-    both_files_state_the_joined_meter, both_files_tell_the_joined_days, one_file_states_its_meters,
-    one_file_tells_its_days,
+    both_files_state_the_joined_meter, days_of_one_file_are_its_own,
+    joined_days_agree_with_both_files, one_file_states_its_meters,
 };
 use energy_report::read_day;
 use interval_core::{DayRange, DayTotal};
@@ -67,10 +67,10 @@ pub(crate) fn files_and_ranges_have_their_days<S: Alter + Drop>(
     alloc: Global,
     connection: Connection<S>,
 ) -> S {
-    one_file_tells_its_days();
-    both_files_tell_the_joined_days();
+    days_of_one_file_are_its_own();
+    joined_days_agree_with_both_files();
     one_file_states_its_meters();
     both_files_state_the_joined_meter();
-    let books = made(rt, alloc, connection, "UTC0");
+    let books = create_store(rt, alloc, connection, "UTC0");
     ranges_over(rt, alloc, books).into_connection().into_store()
 }

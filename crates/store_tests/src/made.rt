@@ -7,7 +7,7 @@ use std::alloc::Global;
 use std::process::Abort;
 
 /// Creates a store in the database of a connection.
-pub(crate) fn made<S: Alter + Drop>(
+pub(crate) fn create_store<S: Alter + Drop>(
     rt: &impl Abort,
     alloc: Global,
     connection: Connection<S>,

@@ -1,5 +1,5 @@
 //! Creates a store that has rows in each table.
-use crate::made::made;
+use crate::made::create_store;
 use sqlite::{Alter, Connection};
 use std::alloc::Global;
 use std::process::Abort;
@@ -28,7 +28,7 @@ pub(crate) fn strict<S: Alter + Drop>(
     alloc: Global,
     connection: Connection<S>,
 ) -> Connection<S> {
-    let mut connection = made(rt, alloc, connection, ZONE).into_connection();
+    let mut connection = create_store(rt, alloc, connection, ZONE).into_connection();
     connection.execute_batch(ROWS).expect(rt, "no batch");
     connection
 }

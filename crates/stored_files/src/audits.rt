@@ -19,8 +19,8 @@ use std::io::Write;
 use store_files::{Layout, layout_of};
 use store_tables::RowFault;
 use sun_points::Sink;
-use table_audit::{Findings, audit_tables, put_findings};
-use table_seals::{FiledMeter, FiledOffice, Joining, filed_meters, put_joins};
+use table_audit::{Findings, audit_tables, write_findings};
+use table_seals::{FiledMeter, FiledOffice, Joining, append_joins, filed_meters};
 
 /// A reason why the audit of an office's file failed.
 #[derive(Clone, Copy, Debug, PartialEq, Eq)]
@@ -104,7 +104,7 @@ pub fn write_audit<W: Write>(
         (with_findings [] findings.now)) }
 {
     let mut text = Vec::new(alloc);
-    if put_findings(&mut text, findings).is_err() {
+    if write_findings(&mut text, findings).is_err() {
         return Err(AuditFault::Memory);
     }
     match output.take_text(text.as_slice()) {
@@ -184,7 +184,7 @@ pub fn write_joins<W: Write>(
         (joined_text lines.now)) }
 {
     let mut said = Vec::new(alloc);
-    if put_joins(&mut said, lines).is_err() {
+    if append_joins(&mut said, lines).is_err() {
         return Err(AuditFault::Memory);
     }
     match output.take_text(said.as_slice()) {

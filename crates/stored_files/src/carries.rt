@@ -5,4 +5,4 @@ mod stored;
 mod zones;
 
 pub use stored::{CarryEnd, carry_stored};
-pub use zones::told_zone;
+pub use zones::read_zone_text;

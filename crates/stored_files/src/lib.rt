@@ -17,7 +17,7 @@ pub use audits::{
     AuditFault, audit_stored, hold_to_earlier, meters_stored, write_audit, write_joins,
 };
 pub use backups::{CopyFault, recovered_file, whole_file, whole_files};
-pub use carries::{CarryEnd, carry_stored, told_zone};
+pub use carries::{CarryEnd, carry_stored, read_zone_text};
 pub use ends::{Ending, Failure, Named, ending_of, say};
 pub use files::{
     Databases, FileConnection, FileFault, LogHeader, check_beside, check_regular, is_bare,

@@ -50,63 +50,63 @@ pub fn latest_stored<S: Alter + Drop>(
     }
 }
 
-fn put(text: &mut Vec<u8>, bytes: &[u8]) -> Result<(), AllocError>
+fn append_bytes(text: &mut Vec<u8>, bytes: &[u8]) -> Result<(), AllocError>
     ensures { OnOk result (text.new.items ≡ text.old.items ++ bytes.now) }
 {
     text.extend_from_slice(bytes)
 }
 
-fn put_number(text: &mut Vec<u8>, number: u64) -> Result<(), AllocError>
+fn write_number(text: &mut Vec<u8>, number: u64) -> Result<(), AllocError>
     ensures { OnOk result (text.new.items ≡ text.old.items ++ decimal number) }
 {
     let mut buffer = Buffer::new();
-    put(text, buffer.format(number).as_bytes())
+    append_bytes(text, buffer.format(number).as_bytes())
 }
 
 // Appends a line to the report, with the timestamp of a meter's last recovered entry.
-fn put_last_entry(text: &mut Vec<u8>, meter: &str, at: u64) -> Result<(), AllocError>
+fn write_last_entry(text: &mut Vec<u8>, meter: &str, at: u64) -> Result<(), AllocError>
     ensures { OnOk result (text.new.items ≡ with_last_entry text.old.items meter.now at) }
 {
-    put(text, meter.as_bytes())?;
-    put(text, b" last entry ")?;
-    put_number(text, at)?;
-    put(text, b", later ones may be lost\n")
+    append_bytes(text, meter.as_bytes())?;
+    append_bytes(text, b" last entry ")?;
+    write_number(text, at)?;
+    append_bytes(text, b", later ones may be lost\n")
 }
 
 // Appends a line to the report, with the timestamp of a meter's last recovered entry. Appends
 // nothing if the meter is closed.
-fn put_open_meter(text: &mut Vec<u8>, meter: &FiledMeter<'_>) -> Result<(), AllocError>
+fn write_open_meter(text: &mut Vec<u8>, meter: &FiledMeter<'_>) -> Result<(), AllocError>
     ensures { OnOk result (text.new.items ≡ with_open_meter text.old.items meter.now) }
 {
     if meter.standing.is_ended {
         Ok(())
     } else {
-        put_last_entry(text, meter.meter.as_str(), meter.standing.last.at)
+        write_last_entry(text, meter.meter.as_str(), meter.standing.last.at)
     }
 }
 
-fn put_open_meters(text: &mut Vec<u8>, meters: &[FiledMeter<'_>]) -> Result<(), AllocError>
+fn write_open_meters(text: &mut Vec<u8>, meters: &[FiledMeter<'_>]) -> Result<(), AllocError>
     ensures { OnOk result (text.new.items ≡ with_open_meters text.old.items meters.now) }
 {
     for meter in meters {
-        put_open_meter(text, meter)?;
+        write_open_meter(text, meter)?;
     }
     Ok(())
 }
 
 // Appends the latest timestamp of a recovered office to a text, and a line for each open meter.
 // Later entries of an open meter may be missing.
-fn put_recovered(
+fn append_recovered(
     text: &mut Vec<u8>,
     latest: u64,
     meters: &[FiledMeter<'_>],
 ) -> Result<(), AllocError>
     ensures { OnOk result (text.new.items ≡ with_recovered text.old.items latest meters.now) }
 {
-    put(text, b"latest ")?;
-    put_number(text, latest)?;
-    put(text, b"\n")?;
-    put_open_meters(text, meters)
+    append_bytes(text, b"latest ")?;
+    write_number(text, latest)?;
+    append_bytes(text, b"\n")?;
+    write_open_meters(text, meters)
 }
 
 /// Writes the latest timestamp of a recovered office, and a line for each open meter. Later entries
@@ -121,7 +121,7 @@ pub fn write_recovered<W: Write>(
         (with_recovered [] latest meters.now)) }
 {
     let mut text = Vec::new(alloc);
-    if put_recovered(&mut text, latest, meters).is_err() {
+    if append_recovered(&mut text, latest, meters).is_err() {
         return Err(AuditFault::Memory);
     }
     match output.take_text(text.as_slice()) {

@@ -19,7 +19,7 @@ use std::alloc::Global;
 use std::io::Write;
 use sun_points::Sink;
 use table_seals::{
-    Checked, NoSeal, Seal, check_seal, put_checked, put_seal, read_seal, seal_tables,
+    Checked, NoSeal, Seal, append_checked, append_seal, check_seal, read_seal, seal_tables,
 };
 
 /// Seals the tables of an office in a database. Writes nothing to the database.
@@ -51,7 +51,7 @@ pub fn write_seal<W: Write>(alloc: Global, seal: &Seal, output: &mut W) -> Resul
     ensures { OnOk result (Appends (W.contents output.old) (W.contents output.new)
         (seal_text (sealed_tables_of seal.now))) }
 {
-    let Ok(text) = put_seal(alloc, seal) else {
+    let Ok(text) = append_seal(alloc, seal) else {
         return Err(AuditFault::Memory);
     };
     match output.take_text(text.as_slice()) {
@@ -101,7 +101,7 @@ pub fn write_checked<W: Write>(
         (checked_text checked.now)) }
 {
     let mut text = Vec::new(alloc);
-    if put_checked(&mut text, checked).is_err() {
+    if append_checked(&mut text, checked).is_err() {
         return Err(AuditFault::Memory);
     }
     match output.take_text(text.as_slice()) {

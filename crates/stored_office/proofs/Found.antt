@@ -7,7 +7,7 @@ use Rattle.office_books.specs.Ledgers.{Ledger}
 use Rattle.office_core.specs.Leaving.{BooksStand}
 use Rattle.office_store.specs.Database.{HoldsAlone}
 use Rattle.office_store.specs.declared.books.SqlBooks.{SqlBooks}
-use Rattle.kept_books.specs.declared.kept.KeptBooks.{KeptBooks}
+use Rattle.kept_books.specs.declared.kept.CachedBooks.{CachedBooks}
 use Rattle.kept_books.specs.Keeping.{StandsAs, beneath}
 use Rattle.stored_files.proofs.Standing.{stands_alone}
 use Rattle.stored_files.specs.BooksFound.{ledger_beneath}
@@ -21,8 +21,8 @@ stands_so before after past meant stand = record {
   leaves = record { left = stand.leaves.left; may = meant.left stand.leaves.left stand.leaves.may; each = stand.leaves.each };
 }
 
-pub over : {S : Type 0} (g : Ghosts S) (past : History) (books : SqlBooks S g) (found left : KeptBooks (SqlBooks S g))
-    (Does : (found left : KeptBooks (SqlBooks S g)) → Type 0) (zone : List ℕ) → IsPast past
+pub over : {S : Type 0} (g : Ghosts S) (past : History) (books : SqlBooks S g) (found left : CachedBooks (SqlBooks S g))
+    (Does : (found left : CachedBooks (SqlBooks S g)) → Type 0) (zone : List ℕ) → IsPast past
     → HoldsAlone g zone books.connection (facts_of past)
     → beneath found ≡ books → StandsAs (ledger_beneath g books) (ledger_in g found)
     → (BooksStand (ledger_in g found) past → (ledger_in g left).is_clean → Does found left) → OverBooks g past Does

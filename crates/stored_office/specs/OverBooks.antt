@@ -3,7 +3,7 @@ use Rattle.std.specs.Prelude.{ℕ, List}
 use Rattle.sqlite.specs.Store.{Ghosts}
 use Rattle.office_rules.specs.History.{History, facts_of}
 use Rattle.office_books.specs.Ledgers.{Ledger}
-use Rattle.kept_books.specs.declared.kept.KeptBooks.{KeptBooks}
+use Rattle.kept_books.specs.declared.kept.CachedBooks.{CachedBooks}
 use Rattle.kept_books.specs.Keeping.{beneath, ledger_over}
 use Rattle.office_store.specs.Database.{HoldsAlone}
 use Rattle.office_store.specs.declared.books.SqlBooks.{SqlBooks}
@@ -12,16 +12,16 @@ use Rattle.stored_files.specs.BooksFound.{ledger_beneath}
 module _ {S : Type 0} (g : Ghosts S) where
   -- The logical model of a cached store in a database. The cache stores records that were already
   -- read.
-  abbrev pub ledger_in : KeptBooks (SqlBooks S g) → Ledger
+  abbrev pub ledger_in : CachedBooks (SqlBooks S g) → Ledger
   ledger_in books = ledger_over (ledger_beneath g) books
 
   -- States that a task ran over the store in a database, which had exactly the records of the
   -- history `past`, also after a crash. If the disk returned what was written to it, `Does` relates
   -- the store before the task to the store after it.
   pub record OverBooks (past : History)
-      (Does : (found left : KeptBooks (SqlBooks S g)) → Type 0) : Type 0 where
+      (Does : (found left : CachedBooks (SqlBooks S g)) → Type 0) : Type 0 where
     pub zone : List ℕ
-    pub found : KeptBooks (SqlBooks S g)
+    pub found : CachedBooks (SqlBooks S g)
     pub holds : HoldsAlone g zone (beneath found).connection (facts_of past)
-    pub left : KeptBooks (SqlBooks S g)
+    pub left : CachedBooks (SqlBooks S g)
     pub does : (ledger_in left).is_clean → Does found left

@@ -2,4 +2,4 @@
 
 mod runs;
 
-pub use runs::{run_anew, run_stored};
+pub use runs::{run_created, run_stored};

@@ -2,7 +2,7 @@
 use Rattle.std.proofs.Common.{◌≡◌, ℕ, List, [], ◌∷◌, Some, None, refl}
 use Rattle.sun_chain.specs.Chain.{base_in}
 use Rattle.sun_chain.specs.Common.{device_address_in}
-use Rattle.sun_chain.specs.Image.{Words, put_words, words_in}
+use Rattle.sun_chain.specs.Image.{Words, add_words, words_in}
 use Rattle.sun_chain.specs.Points.{registers_in}
 use Rattle.sun_chain.specs.Walk.{end_lack, first_lack}
 use Rattle.sun_chain.specs.declared.model.Model.{Model}
@@ -51,13 +51,13 @@ mark = 0x5375 ∷ 0x6E53 ∷ []
 nowhere : base_in (λ address. None) ≡ None
 nowhere = refl
 
-at_zero : base_in (put_words (λ address. None) 0 mark) ≡ Some 0
+at_zero : base_in (add_words (λ address. None) 0 mark) ≡ Some 0
 at_zero = refl
 
-at_50000_before_zero : base_in (put_words (put_words (λ address. None) 0 mark) 50000 mark) ≡ Some 50000
+at_50000_before_zero : base_in (add_words (add_words (λ address. None) 0 mark) 50000 mark) ≡ Some 50000
 at_50000_before_zero = refl
 
-not_at_40001 : base_in (put_words (λ address. None) 40001 mark) ≡ None
+not_at_40001 : base_in (add_words (λ address. None) 40001 mark) ≡ None
 not_at_40001 = refl
 
 -- A common model (model 1) of 65 or 66 registers has a device address, and one of 64 has none.

@@ -3,7 +3,7 @@ use Rattle.std.proofs.Common.{◌≡◌, ℕ, ◌+◌, ◌-◌, ◌<◌, ◌≤�
 use Rattle.std.proofs.lemmas.List.{get_or_append_left, get_or-append_right, get_or_past, get_or-replicate, length-replicate}
 use Rattle.std.proofs.lemmas.Bool.{cases_lt, lt-leb, le-ltb, le-leb, lt-ltb}
 use Rattle.std.proofs.lemmas.Grind.{elements}
-use Rattle.sun_chain.specs.Image.{put_words}
+use Rattle.sun_chain.specs.Image.{add_words}
 
 pub get_or-splice_below : {X : Type 0} (s n : ℕ) (xs ys : List X) (k : ℕ) (d : X) → s ≤ length xs → k < s →
     get_or (take s xs ++ (ys ++ drop n (drop s xs))) k d ≡ get_or xs k d
@@ -39,7 +39,7 @@ cell read words at = if get_or read at false then Some (get_or words at 0) else 
 
 pub cell-splice : (read : List Bool) (words new : List ℕ) (s n : ℕ) (marks : List Bool) (copied : List ℕ) (at : ℕ) →
     s + n ≤ length read → length read ≤ length words → length new ≡ n → copied ≡ new → marks ≡ replicate n true →
-    cell (take s read ++ (marks ++ drop n (drop s read))) (take s words ++ (copied ++ drop n (drop s words))) at ≡ put_words (cell read words) s new at
+    cell (take s read ++ (marks ++ drop n (drop s read))) (take s words ++ (copied ++ drop n (drop s words))) at ≡ add_words (cell read words) s new at
 cell-splice read words new s n marks copied at fits sized size copies marked =
     let copied_size : length copied ≡ n = ap length copies ∙ size in
     let marks_size : length marks ≡ n = ap length marked ∙ length-replicate n true in

@@ -15,8 +15,8 @@ word_in image address =
     else None
 
 -- The words of an image after new words were written at consecutive addresses from `at`.
-abbrev pub put_words : Words → ℕ → List ℕ → Words
-put_words word address words at =
+abbrev pub add_words : Words → ℕ → List ℕ → Words
+add_words word address words at =
     if nat_le address at && nat_lt at (address + length words)
     then Some (slice_index words (at - address)) else word at
 

@@ -22,7 +22,7 @@ pub struct Image {
 }
 
 impl Image {
-    ghost use Rattle.sun_chain.specs.Image.{put_words, word_in, words_in};
+    ghost use Rattle.sun_chain.specs.Image.{add_words, word_in, words_in};
 
     /// Creates a memory image without words.
     pub fn new(alloc: Global) -> Self
@@ -40,7 +40,7 @@ impl Image {
         ensures past_end { (result ≡ Err ImageFault.PastEnd)
             ↔ (65536 < address + length words.now) }
         ensures put { OnOk result
-            ((at : ℕ) → word_in self.new at ≡ put_words (word_in self.old) address words.now at) }
+            ((at : ℕ) → word_in self.new at ≡ add_words (word_in self.old) address words.now at) }
         ensures err { OnErr result ((at : ℕ) → word_in self.new at ≡ word_in self.old at) }
     {
         let start = usize::from(address);
@@ -67,7 +67,7 @@ impl Image {
 
     fn overwrite(&mut self, start: usize, words: &[u16])
         requires { start + length words.now ≤ vec_len self.old.read }
-        ensures { (at : ℕ) → word_in self.new at ≡ put_words (word_in self.old) start words.now at }
+        ensures { (at : ℕ) → word_in self.new at ≡ add_words (word_in self.old) start words.now at }
     {
         copy_at(&mut self.words, start, words);
         mark_at(&mut self.read, start, words.len());

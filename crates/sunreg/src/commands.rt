@@ -30,7 +30,7 @@ use sunspec_text::{chain_text, plan_text};
 /// Executes a command, reports how it ended, and returns the exit status. Passes the files of the
 /// operating system to functions that are generic over the source of files.
 pub(crate) fn carry_out(rt: &HostRuntime, line: &CommandLine<'_>) -> ExitCode {
-    let files = Surroundings::of(rt, line);
+    let files = Surroundings::new(rt, line);
     carry_out_over(rt, &files, line)
 }
 

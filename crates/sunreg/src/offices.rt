@@ -30,7 +30,7 @@ pub(crate) fn over_office<'a, D: Databases + NamedFiles>(
     ensures same { IfOk result (IsOf task.entry) }
 {
     let connection = open_in(rt, files, path)?;
-    let mut clock = OnwardClock::of(SystemClock::new(rt));
+    let mut clock = OnwardClock::new(SystemClock::new(rt));
     over_connection(rt, files, path, connection, task, &mut clock)
 }
 
@@ -135,7 +135,7 @@ fn run_over<'a, D: Databases + NamedFiles>(
     settings: &Settings<'_>,
 ) -> Result<Done, Failure<'a>> {
     let connection = open_in(rt, files, path)?;
-    let mut clock = OnwardClock::of(SystemClock::new(rt));
+    let mut clock = OnwardClock::new(SystemClock::new(rt));
     run_opened(rt, files, path, connection, sites, settings, &mut clock)
 }
 

@@ -11,7 +11,7 @@ pub(crate) struct OnwardClock<C: Clock + Drop> {
 }
 
 impl<C: Clock + Drop> OnwardClock<C> {
-    pub(crate) fn of(clock: C) -> OnwardClock<C> {
+    pub(crate) fn new(clock: C) -> OnwardClock<C> {
         OnwardClock {
             clock,
             time: OnwardTime::new(),
@@ -19,8 +19,8 @@ impl<C: Clock + Drop> OnwardClock<C> {
     }
 
     /// Sets the lower bound of the clock to the latest time that the clock has returned.
-    pub(crate) fn go_on(&mut self) {
-        self.time.go_on();
+    pub(crate) fn advance_least(&mut self) {
+        self.time.advance_least();
     }
 }
 

@@ -2,7 +2,7 @@
 //! files are found by their names in one folder.
 use energy_report::Period;
 use file_commands::part_name;
-use run_schedule::{LedPeriod, file_of_period, period_of_file};
+use run_schedule::{ActivePeriod, file_of_period, period_of_file};
 use std::fs::{self, File};
 use std::io::{self, ErrorKind};
 use std::os::unix::fs::MetadataExt;
@@ -41,9 +41,9 @@ fn split_path(path: &str) -> (&str, &str) {
 
 // Returns the latest period that has a file in the folder of the run's own file. Ignores names that
 // are not UTF-8.
-fn period_beside(rt: &HostRuntime, file: &str, period: Period) -> io::Result<LedPeriod> {
+fn period_beside(rt: &HostRuntime, file: &str, period: Period) -> io::Result<ActivePeriod> {
     let (folder, name) = split_path(file);
-    let mut led = LedPeriod::none();
+    let mut led = ActivePeriod::none();
     for entry in fs::read_dir(rt, folder)? {
         match entry {
             Ok(entry) => {

@@ -27,7 +27,7 @@ use std::io::{self, Write};
 use std::process::ExitCode;
 use std::thread::sleep;
 use std::time::{Duration, Instant};
-use stored_files::{CopyFault, Databases, Ending, Failure, FileFault, Named, told_zone};
+use stored_files::{CopyFault, Databases, Ending, Failure, FileFault, Named, read_zone_text};
 use stored_office::ending_of_done;
 
 /// The maximum number of attempts to open a file that another process has open. `LOOKS` is the
@@ -88,7 +88,7 @@ fn say_later(rt: &HostRuntime, path: &str) {
     }
 }
 
-fn say_behind(rt: &HostRuntime, path: &str) {
+fn report_late_clock(rt: &HostRuntime, path: &str) {
     if let Ok(line) = format!(in rt.alloc();
         "sunreg: {}: the system clock is before its last entry: it is not carried yet, and stays in use until the next hour\n",
         Named(path)
@@ -166,7 +166,7 @@ enum Course {
 }
 
 fn zone_in<S: Alter>(connection: &mut Connection<S>) -> Result<Zone, OpenFault> {
-    match told_zone(connection) {
+    match read_zone_text(connection) {
         Ok(text) => match Zone::read(text.as_str()) {
             Ok(zone) => Ok(zone),
             Err(_) => Err(OpenFault::Zone),
@@ -207,7 +207,7 @@ fn course_on<'a, S: Alter + Drop>(
             Ok(Course::Stay(until))
         }
         Plan::Wait => {
-            say_behind(asked.rt, led.path.as_str());
+            report_late_clock(asked.rt, led.path.as_str());
             Ok(Course::Stay(next_try(every, now)))
         }
         Plan::Carry => {
@@ -302,7 +302,7 @@ fn untold(
 
 // Returns the energy of all registers in the files older than the file at `path`, if the options
 // request it.
-fn told_before<D: OfficeFiles>(
+fn requested_registers<D: OfficeFiles>(
     asked: &Asked<'_>,
     files: &D,
     path: &str,
@@ -412,7 +412,7 @@ fn run_at<D: OfficeFiles + NamedFiles, C: Clock + Drop>(
     until: Option<u64>,
     left: Option<u64>,
 ) -> Option<ExitCode> {
-    let registers = match told_before(asked, files, path, is_first, is_new) {
+    let registers = match requested_registers(asked, files, path, is_first, is_new) {
         Ok(registers) => registers,
         Err(code) => return Some(code),
     };
@@ -591,7 +591,7 @@ pub(crate) fn run_by_periods<'a, D: OfficeFiles + NamedFiles>(
         sites: sites.as_slice(),
         settings: *settings,
     };
-    let mut clock = OnwardClock::of(SystemClock::new(rt));
+    let mut clock = OnwardClock::new(SystemClock::new(rt));
     let begun = match Instant::now(rt) {
         Ok(begun) => Some(begun),
         Err(_) => None,
@@ -603,7 +603,7 @@ pub(crate) fn run_by_periods<'a, D: OfficeFiles + NamedFiles>(
         }
         match turn(&asked, files, &mut clock, run == 0, left) {
             Some(code) => return code,
-            None => clock.go_on(),
+            None => clock.advance_least(),
         }
     }
     ended(rt, &Ending::Fine)

@@ -1,7 +1,7 @@
 //! Executes scripts over a store in memory, or over an office's file.
 use file_commands::open_in;
 use interval_core::Zone;
-use kept_books::KeptBooks;
+use kept_books::CachedBooks;
 use office_store::SqlBooks;
 use script_run::{replay, replay_books};
 use std::io;
@@ -28,7 +28,7 @@ pub(crate) fn replay_file<'a, D: Databases>(
         Err(failure) => return Ending::Failed(failure),
     };
     let books = match SqlBooks::open(rt.alloc(), connection) {
-        Ok(opened) => KeptBooks::new(rt.alloc(), opened),
+        Ok(opened) => CachedBooks::new(rt.alloc(), opened),
         Err(unopened) => {
             return Ending::Failed(Failure::Unopened {
                 path,

@@ -15,12 +15,12 @@ pub(crate) struct Surroundings<'r> {
 
 impl<'r> Surroundings<'r> {
     /// Returns the devices in a command's arguments, with the files of the operating system.
-    pub(crate) fn of(rt: &'r HostRuntime, line: &'r CommandLine<'r>) -> Surroundings<'r> {
+    pub(crate) fn new(rt: &'r HostRuntime, line: &'r CommandLine<'r>) -> Surroundings<'r> {
         let places = match line {
             CommandLine::Enter { devices, .. } => devices.as_slice(),
             _ => &[],
         };
-        let files = Files::of(rt);
+        let files = Files::new(rt);
         Surroundings { rt, places, files }
     }
 }

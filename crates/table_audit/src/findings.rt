@@ -85,7 +85,7 @@ impl Findings {
 
     /// Appends the differences of a meter as findings with its name, and adds the number of its
     /// further differences.
-    pub(crate) fn tell(
+    pub(crate) fn append_differences(
         &mut self,
         alloc: Global,
         meter: &str,
@@ -110,7 +110,7 @@ impl Findings {
     }
 
     /// Appends differences that belong to no meter as findings without a name.
-    pub(crate) fn tell_all(&mut self, found: &[Difference]) -> Result<(), AllocError>
+    pub(crate) fn append_all(&mut self, found: &[Difference]) -> Result<(), AllocError>
         requires few { length self.old.first.items ≤ MOST }
         ensures told { OnOk result (IsTold found.now self.old self.new) }
         ensures few { OnOk result (length self.new.first.items ≤ MOST) }

@@ -46,7 +46,7 @@ fn go_over(
 }
 
 /// Reports each meter entry that the rules for entries reject, beginning with the first.
-fn tell_refused(
+fn print_refused(
     meter: &Installed,
     progress: &mut Progress,
     rows: &[TableRow],
@@ -92,7 +92,7 @@ fn first_astray(last: u64, places: &[u64]) -> Option<u64>
 
 /// Reports the first void record that names no entry after the opening, or names an entry twice.
 /// Returns whether no such void record exists.
-fn tell_voids(last: u64, voids: &[u64], found: &mut Differences) -> Result<bool, AllocError>
+fn append_voids(last: u64, voids: &[u64], found: &mut Differences) -> Result<bool, AllocError>
     requires few { length found.old.first.items ≤ MOST }
     ensures named { IfOk result (λ named. IsTrue named ↔ (agreeing.rises 1 last voids.now ≡ true)) }
     ensures tells { IfOk result (λ named. Tells named found.old found.new) }
@@ -109,7 +109,7 @@ fn tell_voids(last: u64, voids: &[u64], found: &mut Differences) -> Result<bool,
 
 /// Reports each difference between the expected interval rows `wanted` and the stored rows `has`,
 /// in order.
-fn tell_each(wanted: &[Share], has: &[Share], found: &mut Differences) -> Result<(), AllocError>
+fn append_each(wanted: &[Share], has: &[Share], found: &mut Differences) -> Result<(), AllocError>
     requires told { 0 < length found.old.first.items }
     requires few { length found.old.first.items ≤ MOST }
     ensures told { OnOk result (0 < length found.new.first.items) }
@@ -132,7 +132,7 @@ fn tell_each(wanted: &[Share], has: &[Share], found: &mut Differences) -> Result
 
 /// Reports each difference between the stored interval rows and those that follow from the meter's
 /// entries. Returns whether no difference exists.
-fn tell_intervals(
+fn print_intervals(
     wanted: &[Share],
     has: &[Share],
     found: &mut Differences,
@@ -148,13 +148,13 @@ fn tell_intervals(
     found.push(Difference::Interval(difference.fault))?;
     let wanted_done = difference.wanted_done.min(wanted.len());
     let found_done = difference.found_done.min(has.len());
-    tell_each(&wanted[wanted_done..], &has[found_done..], found)?;
+    append_each(&wanted[wanted_done..], &has[found_done..], found)?;
     Ok(false)
 }
 
 /// Reports that a meter's stored last entry `has` differs from the last entry `wanted` that follows
 /// from its entries. If the two are equal, `wanted` is None. Returns whether they are equal.
-fn tell_last(has: Last, wanted: Option<Last>, found: &mut Differences) -> Result<bool, AllocError>
+fn append_last(has: Last, wanted: Option<Last>, found: &mut Differences) -> Result<bool, AllocError>
     requires few { length found.old.first.items ≤ MOST }
     ensures none { IfOk result (λ same. IsTrue same ↔ IsNone wanted) }
     ensures tells { IfOk result (λ same. Tells same found.old found.new) }
@@ -170,7 +170,7 @@ fn tell_last(has: Last, wanted: Option<Last>, found: &mut Differences) -> Result
 /// Reports that a meter's stored total energy `has` differs from the total `wanted` that follows
 /// from its entries, both in mWh. If the two are equal, `wanted` is None. Returns whether they are
 /// equal.
-fn tell_total(has: u64, wanted: Option<u64>, found: &mut Differences) -> Result<bool, AllocError>
+fn append_total(has: u64, wanted: Option<u64>, found: &mut Differences) -> Result<bool, AllocError>
     requires few { length found.old.first.items ≤ MOST }
     ensures none { IfOk result (λ same. IsTrue same ↔ IsNone wanted) }
     ensures tells { IfOk result (λ same. Tells same found.old found.new) }
@@ -185,7 +185,7 @@ fn tell_total(has: u64, wanted: Option<u64>, found: &mut Differences) -> Result<
 
 /// Reports that a meter's stored closed flag differs from the flag `wanted` that follows from its
 /// entries. If the two are equal, `wanted` is None. Returns whether they are equal.
-fn tell_ended(wanted: Option<bool>, found: &mut Differences) -> Result<bool, AllocError>
+fn append_ended(wanted: Option<bool>, found: &mut Differences) -> Result<bool, AllocError>
     requires few { length found.old.first.items ≤ MOST }
     ensures none { IfOk result (λ same. IsTrue same ↔ IsNone wanted) }
     ensures tells { IfOk result (λ same. Tells same found.old found.new) }
@@ -200,7 +200,7 @@ fn tell_ended(wanted: Option<bool>, found: &mut Differences) -> Result<bool, All
 
 /// Reports each difference between a row of `installations` and the result of checking the meter's
 /// entries. Returns whether no difference exists.
-fn tell_standing(
+fn report_state(
     check: &Check,
     row: &InstallationRow,
     found: &mut Differences,
@@ -222,15 +222,15 @@ fn tell_standing(
         is_ended: row.is_ended,
     };
     let faults = standing_faults(check, &standing);
-    let last = tell_last(has, faults.last, found)?;
-    let total = tell_total(row.last.total, faults.total, found)?;
-    let ended = tell_ended(faults.is_ended, found)?;
+    let last = append_last(has, faults.last, found)?;
+    let total = append_total(row.last.total, faults.total, found)?;
+    let ended = append_ended(faults.is_ended, found)?;
     Ok(last && total && ended)
 }
 
 /// Reports where a meter's void records, interval rows or `installations` row differ from the
 /// result of checking the meter's entries. Returns whether no difference exists.
-fn tell_rest(
+fn append_rest(
     progress: &Progress,
     row: &InstallationRow,
     voids: &[u64],
@@ -244,9 +244,9 @@ fn tell_rest(
     ensures tells { IfOk result (λ agrees. Tells agrees found.old found.new) }
     ensures few { OnOk result (length found.new.first.items ≤ MOST) }
 {
-    let named = tell_voids(last, voids, found)?;
-    let same = tell_intervals(progress.wanted.as_slice(), shares, found)?;
-    let stands = tell_standing(&progress.check, row, found)?;
+    let named = append_voids(last, voids, found)?;
+    let same = print_intervals(progress.wanted.as_slice(), shares, found)?;
+    let stands = report_state(&progress.check, row, found)?;
     Ok(named && same && stands)
 }
 
@@ -280,8 +280,8 @@ pub(crate) fn audit_read(
     let later = &entries[1..];
     let mut progress = start(alloc, &meter);
     if let Some(refused) = go_over(&meter, &mut progress, later)? {
-        tell_refused(&meter, &mut progress, later, refused, found)?;
+        print_refused(&meter, &mut progress, later, refused, found)?;
         return Ok(false);
     }
-    tell_rest(&progress, row, voids, entries.len() as u64, shares, found)
+    append_rest(&progress, row, voids, entries.len() as u64, shares, found)
 }

@@ -28,4 +28,4 @@ pub use polls::audit_tables;
 pub use queries::{installations, meter_rows};
 pub use reading::{entries, installation, places, range};
 pub use rows::MeterRows;
-pub use texts::put_findings;
+pub use texts::write_findings;

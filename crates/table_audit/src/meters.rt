@@ -16,7 +16,7 @@ use store_tables::RowFault;
 
 /// Reports that a row of `installations` has the index `has`, if `wanted` is the next index and the
 /// two differ. Returns whether they are equal.
-fn tell_place(has: u64, wanted: u64, found: &mut Differences) -> Result<bool, AllocError>
+fn append_index(has: u64, wanted: u64, found: &mut Differences) -> Result<bool, AllocError>
     requires few { length found.old.first.items ≤ MOST }
     ensures placed { IfOk result (λ placed. IsTrue placed ↔ (has ≡ wanted)) }
     ensures tells { IfOk result (λ placed. Tells placed found.old found.new) }
@@ -47,7 +47,7 @@ fn audit_installation(
         found.push(Difference::OutOfRange(Table::Installations))?;
         return Ok(false);
     };
-    let placed = tell_place(installed.place, place, found)?;
+    let placed = append_index(installed.place, place, found)?;
     let fine = audit_rows(alloc, &installed, rows, found)?;
     Ok(placed && fine)
 }
@@ -70,7 +70,7 @@ fn audit_named(
 {
     let mut found = Differences::new(alloc);
     let _fine = audit_installation(alloc, place, row, rows, &mut found)?;
-    findings.tell(alloc, meter, found.first.as_slice(), found.more)?;
+    findings.append_differences(alloc, meter, found.first.as_slice(), found.more)?;
     findings.count(rows);
     Ok(())
 }

@@ -24,7 +24,11 @@ fn number(row: &Row) -> Option<u64>
 }
 
 /// Appends the fault of a poll to the differences in `found`.
-fn put(found: &mut Vec<Difference>, poll: u64, fault: PollFault) -> Result<(), AllocError>
+fn append_difference(
+    found: &mut Vec<Difference>,
+    poll: u64,
+    fault: PollFault,
+) -> Result<(), AllocError>
     ensures { OnOk result (found.new.items ≡ found.old.items ++ Difference.Poll poll fault ∷ []) }
 {
     found.push(Difference::Poll { poll, fault })?;
@@ -32,43 +36,43 @@ fn put(found: &mut Vec<Difference>, poll: u64, fault: PollFault) -> Result<(), A
 }
 
 /// Reports a row of `polls` if it has a value out of its range.
-fn put_unread_poll(row: &Row, found: &mut Vec<Difference>) -> Result<(), AllocError>
+fn write_unread_poll(row: &Row, found: &mut Vec<Difference>) -> Result<(), AllocError>
     ensures { OnOk result (found.new.items ≡ found.old.items ++ differing.unread_poll row.now) }
 {
     match poll(row) {
         Ok(_) => Ok(()),
-        Err(_) => put(found, number(row).unwrap_or(0), PollFault::OutOfRange),
+        Err(_) => append_difference(found, number(row).unwrap_or(0), PollFault::OutOfRange),
     }
 }
 
 /// Reports a row of `outcomes` if it has a value out of its range.
-fn put_unread_outcome(row: &Row, found: &mut Vec<Difference>) -> Result<(), AllocError>
+fn write_unread_outcome(row: &Row, found: &mut Vec<Difference>) -> Result<(), AllocError>
     ensures { OnOk result (found.new.items ≡ found.old.items ++ differing.unread_outcome row.now) }
 {
     match outcome(row) {
         Ok(_) => Ok(()),
-        Err(_) => put(found, number(row).unwrap_or(0), PollFault::EndOutOfRange),
+        Err(_) => append_difference(found, number(row).unwrap_or(0), PollFault::EndOutOfRange),
     }
 }
 
 /// Reports each row of `polls` that has a value out of its range.
-fn put_unread_polls(rows: &[Row], found: &mut Vec<Difference>) -> Result<(), AllocError>
+fn write_unread_polls(rows: &[Row], found: &mut Vec<Difference>) -> Result<(), AllocError>
     ensures { OnOk result (found.new.items
         ≡ found.old.items ++ differing.each_of differing.unread_poll rows.now) }
 {
     for row in rows {
-        put_unread_poll(row, found)?;
+        write_unread_poll(row, found)?;
     }
     Ok(())
 }
 
 /// Reports each row of `outcomes` that has a value out of its range.
-fn put_unread_outcomes(rows: &[Row], found: &mut Vec<Difference>) -> Result<(), AllocError>
+fn write_unread_outcomes(rows: &[Row], found: &mut Vec<Difference>) -> Result<(), AllocError>
     ensures { OnOk result (found.new.items
         ≡ found.old.items ++ differing.each_of differing.unread_outcome rows.now) }
 {
     for row in rows {
-        put_unread_outcome(row, found)?;
+        write_unread_outcome(row, found)?;
     }
     Ok(())
 }
@@ -86,7 +90,7 @@ fn number_of(row: &Row) -> Option<u64>
 }
 
 /// Reports the poll numbers from `next` to `below` - 1 as missing, if there are any.
-fn put_gap(next: u64, below: u64, found: &mut Vec<Difference>) -> Result<(), AllocError>
+fn write_gap(next: u64, below: u64, found: &mut Vec<Difference>) -> Result<(), AllocError>
     ensures { OnOk result (found.new.items ≡ found.old.items ++ differing.gap next below) }
 {
     if next < below {
@@ -98,7 +102,7 @@ fn put_gap(next: u64, below: u64, found: &mut Vec<Difference>) -> Result<(), All
 
 /// Reports the poll numbers that are missing before a poll's number, or reports that the poll's
 /// number is out of order. Returns the number that the next poll should have.
-fn put_number(
+fn write_number(
     next: u64,
     last: u64,
     number: u64,
@@ -110,10 +114,10 @@ fn put_number(
     ensures next { IfOk result (λ after. after ≡ differing.next_after next last number) }
 {
     if next <= number && number <= last {
-        put_gap(next, number, found)?;
+        write_gap(next, number, found)?;
         return Ok(number + 1);
     }
-    put(found, number, PollFault::OutOfOrder)?;
+    append_difference(found, number, PollFault::OutOfOrder)?;
     Ok(next)
 }
 
@@ -127,14 +131,14 @@ fn put_row(next: u64, last: u64, row: &Row, found: &mut Vec<Difference>) -> Resu
         (λ after. after ≡ differing.after_by next last (differing.number_of row.now)) }
 {
     match number_of(row) {
-        Some(number) => put_number(next, last, number, found),
+        Some(number) => write_number(next, last, number, found),
         None => Ok(next),
     }
 }
 
 /// Reports each poll number from `first` to `last` that no row has, and each poll number that is
 /// out of order.
-fn put_order(
+fn write_order(
     first: u64,
     last: u64,
     rows: &[Row],
@@ -148,7 +152,7 @@ fn put_order(
     for row in rows {
         next = put_row(next, last, row, found)?;
     }
-    put_gap(next, last + 1, found)
+    write_gap(next, last + 1, found)
 }
 
 // ---- outcomes of polls
@@ -201,7 +205,7 @@ fn has_begun(first: u64, polls: &[Row], outcome: &OutcomeRow) -> bool
 }
 
 /// Reports an outcome if it has no poll, or is earlier than the start of its poll.
-fn put_early(
+fn write_early(
     first: u64,
     polls: &[Row],
     row: &Row,
@@ -215,11 +219,11 @@ fn put_early(
     if has_begun(first, polls, &outcome) {
         return Ok(());
     }
-    put(found, outcome.poll, PollFault::EndedBefore)
+    append_difference(found, outcome.poll, PollFault::EndedBefore)
 }
 
 /// Reports each outcome if no row has its poll, or if it is earlier than the start of its poll.
-fn put_each_early(
+fn write_each_early(
     first: u64,
     polls: &[Row],
     rows: &[Row],
@@ -229,7 +233,7 @@ fn put_each_early(
         ≡ found.old.items ++ differing.each_of (differing.early polls.now) rows.now) }
 {
     for row in rows {
-        put_early(first, polls, row, found)?;
+        write_early(first, polls, row, found)?;
     }
     Ok(())
 }
@@ -237,11 +241,11 @@ fn put_each_early(
 // ---- all differences in a run of polls
 
 /// Reports the rows of a run of polls that have values out of range.
-fn put_values(rows: &RunRows, found: &mut Vec<Difference>) -> Result<(), AllocError>
+fn append_values(rows: &RunRows, found: &mut Vec<Difference>) -> Result<(), AllocError>
     ensures { OnOk result (found.new.items ≡ found.old.items ++ differing.values_of rows.now) }
 {
-    put_unread_polls(rows.polls.as_slice(), found)?;
-    put_unread_outcomes(rows.outcomes.as_slice(), found)
+    write_unread_polls(rows.polls.as_slice(), found)?;
+    write_unread_outcomes(rows.outcomes.as_slice(), found)
 }
 
 /// Returns the differences of a run of polls. `last` is the greatest number of all polls.
@@ -256,14 +260,14 @@ pub(crate) fn run_differences(
     ensures { IfOk result (λ found. found.items ≡ differing.differences_of_run run last rows.now) }
 {
     let mut found = Vec::new(alloc);
-    put_values(rows, &mut found)?;
-    put_turns(run, last, rows, &mut found)?;
+    append_values(rows, &mut found)?;
+    write_turns(run, last, rows, &mut found)?;
     Ok(found)
 }
 
 /// Reports the missing poll numbers of a run, the numbers out of order, and the outcomes earlier
 /// than their polls.
-fn put_turns(
+fn write_turns(
     run: u64,
     last: u64,
     rows: &RunRows,
@@ -276,8 +280,8 @@ fn put_turns(
 {
     let first = run * RUN + 1;
     let end = last.min((run + 1) * RUN);
-    put_order(first, end, rows.polls.as_slice(), found)?;
-    put_each_early(
+    write_order(first, end, rows.polls.as_slice(), found)?;
+    write_each_early(
         first,
         rows.polls.as_slice(),
         rows.outcomes.as_slice(),

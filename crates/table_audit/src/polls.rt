@@ -35,7 +35,7 @@ fn audit_rows_of(
     ensures few { OnOk result (length findings.new.first.items ≤ MOST) }
 {
     let found = run_differences(alloc, run, last, rows)?;
-    findings.tell_all(found.as_slice())?;
+    findings.append_all(found.as_slice())?;
     Ok(rows.polls.len() > 0 || findings.first.len() < MOST)
 }
 
@@ -103,7 +103,7 @@ fn audit_polls<S: Alter>(
 {
     let rows = last_poll(conn)?;
     let Ok(found) = first_whole(&rows, 1, GREATEST_PLACE) else {
-        return tell_last(findings);
+        return append_last(findings);
     };
     let last = found.unwrap_or(0);
     findings.count_polls(last);
@@ -111,7 +111,7 @@ fn audit_polls<S: Alter>(
 }
 
 /// Reports that the greatest poll number in the tables is out of its range.
-fn tell_last(findings: &mut Findings) -> Result<(), RowFault>
+fn append_last(findings: &mut Findings) -> Result<(), RowFault>
     requires few { length findings.old.first.items ≤ MOST }
     ensures told { OnOk result (findings.new.first.items ≡ [] → ⊥) }
     ensures few { OnOk result (length findings.new.first.items ≤ MOST) }

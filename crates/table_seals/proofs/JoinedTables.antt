@@ -6,7 +6,7 @@ use Rattle.meter_journal.specs.declared.lines.Installed.{Installed}
 use Rattle.meter_journal.specs.Books.{IsWellInstalled}
 use Rattle.meter_audit.specs.declared.rows.TableRow.{TableRow}
 use Rattle.meter_audit.specs.declared.standing.Standing.{Standing}
-use Rattle.meter_audit.specs.CarriedFiles.{GoesOnAs, InFile, GoOn, told_by_both, told_by_all, FilesAreOneHistory}
+use Rattle.meter_audit.specs.CarriedFiles.{GoesOnAs, InFile, GoOn, told_by_both, entry_from_all_rows, FilesAreOneHistory}
 use Rattle.meter_audit.specs.Fitting.{Tables, AreFine}
 use Rattle.store_tables.specs.declared.meters.rows.InstallationRow.{InstallationRow}
 use Rattle.store_tables.proofs.ReadLemmas.{ok_is}
@@ -27,8 +27,8 @@ same_meter m n range ceiling opening =
     ∙ ap (λ c. let x : Installed = record { range = n.range; ceiling = c; opening = m.opening } in x) ceiling
     ∙ ap (λ (l : Last). let x : Installed = record { range = n.range; ceiling = n.ceiling; opening = l } in x) opening
 
-pub filed_meters_are_told : FiledMetersAreTold
-filed_meters_are_told row rows installation filed read fine so =
+pub kept_meters_are_reported : FiledMetersAreTold
+kept_meters_are_reported row rows installation filed read fine so =
     let law = fine.lawful in
     let same : installation ≡ so.installation = ok_is (sym read ∙ so.installation_read) in
     let rest = same_read rows fine.range fine.voids fine.entries filed.installed.range so.voids (so.opening ∷ so.later)
@@ -68,7 +68,7 @@ latest_more : (first new : InFile) (later : List InFile) → latest first (later
 latest_more first new [] = refl
 latest_more first new (next ∷ later) = latest_more next new later
 
-told_more : (old : Tables) (later : List InFile) (new : InFile) → (told_by_all old (later ++ new ∷ [])).total ≡ (told_by_all old later).total + new.tables.total
+told_more : (old : Tables) (later : List InFile) (new : InFile) → (entry_from_all_rows old (later ++ new ∷ [])).total ≡ (entry_from_all_rows old later).total + new.tables.total
 told_more old [] new = refl
 told_more old (next ∷ later) new = told_more (told_by_both old next.tables) later new
 
@@ -81,7 +81,7 @@ record GoesUpTo (tables : FiledMeter → Tables) (meter : FiledMeter) (meters : 
   pub fine : AreFine first.meter first.tables
   pub goes : GoOn first later
   pub last : latest first later ≡ in_file tables meter
-  pub total : (told_by_all first.tables later).total ≡ energy_of meters
+  pub total : (entry_from_all_rows first.tables later).total ≡ energy_of meters
 
 up_to : (tables : FiledMeter → Tables) (meter : FiledMeter) (older : List FiledMeter) → AllByRecursion (λ m. IsToldBy m (tables m)) (meter ∷ older)
     → EachGoesOn (meter ∷ older) → GoesUpTo tables meter (meter ∷ older)

@@ -4,7 +4,7 @@ use Rattle.std.specs.Prelude.{⊤, ◌≡◌, ◌↔◌, ◌≤◌, ◌+◌, ℕ
 use Rattle.std.specs.List.{AllByRecursion, filter}
 use Rattle.energy_core.specs.declared.limits.TheConstants.{MAX_TOTAL}
 use Rattle.meter_journal.specs.Books.{IsWellInstalled}
-use Rattle.meter_audit.specs.CarriedFiles.{GoesOnAs, InFile, told_by_all}
+use Rattle.meter_audit.specs.CarriedFiles.{GoesOnAs, InFile, entry_from_all_rows}
 use Rattle.meter_audit.specs.Fitting.{Tables, AreFine}
 use Rattle.meter_audit.specs.Laws.{AreLawful}
 use Rattle.sqlite.specs.Order.{Row}
@@ -106,7 +106,7 @@ pub record HasOneJournal (tables : FiledMeter → Tables) (meters : List FiledMe
   pub first : InFile
   pub later : List InFile
   pub are : in_files tables meters ≡ first ∷ later
-  pub lawful : AreLawful first.meter (told_by_all first.tables later)
+  pub lawful : AreLawful first.meter (entry_from_all_rows first.tables later)
 
 -- Theorem: if a meter's files continue each other, then they together have one lawful journal. The
 -- tables of each file must be fine, and the total energy must be within the limit.

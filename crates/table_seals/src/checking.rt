@@ -94,7 +94,7 @@ fn check_meter<S: Alter>(
 }
 
 /// Appends the name of a meter to the list of differing meters, unless the meter matches its seal.
-fn tell(
+fn append_differing(
     alloc: Global,
     kept: bool,
     meter: &str,
@@ -112,7 +112,7 @@ fn tell(
 }
 
 /// Checks a meter, and appends its name if the meter does not match its seal.
-fn check_told<S: Alter>(
+fn check_and_report<S: Alter>(
     alloc: Global,
     conn: &mut Connection<S>,
     known: &BTreeSet<Terms>,
@@ -125,7 +125,7 @@ fn check_told<S: Alter>(
         (map string_bytes differing.old.items) (map string_bytes differing.new.items)) }
 {
     let kept = check_meter(alloc, conn, known, seal)?;
-    match tell(alloc, kept, &seal.meter, differing) {
+    match append_differing(alloc, kept, &seal.meter, differing) {
         Ok(()) => Ok(()),
         Err(_) => Err(memory()),
     }
@@ -146,7 +146,7 @@ fn check_each<S: Alter>(
 {
     let mut differing = Vec::new(alloc);
     for seal in seals {
-        check_told(alloc, conn, known, seal, &mut differing)?;
+        check_and_report(alloc, conn, known, seal, &mut differing)?;
     }
     Ok(differing)
 }

@@ -3,7 +3,7 @@ ghost use Rattle.std.specs.Prelude.{◌≡◌, ◌++◌, ◌↔◌, OnOk, IsTrue
 ghost use Rattle.table_seals.specs.Checking.{IsAsSealed};
 ghost use Rattle.table_seals.specs.Texts as say;
 
-use crate::texts::{put, put_number, put_word};
+use crate::texts::{append_bytes, write_number, write_word};
 use std::alloc::AllocError;
 
 /// The result of checking a seal. It has the names of the meters that don't match the seal, the
@@ -24,42 +24,42 @@ impl Checked {
     }
 }
 
-fn put_difference(text: &mut Vec<u8>, meter: &String) -> Result<(), AllocError>
+fn write_difference(text: &mut Vec<u8>, meter: &String) -> Result<(), AllocError>
     ensures { OnOk result (text.new.items ≡ text.old.items ++ say.difference_line meter.now) }
 {
-    put_word(text, b"meter ", meter.as_bytes())?;
-    put(text, b" differs from the seal\n")
+    write_word(text, b"meter ", meter.as_bytes())?;
+    append_bytes(text, b" differs from the seal\n")
 }
 
-fn put_differences(text: &mut Vec<u8>, meters: &[String]) -> Result<(), AllocError>
+fn write_differences(text: &mut Vec<u8>, meters: &[String]) -> Result<(), AllocError>
     ensures { OnOk result
         (text.new.items ≡ text.old.items ++ flat_map say.difference_line meters.now) }
 {
     for meter in meters {
-        put_difference(text, meter)?;
+        write_difference(text, meter)?;
     }
     Ok(())
 }
 
-fn put_polls(text: &mut Vec<u8>, differ: bool) -> Result<(), AllocError>
+fn write_polls(text: &mut Vec<u8>, differ: bool) -> Result<(), AllocError>
     ensures { OnOk result (text.new.items ≡ text.old.items ++ say.polls_difference differ) }
 {
     if differ {
-        return put(text, b"polls differ from the seal\n");
+        return append_bytes(text, b"polls differ from the seal\n");
     }
     Ok(())
 }
 
-fn put_rest(text: &mut Vec<u8>, polls_differ: bool) -> Result<(), AllocError>
+fn add_rest(text: &mut Vec<u8>, polls_differ: bool) -> Result<(), AllocError>
     ensures { OnOk result (text.new.items ≡ text.old.items ++ say.rest_line polls_differ) }
 {
     if polls_differ {
-        return put(text, b"polls differ\n");
+        return append_bytes(text, b"polls differ\n");
     }
-    put(text, b"sealed: fine\n")
+    append_bytes(text, b"sealed: fine\n")
 }
 
-fn put_total(
+fn write_total(
     text: &mut Vec<u8>,
     differing: u64,
     meters: u64,
@@ -69,21 +69,21 @@ fn put_total(
         (text.new.items ≡ text.old.items ++ say.total_line differing meters polls_differ) }
 {
     if differing == 0 {
-        return put_rest(text, polls_differ);
+        return add_rest(text, polls_differ);
     }
-    put_number(text, b"", differing)?;
-    put_number(text, b" of ", meters)?;
-    put(text, b" meters differ\n")
+    write_number(text, b"", differing)?;
+    write_number(text, b" of ", meters)?;
+    append_bytes(text, b" meters differ\n")
 }
 
 /// Appends the printed text of a check. It has a line for each meter that differs from its seal, a
 /// line if the polls differ, and a last line. If memory runs out, the text is incomplete.
-pub fn put_checked(text: &mut Vec<u8>, checked: &Checked) -> Result<(), AllocError>
+pub fn append_checked(text: &mut Vec<u8>, checked: &Checked) -> Result<(), AllocError>
     ensures { OnOk result (text.new.items ≡ text.old.items ++ say.checked_text checked.now) }
 {
-    put_differences(text, checked.differing.as_slice())?;
-    put_polls(text, checked.polls_differ)?;
-    put_total(
+    write_differences(text, checked.differing.as_slice())?;
+    write_polls(text, checked.polls_differ)?;
+    write_total(
         text,
         checked.differing.len() as u64,
         checked.meters,

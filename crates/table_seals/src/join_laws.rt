@@ -20,7 +20,7 @@ pub fn joined_files_are_one()
 
 /// Theorem: if an audit finds a meter's rows fine, then the data read about the meter belong to a
 /// lawful journal.
-pub fn filed_meters_are_told()
+pub fn kept_meters_are_reported()
     ensures { FiledMetersAreTold }
 {}
 

@@ -5,23 +5,23 @@ ghost use Rattle.table_seals.specs.JoinTexts as say;
 
 use crate::filed::{FiledMeter, FiledOffice};
 use crate::join_faults::JoinFault;
-use crate::texts::{put, put_number, put_scale, put_word};
+use crate::texts::{append_bytes, write_number, write_scale, write_word};
 use energy_core::Last;
 use std::alloc::{AllocError, Global};
 use table_audit::MOST;
 
 // ---- parts of a printed line; if memory runs out, the text is incomplete
 
-fn put_stand(text: &mut Vec<u8>, last: &Last) -> Result<(), AllocError>
+fn write_counter(text: &mut Vec<u8>, last: &Last) -> Result<(), AllocError>
     ensures { OnOk result (text.new.items ≡ text.old.items ++ say.stand last.now) }
 {
-    put_number(text, b"", last.at)?;
-    put_number(text, b" ", u64::from(last.raw))?;
-    put_scale(text, b" ", last.sf)
+    write_number(text, b"", last.at)?;
+    write_number(text, b" ", u64::from(last.raw))?;
+    write_scale(text, b" ", last.sf)
 }
 
 /// Appends the text of a value that differs between a file and the earlier file.
-fn put_words(
+fn add_words(
     text: &mut Vec<u8>,
     what: &[u8],
     has: &[u8],
@@ -32,13 +32,13 @@ fn put_words(
     ensures { OnOk result (text.new.items ≡ text.old.items
         ++ say.both_say what.now has.now had.now old.now new.now) }
 {
-    put_word(text, what, has)?;
-    put_word(text, b" in ", new.file.as_bytes())?;
-    put_word(text, b", and ", had)?;
-    put_word(text, b" in ", old.file.as_bytes())
+    write_word(text, what, has)?;
+    write_word(text, b" in ", new.file.as_bytes())?;
+    write_word(text, b", and ", had)?;
+    write_word(text, b" in ", old.file.as_bytes())
 }
 
-fn put_numbers(
+fn append_numbers(
     text: &mut Vec<u8>,
     what: &[u8],
     has: u64,
@@ -49,13 +49,13 @@ fn put_numbers(
     ensures { OnOk result (text.new.items ≡ text.old.items
         ++ say.both_say what.now (decimal has) (decimal had) old.now new.now) }
 {
-    put_number(text, what, has)?;
-    put_word(text, b" in ", new.file.as_bytes())?;
-    put_number(text, b", and ", had)?;
-    put_word(text, b" in ", old.file.as_bytes())
+    write_number(text, what, has)?;
+    write_word(text, b" in ", new.file.as_bytes())?;
+    write_number(text, b", and ", had)?;
+    write_word(text, b" in ", old.file.as_bytes())
 }
 
-fn put_files(
+fn write_files(
     text: &mut Vec<u8>,
     before: &[u8],
     between: &[u8],
@@ -65,11 +65,11 @@ fn put_files(
     ensures { OnOk result (text.new.items ≡ text.old.items
         ++ say.both_files before.now between.now old.now new.now) }
 {
-    put_word(text, before, new.file.as_bytes())?;
-    put_word(text, between, old.file.as_bytes())
+    write_word(text, before, new.file.as_bytes())?;
+    write_word(text, between, old.file.as_bytes())
 }
 
-fn put_file(
+fn write_file(
     text: &mut Vec<u8>,
     before: &[u8],
     after: &[u8],
@@ -78,11 +78,11 @@ fn put_file(
     ensures { OnOk result
         (text.new.items ≡ text.old.items ++ say.one_file before.now after.now new.now) }
 {
-    put_word(text, before, new.file.as_bytes())?;
-    put(text, after)
+    write_word(text, before, new.file.as_bytes())?;
+    append_bytes(text, after)
 }
 
-fn put_opening(
+fn write_opening(
     text: &mut Vec<u8>,
     old: &FiledMeter<'_>,
     new: &FiledMeter<'_>,
@@ -90,15 +90,15 @@ fn put_opening(
     ensures { OnOk result
         (text.new.items ≡ text.old.items ++ say.fault_text JoinFault.Opening old.now new.now) }
 {
-    put_word(text, b"begins in ", new.file.as_bytes())?;
-    put(text, b" at ")?;
-    put_stand(text, &new.installed.opening)?;
-    put_word(text, b", stands in ", old.file.as_bytes())?;
-    put(text, b" at ")?;
-    put_stand(text, &old.standing.last)
+    write_word(text, b"begins in ", new.file.as_bytes())?;
+    append_bytes(text, b" at ")?;
+    write_counter(text, &new.installed.opening)?;
+    write_word(text, b", stands in ", old.file.as_bytes())?;
+    append_bytes(text, b" at ")?;
+    write_counter(text, &old.standing.last)
 }
 
-fn put_fault(
+fn append_fault(
     text: &mut Vec<u8>,
     fault: JoinFault,
     old: &FiledMeter<'_>,
@@ -108,8 +108,8 @@ fn put_fault(
         (text.new.items ≡ text.old.items ++ say.fault_text fault old.now new.now) }
 {
     match fault {
-        JoinFault::Closed => put_files(text, b"is in ", b", and was closed in ", old, new),
-        JoinFault::Register => put_words(
+        JoinFault::Closed => write_files(text, b"is in ", b", and was closed in ", old, new),
+        JoinFault::Register => add_words(
             text,
             b"register is ",
             new.register.as_bytes(),
@@ -117,7 +117,7 @@ fn put_fault(
             old,
             new,
         ),
-        JoinFault::Range => put_numbers(
+        JoinFault::Range => append_numbers(
             text,
             b"range is ",
             new.installed.range,
@@ -125,7 +125,7 @@ fn put_fault(
             old,
             new,
         ),
-        JoinFault::Ceiling => put_numbers(
+        JoinFault::Ceiling => append_numbers(
             text,
             b"ceiling is ",
             new.installed.ceiling,
@@ -133,8 +133,8 @@ fn put_fault(
             old,
             new,
         ),
-        JoinFault::Opening => put_opening(text, old, new),
-        JoinFault::Energy => put_file(
+        JoinFault::Opening => write_opening(text, old, new),
+        JoinFault::Energy => write_file(
             text,
             b"has more energy in all files up to ",
             b" than a meter may have",
@@ -143,11 +143,11 @@ fn put_fault(
     }
 }
 
-fn put_meter(text: &mut Vec<u8>, meter: &FiledMeter<'_>) -> Result<(), AllocError>
+fn append_meter(text: &mut Vec<u8>, meter: &FiledMeter<'_>) -> Result<(), AllocError>
     ensures { OnOk result (text.new.items ≡ text.old.items ++ say.meter_said meter.now) }
 {
-    put_word(text, b"meter ", meter.meter.as_bytes())?;
-    put(text, b" ")
+    write_word(text, b"meter ", meter.meter.as_bytes())?;
+    append_bytes(text, b" ")
 }
 
 // ---- complete printed lines about differences between files
@@ -163,9 +163,9 @@ pub(crate) fn fault_line(
         ≡ say.join_line (joins.Differs fault old.now new.now)) }
 {
     let mut line = Vec::new(alloc);
-    put_meter(&mut line, new)?;
-    put_fault(&mut line, fault, old, new)?;
-    put(&mut line, b"\n")?;
+    append_meter(&mut line, new)?;
+    append_fault(&mut line, fault, old, new)?;
+    append_bytes(&mut line, b"\n")?;
     Ok(line)
 }
 
@@ -179,19 +179,19 @@ pub(crate) fn overlap_line(
     ensures { IfOk result (λ line. line.items ≡ say.join_line (joins.Overlaps old.now new.now)) }
 {
     let mut line = Vec::new(alloc);
-    put_meter(&mut line, new)?;
-    put_word(&mut line, b"begins in ", new.file.as_bytes())?;
-    put(&mut line, b" at ")?;
-    put_stand(&mut line, &new.installed.opening)?;
-    put_word(&mut line, b", meter ", old.meter.as_bytes())?;
-    put_word(
+    append_meter(&mut line, new)?;
+    write_word(&mut line, b"begins in ", new.file.as_bytes())?;
+    append_bytes(&mut line, b" at ")?;
+    write_counter(&mut line, &new.installed.opening)?;
+    write_word(&mut line, b", meter ", old.meter.as_bytes())?;
+    write_word(
         &mut line,
         b" stands at its register in ",
         old.file.as_bytes(),
     )?;
-    put(&mut line, b" at ")?;
-    put_stand(&mut line, &old.standing.last)?;
-    put(&mut line, b"\n")?;
+    append_bytes(&mut line, b" at ")?;
+    write_counter(&mut line, &old.standing.last)?;
+    append_bytes(&mut line, b"\n")?;
     Ok(line)
 }
 
@@ -204,10 +204,10 @@ pub(crate) fn missing_line(
     ensures { IfOk result (λ line. line.items ≡ say.join_line (joins.Missing old.now file.now)) }
 {
     let mut line = Vec::new(alloc);
-    put_meter(&mut line, old)?;
-    put_word(&mut line, b"is not in ", file.as_bytes())?;
-    put_word(&mut line, b", and is open in ", old.file.as_bytes())?;
-    put(&mut line, b"\n")?;
+    append_meter(&mut line, old)?;
+    write_word(&mut line, b"is not in ", file.as_bytes())?;
+    write_word(&mut line, b", and is open in ", old.file.as_bytes())?;
+    append_bytes(&mut line, b"\n")?;
     Ok(line)
 }
 
@@ -221,54 +221,54 @@ pub(crate) fn zone_line(
         ≡ say.join_line (joins.OtherZone (joins.known_of old.now) (joins.known_of new.now))) }
 {
     let mut line = Vec::new(alloc);
-    put_word(&mut line, b"zone is ", new.zone.as_bytes())?;
-    put_word(&mut line, b" in ", new.file.as_bytes())?;
-    put_word(&mut line, b", and ", old.zone.as_bytes())?;
-    put_word(&mut line, b" in ", old.file.as_bytes())?;
-    put(&mut line, b"\n")?;
+    write_word(&mut line, b"zone is ", new.zone.as_bytes())?;
+    write_word(&mut line, b" in ", new.file.as_bytes())?;
+    write_word(&mut line, b", and ", old.zone.as_bytes())?;
+    write_word(&mut line, b" in ", old.file.as_bytes())?;
+    append_bytes(&mut line, b"\n")?;
     Ok(line)
 }
 
 // ---- the complete printed text of a check of files
 
-fn put_lines(text: &mut Vec<u8>, lines: &[Vec<u8>]) -> Result<(), AllocError>
+fn write_lines(text: &mut Vec<u8>, lines: &[Vec<u8>]) -> Result<(), AllocError>
     ensures { OnOk result (text.new.items ≡ text.old.items
         ++ flat_map say.text_in lines.now) }
 {
     for line in lines {
-        put(text, line.as_slice())?;
+        append_bytes(text, line.as_slice())?;
     }
     Ok(())
 }
 
-fn put_more(text: &mut Vec<u8>, more: u64) -> Result<(), AllocError>
+fn write_more(text: &mut Vec<u8>, more: u64) -> Result<(), AllocError>
     ensures { OnOk result (text.new.items ≡ text.old.items ++ say.more_lines more) }
 {
     if more == 0 {
         return Ok(());
     }
-    put_number(text, b"and ", more)?;
-    put(text, b" more\n")
+    write_number(text, b"and ", more)?;
+    append_bytes(text, b" more\n")
 }
 
 fn put_all(text: &mut Vec<u8>, all: u64) -> Result<(), AllocError>
     ensures { OnOk result (text.new.items ≡ text.old.items ++ say.all_lines all) }
 {
     if all == 0 {
-        return put(text, b"joined: fine\n");
+        return append_bytes(text, b"joined: fine\n");
     }
-    put_number(text, b"", all)?;
-    put(text, b" differences between files\n")
+    write_number(text, b"", all)?;
+    append_bytes(text, b" differences between files\n")
 }
 
 /// Appends the printed text of a check of files: the first lines, the number of omitted lines, and
 /// the total number of lines. If memory runs out, the text is incomplete.
-pub fn put_joins(text: &mut Vec<u8>, lines: &[Vec<u8>]) -> Result<(), AllocError>
+pub fn append_joins(text: &mut Vec<u8>, lines: &[Vec<u8>]) -> Result<(), AllocError>
     ensures { OnOk result (text.new.items ≡ text.old.items ++ say.joined_text lines.now) }
 {
     let shown = MOST.min(lines.len());
-    put_lines(text, &lines[..shown])?;
-    put_more(text, (lines.len() - shown) as u64)?;
+    write_lines(text, &lines[..shown])?;
+    write_more(text, (lines.len() - shown) as u64)?;
     put_all(text, lines.len() as u64)?;
     Ok(())
 }

@@ -3,7 +3,7 @@ ghost use Rattle.std.specs.Prelude.{◌≡◌, ◌++◌, [], Some, None, IfOk, O
 ghost use Rattle.table_seals.specs.Joins.{known_of, known_with};
 
 use crate::filed::FiledOffice;
-use crate::joins::tell_joins;
+use crate::joins::append_join_lines;
 use std::alloc::{AllocError, Global};
 
 /// Merges the data of the earlier files and of the next file. The meters of the next file come
@@ -62,7 +62,7 @@ impl<'a> Joining<'a> {
         let all = match self.known.take() {
             None => next,
             Some(known) => {
-                tell_joins(alloc, &mut self.lines, &known, &next)?;
+                append_join_lines(alloc, &mut self.lines, &known, &next)?;
                 with_next(known, next)?
             }
         };

@@ -136,7 +136,7 @@ fn keep(lines: &mut Vec<Vec<u8>>, line: Vec<u8>) -> Result<(), AllocError>
 }
 
 /// Reports a meter of the next file that does not continue the earlier meter of the same name.
-fn tell_fault(
+fn print_one_fault(
     alloc: Global,
     lines: &mut Vec<Vec<u8>>,
     known: &[FiledMeter<'_>],
@@ -157,7 +157,7 @@ fn tell_fault(
 
 /// Reports a new meter that begins before the last entry of another meter at the same accounting
 /// register.
-fn tell_overlap(
+fn append_overlap(
     alloc: Global,
     lines: &mut Vec<Vec<u8>>,
     known: &[FiledMeter<'_>],
@@ -176,7 +176,7 @@ fn tell_overlap(
 }
 
 /// Reports a meter of the next file that does not fit the earlier files.
-fn tell_meter(
+fn append_meter_lines(
     alloc: Global,
     lines: &mut Vec<Vec<u8>>,
     known: &[FiledMeter<'_>],
@@ -187,18 +187,18 @@ fn tell_meter(
 {
     match meter_in(&new.meter, known) {
         None => {
-            tell_overlap(alloc, lines, known, new)?;
+            append_overlap(alloc, lines, known, new)?;
             Ok(())
         }
         Some(old) => {
-            tell_fault(alloc, lines, known, old, new)?;
+            print_one_fault(alloc, lines, known, old, new)?;
             Ok(())
         }
     }
 }
 
 /// Reports each meter of the next file that does not fit the earlier files.
-fn tell_meters(
+fn append_meters(
     alloc: Global,
     lines: &mut Vec<Vec<u8>>,
     known: &[FiledMeter<'_>],
@@ -208,7 +208,7 @@ fn tell_meters(
         ++ flat_map (λ new. lines_of (joins.joins_of known.now new)) next.now) }
 {
     for new in next {
-        tell_meter(alloc, lines, known, new)?;
+        append_meter_lines(alloc, lines, known, new)?;
     }
     Ok(())
 }
@@ -221,7 +221,7 @@ fn is_missing(next: &[FiledMeter<'_>], old: &FiledMeter<'_>) -> bool
 }
 
 /// Reports a meter that is open in the earlier file, but missing in the next file.
-fn tell_missing(
+fn append_missing(
     alloc: Global,
     lines: &mut Vec<Vec<u8>>,
     next: &FiledOffice<'_>,
@@ -238,7 +238,7 @@ fn tell_missing(
 }
 
 /// Reports each meter that is open in the earlier file, but missing in the next file.
-fn tell_each_missing(
+fn append_each_missing(
     alloc: Global,
     lines: &mut Vec<Vec<u8>>,
     next: &FiledOffice<'_>,
@@ -249,13 +249,13 @@ fn tell_each_missing(
         latest.now) }
 {
     for old in latest {
-        tell_missing(alloc, lines, next, old)?;
+        append_missing(alloc, lines, next, old)?;
     }
     Ok(())
 }
 
 /// Reports that the time zone of the next file differs from that of the earlier file.
-fn tell_zone(
+fn append_zone(
     alloc: Global,
     lines: &mut Vec<Vec<u8>>,
     known: &FiledOffice<'_>,
@@ -272,7 +272,7 @@ fn tell_zone(
 }
 
 /// Appends a line for each way in which the next file does not continue the earlier files.
-pub(crate) fn tell_joins(
+pub(crate) fn append_join_lines(
     alloc: Global,
     lines: &mut Vec<Vec<u8>>,
     known: &FiledOffice<'_>,
@@ -283,8 +283,8 @@ pub(crate) fn tell_joins(
 {
     let meters = known.meters.as_slice();
     let latest = known.latest.min(meters.len());
-    tell_zone(alloc, lines, known, next)?;
-    tell_meters(alloc, lines, meters, &next.meters)?;
-    tell_each_missing(alloc, lines, next, &meters[..latest])?;
+    append_zone(alloc, lines, known, next)?;
+    append_meters(alloc, lines, meters, &next.meters)?;
+    append_each_missing(alloc, lines, next, &meters[..latest])?;
     Ok(())
 }

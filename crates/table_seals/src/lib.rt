@@ -24,17 +24,17 @@ mod tables;
 mod texts;
 
 pub use checking::check_seal;
-pub use checks::{Checked, put_checked};
+pub use checks::{Checked, append_checked};
 pub use filed::{FiledMeter, FiledOffice};
 pub use filing::filed_meters;
 pub use join_faults::JoinFault;
 pub use join_laws::{
-    filed_meters_are_told, joined_files_are_lawful, joined_files_are_one, joined_meters_go_on,
+    joined_files_are_lawful, joined_files_are_one, joined_meters_go_on, kept_meters_are_reported,
 };
-pub use join_lines::put_joins;
+pub use join_lines::append_joins;
 pub use joining::Joining;
 pub use laws::{first_entries_stay, polls_stay, voids_stay};
 pub use parsing::{NoSeal, read_seal};
 pub use sealing::seal_tables;
 pub use seals::{MeterSeal, PollSeal, Seal};
-pub use texts::put_seal;
+pub use texts::append_seal;

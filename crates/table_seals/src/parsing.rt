@@ -11,7 +11,7 @@ ghost use Rattle.table_seals.specs.Tables as values;
 ghost use Rattle.table_seals.specs.Texts as say;
 
 use crate::seals::{MeterSeal, PollSeal, Seal};
-use crate::texts::put_seal;
+use crate::texts::append_seal;
 use std::alloc::{AllocError, Global};
 
 /// A reason why a text can't be parsed as a seal.
@@ -279,7 +279,7 @@ fn tables(alloc: Global, text: &str) -> Result<Option<Seal>, AllocError>
     Ok(Some(Seal { meters, polls }))
 }
 
-/// Parses a seal. The text must be exactly the text that `put_seal` writes for the seal.
+/// Parses a seal. The text must be exactly the text that `append_seal` writes for the seal.
 pub fn read_seal(alloc: Global, text: &str) -> Result<Seal, NoSeal>
     ensures is { IfOk result (λ seal. text.now ≡ say.seal_text (sealed_tables_of seal)) }
     ensures reads { (seal : SealedTables) → AreTablesSealable seal
@@ -296,7 +296,7 @@ pub fn read_seal(alloc: Global, text: &str) -> Result<Seal, NoSeal>
         Ok(None) => return Err(NoSeal::Other),
         Err(_) => return Err(NoSeal::Memory),
     };
-    match put_seal(alloc, &seal) {
+    match append_seal(alloc, &seal) {
         Ok(again) => {
             if again.as_slice() == text.as_bytes() {
                 Ok(seal)

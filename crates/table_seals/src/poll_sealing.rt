@@ -7,7 +7,7 @@ ghost use Rattle.table_audit.specs.Looking.{Finds};
 ghost use Rattle.table_seals.specs.PollSealing as said;
 ghost use Rattle.table_seals.specs.Sealed.{sealed_polls_of};
 
-use crate::poll_texts::put_rows;
+use crate::poll_texts::write_rows;
 use crate::sealing::memory;
 use crate::seals::PollSeal;
 use sha2::{Digest, Sha256};
@@ -34,7 +34,7 @@ fn add_run(
         IfSome found (λ next. (first ≤ next) × (next ≤ greatest_place + 1))) }
 {
     let mut text = Vec::new(alloc);
-    let found = put_rows(
+    let found = write_rows(
         &mut text,
         pending,
         last,

@@ -8,34 +8,34 @@ ghost use Rattle.table_seals.specs.PollSealing.{PutsPoll, PutsRows};
 ghost use Rattle.table_seals.specs.PollTexts as say;
 
 use crate::poll_values::{Ending, PollNumbers, ending_at, numbers, word};
-use crate::texts::{put, put_number, put_word};
+use crate::texts::{append_bytes, write_number, write_word};
 use sqlite::Row;
 use std::alloc::AllocError;
 
-fn put_poll_line(text: &mut Vec<u8>, poll: &PollNumbers, device: &[u8]) -> Result<(), AllocError>
+fn write_poll_line(text: &mut Vec<u8>, poll: &PollNumbers, device: &[u8]) -> Result<(), AllocError>
     ensures { OnOk result (text.new.items ≡ text.old.items ++ say.poll_line poll.now device.now) }
 {
-    put_number(text, b"poll ", poll.number)?;
-    put_word(text, b" ", device)?;
-    put_number(text, b" ", poll.unit)?;
-    put_number(text, b" ", poll.started)?;
-    put_number(text, b" ", poll.tid)?;
-    put_number(text, b" ", poll.function)?;
-    put_number(text, b" ", poll.address)?;
-    put_number(text, b" ", poll.count)?;
-    put(text, b"\n")
+    write_number(text, b"poll ", poll.number)?;
+    write_word(text, b" ", device)?;
+    write_number(text, b" ", poll.unit)?;
+    write_number(text, b" ", poll.started)?;
+    write_number(text, b" ", poll.tid)?;
+    write_number(text, b" ", poll.function)?;
+    write_number(text, b" ", poll.address)?;
+    write_number(text, b" ", poll.count)?;
+    append_bytes(text, b"\n")
 }
 
-fn put_ending_line(text: &mut Vec<u8>, ending: &Ending) -> Result<(), AllocError>
+fn write_ending_line(text: &mut Vec<u8>, ending: &Ending) -> Result<(), AllocError>
     ensures { OnOk result (text.new.items ≡ text.old.items ++ say.ending_line ending.now) }
 {
-    put_number(text, b"outcome ", ending.moment)?;
-    put_number(text, b" ", ending.kind)?;
-    put_number(text, b" ", ending.code)?;
-    put(text, b"\n")
+    write_number(text, b"outcome ", ending.moment)?;
+    write_number(text, b" ", ending.kind)?;
+    write_number(text, b" ", ending.code)?;
+    append_bytes(text, b"\n")
 }
 
-fn put_ending(
+fn write_ending(
     text: &mut Vec<u8>,
     is_pending: bool,
     ending: Option<Ending>,
@@ -47,7 +47,7 @@ fn put_ending(
         return Ok(());
     }
     match ending {
-        Some(ending) => put_ending_line(text, &ending),
+        Some(ending) => write_ending_line(text, &ending),
         None => Ok(()),
     }
 }
@@ -61,7 +61,7 @@ fn is_named(polls: &[u64], poll: u64) -> bool
 
 /// Appends the text that a poll had at sealing time. The text includes the poll's outcome unless
 /// the poll was pending then. Appends nothing for a poll after `last`.
-fn put_then(
+fn write_then(
     text: &mut Vec<u8>,
     last: u64,
     hidden: &[u64],
@@ -75,8 +75,8 @@ fn put_then(
     if poll.number > last {
         return Ok(());
     }
-    put_poll_line(text, poll, device)?;
-    put_ending(text, is_named(hidden, poll.number), ending)
+    write_poll_line(text, poll, device)?;
+    write_ending(text, is_named(hidden, poll.number), ending)
 }
 
 /// Appends the number of a poll to `pending`, if the poll has no outcome.
@@ -97,7 +97,7 @@ fn keep_pending(
 /// Appends the text that a row's poll had at sealing time. The poll must have the expected number.
 /// If the poll has no outcome now, appends its number to `pending`. Returns whether the row is
 /// valid.
-fn put_poll(
+fn append_poll(
     text: &mut Vec<u8>,
     pending: &mut Vec<u64>,
     last: u64,
@@ -119,7 +119,7 @@ fn put_poll(
     if poll.number != number {
         return Ok(false);
     }
-    put_then(text, last, hidden, &poll, device, ending)?;
+    write_then(text, last, hidden, &poll, device, ending)?;
     keep_pending(pending, number, ending)?;
     Ok(true)
 }
@@ -141,7 +141,7 @@ fn rows_after<'a>(ending: Option<Ending>, rows: &'a [Row]) -> &'a [Row]
 /// Appends the text that a run's polls had at sealing time. Collects the numbers of the polls
 /// pending now. Returns the next poll number. Returns None if a row is invalid, a poll number is
 /// missing, or an outcome has no poll in the run.
-pub(crate) fn put_rows(
+pub(crate) fn write_rows(
     text: &mut Vec<u8>,
     pending: &mut Vec<u64>,
     last: u64,
@@ -160,7 +160,7 @@ pub(crate) fn put_rows(
     let mut left = outcomes;
     for row in polls {
         let ending = ending_at(next, left);
-        let is_put = put_poll(text, pending, last, hidden, next, row, ending)?;
+        let is_put = append_poll(text, pending, last, hidden, next, row, ending)?;
         if !is_put {
             return Ok(None);
         }

@@ -12,7 +12,7 @@ use Rattle.std.proofs.lemmas.List.Sums.{sum_by-append, sum_by-cons}
 use Rattle.energy_core.specs.declared.entries.Last.{Last}
 use Rattle.energy_report.specs.Held.{held_within}
 use Rattle.energy_report.specs.RowLines.{counted}
-use Rattle.energy_report.specs.Statements.{energy_within, is_corrected, is_manual, is_rescale, is_reset, is_voided, stand_of, stands_within, tally_of}
+use Rattle.energy_report.specs.Statements.{energy_within, is_corrected, is_manual, is_rescale, is_reset, is_voided, counter_after_entry, stands_within, tally_of}
 use Rattle.interval_core.specs.Account.{energy_of}
 use Rattle.interval_core.specs.Ranges.{has_moment}
 use Rattle.interval_core.specs.declared.day_range.DayRange.{DayRange}
@@ -139,7 +139,7 @@ same_energy zone range old new both once =
 
 -- ---- The statement of a meter does not depend on the indexes of its entries
 
-same_stand : (count : ℕ) (e : MeterEntry) → stand_of (moved_entry count e) ≡ stand_of e
+same_stand : (count : ℕ) (e : MeterEntry) → counter_after_entry (moved_entry count e) ≡ counter_after_entry e
 same_stand count (entry.Opening last) = refl
 same_stand count (entry.Later row sf) = refl
 
@@ -149,17 +149,17 @@ map_or f (Some x) b = refl
 
 module _ (count : ℕ) (p : MeterEntry → Bool) (same : (e : MeterEntry) → p (moved_entry count e) ≡ p e) where
   abbrev found : List MeterEntry → Option Last
-  found entries = option_map stand_of (find p entries)
+  found entries = option_map counter_after_entry (find p entries)
 
   found_moved : (entries : List MeterEntry) → found (map (moved_entry count) entries) ≡ found entries
   found_moved [] = refl
   found_moved (e ∷ entries) = elim (cases_Bool (p e)) [
-    | inl is ↦ ap (option_map stand_of) (cond-true _ _ _ (same e ∙ is)) ∙ ap Some (same_stand count e) ∙ sym (ap (option_map stand_of) (cond-true _ _ _ is))
-    | inr isnt ↦ ap (option_map stand_of) (cond-false _ _ _ (same e ∙ isnt)) ∙ found_moved entries ∙ sym (ap (option_map stand_of) (cond-false _ _ _ isnt))
+    | inl is ↦ ap (option_map counter_after_entry) (cond-true _ _ _ (same e ∙ is)) ∙ ap Some (same_stand count e) ∙ sym (ap (option_map counter_after_entry) (cond-true _ _ _ is))
+    | inr isnt ↦ ap (option_map counter_after_entry) (cond-false _ _ _ (same e ∙ isnt)) ∙ found_moved entries ∙ sym (ap (option_map counter_after_entry) (cond-false _ _ _ isnt))
   ]
 
   found_both : (entries more : List MeterEntry) → found (entries ++ more) ≡ option_or (found entries) (found more)
-  found_both entries more = ap (option_map stand_of) (find-append p entries more) ∙ map_or stand_of (find p entries) (find p more)
+  found_both entries more = ap (option_map counter_after_entry) (find-append p entries more) ∙ map_or counter_after_entry (find p entries) (find p more)
 
   first_moved : (old new : List MeterEntry) → found (old ++ map (moved_entry count) new) ≡ found (old ++ new)
   first_moved old new =

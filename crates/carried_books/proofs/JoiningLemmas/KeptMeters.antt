@@ -14,7 +14,7 @@ use Rattle.energy_report.specs.Held.{held_for, held_within, is_held_within}
 use Rattle.energy_report.specs.HeldSinks.{CountsReading, HasCountedNone}
 use Rattle.energy_report.specs.RowLines.{counted}
 use Rattle.energy_report.specs.declared.energy_within.EnergyWithin.{EnergyWithin}
-use Rattle.energy_report.specs.declared.held_within.HeldWithin.{HeldWithin}
+use Rattle.energy_report.specs.declared.held_within.RejectedWithin.{RejectedWithin}
 use Rattle.energy_report.specs.Statements.{energy_within, tally_of}
 use Rattle.energy_report.specs.declared.meter_statement.MeterStatement.{MeterStatement}
 use Rattle.energy_report.specs.declared.tallies.EntryTally.{EntryTally}
@@ -103,7 +103,7 @@ all_held (held ∷ holds) = ap (λ (those : List HeldReading). held ∷ those) (
 
 -- The statement of a meter in one file has the counts of its rejected readings and its energy in
 -- this file.
-pub held_told : (zone : Zone) (range : DayRange) (holds : List HeldReading) (from to : HeldWithin) → HasCountedNone zone range from
+pub held_told : (zone : Zone) (range : DayRange) (holds : List HeldReading) (from to : RejectedWithin) → HasCountedNone zone range from
     → TakesAll CountsReading from (holds_within Whole holds) to → to.counts ≡ held_within zone range holds
 held_told zone range holds from to fresh took =
     counted_all zone range holds from to fresh (subst (λ (those : List HeldReading). TakesAll CountsReading from those to) (all_held holds) took)

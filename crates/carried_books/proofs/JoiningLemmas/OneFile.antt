@@ -6,7 +6,7 @@ use Rattle.std.proofs.lemmas.Bool.{cases_Bool, cond-false, cond-true}
 use Rattle.std.proofs.lemmas.List.{map-append}
 use Rattle.std.proofs.lemmas.List.Elements.{All-head, All-map, All-pop, All-push, All-tail}
 use Rattle.std.proofs.lemmas.List.Kept.{AllPairs-filter}
-use Rattle.energy_report.specs.Statements.{was_there}
+use Rattle.energy_report.specs.Statements.{was_installed}
 use Rattle.energy_report.specs.declared.meter_statement.MeterStatement.{MeterStatement}
 use Rattle.interval_core.specs.declared.day_range.DayRange.{DayRange}
 use Rattle.interval_core.specs.declared.zone.Zone.{Zone}
@@ -70,7 +70,7 @@ module _ (facts : List Fact) where
   rows_are zone range [] = refl
   rows_are zone range (row ∷ rows) =
       let rest = rows_are zone range rows in
-      elim (cases_Bool (was_there zone range row)) [
+      elim (cases_Bool (was_installed zone range row)) [
         | inl is ↦ ap (map (statement_over zone range)) (cond-true _ _ _ is)
             ∙ ap (λ (those : List MeterStatement). statement_over zone range (meter_in facts row) ∷ those) rest
             ∙ sym (ap (map (λ (r : Installation). statement_of zone range facts r.opening.meter)) (cond-true _ _ _ is))

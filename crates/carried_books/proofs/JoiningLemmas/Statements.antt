@@ -5,7 +5,7 @@ use Rattle.std.specs.Option.{option_map}
 use Rattle.std.proofs.lemmas.Bool.{cases_Bool, cond-false, cond-true}
 use Rattle.std.proofs.lemmas.List.{map-append}
 use Rattle.std.proofs.lemmas.List.Elements.{All-cons, All-head, All-tail, filter-append}
-use Rattle.energy_report.specs.Statements.{was_there}
+use Rattle.energy_report.specs.Statements.{was_installed}
 use Rattle.energy_report.specs.declared.meter_statement.MeterStatement.{MeterStatement}
 use Rattle.interval_core.specs.declared.day_range.DayRange.{DayRange}
 use Rattle.interval_core.specs.declared.zone.Zone.{Zone}
@@ -46,7 +46,7 @@ module _ (zone : Zone) (range : DayRange) where
   rows_of_meters [] = refl
   rows_of_meters (m ∷ meters) =
       let rest = rows_of_meters meters in
-      elim (cases_Bool (was_there zone range m.stands)) [
+      elim (cases_Bool (was_installed zone range m.stands)) [
         | inl is ↦ ap (map told_of) (cond-true _ _ _ is) ∙ ap (λ (rows : List MeterStatement). statement_over zone range m ∷ rows) rest
             ∙ sym (ap (map (statement_over zone range)) (cond-true _ _ _ is))
         | inr isnt ↦ ap (map told_of) (cond-false _ _ _ isnt) ∙ rest ∙ sym (ap (map (statement_over zone range)) (cond-false _ _ _ isnt))
@@ -146,14 +146,14 @@ module _ (zone : Zone) (range : DayRange) where
   -- the second.
   pub rows_both : (kept more : List KeptMeter) → rows_of_those zone range (kept ++ more) ≡ rows_of_those zone range kept ++ rows_of_those zone range more
   rows_both kept more =
-      let there : KeptMeter → Bool = λ one. was_there zone range one.stands in
+      let there : KeptMeter → Bool = λ one. was_installed zone range one.stands in
       ap (map told_of) (filter-append there kept more) ∙ map-append told_of (filter there kept) (filter there more)
 
-  pub row_there : (one : KeptMeter) (before after : List MeterStatement) → was_there zone range one.stands ≡ true → after ≡ before ++ one.told ∷ []
+  pub row_there : (one : KeptMeter) (before after : List MeterStatement) → was_installed zone range one.stands ≡ true → after ≡ before ++ one.told ∷ []
       → after ≡ before ++ rows_of_those zone range (one ∷ [])
   row_there one before after is put = put ∙ ap (λ (rows : List MeterStatement). before ++ rows) (sym (ap (map told_of) (cond-true _ _ _ is)))
 
-  pub row_absent : (one : KeptMeter) (before : List MeterStatement) → was_there zone range one.stands ≡ false
+  pub row_absent : (one : KeptMeter) (before : List MeterStatement) → was_installed zone range one.stands ≡ false
       → before ≡ before ++ rows_of_those zone range (one ∷ [])
   row_absent one before isnt = sym (ap (λ (rows : List MeterStatement). before ++ rows) (ap (map told_of) (cond-false _ _ _ isnt)) ∙ append-nil before)
 

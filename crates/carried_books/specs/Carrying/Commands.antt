@@ -74,8 +74,8 @@ abbrev pub put_list : (at : ℕ) → (device : List ℕ) → Planned → TimedCo
 put_list at device list = timed at (list_command device list)
 
 -- The command for a device's point list, with its timestamp; empty if the device has no point list.
-abbrev pub put_lists : (at : ℕ) → List Fact → Device → List TimedCommand
-put_lists at facts device =
+abbrev pub write_lists : (at : ℕ) → List Fact → Device → List TimedCommand
+write_lists at facts device =
     option_to_list (option_map (put_list at device.name) (list_of facts device.name))
 
 -- The command that adds an accounting register, with the command's timestamp.
@@ -90,7 +90,7 @@ add_registers at facts device = map (add_register at) (registers_of facts device
 -- registers.
 abbrev pub set_up_device : (at : ℕ) → List Fact → Device → List TimedCommand
 set_up_device at facts device =
-    add_device at device ∷ (put_lists at facts device ++ add_registers at facts device)
+    add_device at device ∷ (write_lists at facts device ++ add_registers at facts device)
 
 -- The commands that set up several devices, in their order.
 abbrev pub set_up_devices : (at : ℕ) → List Fact → List Device → List TimedCommand

@@ -8,10 +8,10 @@ use Rattle.command_io.specs.declared.status.ExitStatus.{ExitStatus}
 use Rattle.command_io.specs.declared.status.ExitStatus.TheVariants.{Fine}
 use Rattle.energy_report.specs.Held.{held_within}
 use Rattle.energy_report.specs.RowLines.{counted}
-use Rattle.energy_report.specs.Statements.{energy_within, tally_of, was_there}
+use Rattle.energy_report.specs.Statements.{energy_within, tally_of, was_installed}
 use Rattle.energy_report.specs.StatementTexts.{statement_text}
 use Rattle.energy_report.specs.declared.form.StatementForm.{StatementForm}
-use Rattle.energy_report.specs.declared.held_counts.HeldCounts.{HeldCounts}
+use Rattle.energy_report.specs.declared.held_counts.RejectedCounts.{RejectedCounts}
 use Rattle.energy_report.specs.declared.meter_statement.MeterStatement.{MeterStatement}
 use Rattle.energy_report.specs.declared.tallies.EntryTally.{EntryTally}
 use Rattle.interval_core.specs.declared.day_range.DayRange.{DayRange}
@@ -131,7 +131,7 @@ statement_over zone range m = record {
 -- first file is its time of installation.
 abbrev pub statements_over : Zone → DayRange → List MeterOver → List MeterStatement
 statements_over zone range meters =
-    map (statement_over zone range) (filter (λ m. was_there zone range m.stands) meters)
+    map (statement_over zone range) (filter (λ m. was_installed zone range m.stands) meters)
 
 -- `text` has the statements of the accounting register's meters over the files.
 abbrev pub IsStatementOver : Zone → (register : List ℕ) → (files : List (List Fact))
@@ -161,7 +161,7 @@ told_of kept = kept.told
 -- The statements of the meters in `kept` that were installed in the range.
 abbrev pub rows_of_those : Zone → DayRange → List KeptMeter → List MeterStatement
 rows_of_those zone range kept =
-    map told_of (filter (λ one. was_there zone range one.stands) kept)
+    map told_of (filter (λ one. was_installed zone range one.stands) kept)
 
 -- `kept` has the statements of an accounting register's meters over joined files, on the days of
 -- the range in the time zone.
@@ -191,7 +191,7 @@ pub record TellsPart (zone : Zone) (range : DayRange) (meter : List ℕ) (goes_o
   pub held : told.held ≡ held_within zone range (holds_of facts meter)
 
 -- The sums of two counts of rejected readings, for each cause; each sum saturates at 2^64 - 1.
-abbrev pub both_held : (one more : HeldCounts) → HeldCounts
+abbrev pub both_held : (one more : RejectedCounts) → RejectedCounts
 both_held one more = record {
   not_accumulated = counted (one.not_accumulated + more.not_accumulated);
   scale_changed = counted (one.scale_changed + more.scale_changed);

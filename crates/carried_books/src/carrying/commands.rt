@@ -96,7 +96,7 @@ fn add_list<B: Books>(
     device: &Device,
 ) -> Result<(), BooksFault>
     ensures adds { Adds (B.ledger books.old) (B.ledger books.new)
-        (λ known. commands.put_lists at known device.now) added.old.items added.new.items result }
+        (λ known. commands.write_lists at known device.now) added.old.items added.new.items result }
     ensures reads { Consults (B.ledger books.old) (B.ledger books.new) result }
 {
     if let Some(list) = books.list(&device.name)? {

@@ -9,6 +9,6 @@ pub fn commands_record_the_same()
 {}
 
 /// Proves that a file rollover without a given timestamp opens each meter in its present state.
-pub fn meters_go_on_where_they_stand()
+pub fn meters_continue_from_their_last_state()
     ensures { MetersGoOnWhereTheyStand }
 {}

@@ -43,7 +43,7 @@ fn shown(entry: &MeterEntry) -> Last
     }
 }
 
-fn stands(entry: &MeterEntry) -> bool
+fn is_valid(entry: &MeterEntry) -> bool
     ensures { result ≡ standings.stands entry.now }
 {
     match entry {
@@ -56,7 +56,7 @@ fn stands(entry: &MeterEntry) -> bool
 fn counts(until: Option<u64>, entry: &MeterEntry) -> bool
     ensures { result ≡ standings.counts until entry.now }
 {
-    stands(entry) && is_until(until, shown(entry).at)
+    is_valid(entry) && is_until(until, shown(entry).at)
 }
 
 // Returns the state of the counter after one more entry. The state remains `found` if the entry is

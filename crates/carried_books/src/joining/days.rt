@@ -107,7 +107,7 @@ impl EarlierDays {
     ghost use Rattle.carried_books.specs.Joining.Days.{GoesOnFrom};
 
     /// Creates the sum of earlier files from a sum of intervals, leaving out its time zone.
-    pub fn of(days: JoinedDays) -> EarlierDays
+    pub fn new(days: JoinedDays) -> EarlierDays
         ensures { result.fold ≡ days.fold }
     {
         let JoinedDays { fold, latest, .. } = days;
@@ -123,7 +123,7 @@ impl EarlierDays {
 
     /// Returns a copy of the sum to which further energy intervals can be added, by the civil days
     /// of the time zone `zone`.
-    pub(crate) fn go_on(&self, zone: Zone) -> Result<JoinedDays, AllocError>
+    pub(crate) fn continue_in(&self, zone: Zone) -> Result<JoinedDays, AllocError>
         ensures { IfOk result (GoesOnFrom zone self.now) }
     {
         let fold = self.fold.clone()?;

@@ -44,7 +44,7 @@ fn earlier_of(kept: KeptRegister) -> EarlierRegister
     EarlierRegister {
         name,
         meters,
-        days: EarlierDays::of(days),
+        days: EarlierDays::new(days),
     }
 }
 
@@ -52,7 +52,7 @@ fn earlier_of(kept: KeptRegister) -> EarlierRegister
 /// earlier files.
 ///
 /// The store of the next file is only queried.
-pub fn add_kept<B: Books>(
+pub fn add_next_file<B: Books>(
     kept: &mut KeptRegister,
     books: &mut B,
 ) -> Result<Option<Unjoined>, BooksFault>
@@ -92,7 +92,7 @@ fn hold_meters<B: Books>(kept: &KeptRegister, books: &mut B) -> Result<Option<Un
 ///
 /// The function checks that the register is recorded, and that its meters join. The collected data
 /// stay those of the earlier files. The store of the office is only queried.
-pub fn hold_kept<B: Books>(
+pub fn compare_file<B: Books>(
     kept: &KeptRegister,
     books: &mut B,
 ) -> Result<Option<Unjoined>, BooksFault>
@@ -140,7 +140,7 @@ fn add_all<B: Books>(
 {
     for place in 0..kept.len() {
         if place < kept.len() {
-            match add_kept(&mut kept[place], books) {
+            match add_next_file(&mut kept[place], books) {
                 Err(fault) => return Err(fault),
                 Ok(why) => {
                     if why.is_some() {
@@ -155,11 +155,14 @@ fn add_all<B: Books>(
 
 // Compares the store with each collected register, and returns the first reason why the store does
 // not join.
-fn hold_all<B: Books>(kept: &[KeptRegister], books: &mut B) -> Result<Option<Unjoined>, BooksFault>
+fn compare_all<B: Books>(
+    kept: &[KeptRegister],
+    books: &mut B,
+) -> Result<Option<Unjoined>, BooksFault>
     ensures { Consults (B.ledger books.old) (B.ledger books.new) result }
 {
     for one in kept {
-        match hold_kept(one, books) {
+        match compare_file(one, books) {
             Err(fault) => return Err(fault),
             Ok(why) => {
                 if why.is_some() {
@@ -188,7 +191,7 @@ fn add_new<B: Books>(
         name,
         files: no_files(alloc, zone),
     };
-    match add_kept(&mut one, books) {
+    match add_next_file(&mut one, books) {
         Err(fault) => Err(fault),
         Ok(why) => {
             if why.is_some() {
@@ -343,21 +346,21 @@ impl Keeping for KeptRegisters {
 
 /// The accounting registers of earlier files, with which the file of a running office is compared.
 #[derive(Drop)]
-pub struct HeldRegisters {
+pub struct ComparedRegisters {
     pub kept: KeptRegisters,
 }
 
 /// Compares a file with all accounting registers, whichever register and range were requested, and
 /// collects no data of the file.
-impl Keeping for HeldRegisters {
+impl Keeping for ComparedRegisters {
     ghost use Rattle.std.specs.Prelude.{◌≡◌};
 
     ghost keeps = { λ zone range register files held. held.kept.zone ≡ zone };
 
     ghost parts = { λ range register facts held why. Unit {0} };
 
-    fn none(alloc: Global, zone: Zone, range: DayRange) -> HeldRegisters {
-        HeldRegisters {
+    fn none(alloc: Global, zone: Zone, range: DayRange) -> ComparedRegisters {
+        ComparedRegisters {
             kept: KeptRegisters::none(alloc, zone, range),
         }
     }
@@ -368,6 +371,6 @@ impl Keeping for HeldRegisters {
         _register: &Name,
         _range: DayRange,
     ) -> Result<Option<Unjoined>, BooksFault> {
-        hold_all(self.kept.kept.as_slice(), books)
+        compare_all(self.kept.kept.as_slice(), books)
     }
 }

@@ -10,7 +10,7 @@ ghost use Rattle.carried_books.specs.Joining.Statements as statements;
 ghost use Rattle.carried_books.specs.Joining.Statements.{TalliesOn, TellsPart, own_entries};
 
 use crate::joining::meters::as_one;
-use energy_report::{EnergyWithin, EntryTally, HeldCounts, HeldWithin, MeterStatement};
+use energy_report::{EnergyWithin, EntryTally, MeterStatement, RejectedCounts, RejectedWithin};
 use interval_core::{DayRange, Zone};
 use office_books::{Books, BooksFault, Span};
 use office_core::span_around;
@@ -88,19 +88,19 @@ fn held<B: Books>(
     zone: &Zone,
     range: &DayRange,
     meter: &Name,
-) -> Result<HeldCounts, BooksFault>
+) -> Result<RejectedCounts, BooksFault>
     ensures found { Finds (B.ledger books.old) (B.ledger books.new) result
         (λ known counts. counts ≡ held_within zone.now range.now (holds_of known meter.now)) }
     ensures reads { Consults (B.ledger books.old) (B.ledger books.new) result }
 {
-    let mut held = HeldWithin::new(*zone, *range);
+    let mut held = RejectedWithin::new(*zone, *range);
     books.holds(meter, Span::All, &mut held)?;
     Ok(held.counts())
 }
 
 /// Returns the statement of a meter in one file. Its tally of entries continues the tally of the
 /// earlier files.
-pub(crate) fn told_in<B: Books>(
+pub(crate) fn part_in_file<B: Books>(
     books: &mut B,
     begun: EntryTally,
     zone: &Zone,
@@ -124,10 +124,10 @@ pub(crate) fn told_in<B: Books>(
 }
 
 // Returns the sums of two counts of rejected readings, a sum for each cause of rejection.
-fn both_held(one: &HeldCounts, more: &HeldCounts) -> HeldCounts
+fn both_held(one: &RejectedCounts, more: &RejectedCounts) -> RejectedCounts
     ensures { result ≡ statements.both_held one.now more.now }
 {
-    HeldCounts {
+    RejectedCounts {
         not_accumulated: one.not_accumulated.saturating_add(more.not_accumulated),
         scale_changed: one.scale_changed.saturating_add(more.scale_changed),
         not_later: one.not_later.saturating_add(more.not_later),

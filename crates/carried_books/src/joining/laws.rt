@@ -11,7 +11,7 @@ ghost use Rattle.carried_books.specs.Joining.Statements.{OneFileStatesItsMeters}
 use office_rules::names_are_distinct;
 
 /// Proves that a report over one file has the register's days in this file.
-pub fn one_file_tells_its_days()
+pub fn days_of_one_file_are_its_own()
     ensures { OneFileTellsItsDays }
 {}
 
@@ -19,7 +19,7 @@ pub fn one_file_tells_its_days()
 ///
 /// The meter was rolled over from the first file into the second. The single file has the complete
 /// journal of the meter.
-pub fn both_files_tell_the_joined_days()
+pub fn joined_days_agree_with_both_files()
     ensures { BothFilesTellTheJoinedDays }
 {}
 

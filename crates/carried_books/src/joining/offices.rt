@@ -79,7 +79,7 @@ pub fn days_over<B: Books>(
         result }
     ensures asks { OnlyAsks B.ledger office.old office.new result }
 {
-    match earlier.go_on(zone) {
+    match earlier.continue_in(zone) {
         Err(_) => Err(without_memory(office, register)),
         Ok(copy) => {
             let mut days = copy;

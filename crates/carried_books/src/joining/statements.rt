@@ -12,10 +12,10 @@ ghost use Rattle.carried_books.specs.Joining.Statements.{rows_of_those, stands_o
 
 use crate::joining::files::{Unjoined, is_recorded};
 use crate::joining::keeping::Keeping;
-use crate::joining::kept_meters::{KeptMeter, told_in, with_part};
+use crate::joining::kept_meters::{KeptMeter, part_in_file, with_part};
 use crate::joining::meters::{Apart, both, goes_on, is_before};
 use command_io::ExitStatus;
-use energy_report::{EntryTally, MeterStatement, StatementForm, was_there, write_statement};
+use energy_report::{EntryTally, MeterStatement, StatementForm, was_installed, write_statement};
 use interval_core::{DayRange, Zone};
 use office_books::{Books, BooksFault};
 use office_events::{Installation, Name};
@@ -70,7 +70,7 @@ fn add_next<B: Books>(
         })),
         None => {
             let none = EntryTally::new();
-            let told = told_in(books, none, zone, range, &row.opening.meter, false)?;
+            let told = part_in_file(books, none, zone, range, &row.opening.meter, false)?;
             known.push(KeptMeter { stands: *row, told })?;
             Ok(None)
         }
@@ -99,7 +99,7 @@ fn add_row<B: Books>(
     };
     if goes_on(&last.stands, row) {
         let entries = last.told.entries;
-        let part = told_in(books, entries, zone, range, &row.opening.meter, true)?;
+        let part = part_in_file(books, entries, zone, range, &row.opening.meter, true)?;
         known.push(with_part(&last, row, &part))?;
         return Ok(None);
     }
@@ -187,7 +187,7 @@ impl Keeping for JoinedStatement {
 // ---- The printed text of the statements
 
 // Adds the statement of a meter, if the meter was installed in the range of days.
-fn add_told(
+fn add_part_statement(
     rows: &mut Vec<MeterStatement>,
     zone: &Zone,
     range: &DayRange,
@@ -196,7 +196,7 @@ fn add_told(
     ensures { OnOk result (rows.new.items ≡ rows.old.items
         ++ rows_of_those zone.now range.now (one.now ∷ [])) }
 {
-    if !was_there(zone, range, &one.stands) {
+    if !was_installed(zone, range, &one.stands) {
         return Ok(());
     }
     rows.push(one.told)?;
@@ -214,7 +214,7 @@ fn rows_of(
 {
     let mut rows = Vec::new(alloc);
     for one in known {
-        add_told(&mut rows, zone, range, one)?;
+        add_part_statement(&mut rows, zone, range, one)?;
     }
     Ok(rows)
 }

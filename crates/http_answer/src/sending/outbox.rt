@@ -103,7 +103,7 @@ impl Outbox {
     }
 
     // Sends bytes after all earlier bytes: through the buffer if they fit, otherwise directly.
-    pub(crate) fn put<L: Link>(&mut self, link: &mut L, bytes: &[u8])
+    pub(crate) fn write_bytes<L: Link>(&mut self, link: &mut L, bytes: &[u8])
         ensures sends { PutsAfter (progress (L.given link.old) self.old)
             (progress (L.given link.new) self.new) bytes.now }
         ensures stays { self.old.failed ≡ true → self.new.failed ≡ true }

@@ -9,12 +9,12 @@ use std::marker::Model;
 
 /// A buffered writer to a link. After the first failed write, the writer drops all bytes.
 #[derive(Drop)]
-pub struct ReplyWriter<'l, L: Link> {
+pub struct ResponseWriter<'l, L: Link> {
     link: &'l mut L,
     outbox: Outbox,
 }
 
-impl<'l, L: Link> Model for ReplyWriter<'l, L> {
+impl<'l, L: Link> Model for ResponseWriter<'l, L> {
     ghost Value = { Outgoing };
 
     ghost view = { λ writer. record {
@@ -29,9 +29,9 @@ impl<'l, L: Link> Model for ReplyWriter<'l, L> {
     } };
 }
 
-impl<'l, L: Link> ReplyWriter<'l, L> {
+impl<'l, L: Link> ResponseWriter<'l, L> {
     /// Makes a writer to this link, with an empty write buffer.
-    pub fn new(link: &'l mut L) -> ReplyWriter<'l, L>
+    pub fn new(link: &'l mut L) -> ResponseWriter<'l, L>
         ensures link { result.link ≡ link.entry.ghost_name }
         ensures given { result.given ≡ L.given link.entry.now }
         ensures failures { result.failures ≡ L.failed link.entry.now }
@@ -41,17 +41,17 @@ impl<'l, L: Link> ReplyWriter<'l, L> {
         ensures empty { result.buffered ≡ [] }
         ensures works { result.failed ≡ false }
     {
-        ReplyWriter {
+        ResponseWriter {
             link,
             outbox: Outbox::new(),
         }
     }
 
     /// Sends bytes after all earlier bytes, through the write buffer.
-    pub fn put(&mut self, bytes: &[u8])
+    pub fn write_bytes(&mut self, bytes: &[u8])
         ensures { Puts self.old self.new bytes.now }
     {
-        self.outbox.put(self.link, bytes);
+        self.outbox.write_bytes(self.link, bytes);
     }
 
     /// Writes the buffered bytes to the link. Returns `Ok` if all bytes of the response were
@@ -79,7 +79,7 @@ impl<'l, L: Link> ReplyWriter<'l, L> {
         ensures takes { L.taken result.now ≡ self.entry.takes }
         ensures last { L.last result.now ≡ self.entry.last }
     {
-        let ReplyWriter { link, outbox: _ } = self;
+        let ResponseWriter { link, outbox: _ } = self;
         link
     }
 }

@@ -170,9 +170,9 @@ pub list_found : (known : List Fact) (device : List ℕ)
     → option_and_then (list_at (reverse known)) (latest_place (has_key DeviceLists (named device)) known) ≡ list_of known device
 list_found known device =
     let chosen : DeviceList → Option Planned = λ put. if_some put.list.points put.list in
-    let put_at : ℕ → Option DeviceList = λ i. option_and_then as_list (slice_get (reverse known) i) in
-    and_then_same (list_at (reverse known)) (λ (i : ℕ). option_and_then chosen (put_at i)) (lists_at (reverse known)) (latest_place (has_key DeviceLists (named device)) known)
-    ∙ and_then_both put_at chosen (latest_place (has_key DeviceLists (named device)) known)
+    let append_at : ℕ → Option DeviceList = λ i. option_and_then as_list (slice_get (reverse known) i) in
+    and_then_same (list_at (reverse known)) (λ (i : ℕ). option_and_then chosen (append_at i)) (lists_at (reverse known)) (latest_place (has_key DeviceLists (named device)) known)
+    ∙ and_then_both append_at chosen (latest_place (has_key DeviceLists (named device)) known)
     ∙ ap (option_and_then chosen) (latest_at as_list (has_key DeviceLists (named device)) (λ (put : DeviceList). same put.device device) (of_device device) known)
 
 repeats_at : (request : List ℕ) (facts : List Fact) (i : ℕ) → repeat_at request facts i ≡ option_map (as_repeat request) (option_and_then as_reply (slice_get facts i))

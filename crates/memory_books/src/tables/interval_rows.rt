@@ -18,7 +18,7 @@ use meter_journal::{EntryRow, Installed, Tally, join};
 use office_books::{RowSink, Span, has_numbers, installed};
 use office_events::Opening;
 
-fn put_within<K: RowSink<Share>>(span: Span, row: Share, sink: &mut K)
+fn write_within<K: RowSink<Share>>(span: Span, row: Share, sink: &mut K)
     ensures { TakesWithin K.takes span sink.old row sink.new }
 {
     if span.contains(row.start) {
@@ -28,7 +28,7 @@ fn put_within<K: RowSink<Share>>(span: Span, row: Share, sink: &mut K)
 
 /// Adds a quarter-hour energy to the row of its quarter hour. When the next quarter hour begins,
 /// the finished row is passed to the sink if it is in the span.
-fn hand_share<K: RowSink<Share>>(waits: &mut Option<Share>, share: Share, span: Span, sink: &mut K)
+fn pass_share<K: RowSink<Share>>(waits: &mut Option<Share>, share: Share, span: Span, sink: &mut K)
     requires { ForSome waits.old (λ row. row.mwh + share.mwh < 2 ^ 64) }
     ensures passes { Passes (TakesWithin K.takes span) sink.old sink.new waits.old waits.new
         (share ∷ []) }
@@ -36,11 +36,11 @@ fn hand_share<K: RowSink<Share>>(waits: &mut Option<Share>, share: Share, span: 
         ≤ energy_of (option_to_list waits.old) + share.mwh }
 {
     if let Some(row) = join(waits, share) {
-        put_within(span, row, sink);
+        write_within(span, row, sink);
     }
 }
 
-fn hand_step<K: RowSink<Share>>(waits: &mut Option<Share>, step: &Step, span: Span, sink: &mut K)
+fn pass_step<K: RowSink<Share>>(waits: &mut Option<Share>, step: &Step, span: Span, sink: &mut K)
     requires forward { step.now.from < step.now.till }
     requires intervals { intervals_touched step.now.from step.now.till ≤ MAX_INTERVALS }
     requires energy { energy_of (option_to_list waits.old) + step.now.mwh ≤ MAX_TOTAL }
@@ -52,13 +52,13 @@ fn hand_step<K: RowSink<Share>>(waits: &mut Option<Share>, step: &Step, span: Sp
     shares_add_up();
     let mut shares = Shares::of(step);
     while let Some(share) = shares.next() {
-        hand_share(waits, share, span, sink);
+        pass_share(waits, share, span, sink);
     }
 }
 
 /// Passes the quarter-hour rows of the valid entries in the span to the sink, in order. If the
 /// energy of the entries cannot be added up, the sink may get only some of the rows.
-fn hand_rows<K: RowSink<Share>>(meter: &Installed, rows: &[EntryRow], span: Span, sink: &mut K)
+fn pass_rows<K: RowSink<Share>>(meter: &Installed, rows: &[EntryRow], span: Span, sink: &mut K)
     requires range_low { MIN_RANGE ≤ meter.now.range }
     requires range_high { meter.now.range ≤ MAX_RANGE }
     requires installed { books.IsWellInstalled meter.now }
@@ -83,7 +83,7 @@ fn hand_rows<K: RowSink<Share>>(meter: &Installed, rows: &[EntryRow], span: Span
             };
             match enter(&counter, &terms, &tally.last, &row.entry) {
                 Ok((last, step)) => {
-                    hand_step(&mut waits, &step, span, sink);
+                    pass_step(&mut waits, &step, span, sink);
                     let total = tally.total + step.mwh;
                     tally = Tally { last, total };
                 }
@@ -92,7 +92,7 @@ fn hand_rows<K: RowSink<Share>>(meter: &Installed, rows: &[EntryRow], span: Span
         }
     }
     if let Some(row) = waits {
-        put_within(span, row, sink);
+        write_within(span, row, sink);
     }
 }
 
@@ -111,6 +111,6 @@ pub(crate) fn hand_on<K: RowSink<Share>>(
 {
     if has_numbers(opening) {
         let meter = installed(opening);
-        hand_rows(&meter, rows, span, sink);
+        pass_rows(&meter, rows, span, sink);
     }
 }

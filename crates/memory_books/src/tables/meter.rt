@@ -22,11 +22,11 @@ use meter_journal::{
 use office_books::{
     MeterEntry, RowSink, Span, begun, installation_after, list_entries, moved, opened,
 };
-use office_events::{BookedEntry, EntryPlace, Installation, Opening};
+use office_events::{BookedEntry, EntryContext, Installation, Opening};
 use office_rules::{installations_are_in_range, journals_fit};
 use std::alloc::{AllocError, Global};
 
-fn strike_among(last: &Last, rows: &mut [EntryRow], place: u64)
+fn void_in_slice(last: &Last, rows: &mut [EntryRow], place: u64)
     ensures { VoidsAt last.now place (lists.latest_first rows.old) (lists.latest_first rows.new) }
 {
     if place >= 2 && place - 2 < rows.len() as u64 && are_numbered(rows) {
@@ -34,11 +34,11 @@ fn strike_among(last: &Last, rows: &mut [EntryRow], place: u64)
     }
 }
 
-fn strike_there(last: &Last, rows: &mut Vec<EntryRow>, place: u64)
+fn void_in_vec(last: &Last, rows: &mut Vec<EntryRow>, place: u64)
     ensures { VoidsAt last.now place (lists.latest_first rows.old.items)
         (lists.latest_first rows.new.items) }
 {
-    strike_among(last, rows, place);
+    void_in_slice(last, rows, place);
 }
 
 fn first(rows: &[EntryRow], count: usize) -> &[EntryRow]
@@ -72,7 +72,7 @@ impl Meter {
     }
 
     /// Adds one more entry of the meter, or leaves the meter unchanged if memory runs out.
-    pub(crate) fn go_on(&mut self, booked: &BookedEntry) -> Result<(), AllocError>
+    pub(crate) fn add_entry(&mut self, booked: &BookedEntry) -> Result<(), AllocError>
         ensures ok { OnOk result (HasEntered booked.now self.old self.new) }
         ensures err { OnErr result (IsSame self.old self.new) }
     {
@@ -89,7 +89,7 @@ impl Meter {
         let opening = self.row.opening;
         let ended = self.row.ended;
         let last = opened(&opening);
-        strike_there(&last, &mut self.rows, place);
+        void_in_vec(&last, &mut self.rows, place);
         if let Some(row) = installation_after(&opening, &self.rows, ended) {
             self.row = row;
         }
@@ -97,7 +97,7 @@ impl Meter {
 
     /// Returns the meter's entry with sequence number `place`, or `None` without such an entry. The
     /// result includes the meter's state before the entry, and the next valid entry.
-    pub(crate) fn placed(&self, place: u64) -> Option<EntryPlace>
+    pub(crate) fn placed(&self, place: u64) -> Option<EntryContext>
         ensures found { WhereSaid self.now (λ known opening.
             result ≡ option_map (place_in known opening) (row_at place (rows_of known opening))) }
         ensures sound { IfSome result (λ found. IsSound found.before) }
@@ -119,7 +119,7 @@ impl Meter {
         ) else {
             return None;
         };
-        Some(EntryPlace {
+        Some(EntryContext {
             before,
             row: found.row,
             next: found.next,

@@ -18,7 +18,7 @@ use crate::tables::table::Table;
 use interval_core::Share;
 use meter_journal::{journals_are_kept, places_were_kept};
 use office_books::{MeterEntry, RowSink, Span, is_sound, with_whole_energy};
-use office_events::{BookedEntry, EntryPlace, Fact, Installation, Name, Opening, VoidedEntry};
+use office_events::{BookedEntry, EntryContext, Fact, Installation, Name, Opening, VoidedEntry};
 use office_rules::{
     entries_move_on, holds_change_nothing, installations_are_in_range, journals_fit,
     openings_begin, other_meters_stay,
@@ -64,7 +64,7 @@ impl Meters {
     {
         let key = named(&booked.meter);
         match self.meters.get_mut(&key) {
-            Some(meter) => meter.go_on(booked),
+            Some(meter) => meter.add_entry(booked),
             None => Ok(()),
         }
     }
@@ -100,7 +100,7 @@ impl Meters {
 
     /// Returns the entry of a meter with sequence number `place`, or `None` without such an entry.
     /// The result includes the meter's state before the entry, and the next valid entry.
-    pub(crate) fn entry(&self, name: &Name, place: u64) -> Option<EntryPlace>
+    pub(crate) fn entry(&self, name: &Name, place: u64) -> Option<EntryContext>
         ensures found { (known : List Fact) → AreLawful known → AreMeters self.now known
             → result ≡ entry_at known name.now place }
         ensures sound { IfSome result (λ found. IsSound found.before) }
@@ -114,7 +114,7 @@ impl Meters {
 
     /// Returns the entry of a meter with sequence number `place`, or `None` without such an entry.
     /// In the result, the meter's state before the entry has the meter's present total energy.
-    pub(crate) fn entry_near(&self, name: &Name, place: u64) -> Option<EntryPlace>
+    pub(crate) fn entry_near(&self, name: &Name, place: u64) -> Option<EntryContext>
         ensures found { (known : List Fact) → AreLawful known → AreMeters self.now known
             → TellsNear known name.now place result }
         ensures sound { IfSome result (λ found. IsSound found.before) }
@@ -171,7 +171,7 @@ impl Table for Meters {
 
     ghost says = { AreMeters };
 
-    fn put(&mut self, _place: usize, fact: &Fact) -> Result<(), AllocError> {
+    fn apply_record(&mut self, _place: usize, fact: &Fact) -> Result<(), AllocError> {
         entries_move_on();
         openings_begin();
         other_meters_stay();

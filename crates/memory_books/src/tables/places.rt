@@ -162,7 +162,7 @@ impl Table for Places {
 
     ghost says = { ArePlaces };
 
-    fn put(&mut self, place: usize, fact: &Fact) -> Result<(), AllocError> {
+    fn apply_record(&mut self, place: usize, fact: &Fact) -> Result<(), AllocError> {
         match key_in(self.kind, fact) {
             Some(key) => self.add(key, place),
             None => Ok(()),

@@ -28,7 +28,7 @@ impl Polls {
     }
 
     /// Stores the outcome of a poll, and ignores an outcome of an unknown poll.
-    fn end(&mut self, ended: &EndedPoll)
+    fn end_poll(&mut self, ended: &EndedPoll)
         ensures { EndsPoll ended.now self.old.rows.items self.new.rows.items }
     {
         if ended.poll >= 1 && ended.poll - 1 < self.rows.len() as u64 {
@@ -67,7 +67,7 @@ impl Table for Polls {
 
     ghost says = { ArePolls };
 
-    fn put(&mut self, _place: usize, fact: &Fact) -> Result<(), AllocError> {
+    fn apply_record(&mut self, _place: usize, fact: &Fact) -> Result<(), AllocError> {
         match fact {
             Fact::Poll(poll) => {
                 self.rows.push(PollRow {
@@ -75,7 +75,7 @@ impl Table for Polls {
                     ended: None,
                 })?;
             }
-            Fact::Outcome(ended) => self.end(ended),
+            Fact::Outcome(ended) => self.end_poll(ended),
             Fact::Device(_)
             | Fact::List(_)
             | Fact::Register(_)
@@ -107,7 +107,7 @@ impl Pending {
         }
     }
 
-    fn take(&mut self, number: u64)
+    fn remove_poll(&mut self, number: u64)
         ensures { self.new.polls.items ≡ polls_but number self.old.polls.items }
     {
         self.polls.retain(|poll| number != poll.number);
@@ -130,10 +130,10 @@ impl Table for Pending {
 
     ghost says = { ArePending };
 
-    fn put(&mut self, _place: usize, fact: &Fact) -> Result<(), AllocError> {
+    fn apply_record(&mut self, _place: usize, fact: &Fact) -> Result<(), AllocError> {
         match fact {
             Fact::Poll(poll) => self.polls.push(*poll)?,
-            Fact::Outcome(ended) => self.take(ended.poll),
+            Fact::Outcome(ended) => self.remove_poll(ended.poll),
             Fact::Device(_)
             | Fact::List(_)
             | Fact::Register(_)

@@ -23,7 +23,7 @@ pub(crate) trait Table: Drop {
 
     /// Adds the next record to the table, or leaves the table unchanged if memory runs out. `place`
     /// is the record's index in the list, counted from 0.
-    fn put(&mut self, place: usize, fact: &Fact) -> Result<(), AllocError>
+    fn apply_record(&mut self, place: usize, fact: &Fact) -> Result<(), AllocError>
         ensures ok { (known : List Fact) → AreLawful (fact.now ∷ known) → length known ≡ place
             → says self.old known
             → OnOk result (says self.new (fact.now ∷ known)) }
@@ -58,7 +58,7 @@ impl<T: Table> Kept<T> {
         ensures kind { T.kind self.new.table ≡ T.kind self.old.table }
     {
         while self.count < facts.len() {
-            self.table.put(self.count, &facts[self.count])?;
+            self.table.apply_record(self.count, &facts[self.count])?;
             self.count += 1;
         }
         Ok(())

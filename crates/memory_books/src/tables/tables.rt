@@ -30,7 +30,7 @@ use interval_core::Share;
 use mb_wire::ReadSpan;
 use office_books::{MeterEntry, Repeat, RowSink, Span, read_count, reads_from};
 use office_events::{
-    EntryPlace, Fact, Installation, Name, Opening, PlannedList, Poll, PollRow, Register,
+    EntryContext, Fact, Installation, Name, Opening, PlannedList, Poll, PollRow, Register,
 };
 use std::alloc::{AllocError, Global};
 
@@ -267,7 +267,7 @@ impl Tables {
 
     /// Returns the entry of a meter with sequence number `place`, or `None` without such an entry.
     /// The result includes the meter's state before the entry, and the next valid entry.
-    pub fn entry(&self, meter: &Name, place: u64) -> Option<EntryPlace>
+    pub fn entry(&self, meter: &Name, place: u64) -> Option<EntryContext>
         ensures found { (known : List Fact) → AreLawful known → AreWhole self.now known
             → result ≡ entry_at known meter.now place }
         ensures sound { IfSome result (λ found. IsSound found.before) }
@@ -277,7 +277,7 @@ impl Tables {
 
     /// Returns the entry of a meter with sequence number `place`, or `None` without such an entry.
     /// In the result, the meter's state before the entry has the meter's present total energy.
-    pub fn entry_near(&self, meter: &Name, place: u64) -> Option<EntryPlace>
+    pub fn entry_near(&self, meter: &Name, place: u64) -> Option<EntryContext>
         ensures found { (known : List Fact) → AreLawful known → AreWhole self.now known
             → TellsNear known meter.now place result }
         ensures sound { IfSome result (λ found. IsSound found.before) }

@@ -16,9 +16,9 @@ use Rattle.meter_journal.specs.Standing.{entered_count, entering}
 use Rattle.meter_journal.proofs.Keeping.{journals_are_kept}
 use Rattle.meter_journal.proofs.Voiding.{whole_with}
 use Rattle.meter_audit.specs.Carried.{carried, moved_line, joined_journal, StaysWithin, GoesOn}
-use Rattle.meter_audit.specs.CarriedFiles.{GoesOnAs, InFile, GoOn, told_by_both, told_by_all, FilesAreOneHistory}
+use Rattle.meter_audit.specs.CarriedFiles.{GoesOnAs, InFile, GoOn, told_by_both, entry_from_all_rows, FilesAreOneHistory}
 use Rattle.meter_audit.specs.Fitting.{Tables, AreFine}
-use Rattle.meter_audit.proofs.Alone.{fitting_rows_stand_alone}
+use Rattle.meter_audit.proofs.Alone.{matching_rows_are_independent}
 use Rattle.meter_audit.proofs.Lawful.{alone_ended}
 use Rattle.meter_audit.proofs.CarriedLemmas.Fitting.{carried_journals_fit, ended_over}
 use Rattle.meter_audit.proofs.CarriedLemmas.Over.{well_carried}
@@ -37,7 +37,7 @@ record AreEntered (meter : Installed) (tables : Tables) : Type 0 where
 -- Consistent tables of one file report the state of a list of entries without voids.
 fine_entered : (meter : Installed) (tables : Tables) → AreFine meter tables → AreEntered meter tables
 fine_entered meter tables fine =
-    let alone = fitting_rows_stand_alone meter fine.rows fine.fit in
+    let alone = matching_rows_are_independent meter fine.rows fine.fit in
     record {
       rows = standing fine.rows;
       fit = alone.fit;
@@ -128,7 +128,7 @@ one_more meter old new well before unended range ceiling opening h le =
 
 -- ---- all files
 
-total_grows : (old : Tables) (later : List InFile) → old.total ≤ (told_by_all old later).total
+total_grows : (old : Tables) (later : List InFile) → old.total ≤ (entry_from_all_rows old later).total
 total_grows old [] = omega arith
 total_grows old (new ∷ later) = omega (arith, total_grows (told_by_both old new.tables) later)
 
@@ -137,8 +137,8 @@ total_grows old (new ∷ later) = omega (arith, total_grows (told_by_both old ne
 all_entered : (meter : Installed) (so_far : Tables) (old : InFile) (later : List InFile) → IsWellInstalled meter
     → AreEntered meter so_far → so_far.last ≡ old.tables.last → so_far.ended ≡ old.tables.ended
     → old.meter.range ≡ meter.range → old.meter.ceiling ≡ meter.ceiling
-    → GoOn old later → (told_by_all so_far later).total ≤ MAX_TOTAL
-    → AreEntered meter (told_by_all so_far later)
+    → GoOn old later → (entry_from_all_rows so_far later).total ≤ MAX_TOTAL
+    → AreEntered meter (entry_from_all_rows so_far later)
 all_entered meter so_far old [] well before last ended range ceiling goes le = before
 all_entered meter so_far old (new ∷ later) well before last ended range ceiling goes le =
     let first : GoesOnAs old.meter old.tables.last old.tables.ended new.meter = goes.0 in
@@ -150,7 +150,7 @@ all_entered meter so_far old (new ∷ later) well before last ended range ceilin
 
 pub files_are_one_history : IntervalRowsAddUp → FilesAreOneHistory
 files_are_one_history law first later well fine goes le =
-    let tables : Tables = told_by_all first.tables later in
+    let tables : Tables = entry_from_all_rows first.tables later in
     let all : AreEntered first.meter tables =
     all_entered first.meter first.tables first later well (fine_entered first.meter first.tables fine) refl refl refl refl goes le in
     record {

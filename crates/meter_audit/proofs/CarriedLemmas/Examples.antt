@@ -13,7 +13,7 @@ use Rattle.meter_journal.specs.Fitting.{AreFitting}
 use Rattle.meter_journal.specs.Journal.{Journal, Line, Entered, Voided}
 use Rattle.meter_audit.specs.declared.rows.TableRow.{TableRow}
 use Rattle.meter_audit.specs.Carried.{carried, joined_journal, StaysWithin}
-use Rattle.meter_audit.specs.CarriedFiles.{GoesOnAs, InFile, told_by_all}
+use Rattle.meter_audit.specs.CarriedFiles.{GoesOnAs, InFile, entry_from_all_rows}
 use Rattle.meter_audit.specs.Fitting.{Tables, tables_of}
 use Rattle.meter_audit.proofs.CarriedLemmas.Fitting.{carried_journals_fit}
 
@@ -142,7 +142,7 @@ third_not_after_first : GoesOnAs house first.tables.last first.tables.ended thir
 third_not_after_first h = let at : 3600 ≡ 2500 = ap (λ (l : Last). l.at) h.opening in omega (arith, at)
 
 abbrev told_by_three : Tables
-told_by_three = told_by_all first.tables (second ∷ third ∷ [])
+told_by_three = entry_from_all_rows first.tables (second ∷ third ∷ [])
 
 three_total : told_by_three.total ≡ 500000
 unfolding unit_of

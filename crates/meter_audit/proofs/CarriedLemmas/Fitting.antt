@@ -29,7 +29,7 @@ use Rattle.meter_journal.specs.Books.{IsWellInstalled, last_after, total_after, 
 use Rattle.meter_journal.specs.Fitting.{reading_at, IsAcceptedAs, IsEntered, EntryFits, IsPlausibleNext, IsNextPlausible, is_free, is_voidable, VoidFits, AreFitting}
 use Rattle.meter_journal.specs.Journal.{Entered, Held, Voided, Journal, Around, is_reading, is_read, is_closing, is_ended, entries_in, entries_of, rolled, with_rolls, struck, with_void, rows_of, if_standing, passed, row_at}
 use Rattle.meter_journal.specs.Standing.{entered_count}
-use Rattle.meter_journal.proofs.AsEntered.{rows_stand}
+use Rattle.meter_journal.proofs.AsEntered.{rows_are_kept}
 use Rattle.meter_journal.proofs.Keeping.{all_three, above, by_read, entries_standing, entries_struck, journals_are_kept, last_under, mapped_some, unrolled}
 use Rattle.meter_journal.proofs.StillFitting.{rolls_of}
 use Rattle.meter_journal.proofs.Voiding.{whole_with}
@@ -368,5 +368,5 @@ fit_over meter count lines (Voided place ∷ more) long well before old unended 
 
 pub carried_journals_fit : CarriedJournalsFit
 carried_journals_fit meter lines more well h unended more_h within =
-    fit_over meter (entered_count lines) lines more (rows_stand meter lines well h).count (well_carried meter lines well h)
+    fit_over meter (entered_count lines) lines more (rows_are_kept meter lines well h).count (well_carried meter lines well h)
     (journals_are_kept meter lines well h).account.follow h unended more_h within

@@ -20,7 +20,7 @@ use Rattle.meter_journal.specs.declared.lines.Installed.{Installed}
 use Rattle.meter_journal.specs.Books.{last_after, total_after, steps_after, steps_in, last_in, interval_rows}
 use Rattle.meter_journal.specs.Intervals.{joined, with_shares, rows_of_steps}
 use Rattle.meter_journal.specs.Journal.{entries_of}
-use Rattle.meter_journal.proofs.AsEntered.{rows_stand}
+use Rattle.meter_journal.proofs.AsEntered.{rows_are_kept}
 use Rattle.meter_journal.proofs.InTime.{in_time}
 use Rattle.meter_journal.proofs.Joining.{merged_sum}
 use Rattle.meter_journal.proofs.Keeping.{journals_are_kept}
@@ -227,7 +227,7 @@ pub carries_go_on : CarriesGoOn
 carries_go_on meter lines more well h more_h =
     let M : Installed = carried meter lines in
     let well_new = well_carried meter lines well h in
-    let long = (rows_stand meter lines well h).count in
+    let long = (rows_are_kept meter lines well h).count in
     let es : List Entry = entries_of (last_in meter lines) more in
     let old : List Entry = entries_of meter.opening lines in
     let entries = entries_of_both meter _ lines more long more_h in

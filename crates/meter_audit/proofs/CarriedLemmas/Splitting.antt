@@ -29,7 +29,7 @@ use Rattle.meter_journal.specs.Fitting.{reading_at, IsAcceptedAs, IsEntered, Ent
 use Rattle.meter_journal.specs.Journal.{Entered, Held, Voided, Journal, Around, is_closing, is_ended, entries_in, entries_of, rows_of, passed, row_at}
 use Rattle.meter_journal.specs.Lists.{AreNumbered}
 use Rattle.meter_journal.specs.Standing.{entered_count}
-use Rattle.meter_journal.proofs.AsEntered.{rows_stand}
+use Rattle.meter_journal.proofs.AsEntered.{rows_are_kept}
 use Rattle.meter_journal.proofs.Keeping.{journals_are_kept, mapped_some}
 use Rattle.meter_journal.proofs.Places.{places_were_kept}
 use Rattle.meter_audit.specs.Carried.{carried, moved_line, moved_row, AllComeLater, LaterLinesAreCarried}
@@ -289,7 +289,7 @@ split meter count lines (Voided place ∷ later) long well before numbers h come
 pub later_lines_are_carried : LaterLinesAreCarried
 later_lines_are_carried meter lines later well h come =
     let first : AreFitting meter lines = fitting_first meter lines later h in
-    let all = rows_stand meter lines well first in
+    let all = rows_are_kept meter lines well first in
     let parts = split meter (entered_count lines) lines later all.count (well_carried meter lines well first)
     (journals_are_kept meter lines well first).account.follow all.places h come in
     record { more = parts.more; joined = ap (λ (ls : Journal). ls ++ lines) parts.moved; fit = parts.fit }

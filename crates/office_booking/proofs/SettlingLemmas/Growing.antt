@@ -29,7 +29,7 @@ use Rattle.office_rules.specs.Meters.{open_at}
 use Rattle.office_rules.specs.Notes.{words_notes, reading_note, register_notes, registers_notes, reply_notes, outcome_notes}
 use Rattle.office_rules.specs.History.{outcome_of, with_words, with_outcome, with_outcomes}
 use Rattle.office_rules.specs.Lawful.{AreLawful}
-use Rattle.office_booking.specs.declared.settling.drafts.Draft.{Draft}
+use Rattle.office_booking.specs.declared.settling.drafts.PendingWrite.{PendingWrite}
 use Rattle.office_booking.specs.Settling.Drafts.{so_far, HasMore, IsTold, AreTold, Grows}
 use Rattle.office_booking.proofs.SettlingLemmas.Told.{SkipsTold, told_skipped, told_last}
 use Rattle.office_booking.proofs.SettlingLemmas.ReadRegisters.{with_read, told_read}
@@ -76,12 +76,12 @@ before_outcomes at [] facts h = h
 before_outcomes at (settled ∷ later) facts h = before_outcome at settled facts (before_outcomes at later (with_outcome at settled facts) h)
 
 -- If a pending write is unchanged, then it has no added records and no added notifications.
-pub stays : (holds : List Fact → Type 0) (clean : Type 0) (draft : Draft) → Grows holds clean draft draft (λ facts. facts) (λ facts. [])
+pub stays : (holds : List Fact → Type 0) (clean : Type 0) (draft : PendingWrite) → Grows holds clean draft draft (λ facts. facts) (λ facts. [])
 stays holds clean draft = λ recorded h c told lawful. record { facts = refl; notes = sym (append-nil draft.notes.items); told = told }
 
 -- If given records and notifications were added to a pending write, then equal records and
 -- notifications were also added.
-pub grows_like : (holds : List Fact → Type 0) (clean : Type 0) (old new : Draft) (f g : List Fact → List Fact) (n m : List Fact → List Note)
+pub grows_like : (holds : List Fact → Type 0) (clean : Type 0) (old new : PendingWrite) (f g : List Fact → List Fact) (n m : List Fact → List Note)
     → ((facts : List Fact) → g facts ≡ f facts) → ((facts : List Fact) → m facts ≡ n facts) → Grows holds clean old new f n → Grows holds clean old new g m
 grows_like holds clean old new f g n m same_facts same_notes on = λ recorded h c told lawful.
     let all = on recorded h c told (subst AreLawful (same_facts (so_far old recorded)) lawful) in
@@ -93,7 +93,7 @@ grows_like holds clean old new f g n m same_facts same_notes on = λ recorded h 
 
 -- If two calls add to a pending write, then the additions are those of the first call, followed by
 -- those of the second call.
-pub grows_then : (holds mid : List Fact → Type 0) (clean later : Type 0) (old between new : Draft) (f g : List Fact → List Fact) (n m : List Fact → List Note)
+pub grows_then : (holds mid : List Fact → Type 0) (clean later : Type 0) (old between new : PendingWrite) (f g : List Fact → List Fact) (n m : List Fact → List Note)
     → ((recorded : List Fact) → holds recorded → mid recorded) → (later → clean) → KeepsLawful g → Grows holds clean old between f n → Grows mid later between new g m
     → Grows holds later old new (λ facts. g (f facts)) (λ facts. n facts ++ m (f facts))
 grows_then holds mid clean later old between new f g n m kept cleaner before first second = λ recorded h c told lawful.
@@ -110,7 +110,7 @@ grows_then holds mid clean later old between new f g n m kept cleaner before fir
 
 -- If one record and its notification are added to a pending write, then the earlier records and
 -- notifications are unchanged.
-pub one_added : (holds : List Fact → Type 0) (clean : Type 0) (old new : Draft) (x : Fact) (y : Note) → IsTold x
+pub one_added : (holds : List Fact → Type 0) (clean : Type 0) (old new : PendingWrite) (x : Fact) (y : Note) → IsTold x
     → HasMore old new x y → Grows holds clean old new (λ facts. x ∷ facts) (λ facts. y ∷ [])
 one_added holds clean old new x y is more = λ recorded h c told lawful.
     record {
@@ -125,7 +125,7 @@ told_reading meter poll reading (Held cause) = tt
 
 -- If an accounting register has a reading, then one record and one notification are added to the
 -- pending write.
-pub read_at : (holds : List Fact → Type 0) (clean : Type 0) (at : ℕ) (poll : Poll) (words : List ℕ) (register : Register) (old new : Draft) (row : Installation)
+pub read_at : (holds : List Fact → Type 0) (clean : Type 0) (at : ℕ) (poll : Poll) (words : List ℕ) (register : Register) (old new : PendingWrite) (row : Installation)
     → is_read_by poll.span register ≡ true
     → ((recorded : List Fact) → holds recorded → clean → AreTold old.facts.items → AreLawful (so_far old recorded) → Some row ≡ open_at (so_far old recorded) register.name)
     → HasMore old new (reading_fact poll.number (reading_of at poll.span words register) row) (reading_note (reading_of at poll.span words register) row)
@@ -143,12 +143,12 @@ read_at holds clean at poll words register old new row read found more = λ reco
       told = subst AreTold (sym more.facts) (told_last old.facts.items _ told (told_reading row.opening.meter poll.number reading (judgement row reading)));
     }
 
-pub unread_at : (holds : List Fact → Type 0) (clean : Type 0) (at : ℕ) (poll : Poll) (words : List ℕ) (register : Register) (draft : Draft)
+pub unread_at : (holds : List Fact → Type 0) (clean : Type 0) (at : ℕ) (poll : Poll) (words : List ℕ) (register : Register) (draft : PendingWrite)
     → is_read_by poll.span register ≡ false → Grows holds clean draft draft (with_register at poll words register) (register_notes at poll words register)
 unread_at holds clean at poll words register draft other =
     grows_like holds clean draft draft (λ facts. facts) _ (λ facts. []) _ (λ facts. cond-false _ _ _ other) (λ facts. cond-false _ _ _ other) (stays holds clean draft)
 
-pub no_meter_at : (holds : List Fact → Type 0) (clean : Type 0) (at : ℕ) (poll : Poll) (words : List ℕ) (register : Register) (draft : Draft)
+pub no_meter_at : (holds : List Fact → Type 0) (clean : Type 0) (at : ℕ) (poll : Poll) (words : List ℕ) (register : Register) (draft : PendingWrite)
     → is_read_by poll.span register ≡ true
     → ((recorded : List Fact) → holds recorded → clean → AreTold draft.facts.items → AreLawful (so_far draft recorded) → None ≡ open_at (so_far draft recorded) register.name)
     → Grows holds clean draft draft (with_register at poll words register) (register_notes at poll words register)
@@ -176,7 +176,7 @@ notes-more at poll words (x ∷ xs) y facts =
     ap (λ zs. register_notes at poll words x facts ++ zs) (notes-more at poll words xs y (with_register at poll words x facts))
     ∙ sym (append_assoc (register_notes at poll words x facts) _ _)
 
-pub one_register_more : (holds mid : List Fact → Type 0) (clean later : Type 0) (old between new : Draft) (at : ℕ) (poll : Poll) (words : List ℕ)
+pub one_register_more : (holds mid : List Fact → Type 0) (clean later : Type 0) (old between new : PendingWrite) (at : ℕ) (poll : Poll) (words : List ℕ)
     (rs : List Register) (i : ℕ) (r : Register) → i < length rs → r ≡ get_or rs i r
     → ((recorded : List Fact) → holds recorded → mid recorded) → (later → clean)
     → Grows holds clean old between (with_registers at poll words (take i rs)) (registers_notes at poll words (take i rs))
@@ -215,11 +215,11 @@ no_register (fact.Poll poll) told = absurd told
 no_register (fact.Outcome ended) told = refl
 no_register (fact.Reply reply) told = absurd told
 
-poll_after : (draft : Draft) (recorded : List Fact) (number : ℕ) → AreTold draft.facts.items → poll_of (so_far draft recorded) number ≡ poll_of recorded number
+poll_after : (draft : PendingWrite) (recorded : List Fact) (number : ℕ) → AreTold draft.facts.items → poll_of (so_far draft recorded) number ≡ poll_of recorded number
 poll_after draft recorded number told =
     ap (λ ps. find (λ (p : Poll). p.number == number) ps) (told_skipped as_poll no_poll draft.facts.items recorded told)
 
-registers_after : (draft : Draft) (recorded : List Fact) (device : List ℕ) → AreTold draft.facts.items
+registers_after : (draft : PendingWrite) (recorded : List Fact) (device : List ℕ) → AreTold draft.facts.items
     → registers_of (so_far draft recorded) device ≡ registers_of recorded device
 registers_after draft recorded device told =
     ap (λ rs. reverse (filter (λ (r : Register). same r.device device) rs)) (told_skipped as_register no_register draft.facts.items recorded told)
@@ -233,7 +233,7 @@ its_row recorded row None h = absurd (cc)
 its_row recorded row (Some poll) h = let e : row ≡ poll_row recorded poll = cc in ap Some (sym (ap (λ (r : PollRow). r.poll) e))
 
 -- If a response belongs to a poll that is not recorded, then it adds no readings.
-pub reply_to_none : (holds : List Fact → Type 0) (clean : Type 0) (draft : Draft) (at number : ℕ) (words : List ℕ)
+pub reply_to_none : (holds : List Fact → Type 0) (clean : Type 0) (draft : PendingWrite) (at number : ℕ) (words : List ℕ)
     → ((recorded : List Fact) → holds recorded → clean → None ≡ poll_row_of recorded number)
     → Grows holds clean draft draft (λ facts. with_reply at (poll_of facts number) words facts) (λ facts. reply_notes at (poll_of facts number) words facts)
 reply_to_none holds clean draft at number words found = λ recorded h c told lawful.
@@ -245,7 +245,7 @@ reply_to_none holds clean draft at number words found = λ recorded h c told law
       told = told;
     }
 
-pub reply_to : (holds mid : List Fact → Type 0) (clean : Type 0) (old new : Draft) (at number : ℕ) (words : List ℕ) (row : PollRow) (rs : List Register)
+pub reply_to : (holds mid : List Fact → Type 0) (clean : Type 0) (old new : PendingWrite) (at number : ℕ) (words : List ℕ) (row : PollRow) (rs : List Register)
     → ((recorded : List Fact) → holds recorded → clean → Some row ≡ poll_row_of recorded number)
     → ((recorded : List Fact) → holds recorded → clean → rs ≡ filter (is_read_by row.poll.span) (registers_of recorded row.poll.device))
     → ((recorded : List Fact) → holds recorded → mid recorded)
@@ -307,7 +307,7 @@ same_fact : (at : ℕ) (settled : Settled)
 same_fact at settled =
     ap (λ (o : plain.Outcome). fact.Outcome (record { poll = settled.poll; at = at; outcome = o })) (outcome_again settled.outcome settled.reply)
 
-pub outcome_unread : (holds : List Fact → Type 0) (clean : Type 0) (old new : Draft) (at : ℕ) (settled : Settled) → LendsReply settled
+pub outcome_unread : (holds : List Fact → Type 0) (clean : Type 0) (old new : PendingWrite) (at : ℕ) (settled : Settled) → LendsReply settled
     → settled.reply ≡ None → HasMore old new (ended_fact at settled) (ended_note settled)
     → Grows holds clean old new (with_outcome at (settled_of settled)) (outcome_notes at (settled_of settled))
 outcome_unread holds clean old new at settled lends none more =
@@ -321,7 +321,7 @@ outcome_unread holds clean old new at settled lends none more =
     ∙ ap (λ xs. ended_note settled ∷ xs) (unread at settled.poll settled.outcome settled.reply lends none (ended_fact at settled ∷ fs)).1)
     (one_added holds clean old new (ended_fact at settled) (ended_note settled) tt more)
 
-pub outcome_read : (holds mid : List Fact → Type 0) (clean later : Type 0) (old between new : Draft) (at : ℕ) (settled : Settled) (reply : Reply)
+pub outcome_read : (holds mid : List Fact → Type 0) (clean later : Type 0) (old between new : PendingWrite) (at : ℕ) (settled : Settled) (reply : Reply)
     → LendsReply settled → settled.reply ≡ Some reply
     → HasMore old between (ended_fact at settled) (ended_note settled)
     → ((recorded : List Fact) → holds recorded → mid recorded) → (later → clean)

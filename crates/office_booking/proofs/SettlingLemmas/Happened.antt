@@ -13,7 +13,7 @@ use Rattle.office_rules.specs.History.{History, Fed, facts_of, slots_of, next_po
 use Rattle.office_rules.specs.Lawful.{AreLawful}
 use Rattle.office_rules.specs.Refusals.{kept_of}
 use Rattle.office_rules.specs.Lawfulness.{FactsAreLawful, PutsPlanned}
-use Rattle.office_booking.specs.declared.settling.drafts.Draft.{Draft}
+use Rattle.office_booking.specs.declared.settling.drafts.PendingWrite.{PendingWrite}
 use Rattle.office_booking.specs.Settling.Drafts.{so_far, AreTold, Grows}
 use Rattle.office_rules.specs.Notes.{outcomes_notes, settled_notes, notes_of}
 use Rattle.office_booking.specs.declared.sessions.slots.Slot.{Slot}
@@ -95,13 +95,13 @@ lawful_next law past slots at e s next =
 
 -- True if a pending write has exactly the records and the notifications that are defined for the
 -- device event.
-pub record DraftStands (past : History) (at : ℕ) (e : Event) (draft : Draft) : Type 0 where
+pub record DraftStands (past : History) (at : ℕ) (e : Event) (draft : PendingWrite) : Type 0 where
   pub facts : so_far draft (facts_of past) ≡ facts_of (Fed at e ∷ past)
   pub notes : draft.notes.items ≡ notes_of (next_poll (facts_of past)) at e (slots_of past) (facts_of past)
   pub lawful : AreLawful (so_far draft (facts_of past))
 
 pub draft_stands : FactsAreLawful → (past : History) (kept : List Slot) (at : ℕ) (e : Event) → IsSettling e → IsNext past kept at e
-    → (holds : List Fact → Type 0) (clean : Type 0) (first draft : Draft) → first.facts.items ≡ [] → first.notes.items ≡ []
+    → (holds : List Fact → Type 0) (clean : Type 0) (first draft : PendingWrite) → first.facts.items ≡ [] → first.notes.items ≡ []
     → Grows holds clean first draft (with_settled (next_poll (facts_of past)) at e (slots_of past)) (settled_notes (next_poll (facts_of past)) at e (slots_of past))
     → holds (facts_of past) → clean → DraftStands past at e draft
 draft_stands law past kept at e s next holds clean first draft no_facts no_notes on h c =

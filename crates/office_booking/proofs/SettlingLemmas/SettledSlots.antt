@@ -7,7 +7,7 @@ use Rattle.office_rules.specs.Sessions as sessions
 use Rattle.office_rules.specs.Sessions.{slot_after}
 use Rattle.office_rules.specs.History.{settled_by, with_outcomes, with_settled}
 use Rattle.office_rules.specs.Notes.{outcomes_notes, settled_notes}
-use Rattle.office_booking.specs.declared.settling.drafts.Draft.{Draft}
+use Rattle.office_booking.specs.declared.settling.drafts.PendingWrite.{PendingWrite}
 use Rattle.office_booking.specs.declared.sessions.slots.Slot.{Slot}
 use Rattle.office_booking.specs.Settling.Drafts.{Grows}
 use Rattle.office_booking.specs.Sessions.Keeping.{KeepsSlot, KeepsSlots}
@@ -76,7 +76,7 @@ keeps_all number at e (suc i) (k ∷ ks) (l ∷ ls) less keeps =
 -- If an event was applied to `i` slots and to one more slot, then it was applied to the first `i +
 -- 1` slots.
 pub goes_further : (holds mid : List Fact → Type 0) (clean later same changed : Type 0) (number at : ℕ) (e : Event) (i : ℕ) (now : List Slot) (kept : List sessions.Slot)
-    (first draft new : Draft) (x y : Slot) → i < length now → x ≡ get_or now i x
+    (first draft new : PendingWrite) (x y : Slot) → i < length now → x ≡ get_or now i x
     → FirstReached number at e i now kept
     → Grows holds clean first draft (with_settled number at e (take i kept)) (settled_notes number at e (take i kept))
     → (SettleNothing number at e kept → same)
@@ -100,7 +100,7 @@ goes_further holds mid clean later same changed number at e i now kept first dra
       λ none. quiet_slot next.slot next.here (next.quiet none) (quiet none),
     )
 
-pub goes_to_end : (holds : List Fact → Type 0) (clean : Type 0) (number at : ℕ) (e : Event) (some all : List sessions.Slot) (first draft : Draft) → some ≡ all
+pub goes_to_end : (holds : List Fact → Type 0) (clean : Type 0) (number at : ℕ) (e : Event) (some all : List sessions.Slot) (first draft : PendingWrite) → some ≡ all
     → Grows holds clean first draft (with_settled number at e some) (settled_notes number at e some)
     → Grows holds clean first draft (with_settled number at e all) (settled_notes number at e all)
 goes_to_end holds clean number at e some all first draft is on =

@@ -9,7 +9,7 @@ use Rattle.poll_core.specs.declared.outcome.Call.{Call}
 use Rattle.office_events.specs.declared.facts.Fact.{Fact}
 use Rattle.office_rules.specs.History.{with_outcome, with_outcomes}
 use Rattle.office_rules.specs.Notes.{outcome_notes, outcomes_notes}
-use Rattle.office_booking.specs.declared.settling.drafts.Draft.{Draft}
+use Rattle.office_booking.specs.declared.settling.drafts.PendingWrite.{PendingWrite}
 use Rattle.office_booking.specs.Settling.Drafts.{Grows}
 use Rattle.office_booking.specs.Settling.Settling.{SettlesNothing, TellsSettled}
 use Rattle.office_booking.proofs.SettlingLemmas.Growing.{stays, grows_like, grows_then, before_outcome}
@@ -28,7 +28,7 @@ notes-append at (x ∷ xs) ys facts =
 
 -- The state of the loop over the outcomes of an event. The session is still processing the event,
 -- and the pending write has the outcomes so far. If no outcome was found, nothing has changed.
-pub record Turned (holds : List Fact → Type 0) (clean unchanged : Type 0) (old now : State) (happening : Event) (call : Call) (first draft : Draft) : Type 0 where
+pub record Turned (holds : List Fact → Type 0) (clean unchanged : Type 0) (old now : State) (happening : Event) (call : Call) (first draft : PendingWrite) : Type 0 where
   pub call_is : IsCall call now (moment_of happening)
   pub timeout : now.timeout ≡ old.timeout
   pub window : now.window ≡ old.window
@@ -37,7 +37,7 @@ pub record Turned (holds : List Fact → Type 0) (clean unchanged : Type 0) (old
   pub on : Grows holds clean first draft (with_outcomes (moment_of happening) told) (outcomes_notes (moment_of happening) told)
   pub quiet : told ≡ [] → unchanged
 
-pub begins : (holds : List Fact → Type 0) (clean unchanged : Type 0) (old : State) (happening : Event) (call : Call) (draft : Draft) → old.settling ≡ None
+pub begins : (holds : List Fact → Type 0) (clean unchanged : Type 0) (old : State) (happening : Event) (call : Call) (draft : PendingWrite) → old.settling ≡ None
     → ((events : List Event) → Stands old events → Before old events happening []) → unchanged → Turned holds clean unchanged old old happening call draft draft
 begins holds clean unchanged old happening call draft rests before same = record {
   call_is = inl rests;
@@ -62,7 +62,7 @@ longer_is_some (y ∷ xs) x h = cc
 
 -- After the loop finds one more outcome, the pending write also has this outcome.
 pub turns : (holds mid : List Fact → Type 0) (clean later unchanged changed : Type 0) (old between new : State) (before after : Event) (call : Call)
-    (first draft next : Draft) (o : ℕ × Settlement) → Turned holds clean unchanged old between before call first draft
+    (first draft next : PendingWrite) (o : ℕ × Settlement) → Turned holds clean unchanged old between before call first draft
     → moment_of after ≡ moment_of before → new.settling ≡ Some call → new.last ≡ moment_of after → Called between new before after (Some o)
     → ((known : List Fact) → holds known → mid known) → (later → clean)
     → Grows mid later draft next (with_outcome (moment_of before) o) (outcome_notes (moment_of before) o)
@@ -85,7 +85,7 @@ turns holds mid clean later unchanged changed old between new before after call 
 }
 
 -- After the loop ends, the pending write has all outcomes of the event.
-pub ends : (holds : List Fact → Type 0) (clean unchanged : Type 0) (old between new : State) (before after : Event) (call : Call) (first draft : Draft)
+pub ends : (holds : List Fact → Type 0) (clean unchanged : Type 0) (old between new : State) (before after : Event) (call : Call) (first draft : PendingWrite)
     → Turned holds clean unchanged old between before call first draft → moment_of after ≡ moment_of before → Called between new before after None
     → TellsSettled holds clean old new after first draft
 ends holds clean unchanged old between new before after call first draft t same called =
@@ -101,7 +101,7 @@ ends holds clean unchanged old between new before after call first draft t same 
           (subst (λ (m : ℕ). Grows holds clean first draft (with_outcomes m t.told) (outcomes_notes m t.told)) (sym same) t.on);
     }
 
-pub ends_quietly : (holds : List Fact → Type 0) (clean unchanged : Type 0) (old between new : State) (before after : Event) (call : Call) (first draft : Draft)
+pub ends_quietly : (holds : List Fact → Type 0) (clean unchanged : Type 0) (old between new : State) (before after : Event) (call : Call) (first draft : PendingWrite)
     → Turned holds clean unchanged old between before call first draft → Called between new before after None → SettlesNothing old after → unchanged
 ends_quietly holds clean unchanged old between new before after call first draft t called none =
     t.quiet
@@ -109,7 +109,7 @@ ends_quietly holds clean unchanged old between new before after call first draft
     ∙ ap (λ n. outcomes_at n none.events after) (called.timeout ∙ t.timeout) ∙ none.nothing)
 
 -- If a call of the session returned an outcome, then the event ends a poll.
-pub is_loud : {P : Type 0} (holds : List Fact → Type 0) (clean unchanged : Type 0) (old between new : State) (before after : Event) (call : Call) (first draft : Draft)
+pub is_loud : {P : Type 0} (holds : List Fact → Type 0) (clean unchanged : Type 0) (old between new : State) (before after : Event) (call : Call) (first draft : PendingWrite)
     (o : ℕ × Settlement) → Turned holds clean unchanged old between before call first draft → Called between new before after (Some o) → SettlesNothing old after → P
 is_loud holds clean unchanged old between new before after call first draft o t called none =
     let within : Within new none.events after (t.told ++ o ∷ []) = (called.told none.events t.told (t.within none.events none.stands)).1 in

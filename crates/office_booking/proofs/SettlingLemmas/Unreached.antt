@@ -10,7 +10,7 @@ use Rattle.office_rules.specs.Sessions.{connects, reaches, slot_after, slot_reac
 use Rattle.office_rules.specs.History.{settled_by, settled_in, settled_on, with_outcomes}
 use Rattle.office_rules.specs.Notes.{outcomes_notes}
 use Rattle.std.specs.Prelude.{if◌then◌else◌}
-use Rattle.office_booking.specs.declared.settling.drafts.Draft.{Draft}
+use Rattle.office_booking.specs.declared.settling.drafts.PendingWrite.{PendingWrite}
 use Rattle.office_booking.specs.declared.sessions.slots.Slot.{Slot}
 use Rattle.office_booking.specs.Sessions.Keeping.{KeepsSlot}
 use Rattle.office_booking.specs.Settling.Drafts.{Grows}
@@ -58,7 +58,7 @@ still_kept number at e kept stood settling apart none reach =
     reach.keeps
 
 -- If a device event does not concern a device, then it adds no records for the device.
-pub adds_none : (holds : List Fact → Type 0) (clean : Type 0) (draft : Draft) (number at : ℕ) (e : Event) (kept : Slot) (stood : sessions.Slot) → IsSettling e
+pub adds_none : (holds : List Fact → Type 0) (clean : Type 0) (draft : PendingWrite) (number at : ℕ) (e : Event) (kept : Slot) (stood : sessions.Slot) → IsSettling e
     → false ≡ is_some (happening_on at e kept.device) → MayReach at kept stood
     → Grows holds clean draft draft (with_outcomes at (settled_by number at e stood)) (outcomes_notes at (settled_by number at e stood))
 adds_none holds clean draft number at e kept stood settling none reach =

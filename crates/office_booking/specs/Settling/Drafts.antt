@@ -8,15 +8,15 @@ use Rattle.office_events.specs.declared.answers.Note.{Note}
 use Rattle.office_rules.specs.Lawful.{AreLawful}
 use Rattle.office_books.specs.declared.faults.BooksFault.{BooksFault}
 use Rattle.office_books.specs.Ledgers.{Ledger}
-use Rattle.office_booking.specs.declared.settling.drafts.Draft.{Draft}
+use Rattle.office_booking.specs.declared.settling.drafts.PendingWrite.{PendingWrite}
 
 -- The store's records followed by the records of the pending write. The resulting list has the
 -- latest record first.
-abbrev pub so_far : Draft → (known : List Fact) → List Fact
+abbrev pub so_far : PendingWrite → (known : List Fact) → List Fact
 so_far draft known = reverse draft.facts.items ++ known
 
 -- True if one record and its notification were added to the pending write `old`, which gives `new`.
-pub record HasMore (old new : Draft) (f : Fact) (note : Note) : Type 0 where
+pub record HasMore (old new : PendingWrite) (f : Fact) (note : Note) : Type 0 where
   pub facts : new.facts.items ≡ old.facts.items ++ f ∷ []
   pub notes : new.notes.items ≡ old.notes.items ++ note ∷ []
 
@@ -35,7 +35,7 @@ AreTold (f ∷ facts) = IsTold f × AreTold facts
 
 -- True if the records `more` and the notifications `tells` were added to the pending write `old`,
 -- which gives `new`.
-pub record IsAdded (known : List Fact) (old new : Draft) (more : List Fact → List Fact)
+pub record IsAdded (known : List Fact) (old new : PendingWrite) (more : List Fact → List Fact)
     (tells : List Fact → List Note) : Type 0 where
   pub facts : so_far new known ≡ more (so_far old known)
   pub notes : new.notes.items ≡ old.notes.items ++ tells (so_far old known)
@@ -43,7 +43,7 @@ pub record IsAdded (known : List Fact) (old new : Draft) (more : List Fact → L
 
 -- True if the pending write gains the records `more` and the notifications `tells`. This is stated
 -- only for lawful resulting records, and if no wrong result of the store went undetected.
-abbrev pub Grows : (holds : List Fact → Type 0) (clean : Type 0) (old new : Draft)
+abbrev pub Grows : (holds : List Fact → Type 0) (clean : Type 0) (old new : PendingWrite)
     → (List Fact → List Fact) → (List Fact → List Note) → Type 0
 Grows holds clean old new more tells =
     (known : List Fact) → holds known → clean → AreTold old.facts.items
@@ -51,14 +51,14 @@ Grows holds clean old new more tells =
 
 -- True if a successful call adds the records `more` and the notifications `tells` to the pending
 -- write.
-abbrev pub Adds : {T : Type 0} → (old new : Ledger) → (before after : Draft) → Result T BooksFault
+abbrev pub Adds : {T : Type 0} → (old new : Ledger) → (before after : PendingWrite) → Result T BooksFault
     → (List Fact → List Fact) → (List Fact → List Note) → Type 0
 Adds old new before after result more tells =
     OnOk result (Grows old.holds new.is_clean before after more tells)
 
 -- True if the result of a lookup is correct for the store's records followed by the records of the
 -- pending write.
-abbrev pub FindsAfter : {T : Type 0} → (old new : Ledger) → Draft → Result T BooksFault
+abbrev pub FindsAfter : {T : Type 0} → (old new : Ledger) → PendingWrite → Result T BooksFault
     → (List Fact → T → Type 0) → Type 0
 FindsAfter old new draft result says =
     (known : List Fact) → old.holds known → new.is_clean → AreTold draft.facts.items
@@ -66,7 +66,7 @@ FindsAfter old new draft result says =
 
 -- True if the call succeeds without a query of the store, and leaves the pending write unchanged.
 pub record IsIdle {T B : Type 0} (result : Result T BooksFault) (old new : B)
-    (before after : Draft) : Type 0 where
+    (before after : PendingWrite) : Type 0 where
   pub ok : IsOk result
   pub books : new ≡ old
   pub draft : after ≡ before

@@ -15,7 +15,7 @@ use Rattle.office_booking.specs.Sessions.Keeping.{KeepsSlot}
 use Rattle.office_booking.specs.Sessions.Moments.{none_later}
 use Rattle.office_books.specs.declared.faults.BooksFault.{BooksFault}
 use Rattle.office_books.specs.Ledgers.{Ledger}
-use Rattle.office_booking.specs.declared.settling.drafts.Draft.{Draft}
+use Rattle.office_booking.specs.declared.settling.drafts.PendingWrite.{PendingWrite}
 use Rattle.office_booking.specs.Settling.Drafts.{Adds, Grows}
 
 -- True if the event is from a device or its connection, or a timer event, but not a command.
@@ -59,7 +59,7 @@ pub record SettlesNothing (kept : State) (happening : session.Event) : Type 0 wh
 -- The guarantees of passing an event to a session. The session has processed the event, and the
 -- pending write has all outcomes and readings of the event.
 pub record TellsSettled (holds : List Fact → Type 0) (clean : Type 0) (before after : State)
-    (happening : session.Event) (first last : Draft) : Type 0 where
+    (happening : session.Event) (first last : PendingWrite) : Type 0 where
   pub timeout : after.timeout ≡ before.timeout
   pub window : after.window ≡ before.window
   pub stands : (events : List session.Event) → Stands before events
@@ -72,7 +72,7 @@ pub record TellsSettled (holds : List Fact → Type 0) (clean : Type 0) (before 
 -- True if `TellsSettled` holds after a successful call, if the event is not earlier than the
 -- session's last event.
 abbrev pub TellsAll : {T : Type 0} → (old new : Ledger) → (before after : State) → session.Event
-    → (first last : Draft) → Result T BooksFault → Type 0
+    → (first last : PendingWrite) → Result T BooksFault → Type 0
 TellsAll old new before after happening first last result =
     before.last ≤ session.moment_of happening
     → OnOk result (TellsSettled old.holds new.is_clean before after happening first last)
@@ -80,7 +80,7 @@ TellsAll old new before after happening first last result =
 -- True if `TellsAll` holds for an event that concerns the session. If the event does not concern
 -- the session, then the session and the pending write are unchanged.
 abbrev pub TellsReached : {T : Type 0} → (old new : Ledger) → (before after : State)
-    → Option session.Event → (first last : Draft) → Result T BooksFault → Type 0
+    → Option session.Event → (first last : PendingWrite) → Result T BooksFault → Type 0
 TellsReached old new before after None first last result =
     OnOk result ((after ≡ before) × (last ≡ first))
 TellsReached old new before after (Some happening) first last result =
@@ -105,7 +105,7 @@ SettleNothing number at e (slot ∷ slots) =
 -- True if the outcomes and readings that the event causes on this slot are added to the pending
 -- write, for any next poll number.
 abbrev pub AddsOfSlot : {T : Type 0} → (old new : Ledger) → (at : ℕ) → Event → Slot
-    → (before after : Draft) → Result T BooksFault → Type 0
+    → (before after : PendingWrite) → Result T BooksFault → Type 0
 AddsOfSlot old new at e kept before after result =
     (number : ℕ) (stood : sessions.Slot) → MayReach at kept stood
     → let outcomes = settled_by number at e stood in
@@ -114,7 +114,7 @@ AddsOfSlot old new at e kept before after result =
 -- True if the outcomes and readings that the event causes on all slots are added to the pending
 -- write, in order.
 abbrev pub AddsOfSlots : {T : Type 0} → (old new : Ledger) → (at : ℕ) → Event → List Slot
-    → (before after : Draft) → Result T BooksFault → Type 0
+    → (before after : PendingWrite) → Result T BooksFault → Type 0
 AddsOfSlots old new at e kept before after result =
     (number : ℕ) (stood : List sessions.Slot) → MayReachAll at kept stood
     → Adds old new before after result (with_settled number at e stood)

@@ -11,18 +11,18 @@ use std::alloc::Global;
 /// The pending records and notifications of one device event, the oldest first. Either all of the
 /// records are written to the store, or none.
 #[derive(Drop)]
-pub struct Draft {
+pub struct PendingWrite {
     pub facts: Vec<Fact>,
     pub notes: Vec<Note>,
 }
 
-impl Draft {
+impl PendingWrite {
     /// Creates a pending write that has no records. Allocates no memory.
-    pub fn new(alloc: Global) -> Draft
+    pub fn new(alloc: Global) -> PendingWrite
         ensures facts { result.facts.items ≡ [] }
         ensures notes { result.notes.items ≡ [] }
     {
-        Draft {
+        PendingWrite {
             facts: Vec::new(alloc),
             notes: Vec::new(alloc),
         }

@@ -9,7 +9,7 @@ ghost use Rattle.office_booking.specs.Settling.Settling.{IsSettling, SettleNothi
 ghost use Rattle.office_booking.specs.Settling.Events.{IsNext, IsQuiet, Settles};
 
 use crate::sessions::Slot;
-use crate::settling::drafts::Draft;
+use crate::settling::drafts::PendingWrite;
 use crate::settling::slots::settle_slots;
 use office_books::{Books, BooksFault};
 use office_events::{Event, Fact, Note};
@@ -18,7 +18,7 @@ use std::alloc::Global;
 
 /// Writes all of the given records to the store in one write. Does not call the store if no records
 /// are given.
-fn book_all<B: Books>(books: &mut B, facts: Vec<Fact>) -> Result<(), BooksFault>
+fn write_records<B: Books>(books: &mut B, facts: Vec<Fact>) -> Result<(), BooksFault>
     ensures moves { (known : List Fact) → let later = with_facts facts.items known in
         AreLawful later → Moves (B.ledger books.old) (B.ledger books.new) known later result }
     ensures refused { (known : List Fact) → (B.ledger books.old).holds known
@@ -56,9 +56,9 @@ pub fn settle_event<B: Books>(
     ensures goes { LedgerAfterCalls (B.ledger books.old) (B.ledger books.new) result }
 {
     facts_are_lawful();
-    let mut draft = Draft::new(alloc);
+    let mut draft = PendingWrite::new(alloc);
     settle_slots(slots, books, &mut draft, moment, event)?;
-    let Draft { facts, notes } = draft;
-    book_all(books, facts)?;
+    let PendingWrite { facts, notes } = draft;
+    write_records(books, facts)?;
     Ok(notes)
 }

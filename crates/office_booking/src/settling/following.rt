@@ -6,7 +6,7 @@ ghost use Rattle.office_books.specs.Sound.{ReadsInstallation};
 ghost use Rattle.office_booking.specs.Settling.Drafts.{FindsAfter};
 ghost use Rattle.office_booking.specs.Settling.Following.{installation_with, IsAfterFacts};
 
-use crate::settling::drafts::Draft;
+use crate::settling::drafts::PendingWrite;
 use energy_core::{accepted_is_entered, accounts_go_on, entered_is_booked};
 use office_books::{Books, BooksFault, after_entry};
 use office_events::{Fact, Installation, Name};
@@ -50,7 +50,7 @@ fn with_facts(row: &Installation, facts: &[Fact]) -> Installation
 /// `None` if no meter is open there.
 pub fn open_installation<B: Books>(
     books: &mut B,
-    draft: &Draft,
+    draft: &PendingWrite,
     register: &Name,
 ) -> Result<Option<Installation>, BooksFault>
     ensures found { FindsAfter (B.ledger books.old) (B.ledger books.new) draft.now result

@@ -11,7 +11,7 @@ ghost use Rattle.office_rules.specs.Ranges.{IsSound};
 ghost use Rattle.office_booking.specs.Settling.Drafts.{HasMore, Adds};
 ghost use Rattle.office_booking.specs.Settling.Replies.{words_of};
 
-use crate::settling::drafts::Draft;
+use crate::settling::drafts::PendingWrite;
 use crate::settling::following::open_installation;
 use crate::settling::readings::reading_of;
 use energy_core::{Entry, Reading, Verdict};
@@ -24,7 +24,7 @@ use poll_core::Settled;
 
 /// Returns the record and the notification of a judged reading. If the reading is accepted, the
 /// record is a meter entry. Otherwise it is a rejected reading with its cause.
-fn told_of(meter: Name, poll: u64, reading: &Reading, verdict: Verdict) -> (Fact, Note)
+fn record_of_reading(meter: Name, poll: u64, reading: &Reading, verdict: Verdict) -> (Fact, Note)
     ensures fact { result.0 ≡ readings.as_fact meter poll reading.now verdict }
     ensures note { result.1 ≡ notes.as_note meter reading.now verdict }
 {
@@ -67,7 +67,7 @@ fn told_of(meter: Name, poll: u64, reading: &Reading, verdict: Verdict) -> (Fact
 /// Judges a reading of an installed meter, and adds the record and the notification of the reading
 /// to the pending write.
 fn add_judged(
-    draft: &mut Draft,
+    draft: &mut PendingWrite,
     row: &Installation,
     poll: u64,
     reading: &Reading,
@@ -78,7 +78,7 @@ fn add_judged(
     ensures err { IfErr result (λ fault. fault ≡ Memory) }
 {
     let verdict = verdict_at(row, reading);
-    let (fact, note) = told_of(row.opening.meter, poll, reading, verdict);
+    let (fact, note) = record_of_reading(row.opening.meter, poll, reading, verdict);
     draft.add(fact, note)
 }
 
@@ -88,7 +88,7 @@ fn add_judged(
 /// is open at the register.
 fn add_reading<B: Books>(
     books: &mut B,
-    draft: &mut Draft,
+    draft: &mut PendingWrite,
     at: u64,
     poll: &Poll,
     reply: &Reply,
@@ -113,7 +113,7 @@ fn add_reading<B: Books>(
 /// order of the registers.
 fn add_readings<B: Books>(
     books: &mut B,
-    draft: &mut Draft,
+    draft: &mut PendingWrite,
     at: u64,
     poll: &Poll,
     reply: &Reply,
@@ -134,7 +134,7 @@ fn add_readings<B: Books>(
 /// that the read covers.
 fn add_reply<B: Books>(
     books: &mut B,
-    draft: &mut Draft,
+    draft: &mut PendingWrite,
     at: u64,
     number: u64,
     reply: &Reply,
@@ -155,7 +155,7 @@ fn add_reply<B: Books>(
 /// pending write.
 pub fn add_outcome<B: Books>(
     books: &mut B,
-    draft: &mut Draft,
+    draft: &mut PendingWrite,
     at: u64,
     settled: &Settled,
 ) -> Result<(), BooksFault>

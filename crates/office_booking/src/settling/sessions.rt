@@ -8,7 +8,7 @@ ghost use Rattle.office_booking.specs.Settling.Drafts.{IsIdle};
 ghost use Rattle.office_booking.specs.Settling.Settling.{IsSettling, happening_on, SettlesNothing, TellsAll, TellsReached, ReachesQuietly, ends_session};
 
 use crate::sessions::is_named;
-use crate::settling::drafts::Draft;
+use crate::settling::drafts::PendingWrite;
 use crate::settling::outcomes::add_outcome;
 use office_books::{Books, BooksFault};
 use office_events::{Device, Event};
@@ -19,7 +19,7 @@ use poll_core::{Closing, Session, longer_pieces_settle};
 fn settle_piece<B: Books>(
     session: &mut Session,
     books: &mut B,
-    draft: &mut Draft,
+    draft: &mut PendingWrite,
     moment: u64,
     piece: &[u8],
 ) -> Result<(), BooksFault>
@@ -48,10 +48,10 @@ fn settle_piece<B: Books>(
 
 /// Passes a timer event to a session, and adds the outcomes of the polls that time out to the
 /// pending write.
-fn settle_tick<B: Books>(
+fn settle_timer<B: Books>(
     session: &mut Session,
     books: &mut B,
-    draft: &mut Draft,
+    draft: &mut PendingWrite,
     moment: u64,
 ) -> Result<(), BooksFault>
     requires limit { moment ≤ moment_limit }
@@ -78,7 +78,7 @@ fn settle_tick<B: Books>(
 fn settle_close<B: Books>(
     session: &mut Session,
     books: &mut B,
-    draft: &mut Draft,
+    draft: &mut PendingWrite,
     moment: u64,
     closing: Closing,
 ) -> Result<(), BooksFault>
@@ -107,7 +107,7 @@ pub fn settle_session<B: Books>(
     session: &mut Session,
     device: &Device,
     books: &mut B,
-    draft: &mut Draft,
+    draft: &mut PendingWrite,
     moment: u64,
     event: &Event,
 ) -> Result<bool, BooksFault>
@@ -129,7 +129,7 @@ pub fn settle_session<B: Books>(
             Ok(true)
         }
         Event::Tick => {
-            settle_tick(session, books, draft, moment)?;
+            settle_timer(session, books, draft, moment)?;
             Ok(true)
         }
         Event::Gone(given, closing) if is_named(given, device) => {

@@ -11,7 +11,7 @@ ghost use Rattle.office_booking.specs.Settling.Settling.{AddsOfSlot, AddsOfSlots
 ghost use Rattle.office_booking.specs.Settling.Settling.{happening_on};
 
 use crate::sessions::{Slot, is_named};
-use crate::settling::drafts::Draft;
+use crate::settling::drafts::PendingWrite;
 use crate::settling::sessions::settle_session;
 use office_books::{Books, BooksFault};
 use office_events::{Device, Event};
@@ -56,7 +56,7 @@ fn connected(device: &Device) -> Slot
 fn settle_slot<B: Books>(
     slot: &mut Slot,
     books: &mut B,
-    draft: &mut Draft,
+    draft: &mut PendingWrite,
     moment: u64,
     event: &Event,
 ) -> Result<(), BooksFault>
@@ -92,7 +92,7 @@ fn settle_slot<B: Books>(
 pub fn settle_slots<B: Books>(
     slots: &mut [Slot],
     books: &mut B,
-    draft: &mut Draft,
+    draft: &mut PendingWrite,
     moment: u64,
     event: &Event,
 ) -> Result<(), BooksFault>

@@ -12,7 +12,7 @@ use Rattle.office_events.specs.declared.commands.Command.TheVariants as command
 use Rattle.office_events.specs.declared.commands.Exchange.{Exchange}
 use Rattle.office_events.specs.declared.facts.Fact.{Fact}
 use Rattle.office_events.specs.declared.questions.Installation.{Installation}
-use Rattle.office_events.specs.declared.questions.EntryPlace.{EntryPlace}
+use Rattle.office_events.specs.declared.questions.EntryContext.{EntryContext}
 use Rattle.office_events.specs.declared.refusals.Refusal.{Refusal}
 use Rattle.office_events.specs.declared.refusals.Refusal.TheVariants as refusal
 use Rattle.office_events.specs.declared.refusals.StoreCause.TheVariants as store
@@ -95,7 +95,7 @@ corrects_for slots facts arrival c row e off_scale off_limits is h refusal.Limit
     (faulty_at facts arrival.moment c row e fault.NotBelowRange is (h.faults fault.NotBelowRange))
 corrects_for slots facts arrival c row e off_scale off_limits is h refusal.NotVoidable = sym h.voidable
 corrects_for slots facts arrival c row e off_scale off_limits is h (refusal.NotPlausible why) =
-    ap (λ (o : Option EntryPlace). is_held_for why (verdict_at o)) (sym h.place)
+    ap (λ (o : Option EntryContext). is_held_for why (verdict_at o)) (sym h.place)
 corrects_for slots facts arrival c row e off_scale off_limits is h (refusal.Store store.Refused) = sym (rw h.start refl)
 corrects_for slots facts arrival c row e off_scale off_limits is h _ = refl
 

@@ -17,7 +17,7 @@ use Rattle.meter_journal.specs.declared.lines.EntryRow.{EntryRow}
 use Rattle.meter_journal.specs.Journal.{row_at}
 use Rattle.office_events.specs.declared.facts.Fact.{Fact}
 use Rattle.office_events.specs.declared.facts.Opening.{Opening}
-use Rattle.office_events.specs.declared.questions.EntryPlace.{EntryPlace}
+use Rattle.office_events.specs.declared.questions.EntryContext.{EntryContext}
 use Rattle.office_events.specs.declared.questions.Installation.{Installation}
 use Rattle.office_rules.specs.Facts.{opening_of}
 use Rattle.office_rules.specs.Meters.{rows_of, installation_of, place_in, entry_at}
@@ -86,18 +86,18 @@ module _ (before : Installation) (many : ℕ) (le : before.total ≤ many) where
   following (Some next) less = between next.entry less
 
 -- If two entries are equal, then the verdicts on their voids are equal.
-pub judged_itself : (own found : Option EntryPlace) → found ≡ own → IsJudgedAs own found
+pub judged_itself : (own found : Option EntryContext) → found ≡ own → IsJudgedAs own found
 judged_itself own found is = record { there = ap is_some is; voidable = ap is_not_voidable is; verdict = ap verdict_at is }
 
-by_whole : (own found : Option EntryPlace) (many : ℕ) → found ≡ option_map (with_energy many) own → ((p : EntryPlace) → own ≡ Some p → p.before.total ≤ many) → is_full found ≡ false → IsJudgedAs own found
+by_whole : (own found : Option EntryContext) (many : ℕ) → found ≡ option_map (with_energy many) own → ((p : EntryContext) → own ≡ Some p → p.before.total ≤ many) → is_full found ≡ false → IsJudgedAs own found
 by_whole None found many is le less = judged_itself None found is
 by_whole (Some p) found many is le less =
-    let short : is_full (Some (with_energy many p)) ≡ false = subst (λ (f : Option EntryPlace). is_full f ≡ false) is less in
+    let short : is_full (Some (with_energy many p)) ≡ false = subst (λ (f : Option EntryContext). is_full f ≡ false) is less in
     subst (IsJudgedAs (Some p)) (sym is) (record { there = refl; voidable = refl; verdict = following p.before many (le p refl) p.next short })
 
-by_opening : (facts : List Fact) (place : ℕ) (opening : Option Opening) (found : Option EntryPlace) → let own : Option EntryPlace = option_and_then (λ o. option_map (place_in facts o) (row_at place (rows_of facts o))) opening in
+by_opening : (facts : List Fact) (place : ℕ) (opening : Option Opening) (found : Option EntryContext) → let own : Option EntryContext = option_and_then (λ o. option_map (place_in facts o) (row_at place (rows_of facts o))) opening in
     found ≡ option_and_then (λ (whole : Installation). option_map (with_energy whole.total) own) (option_map (installation_of facts) opening)
-    → ((whole : Installation) (p : EntryPlace) → option_map (installation_of facts) opening ≡ Some whole → own ≡ Some p → p.before.total ≤ whole.total)
+    → ((whole : Installation) (p : EntryContext) → option_map (installation_of facts) opening ≡ Some whole → own ≡ Some p → p.before.total ≤ whole.total)
     → is_full found ≡ false → IsJudgedAs own found
 by_opening facts place None found is le less = judged_itself None found is
 by_opening facts place (Some o) found is le less =
@@ -105,5 +105,5 @@ by_opening facts place (Some o) found is le less =
 
 -- Voids of the entry from `entry_near` and of the entry from `entry` get the same verdict, unless
 -- the total energy exceeds its limit.
-pub judged_near : (facts : List Fact) (meter : List ℕ) (place : ℕ) (found : Option EntryPlace) → TellsNear facts meter place found → is_full found ≡ false → IsJudgedAs (entry_at facts meter place) found
+pub judged_near : (facts : List Fact) (meter : List ℕ) (place : ℕ) (found : Option EntryContext) → TellsNear facts meter place found → is_full found ≡ false → IsJudgedAs (entry_at facts meter place) found
 judged_near facts meter place found told less = by_opening facts place (opening_of facts meter) found told.near told.within less

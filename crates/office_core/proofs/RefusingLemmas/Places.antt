@@ -11,7 +11,7 @@ use Rattle.meter_journal.specs.Journal.{Journal, Line, Entered, Held, Voided, wi
 use Rattle.energy_core.specs.Account.{last_of}
 use Rattle.office_events.specs.declared.facts.Fact.{Fact}
 use Rattle.office_events.specs.declared.facts.Opening.{Opening}
-use Rattle.office_events.specs.declared.questions.EntryPlace.{EntryPlace}
+use Rattle.office_events.specs.declared.questions.EntryContext.{EntryContext}
 use Rattle.office_events.specs.declared.questions.Installation.{Installation}
 use Rattle.office_rules.specs.Facts.{opening_of}
 use Rattle.office_rules.specs.Meters.{opened, journal_of, rows_of, place_in, entry_at, installation_of, meter_of}
@@ -142,7 +142,7 @@ nothing_at facts m place high judged = record {
   verdict = judged.verdict;
 }
 
-pub entry_at_place : (facts : List Fact) (m : List ℕ) (place : ℕ) (row : EntryPlace) → 2 ≤ place → IsJudgedAs (entry_at facts m place) (Some row)
+pub entry_at_place : (facts : List Fact) (m : List ℕ) (place : ℕ) (row : EntryContext) → 2 ≤ place → IsJudgedAs (entry_at facts m place) (Some row)
     → IsAt facts (Some m) place (spot.Entry row)
 entry_at_place facts m place row high judged = record {
   there = ap not judged.there ∙ ap not (entry_there facts (Some m) place high);

@@ -5,7 +5,7 @@ use Rattle.std.specs.List.{find}
 use Rattle.std.specs.Option.{option_and_then}
 use Rattle.energy_core.specs.declared.verdicts.Cause.TheVariants as cause
 use Rattle.office_events.specs.declared.facts.Fact.{Fact}
-use Rattle.office_events.specs.declared.questions.EntryPlace.{EntryPlace}
+use Rattle.office_events.specs.declared.questions.EntryContext.{EntryContext}
 use Rattle.office_events.specs.declared.refusals.Refusal.{Refusal}
 use Rattle.office_events.specs.declared.refusals.Refusal.TheVariants as refusal
 use Rattle.office_rules.specs.Facts.{opening_of}
@@ -24,19 +24,19 @@ is_nothing spot.Opening = false
 is_nothing (spot.Entry place) = false
 
 -- The entry at the sequence number, or `None` for the opening and for a missing entry.
-abbrev pub entry_in : Spot → Option EntryPlace
+abbrev pub entry_in : Spot → Option EntryContext
 entry_in spot.Nothing = None
 entry_in spot.Opening = None
 entry_in (spot.Entry place) = Some place
 
 -- True if the entry after `found` would be rejected because the meter's total energy would exceed
 -- its limit.
-abbrev pub is_full : Option EntryPlace → Bool
+abbrev pub is_full : Option EntryContext → Bool
 is_full found = is_held_for cause.TotalFull (verdict_at found)
 
 -- True if voids of the two entries have the same result. Both entries exist or neither exists, both
 -- can be voided or neither, and the next entry gets the same verdict.
-pub record IsJudgedAs (own found : Option EntryPlace) : Type 0 where
+pub record IsJudgedAs (own found : Option EntryContext) : Type 0 where
   pub there : is_some found ≡ is_some own
   pub voidable : is_not_voidable found ≡ is_not_voidable own
   pub verdict : verdict_at found ≡ verdict_at own
@@ -73,11 +73,11 @@ void_refusal arrival found = find (speaks_of_void arrival found) reasons
 
 -- True if this reason to refuse applies to a void of the entry, regardless of the timestamp of the
 -- void.
-abbrev pub speaks_of_strike : EntryPlace → Refusal → Bool
+abbrev pub speaks_of_strike : EntryContext → Refusal → Bool
 speaks_of_strike place refusal.NotVoidable = is_not_voidable (Some place)
 speaks_of_strike place (refusal.NotPlausible why) = is_held_for why (verdict_at (Some place))
 speaks_of_strike place why = false
 
 -- The first reason to refuse a void of the entry, or `None` if the entry can be voided.
-abbrev pub strike_refusal : EntryPlace → Option Refusal
+abbrev pub strike_refusal : EntryContext → Option Refusal
 strike_refusal place = find (speaks_of_strike place) reasons

@@ -13,7 +13,7 @@ use crate::refusing::arrivals::Arrival;
 use energy_core::{Cause, Entry, Reading, Verdict};
 use meter_journal::is_voidable;
 use office_books::{Books, BooksFault, verdict_at};
-use office_events::{EntryPlace, Installation, Name, Refusal, VoidEntry};
+use office_events::{EntryContext, Installation, Name, Refusal, VoidEntry};
 
 /// The opening or the entry that a meter's journal has at a sequence number, if any.
 #[derive(Clone, Copy, Debug, PartialEq, Eq)]
@@ -22,12 +22,12 @@ enum Spot {
     /// The opening of the meter, which has sequence number 1.
     Opening,
     /// An entry after the opening, with a sequence number of at least 2.
-    Entry(EntryPlace),
+    Entry(EntryContext),
 }
 
 /// Returns true if the entry after `found` would be rejected because the meter's total energy would
 /// exceed its limit.
-fn is_full(found: &Option<EntryPlace>) -> bool
+fn is_full(found: &Option<EntryContext>) -> bool
     requires { IfSome found.now (λ p. IsSound p.before) }
     ensures { result ≡ spots.is_full found.now }
 {
@@ -51,7 +51,7 @@ fn entry_of<B: Books>(
     books: &mut B,
     meter: &Name,
     place: u64,
-) -> Result<Option<EntryPlace>, BooksFault>
+) -> Result<Option<EntryContext>, BooksFault>
     ensures found { Finds (B.ledger books.old) (B.ledger books.new) result
         (λ known found. spots.IsJudgedAs (entry_at known meter.now place) found) }
     ensures reads { OnlyReads (B.ledger books.old) (B.ledger books.new) result }
@@ -65,7 +65,7 @@ fn entry_of<B: Books>(
 }
 
 /// Returns the opening or the entry that a meter's journal has at sequence number `place`, if any.
-fn spot_at<B: Books>(books: &mut B, given: &Option<Name>, place: u64) -> Result<Spot, BooksFault>
+fn find_spot<B: Books>(books: &mut B, given: &Option<Name>, place: u64) -> Result<Spot, BooksFault>
     ensures found { Finds (B.ledger books.old) (B.ledger books.new) result
         (λ known spot. spots.IsAt known given.now place spot) }
     ensures reads { OnlyReads (B.ledger books.old) (B.ledger books.new) result }
@@ -110,7 +110,7 @@ fn verdict_on(before: &Installation, entry: &Entry) -> Option<Verdict>
 
 /// Returns the verdict on the next valid entry if the entry `place` were voided, or `None` if no
 /// valid entry follows.
-fn verdict(place: &EntryPlace) -> Option<Verdict>
+fn verdict(place: &EntryContext) -> Option<Verdict>
     requires { IsSound place.now.before }
     ensures { result ≡ verdict_at (Some place.now) }
 {
@@ -121,7 +121,7 @@ fn verdict(place: &EntryPlace) -> Option<Verdict>
 }
 
 /// Returns the first reason to refuse a void of the entry, or `None` if the entry can be voided.
-fn against_entry(place: &EntryPlace) -> Option<Refusal>
+fn refusal_of_voided_entry(place: &EntryContext) -> Option<Refusal>
     requires { IsSound place.now.before }
     ensures found { result ≡ spots.strike_refusal place.now }
     ensures of_event { IfSome result IsOfEvent }
@@ -155,7 +155,7 @@ fn against(arrival: &Arrival, spot: &Spot) -> Option<Refusal>
     match spot {
         Spot::Nothing => Some(Refusal::NotFound),
         Spot::Opening => Some(Refusal::NotVoidable),
-        Spot::Entry(place) => against_entry(place),
+        Spot::Entry(place) => refusal_of_voided_entry(place),
     }
 }
 
@@ -170,6 +170,6 @@ pub fn void_entry<B: Books>(
     ensures reads { OnlyReads (B.ledger books.old) (B.ledger books.new) result }
     ensures befits { IfOk result (Befits arrival.now (command.Void void.now)) }
 {
-    let spot = spot_at(books, &void.meter, void.place)?;
+    let spot = find_spot(books, &void.meter, void.place)?;
     Ok(against(arrival, &spot))
 }

@@ -6,7 +6,7 @@ ghost use Rattle.office_http.specs.Serving.{Lasts};
 ghost use Rattle.office_http.specs.Connections.Connections.{ServesOne, ServesUpTo};
 
 use crate::connections::named::handle_named;
-use crate::connections::time::{Even, Untimed};
+use crate::connections::time::{Even, StoppedClock};
 use office_books::Books;
 use office_core::Office;
 use socket_link::{Clock, DeadlineLink, SocketLink};
@@ -54,7 +54,7 @@ fn is_of_connection(kind: ErrorKind) -> bool {
 /// alone. A connection without a response 10 seconds after it was accepted is dropped, by the
 /// monotonic clock. Each socket call waits for at most a second. An error of the listener ends the
 /// call.
-pub fn serve_named_on<R: std::rt::Clock, L: OpenListener, B: Books, C: Clock>(
+pub fn serve_connections<R: std::rt::Clock, L: OpenListener, B: Books, C: Clock>(
     rt: &R,
     alloc: Global,
     listener: &L,
@@ -85,7 +85,7 @@ where
     Ok(())
 }
 
-/// Serves requests as [`serve_named_on`] does, under the names of this machine only.
+/// Serves requests as [`serve_connections`] does, under the names of this machine only.
 ///
 /// The call uses the clock for timestamps only. Connections have no deadline, but each socket call
 /// waits for at most a second.
@@ -102,5 +102,13 @@ where
         connections (C.moments clock.old) (C.moments clock.new) B.ledger past office.new) }
     ensures lasts { Lasts B.ledger office.old office.new }
 {
-    serve_named_on(&Untimed, alloc, listener, connections, &[], office, clock)
+    serve_connections(
+        &StoppedClock,
+        alloc,
+        listener,
+        connections,
+        &[],
+        office,
+        clock,
+    )
 }

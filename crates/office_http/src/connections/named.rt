@@ -11,7 +11,7 @@ ghost use Rattle.office_http.specs.Connections.Named.{HandlesNamed, RepliesMisdi
 use crate::exchange::{ended, refuse, reply};
 use crate::fault::HandleFault;
 use crate::wants::wanted;
-use http_answer::{ReplyWriter, put_fault};
+use http_answer::{ResponseWriter, append_fault};
 use http_request::{Inbox, MOST_ROOM, Route, Status, may_ask, read_head, read_request, router};
 use matchit::Router;
 use mb_wire::Link;
@@ -20,7 +20,7 @@ use office_core::Office;
 use std::alloc::Global;
 
 /// Writes the response 421 (Misdirected Request) to a request whose `Host` header is rejected.
-pub fn turn_away<L: Link>(link: &mut L) -> Result<(), HandleFault>
+pub fn write_misdirected<L: Link>(link: &mut L) -> Result<(), HandleFault>
     ensures replies { RepliesMisdirected (passage (L.remaining link.old) (L.remaining link.new)
         (L.given link.old) (L.given link.new) (L.last link.new)) result }
     ensures ends { IsEnd result }
@@ -29,8 +29,8 @@ pub fn turn_away<L: Link>(link: &mut L) -> Result<(), HandleFault>
     ensures failures { L.failed link.new ≡ risen (is_link_fault result) (L.failed link.old) }
     ensures takes { L.taken link.new ≡ L.taken link.old }
 {
-    let mut writer = ReplyWriter::new(link);
-    put_fault(Status::Misdirected, &mut writer);
+    let mut writer = ResponseWriter::new(link);
+    append_fault(Status::Misdirected, &mut writer);
     let sent = writer.finish();
     writer.into_link();
     ended(sent, None)
@@ -59,7 +59,7 @@ fn serve_named<L: Link, B: Books>(
     let mut inbox = Inbox::new(room);
     let head = read_head(&mut inbox, link)?;
     if !may_ask(names, inbox.bytes(), &head) {
-        return turn_away(link);
+        return write_misdirected(link);
     }
     let head_state = read_request(router, &mut inbox, link)?;
     let want = wanted(alloc, router, inbox.bytes(), &head_state);

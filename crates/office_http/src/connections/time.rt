@@ -26,9 +26,9 @@ impl<R: std::rt::Clock> Clock for Even<'_, R> {
 
 /// A clock on which no time passes, for connections without a deadline.
 #[derive(Clone, Copy)]
-pub(crate) struct Untimed;
+pub(crate) struct StoppedClock;
 
-impl std::rt::Clock for Untimed {
+impl std::rt::Clock for StoppedClock {
     fn monotonic(&self) -> io::Result<Duration> {
         Ok(Duration::from_secs(0))
     }

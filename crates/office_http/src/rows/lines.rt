@@ -5,7 +5,9 @@ ghost use Rattle.interval_core.specs.Lines.{share_line};
 ghost use Rattle.interval_core.specs.Report.{day_line};
 ghost use Rattle.office_http.specs.Rows.Reports.{EndsReport, PutsLine, Report, head_before};
 
-use http_answer::{ReplyWriter, put_day, put_end, put_refusal, put_share, put_text_head};
+use http_answer::{
+    ResponseWriter, append_day, append_end, append_refusal, write_share, write_text_head,
+};
 use interval_core::{DayTotal, Share};
 use mb_wire::Link;
 use office_books::RowSink;
@@ -16,7 +18,7 @@ use std::marker::Model;
 /// response.
 #[derive(Drop)]
 pub struct RowLines<'l, L: Link> {
-    writer: ReplyWriter<'l, L>,
+    writer: ResponseWriter<'l, L>,
     count: u64,
 }
 
@@ -29,23 +31,23 @@ impl<'l, L: Link> Model for RowLines<'l, L> {
 /// A response that was written completely or was cut off.
 #[derive(Drop)]
 pub struct Replied<'l, L: Link> {
-    pub writer: ReplyWriter<'l, L>,
+    pub writer: ResponseWriter<'l, L>,
     /// The reason why the response was cut off, or `None` if it is complete.
     pub cut: Option<Refusal>,
 }
 
 // Writes the head of the response if no row was written yet.
-fn put_head<L: Link>(count: u64, writer: &mut ReplyWriter<'_, L>)
+fn write_head<L: Link>(count: u64, writer: &mut ResponseWriter<'_, L>)
     ensures { Puts writer.old writer.new (head_before count) }
 {
     if count == 0 {
-        put_text_head(writer);
+        write_text_head(writer);
     }
 }
 
 impl<'l, L: Link> RowLines<'l, L> {
     /// Makes a row visitor that has written no row.
-    pub fn new(writer: ReplyWriter<'l, L>) -> RowLines<'l, L>
+    pub fn new(writer: ResponseWriter<'l, L>) -> RowLines<'l, L>
         ensures { result ≡ record { out = writer.entry; count = 0 } }
     {
         RowLines { writer, count: 0 }
@@ -55,14 +57,14 @@ impl<'l, L: Link> RowLines<'l, L> {
     ///
     /// A refusal before the first row becomes the response. A refusal after a row cuts the response
     /// off, and nothing more is written.
-    pub fn end(self, answer: Result<(), Refusal>) -> Replied<'l, L>
+    pub fn finish_report(self, answer: Result<(), Refusal>) -> Replied<'l, L>
         ensures { EndsReport self.entry answer result.writer result.cut }
     {
         let RowLines { mut writer, count } = self;
         match answer {
             Ok(()) => {
-                put_head(count, &mut writer);
-                put_end(count, &mut writer);
+                write_head(count, &mut writer);
+                append_end(count, &mut writer);
                 Replied { writer, cut: None }
             }
             Err(why) => {
@@ -72,7 +74,7 @@ impl<'l, L: Link> RowLines<'l, L> {
                         cut: Some(why),
                     };
                 }
-                put_refusal(why, &mut writer);
+                append_refusal(why, &mut writer);
                 Replied { writer, cut: None }
             }
         }
@@ -83,8 +85,8 @@ impl<'l, L: Link> RowSink<Share> for RowLines<'l, L> {
     ghost takes = { λ old row new. PutsLine (share_line row) old new };
 
     fn put(&mut self, row: Share) {
-        put_head(self.count, &mut self.writer);
-        put_share(&row, &mut self.writer);
+        write_head(self.count, &mut self.writer);
+        write_share(&row, &mut self.writer);
         self.count = self.count.saturating_add(1);
     }
 }
@@ -93,8 +95,8 @@ impl<'l, L: Link> RowSink<DayTotal> for RowLines<'l, L> {
     ghost takes = { λ old row new. PutsLine (day_line row) old new };
 
     fn put(&mut self, row: DayTotal) {
-        put_head(self.count, &mut self.writer);
-        put_day(&row, &mut self.writer);
+        write_head(self.count, &mut self.writer);
+        append_day(&row, &mut self.writer);
         self.count = self.count.saturating_add(1);
     }
 }

@@ -13,7 +13,7 @@ use http_answer::{
     name_asked, questions_are_replied_to,
 };
 use http_request::{
-    Ask, Found, Head, HeadState, Posted, Route, a_command_tells_its_size, ask_in, body_in,
+    Ask, Found, Head, HeadState, Posted, Route, head_gives_body_size, request_body, test_request,
 };
 use matchit::Router;
 use std::alloc::Global;
@@ -34,8 +34,8 @@ fn wanted_command<'b>(
     ensures few { HasFewFaults result }
 {
     bodies_give_one_command();
-    a_command_tells_its_size(router, bytes, head, found, posted);
-    let body = body_in(bytes, head, posted);
+    head_gives_body_size(router, bytes, head, found, posted);
+    let body = request_body(bytes, head, posted);
     let given = command_in(alloc, found.route, name_asked(found.name), body);
     if matches!(given, Err(CommandFault::Memory)) {
         return Want::Refused(CommandFault::Memory);
@@ -64,7 +64,7 @@ pub fn wanted<'b>(
     ensures wants { Wants router.now bytes.now result }
     ensures few { HasFewFaults result }
 {
-    match ask_in(router, bytes, head_state) {
+    match test_request(router, bytes, head_state) {
         Err(status) => {
             faults_are_replied_to(router, bytes, head_state, status);
             Want::Rejected(status)

@@ -21,7 +21,7 @@ use Rattle.office_program.specs.Entering.FileLines.{FileLine, IsFileLine, IsNoFi
 use Rattle.office_program.specs.Entering.Marks.{is_marked, unmarked}
 use Rattle.office_program.specs.declared.entering.read_line.ReadLine.{ReadLine}
 use Rattle.office_program.specs.Entering.ReadLines.{IsNoRead, IsRead}
-use Rattle.office_program.specs.Entering.Lines.{IsWantedEntry, ReadsCounter, ReadsEntry, ReadsFile, ReadsList, ReadsScript, ReadsUnnamed, ReadsWanted, Telling, asked_by, file_request, put_by, wanted_in}
+use Rattle.office_program.specs.Entering.Lines.{IsWantedEntry, ReadsCounter, ReadsEntry, ReadsFile, ReadsList, ReadsScript, ReadsUnnamed, ReadsWanted, Telling, asked_by, file_request, append_by, wanted_in}
 
 -- If a line has a command, then its request has the command, and the line's bytes as stored bytes.
 pub command_wanted : (caller : Option (List ℕ)) (text kept : List ℕ) (number : ℕ) (c : Command) (want : Wanted) → want ≡ wanted.Command number c → kept ≡ text
@@ -101,7 +101,7 @@ script_reads_on caller text (Err Memory) none reads = tt
 -- If a point list was parsed and planned, then it is the request of its line.
 pub list_read : (caller : Option (List ℕ)) (number : ℕ) (device : Option (List ℕ)) (text request : List ℕ) (points : List ListedPoint) (planned : Planned)
     → SpellsList text points → planned.points ≡ points → IsPlanned planned
-    → ReadsList caller number device text request (Ok (Ask (asked_by caller number request (put_by device planned))))
+    → ReadsList caller number device text request (Ok (Ask (asked_by caller number request (append_by device planned))))
 list_read caller number device text request points planned spells same is =
     (planned, record { points = subst (SpellsList text) (sym same) spells; planned = is }, refl)
 

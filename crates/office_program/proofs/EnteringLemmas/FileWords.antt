@@ -3,7 +3,7 @@ use Rattle.std.proofs.Common.{◌≡◌, inl, inr, ℕ, ◌==◌, List, [], ◌�
 use Rattle.std.specs.Prelude.{codes, option_map}
 use Rattle.std.specs.Str.{bytes_eq}
 use Rattle.std.proofs.lemmas.Bool.{eqb-true}
-use Rattle.script_lines.specs.LineWords.Fields.{AnyName, Field, Number, Spell, Word, first_value, nothing_more}
+use Rattle.script_lines.specs.LineWords.Fields.{AnyName, Field, Number, Spell, Word, first_value, end_of_words}
 use Rattle.script_lines.proofs.Chosen.{chosen, is_text, same}
 use Rattle.script_lines.proofs.Made.{bound, first_spelled}
 use Rattle.office_program.specs.Entering.FileLines.{FileLine, IsFileLine, IsNoFileLine, file_in, file_said, file_word, list_word}
@@ -48,7 +48,7 @@ file_spelled (word ∷ words) first more h spelled =
     let p = paired (file_in word) words first h in
     (file_named word first.0 p.0, subst (λ (left : List (List ℕ)). Spell left more) (sym p.1) spelled)
 
-none_left : (words : List (List ℕ)) (none : Unit {0}) → nothing_more words ≡ Some none → Spell words []
+none_left : (words : List (List ℕ)) (none : Unit {0}) → end_of_words words ≡ Some none → Spell words []
 none_left [] none h = tt
 none_left (word ∷ words) none h = cc h
 
@@ -59,7 +59,7 @@ spelled_of words line h =
     let list = bound (list_word number.0.1) _ line number.2 in
     let device = bound (first_value AnyName list.0) _ line list.2 in
     let name = bound (file_word device.0.1) _ line device.2 in
-    let none = bound (nothing_more name.0.1) _ line name.2 in
+    let none = bound (end_of_words name.0.1) _ line name.2 in
     let made : FileLine = record { number = number.0.0; device = device.0.0; name = name.0.0 } in
     let is : IsFileLine words made =
     first_spelled Number words number.0 _ number.1

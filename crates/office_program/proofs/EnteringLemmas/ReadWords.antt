@@ -2,7 +2,7 @@
 use Rattle.std.proofs.Common.{◌≡◌, ◌⊎◌, inl, inr, ℕ, Bool, true, false, List, [], ◌∷◌, Option, Some, None, refl, sym, ap, ◌∙◌, subst}
 use Rattle.std.specs.Prelude.{codes, if◌then◌else◌, option_map}
 use Rattle.std.specs.Str.{bytes_eq}
-use Rattle.script_lines.specs.LineWords.Fields.{AnyName, Field, Kind, Number, Of, Range, Spell, Value, Word, first_value, missing, nothing_more, spelled}
+use Rattle.script_lines.specs.LineWords.Fields.{AnyName, Field, Kind, Number, Of, Range, Spell, Value, Word, first_value, missing, end_of_words, spelled}
 use Rattle.script_lines.proofs.Chosen.{chosen, is_text, same}
 use Rattle.script_lines.proofs.Made.{bound, first_spelled}
 use Rattle.office_program.specs.declared.entering.read_line.ReadLine.{ReadLine}
@@ -25,7 +25,7 @@ word_read : (text : List ℕ) (words : List (List ℕ)) (more : List Field) → 
 word_read text [] more h = absurd h.0
 word_read text (word ∷ words) more h = (words, ap (λ (w : List ℕ). w ∷ words) h.0, h.1)
 
-ends_read : (words : List (List ℕ)) → Spell words [] → nothing_more words ≡ Some tt
+ends_read : (words : List (List ℕ)) → Spell words [] → end_of_words words ≡ Some tt
 ends_read [] h = refl
 ends_read (word ∷ words) h = absurd h
 
@@ -62,7 +62,7 @@ read_spelled (word ∷ words) rest more h spelled =
       | inr none ↦ cc none
     ]
 
-none_left : (words : List (List ℕ)) (none : Unit {0}) → nothing_more words ≡ Some none → Spell words []
+none_left : (words : List (List ℕ)) (none : Unit {0}) → end_of_words words ≡ Some none → Spell words []
 none_left [] none h = tt
 none_left (word ∷ words) none h = cc h
 
@@ -74,7 +74,7 @@ install_spelled number words all line first h =
     let c = bound (read_word b.0.1) _ line b.2 in
     let d = bound (first_value Number c.0) _ line c.2 in
     let e = bound (first_value Range d.0.1) _ line d.2 in
-    let f = bound (nothing_more e.0.1) _ line e.2 in
+    let f = bound (end_of_words e.0.1) _ line e.2 in
     let made : ReadLine = read.Install number a.0.0 b.0.0 d.0.0 e.0.0 in
     let is : IsReadLine all made =
     first_spelled Number all (number, codes "install" ∷ words) _ first (
@@ -97,7 +97,7 @@ exchange_spelled number words all line first h =
     let e = bound (read_word d.0.1) _ line d.2 in
     let f = bound (first_value Number e.0) _ line e.2 in
     let g = bound (first_value Range f.0.1) _ line f.2 in
-    let i = bound (nothing_more g.0.1) _ line g.2 in
+    let i = bound (end_of_words g.0.1) _ line g.2 in
     let made : ReadLine = read.Exchange number a.0.0 b.0.0 c.0.0 d.0.0 f.0.0 g.0.0 in
     let is : IsReadLine all made =
     first_spelled Number all (number, codes "exchange" ∷ words) _ first (

@@ -1,7 +1,7 @@
 -- An input line that names the file of a point list: `NUMBER list DEVICE @NAME`.
 use Rattle.std.specs.Prelude.{ℕ, ◌==◌, List, [], ◌∷◌, Option, Some, None, codes, if◌then◌else◌, option_map}
 use Rattle.std.specs.Str.{bytes_eq}
-use Rattle.script_lines.specs.LineWords.Fields.{AnyName, Field, Number, Of, Spell, Word, first_value, nothing_more, ◌>>=◌}
+use Rattle.script_lines.specs.LineWords.Fields.{AnyName, Field, Number, Of, Spell, Word, first_value, end_of_words, ◌>>=◌}
 use Rattle.office_program.specs.declared.entering.file_line.FileLine as declared
 
 -- An input line that names a file: the number of its request, the device, and the name of the file.
@@ -53,5 +53,5 @@ file_said words =
     list_word number.1 >>= λ rest.
     first_value AnyName rest >>= λ device.
     file_word device.1 >>= λ name.
-    nothing_more name.1 >>= λ none.
+    end_of_words name.1 >>= λ none.
     Some (record { number = number.0; device = device.0; name = name.0 })

@@ -101,8 +101,8 @@ pub record IsListOf (text : List ℕ) (list : Planned) : Type 0 where
   pub planned : IsPlanned list
 
 -- The command that stores a point list for a device.
-abbrev pub put_by : (device : Option (List ℕ)) → Planned → Command
-put_by device list = command.PutList (record { device = device; list = list })
+abbrev pub append_by : (device : Option (List ℕ)) → Planned → Command
+append_by device list = command.PutList (record { device = device; list = list })
 
 -- True for the parsed form of a line with a point list. It is the request for the list in the text,
 -- or the text's faulty rows.
@@ -110,7 +110,7 @@ abbrev pub IsListEntry : (caller : Option (List ℕ)) → (number : ℕ) → (de
     → (text request : List ℕ) → Entry → Type 0
 IsListEntry caller number device text request (Ask asked) =
     (list : Planned) × IsListOf text list
-    × (asked ≡ asked_by caller number request (put_by device list))
+    × (asked ≡ asked_by caller number request (append_by device list))
 IsListEntry caller number device text request (Faulty rows) =
     (list_faults (rows_read text) ≢ []) × (rows ≡ list_faults (rows_read text))
 IsListEntry caller number device text request (Read read) = ⊥

@@ -6,7 +6,7 @@ use Rattle.office_events.specs.declared.commands.Command.{Command}
 use Rattle.office_events.specs.declared.commands.Command.TheVariants as command
 use Rattle.office_events.specs.declared.events.Asked.{Asked}
 use Rattle.script_lines.specs.LineWords.Words.{words_of}
-use Rattle.script_lines.specs.LineWords.Fields.{AnyName, Field, Number, Of, Range, Spell, Word, first_value, nothing_more, ◌>>=◌}
+use Rattle.script_lines.specs.LineWords.Fields.{AnyName, Field, Number, Of, Range, Spell, Word, first_value, end_of_words, ◌>>=◌}
 use Rattle.office_program.specs.declared.entering.read_line.ReadLine.{ReadLine}
 use Rattle.office_program.specs.declared.entering.read_line.ReadLine.TheVariants as read
 use Rattle.office_program.specs.declared.entering.read_line.ReadRequest.{ReadRequest}
@@ -106,7 +106,7 @@ install_said number words =
     read_word meter.1 >>= λ rest.
     first_value Number rest >>= λ ceiling.
     first_value Range ceiling.1 >>= λ range.
-    nothing_more range.1 >>= λ none.
+    end_of_words range.1 >>= λ none.
     Some (read.Install number register.0 meter.0 ceiling.0 range.0)
 
 -- The exchange that the words after `exchange` form, or `None` if they form no exchange.
@@ -119,7 +119,7 @@ exchange_said number words =
     read_word meter.1 >>= λ rest.
     first_value Number rest >>= λ ceiling.
     first_value Range ceiling.1 >>= λ range.
-    nothing_more range.1 >>= λ none.
+    end_of_words range.1 >>= λ none.
     Some (read.Exchange number register.0 last.0 rolls.0 meter.0 ceiling.0 range.0)
 
 -- The line with `@read` that the words after the given verb form, or `None` if they form no such

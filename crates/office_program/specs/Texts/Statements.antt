@@ -8,11 +8,11 @@ use Rattle.command_io.specs.declared.status.ExitStatus.{ExitStatus}
 use Rattle.command_io.specs.declared.status.ExitStatus.TheVariants.{Fine, Refused}
 use Rattle.energy_report.specs.declared.form.StatementForm.{StatementForm}
 use Rattle.energy_report.specs.declared.meter_statement.MeterStatement.{MeterStatement}
-use Rattle.energy_report.specs.declared.held_counts.HeldCounts.{HeldCounts}
+use Rattle.energy_report.specs.declared.held_counts.RejectedCounts.{RejectedCounts}
 use Rattle.interval_core.specs.declared.day_range.DayRange.{DayRange}
 use Rattle.energy_report.specs.declared.tallies.EntryTally.{EntryTally}
 use Rattle.energy_report.specs.Held.{held_within}
-use Rattle.energy_report.specs.Statements.{energy_within, tally_of, was_there}
+use Rattle.energy_report.specs.Statements.{energy_within, tally_of, was_installed}
 use Rattle.energy_report.specs.StatementTexts.{statement_text}
 use Rattle.interval_core.specs.declared.zone.Zone.{Zone}
 use Rattle.office_events.specs.declared.facts.Fact.{Fact}
@@ -59,7 +59,7 @@ statement_of zone range facts meter = told_of zone range facts meter (opening_of
 abbrev pub statements_of : Zone → DayRange → List Fact → List Installation → List MeterStatement
 statements_of zone range facts rows =
     map (λ row. statement_of zone range facts row.opening.meter)
-    (filter (was_there zone range) rows)
+    (filter (was_installed zone range) rows)
 
 -- ---- The office's answers to queries for one meter
 
@@ -75,7 +75,7 @@ energy_in zone range facts meter = option_map (energy_within zone range) (interv
 
 -- The counts of the meter's rejected readings in the range of days, or `None` if no meter has the
 -- name.
-abbrev pub held_in : Zone → DayRange → List Fact → (meter : Option (List ℕ)) → Option HeldCounts
+abbrev pub held_in : Zone → DayRange → List Fact → (meter : Option (List ℕ)) → Option RejectedCounts
 held_in zone range facts meter =
     option_and_then (λ name. option_map (λ opening. held_within zone range (holds_of facts name))
     (opening_of facts name)) meter

@@ -80,7 +80,7 @@ fn print_doubt<W: Write>(mwh: u128, output: &mut W) -> io::Result<()>
 
 // Prints that an entry by hand is doubted (above the meter's ceiling). Returns the progress of the
 // input after the entry's line.
-fn tell_doubt<W: Write>(mwh: u128, at: u64, output: &mut W) -> io::Result<Progress>
+fn print_doubted<W: Write>(mwh: u128, at: u64, output: &mut W) -> io::Result<Progress>
     ensures { TellsWhyNot (course.doubted_line mwh) at
         (W.contents output.old) (W.contents output.new) result }
 {
@@ -92,7 +92,7 @@ fn tell_doubt<W: Write>(mwh: u128, at: u64, output: &mut W) -> io::Result<Progre
 
 // Prints the refusal of a query that an input line needs. Returns the progress of the input after
 // the line.
-fn tell_undecided<W: Write>(why: Refusal, at: u64, output: &mut W) -> io::Result<Progress>
+fn print_undecided<W: Write>(why: Refusal, at: u64, output: &mut W) -> io::Result<Progress>
     ensures { TellsWhyNot (refused_line why) at
         (W.contents output.old) (W.contents output.new) result }
 {
@@ -102,7 +102,7 @@ fn tell_undecided<W: Write>(why: Refusal, at: u64, output: &mut W) -> io::Result
     }
 }
 
-fn tell_unread<W: Write>(at: u64, output: &mut W) -> io::Result<Progress>
+fn print_unread<W: Write>(at: u64, output: &mut W) -> io::Result<Progress>
     ensures { TellsWhyNot course.unread_line at
         (W.contents output.old) (W.contents output.new) result }
 {
@@ -136,10 +136,10 @@ fn ask<B: Books, W: Write>(
 {
     match doubt_of(office, at, &asked) {
         Ok(doubt) => match doubt {
-            Some(mwh) => tell_doubt(mwh, at, output),
+            Some(mwh) => print_doubted(mwh, at, output),
             None => ask_at(office, progress, at, &Event::Asked(asked), output),
         },
-        Err(why) => tell_undecided(why, at, output),
+        Err(why) => print_undecided(why, at, output),
     }
 }
 
@@ -160,9 +160,9 @@ fn read_and_ask<B: Books, F: NamedFiles, W: Write>(
     match shown_for(office, &read, files) {
         Ok(found) => match found {
             Some(shown) => ask(office, progress, at, read.asked(shown), output),
-            None => tell_unread(at, output),
+            None => print_unread(at, output),
         },
-        Err(why) => tell_undecided(why, at, output),
+        Err(why) => print_undecided(why, at, output),
     }
 }
 
@@ -176,7 +176,7 @@ pub(crate) fn print_faults<W: Write>(rows: &[FaultyRow], output: &mut W) -> io::
 }
 
 // Prints the faulty rows of a point list. Returns the progress of the input after the list's line.
-fn tell_faults<W: Write>(
+fn print_list_faults<W: Write>(
     rows: &[FaultyRow],
     progress: Progress,
     output: &mut W,
@@ -215,13 +215,13 @@ fn enter_entry<B: Books, C: Clock, F: NamedFiles, W: Write>(
             let at = moment(progress, clock);
             read_and_ask(office, progress, at, read, files, output)
         }
-        Entry::Faulty(faults) => tell_faults(faults.rows(), progress, output),
+        Entry::Faulty(faults) => print_list_faults(faults.rows(), progress, output),
     }
 }
 
 // Prints that an input line is bad, and returns the command's exit status. If memory ran out,
 // prints nothing.
-fn tell_fault<W: Write>(fault: LineFault, number: u64, output: &mut W) -> ExitStatus
+fn print_one_fault<W: Write>(fault: LineFault, number: u64, output: &mut W) -> ExitStatus
     ensures { TellsFault fault number result (W.contents output.old) (W.contents output.new) }
 {
     match fault {
@@ -255,6 +255,6 @@ pub(crate) fn enter_line<B: Books, C: Clock, F: NamedFiles, W: Write>(
             Ok(next) => Ok(next),
             Err(_) => Err(ExitStatus::Failed),
         },
-        Err(fault) => Err(tell_fault(fault, line.number, output)),
+        Err(fault) => Err(print_one_fault(fault, line.number, output)),
     }
 }

@@ -198,7 +198,7 @@ fn check_text<B: Books, F: NamedFiles, W: Write>(
     ensures looks { OnlyLooks (B.ledger books.old) (B.ledger books.new) }
 {
     let mut refused = false;
-    let mut lines = InputLines::of(text);
+    let mut lines = InputLines::new(text);
     while let Some(line) = lines.next_line() {
         match check_line(alloc, books, caller, line, files, output) {
             Ok(more) => refused = either(refused, more),

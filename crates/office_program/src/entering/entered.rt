@@ -35,7 +35,7 @@ fn enter_text<B: Books, C: Clock, F: NamedFiles, W: Write>(
     ensures lasts { rounds.Lasts B.ledger office.old office.new }
 {
     let mut progress = Progress::from(first);
-    let mut lines = InputLines::of(text);
+    let mut lines = InputLines::new(text);
     while let Some(line) = lines.next_line() {
         match enter_line(alloc, office, caller, progress, line, files, clock, output) {
             Ok(next) => progress = next,

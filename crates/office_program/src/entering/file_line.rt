@@ -4,7 +4,7 @@ ghost use Rattle.office_program.specs.Entering.FileLines as spec;
 ghost use Rattle.script_lines.specs.LineWords.Words.{words_of};
 
 use office_events::Name;
-use script_lines::{Words, next_name, next_number, nothing_more};
+use script_lines::{Words, end_of_words, next_name, next_number};
 
 /// An input line of the form `NUMBER list DEVICE @NAME`: the point list of a device is in the named
 /// file.
@@ -46,12 +46,12 @@ fn next_list(words: &mut Words<'_>) -> Option<()>
 pub(crate) fn file_line<'a>(line: &'a [u8]) -> Option<FileLine<'a>>
     ensures { option_map spec.seen_line result ≡ spec.file_said (words_of line.now) }
 {
-    let mut words = Words::of(line);
+    let mut words = Words::new(line);
     let number = next_number(&mut words)?;
     next_list(&mut words)?;
     let device = next_name(&mut words)?;
     let name = next_file(&mut words)?;
-    nothing_more(&mut words)?;
+    end_of_words(&mut words)?;
     Some(FileLine {
         number,
         device,

@@ -6,7 +6,7 @@ ghost use Rattle.script_lines.specs.LineWords.Words.{words_of};
 use crate::entering::files::Shown;
 use crate::entering::marks::{is_marked, unmarked};
 use office_events::{Asked, Command, Exchange, Install, Name, Piece};
-use script_lines::{Words, next_name, next_number, next_range, nothing_more};
+use script_lines::{Words, end_of_words, next_name, next_number, next_range};
 
 /// An input line with `@read` in place of a counter's reading. A name is `None` if the word in the
 /// line is no valid name.
@@ -55,7 +55,7 @@ fn install(number: u64, words: &mut Words<'_>) -> Option<ReadLine>
     next_read(words)?;
     let ceiling = next_number(words)?;
     let range = next_range(words)?;
-    nothing_more(words)?;
+    end_of_words(words)?;
     Some(ReadLine::Install {
         number,
         register,
@@ -76,7 +76,7 @@ fn exchange(number: u64, words: &mut Words<'_>) -> Option<ReadLine>
     next_read(words)?;
     let ceiling = next_number(words)?;
     let range = next_range(words)?;
-    nothing_more(words)?;
+    end_of_words(words)?;
     Some(ReadLine::Exchange {
         number,
         register,
@@ -106,7 +106,7 @@ fn line_of(number: u64, verb: &[u8], words: &mut Words<'_>) -> Option<ReadLine>
 fn read_line(line: &[u8]) -> Option<ReadLine>
     ensures { result ≡ spec.read_said (words_of line.now) }
 {
-    let mut words = Words::of(line);
+    let mut words = Words::new(line);
     let number = next_number(&mut words)?;
     let verb = words.next_word()?;
     line_of(number, verb, &mut words)

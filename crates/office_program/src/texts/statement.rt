@@ -9,8 +9,8 @@ ghost use Rattle.office_program.specs.Texts.Statements.{AnswersOf, PrintsStateme
 use crate::texts::end_texts::{ended, print_refusal};
 use command_io::ExitStatus;
 use energy_report::{
-    EnergyWithin, EntryTally, HeldCounts, HeldWithin, MeterStatement, StatementForm, was_there,
-    write_statement,
+    EnergyWithin, EntryTally, MeterStatement, RejectedCounts, RejectedWithin, StatementForm,
+    was_installed, write_statement,
 };
 use interval_core::{DayRange, Zone};
 use office_books::{Books, Span};
@@ -77,12 +77,12 @@ fn held<B: Books>(
     zone: &Zone,
     range: &DayRange,
     meter: &Option<Name>,
-) -> Result<HeldCounts, Refusal>
+) -> Result<RejectedCounts, Refusal>
     ensures tells { AnswersOf B.ledger office.old office.new result
         (λ facts. statements.held_in zone.now range.now facts meter.now) }
     ensures asks { OnlyAsks B.ledger office.old office.new result }
 {
-    let mut held = HeldWithin::new(*zone, *range);
+    let mut held = RejectedWithin::new(*zone, *range);
     match office.holds(meter, Span::All, &mut held) {
         Ok(()) => Ok(held.counts()),
         Err(why) => Err(why),
@@ -130,7 +130,7 @@ fn add_statement<B: Books>(
         rows.old.items rows.new.items result }
     ensures asks { KeepsUnlessRefused B.ledger office.old office.new result }
 {
-    if !was_there(zone, range, row) {
+    if !was_installed(zone, range, row) {
         return Ok(());
     }
     match meter_statement(office, zone, range, &row.opening.meter) {

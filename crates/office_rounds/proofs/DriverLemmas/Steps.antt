@@ -16,7 +16,7 @@ use Rattle.office_rounds.specs.FedEvents.{history_with}
 use Rattle.office_rounds.specs.DeviceRounds.Rounds.{heard}
 use Rattle.office_rounds.specs.declared.device_rounds.round.Round.{Round}
 use Rattle.office_events.specs.Showing.{Shown, shown}
-use Rattle.office_rounds.specs.Driver.Turns.{IsNext, Table, Wished, answered_for, first_wish, next_by, next_of, place_of, table, table_after, table_with, told, wished}
+use Rattle.office_rounds.specs.Driver.Turns.{IsNext, Table, Wished, answered_for, first_request, next_by, next_of, place_of, table, table_after, table_with, told, wished}
 use Rattle.office_rounds.specs.Driver.Going.{FeedsNext, Going, OfficeGoesOn, Scene, Start, TakesTurn, start}
 
 is_next : (first : Option Wished) (rounds : List Round) (at : Table) (one : Wished) → table first rounds ≡ at
@@ -89,16 +89,16 @@ pub comes_none : {B V : Type 0} (ledger : B → Ledger) (sees : V → Shown → 
 comes_none ledger sees at old = λ past begun fed going clean. record { fed = fed; going = going; far = omega arith }
 
 pub comes_one : {B V : Type 0} (ledger : B → Ledger) (sees : V → Shown → V → Type 0) (at steps : ℕ) (one : Wished) (old mid new : Scene B V)
-    → Comes ledger sees at steps old mid → first_wish mid.rounds ≡ Some one → FeedsNext ledger sees at one mid new
+    → Comes ledger sees at steps old mid → first_request mid.rounds ≡ Some one → FeedsNext ledger sees at one mid new
     → ((ledger (books_in new.office)).is_clean → (ledger (books_in mid.office)).is_clean) → Comes ledger sees at (steps + 1) old new
-comes_one ledger sees at steps one old mid new comes event_wanted feeds lasts = λ past begun fed going clean.
+comes_one ledger sees at steps one old mid new comes requested_event feeds lasts = λ past begun fed going clean.
     let far = comes past begun fed going (lasts clean) in
-    let more = feeds past begun far.fed None far.going event_wanted clean in
+    let more = feeds past begun far.fed None far.going requested_event clean in
     let least : steps ≤ length far.fed = far.far in
     record { fed = more.0 ∷ far.fed; going = more.1; far = omega (arith, least) }
 
 pub settled_none : {B V : Type 0} (ledger : B → Ledger) (sees : V → Shown → V → Type 0) (at steps : ℕ) (old new : Scene B V)
-    → Comes ledger sees at steps old new → first_wish new.rounds ≡ None → OfficeGoesOn ledger sees at old new
+    → Comes ledger sees at steps old new → first_request new.rounds ≡ None → OfficeGoesOn ledger sees at old new
 settled_none ledger sees at steps old new comes none = λ past begun fed going clean.
     let far = comes past begun fed going clean in (far.fed, far.going, inl none)
 

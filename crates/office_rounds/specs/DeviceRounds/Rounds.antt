@@ -29,8 +29,8 @@ unconnected device = record {
 }
 
 -- True if the polling round requests an event of the office.
-abbrev pub is_wishing : Round → Bool
-is_wishing round = stages.is_wishing round.stage
+abbrev pub has_request : Round → Bool
+has_request round = stages.has_request round.stage
 
 -- The event that a polling round requests at a stage. It is the connection, a start of the
 -- remaining reads, or that the device is gone. `None` if the round is waiting for its device.

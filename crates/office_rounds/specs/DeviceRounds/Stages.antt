@@ -5,12 +5,12 @@ use Rattle.office_rounds.specs.declared.device_rounds.stage.Stage.{Stage}
 use Rattle.office_rounds.specs.declared.device_rounds.stage.Stage.TheVariants.{Off, Joining, Starting, Waiting, Leaving}
 
 -- True if a polling round at this stage requests an event of the office.
-abbrev pub is_wishing : Stage → Bool
-is_wishing Off = false
-is_wishing Joining = true
-is_wishing Starting = true
-is_wishing Waiting = false
-is_wishing (Leaving closing) = true
+abbrev pub has_request : Stage → Bool
+has_request Off = false
+has_request Joining = true
+has_request Starting = true
+has_request Waiting = false
+has_request (Leaving closing) = true
 
 -- The stage of a polling round after the connection to its device ended.
 --

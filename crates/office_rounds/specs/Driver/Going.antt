@@ -11,7 +11,7 @@ use Rattle.office_core.specs.declared.office.Office.{Office}
 use Rattle.office_rounds.specs.Rounds.{IsFed, round_state}
 use Rattle.office_rounds.specs.declared.device_rounds.round.Round.{Round}
 use Rattle.office_events.specs.Showing.{Shown}
-use Rattle.office_rounds.specs.Driver.Turns.{AreNext, AreShown, Table, Wished, first_wish, next_by, table, table_with}
+use Rattle.office_rounds.specs.Driver.Turns.{AreNext, AreShown, Table, Wished, first_request, next_by, table, table_with}
 
 -- The state during a call of `turn`: the office, the failure counts of its store, the polling
 -- rounds, and the observer.
@@ -72,7 +72,7 @@ FeedsNext {B} {V} ledger sees at one old new =
 -- True if a call of `turn` is complete, because no polling round requests an event or at least 256
 -- events were fed.
 abbrev pub IsSettled : List Round → (before after : List Answered) → Type 0
-IsSettled rounds before after = (first_wish rounds ≡ None) ⊎ (256 ≤ length after)
+IsSettled rounds before after = (first_request rounds ≡ None) ⊎ (256 ≤ length after)
 
 -- True if the events that the polling rounds request were fed, until no round requested an event or
 -- 256 events were fed.

@@ -12,7 +12,7 @@ use Rattle.office_rules.specs.History.{History}
 use Rattle.office_rules.specs.Notes.{notes_after, outgoing_after}
 use Rattle.office_core.specs.EventRun.{Answered}
 use Rattle.office_rounds.specs.FedEvents.{history_with}
-use Rattle.office_rounds.specs.DeviceRounds.Rounds.{answered, heard, is_wishing, joined, leaving, wish_of}
+use Rattle.office_rounds.specs.DeviceRounds.Rounds.{answered, heard, has_request, joined, leaving, wish_of}
 use Rattle.office_rounds.specs.declared.device_rounds.round.Round.{Round}
 use Rattle.office_rounds.specs.declared.device_rounds.stage.Stage.{Stage}
 use Rattle.office_rounds.specs.declared.device_rounds.stage.Stage.TheVariants.{Off, Joining, Starting, Waiting, Leaving}
@@ -49,8 +49,8 @@ wish_from (Some place) rounds = wish_in place (slice_get rounds place)
 
 -- The event of the first polling round that requests an event, or `None` if no round requests an
 -- event.
-abbrev pub first_wish : List Round → Option Wished
-first_wish rounds = wish_from (position is_wishing rounds) rounds
+abbrev pub first_request : List Round → Option Wished
+first_request rounds = wish_from (position has_request rounds) rounds
 
 -- The event to feed that the given slot and event form.
 abbrev pub as_wished : Option (ℕ × Event) → Option Wished
@@ -70,7 +70,7 @@ table first rounds = record { first = first; rounds = rounds }
 -- The next event to feed. If an event is to be fed first, this event. Otherwise the event of the
 -- first polling round that requests an event.
 abbrev pub next_by : Option Wished → List Round → Option Wished
-next_by None rounds = first_wish rounds
+next_by None rounds = first_request rounds
 next_by (Some one) rounds = Some one
 
 -- The next event to feed in this state of a call of `turn`.

@@ -89,7 +89,7 @@ impl Sum {
     }
 
     // Counts one poll that ended with the given outcome.
-    fn end(&mut self, outcome: Outcome)
+    fn count_outcome(&mut self, outcome: Outcome)
         ensures { self.new ≡ sums.ended outcome self.old }
     {
         match outcome {
@@ -108,7 +108,7 @@ impl Sum {
         match *note {
             Note::Outcome { poll, outcome } => {
                 if is_among(polls, poll) {
-                    self.end(outcome);
+                    self.count_outcome(outcome);
                 }
             }
             Note::Reading { .. } => {}

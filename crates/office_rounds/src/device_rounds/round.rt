@@ -43,7 +43,7 @@ impl Round {
 
     /// Returns the event that the polling round requests next. Returns `None` if the round is
     /// waiting for its device, or is over.
-    pub fn event_wanted(&self) -> Option<Event>
+    pub fn requested_event(&self) -> Option<Event>
         ensures { result ≡ rounds.wish_of self.now }
     {
         match self.stage {
@@ -115,7 +115,7 @@ impl Round {
 
     // Requests the next Modbus reads after a poll has ended. If no read remains and no poll is
     // pending, ends the polling round.
-    fn go_on(&mut self)
+    fn request_next_reads(&mut self)
         ensures { self.new ≡ rounds.gone_on self.old }
     {
         if self.started < self.planned {
@@ -133,7 +133,7 @@ impl Round {
         self.sum.note_all(&self.polls, notes);
         self.polls = waiting_after(&self.polls, notes);
         if matches!(self.stage, Stage::Waiting) && self.polls.len() < before {
-            self.go_on();
+            self.request_next_reads();
         }
     }
 }

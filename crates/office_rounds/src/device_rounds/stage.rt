@@ -21,8 +21,8 @@ impl Stage {
     ghost use Rattle.office_rounds.specs.DeviceRounds.Stages as stages;
 
     /// Returns true if a polling round at this stage requests an event.
-    pub fn is_wishing(self) -> bool
-        ensures { result ≡ stages.is_wishing self }
+    pub fn has_request(self) -> bool
+        ensures { result ≡ stages.has_request self }
     {
         match self {
             Stage::Off => false,

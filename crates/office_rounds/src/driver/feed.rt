@@ -5,7 +5,7 @@ ghost use Rattle.office_rounds.specs.Driver.Turns as turns;
 ghost use Rattle.office_rounds.specs.Driver.Turns.{answered_for, wished};
 ghost use Rattle.office_rounds.specs.Driver.Going.{FeedsOne};
 
-use crate::device_rounds::{Round, first_wishing, hear_all};
+use crate::device_rounds::{Round, apply_notes_to_all, find_requesting};
 use office_books::Books;
 use office_core::Office;
 use office_events::{Answer, Event, Observer, Refusal};
@@ -42,18 +42,18 @@ pub(crate) fn feed_one<B: Books, V: Observer>(
     answer_for(rounds, place, answer);
     let notes = office.notes();
     let frames = office.outgoing();
-    hear_all(rounds, notes);
+    apply_notes_to_all(rounds, notes);
     observer.observe(place, at, event, answer, notes, frames);
 }
 
 /// Returns the slot of the first polling round that requests an event, and this event. Returns
 /// `None` if no round requests an event.
-pub(crate) fn first_wish(rounds: &[Round]) -> Option<(usize, Event)>
-    ensures { turns.as_wished result ≡ turns.first_wish rounds.now }
+pub(crate) fn first_request(rounds: &[Round]) -> Option<(usize, Event)>
+    ensures { turns.as_wished result ≡ turns.first_request rounds.now }
 {
-    let place = first_wishing(rounds)?;
+    let place = find_requesting(rounds)?;
     if place < rounds.len() {
-        let event = rounds[place].event_wanted()?;
+        let event = rounds[place].requested_event()?;
         return Some((place, event));
     }
     None

@@ -8,7 +8,7 @@ ghost use Rattle.office_rounds.specs.DeviceRounds.Rounds.{joined, leaving};
 
 use crate::device_rounds::{Round, Stage};
 use crate::driver::device_events::DeviceEvent;
-use crate::driver::feed::{feed_one, first_wish};
+use crate::driver::feed::{feed_one, first_request};
 use office_books::Books;
 use office_core::Office;
 use office_events::{Event, Name, Observer, Piece};
@@ -17,7 +17,7 @@ use poll_core::Closing;
 /// The largest number of requested events that one call of `turn` feeds after the device event.
 ///
 /// If polling rounds request more events, the next call of `turn` feeds the remaining events.
-pub const MOST_STEPS: u32 = 256;
+pub const MAX_REQUESTS: u32 = 256;
 
 // Feeds the events that the polling rounds request, until no round requests an event or 256 events
 // were fed.
@@ -31,8 +31,8 @@ fn settle<B: Books, V: Observer>(
         rounds.old rounds.new observer.old observer.new }
     ensures lasts { Lasts B.ledger office.old office.new }
 {
-    for _step in 0..MOST_STEPS {
-        let Some((place, event)) = first_wish(rounds) else {
+    for _step in 0..MAX_REQUESTS {
+        let Some((place, event)) = first_request(rounds) else {
             return;
         };
         feed_one(rounds, Some(place), &event, office, at, observer);
@@ -73,7 +73,7 @@ fn begin<B: Books, V: Observer>(
 }
 
 // Feeds the events that the polling rounds request, without a device event first.
-fn go_on<B: Books, V: Observer>(
+fn feed_requests<B: Books, V: Observer>(
     rounds: &mut [Round],
     office: &mut Office<B>,
     at: u64,
@@ -120,7 +120,7 @@ fn take_bytes<B: Books, V: Observer>(
             let event = Event::Bytes(device, piece);
             begin(rounds, Some(place), &event, office, at, observer);
         }
-        None => go_on(rounds, office, at, observer),
+        None => feed_requests(rounds, office, at, observer),
     }
 }
 
@@ -143,14 +143,14 @@ pub fn turn<B: Books, V: Observer>(
     match device_event {
         DeviceEvent::Connected(place) => {
             join(rounds, place);
-            go_on(rounds, office, at, observer);
+            feed_requests(rounds, office, at, observer);
         }
         DeviceEvent::Received(place, piece) => take_bytes(
             rounds, place, piece, office, at, observer,
         ),
         DeviceEvent::Closed(place, closing) => {
             leave(rounds, place, closing);
-            go_on(rounds, office, at, observer);
+            feed_requests(rounds, office, at, observer);
         }
         DeviceEvent::Tick => begin(rounds, None, &Event::Tick, office, at, observer),
     }

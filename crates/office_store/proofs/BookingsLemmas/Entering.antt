@@ -20,7 +20,7 @@ use Rattle.store_devices.specs.Devices.Rows.{Added, Registered, device_columns, 
 use Rattle.store_devices.specs.Polls.Trees as poll_tree
 use Rattle.store_devices.specs.declared.polls.rows.PollRow.{PollRow}
 use Rattle.store_devices.specs.declared.polls.rows.OutcomeRow.{OutcomeRow}
-use Rattle.store_devices.specs.declared.polls.rows.HoldRow.{HoldRow}
+use Rattle.store_devices.specs.declared.polls.rows.RejectedRow.{RejectedRow}
 use Rattle.store_devices.specs.Polls.Rows.{Started, Held, Kept, poll_columns, outcome_columns, hold_columns, hold_place, reply_columns}
 use Rattle.store_facts.specs.Rows.{added, listed, placed_on, registered, started, outcome_row, held_row, kept}
 use Rattle.store_facts.specs.Recording.{Records, IsNext}
@@ -86,13 +86,13 @@ AddsOutcome row = Edits poll_tree.outcomes outcome_columns (with_row row)
 pub outcome_entered : (ended : EndedPoll) (row : OutcomeRow) → row ≡ outcome_row ended → (tables after : Content) → AddsOutcome row tables after → Records (fact.Outcome ended) tables after
 outcome_entered ended row is tables after adds = outcome_recorded ended tables after (subst (λ (o : OutcomeRow). Edits poll_tree.outcomes outcome_columns (with_row o) tables after) is adds)
 
-abbrev pub AddsHold : (meter : List ℕ) → HoldRow → Content → Content → Type 0
+abbrev pub AddsHold : (meter : List ℕ) → RejectedRow → Content → Content → Type 0
 AddsHold meter row = Edits poll_tree.holds hold_columns (with_row (let h : Held = record { meter = meter; row = row } in h))
 
 abbrev pub IsNextHold : ℕ → Content → Content → Type 0
 IsNextHold = IsNext poll_tree.holds hold_columns every hold_place
 
-pub hold_entered : HoldsChangeNothing → (held : HeldReading) (place : ℕ) (meter : List ℕ) (row : HoldRow) → meter ≡ held.meter → row ≡ (held_row place held).row
+pub hold_entered : HoldsChangeNothing → (held : HeldReading) (place : ℕ) (meter : List ℕ) (row : RejectedRow) → meter ≡ held.meter → row ≡ (held_row place held).row
     → (before mid after : Content) → IsNextHold place before mid → AddsHold meter row mid after → Records (fact.Hold held) before after
 hold_entered law held place meter row meter_is row_is before mid after next adds =
     let is : (let h : Held = record { meter = meter; row = row } in h) ≡ held_row place held = λ i. record { meter = meter_is i; row = row_is i } in

@@ -232,11 +232,11 @@ module _ (meter : List ℕ) (A B C : List Share) (from : ℕ) (rows : List Inter
   abbrev pub less_rows : List Interval
   less_rows = without_shares meter B (without_shares meter A rows)
 
-  abbrev pub put_rows : List Interval
-  put_rows = with_shares meter C less_rows
+  abbrev pub write_rows : List Interval
+  write_rows = with_shares meter C less_rows
 
   abbrev pub left_rows : List Interval
-  left_rows = without_where (starts_from meter from) put_rows
+  left_rows = without_where (starts_from meter from) write_rows
 
   pub have_all : (old : List Share) → AreRowsOf meter rows old → AllByRecursion IsSmall old → AreTherein A old → AreTherein B (journal.without_each A old) → HaveShares meter A rows × HaveShares meter B (without_shares meter A rows)
   have_all old are small one two = (
@@ -247,18 +247,18 @@ module _ (meter : List ℕ) (A B C : List Share) (from : ℕ) (rows : List Inter
   pub there_then : (May : List Interval → Type 0) (x0 : Content) (x1 : Content) (x2 : Content) (x3 : Content) (x4 : Content) → HasRows intervals interval_columns rows x0 → HaveShares meter A rows → HaveShares meter B (without_shares meter A rows) → May less_rows
       → TakesShares meter A x0 x1 → TakesShares meter B x1 x2 → EditsIf May (with_shares meter C) x2 x3 → DropsRows meter from x3 x4 → HasRows intervals interval_columns left_rows x4
   there_then May x0 x1 x2 x3 x4 has one two may takes more puts drops =
-      drops.rows put_rows (puts.rows less_rows (more.rows (without_shares meter A rows) (takes.rows rows has one) two) may)
+      drops.rows write_rows (puts.rows less_rows (more.rows (without_shares meter A rows) (takes.rows rows has one) two) may)
 
-  pub own_put : (old : List Share) → AreRowsOf meter rows old → AreApart old → AreRowsOf meter put_rows (journal.with_each C (journal.without_each B (journal.without_each A old)))
+  pub own_put : (old : List Share) → AreRowsOf meter rows old → AreApart old → AreRowsOf meter write_rows (journal.with_each C (journal.without_each B (journal.without_each A old)))
   own_put old are apart =
       booked meter C less_rows (journal.without_each B (journal.without_each A old)) (apart_without B (journal.without_each A old) (apart_without A old apart))
       (taken meter B (without_shares meter A rows) (journal.without_each A old) (taken meter A rows old are))
 
-  pub own_left : (shares : List Share) → AreRowsOf meter put_rows shares → AreRowsOf meter left_rows (filter (λ (row : Share). nat_lt row.start from) shares)
-  own_left shares are = dropped meter from put_rows shares are
+  pub own_left : (shares : List Share) → AreRowsOf meter write_rows shares → AreRowsOf meter left_rows (filter (λ (row : Share). nat_lt row.start from) shares)
+  own_left shares are = dropped meter from write_rows shares are
 
-  pub others_put : (other : List ℕ) → bytes_eq meter other ≡ false → filter (is_of other) put_rows ≡ filter (is_of other) rows
+  pub others_put : (other : List ℕ) → bytes_eq meter other ≡ false → filter (is_of other) write_rows ≡ filter (is_of other) rows
   others_put other off = others_booked meter other C less_rows off ∙ (others_taken meter other off B (without_shares meter A rows) ∙ others_taken meter other off A rows)
 
   pub others_left : (other : List ℕ) → bytes_eq meter other ≡ false → filter (is_of other) left_rows ≡ filter (is_of other) rows
-  others_left other off = others_dropped meter other off from put_rows ∙ others_put other off
+  others_left other off = others_dropped meter other off from write_rows ∙ others_put other off

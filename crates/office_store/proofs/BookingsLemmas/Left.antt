@@ -63,7 +63,7 @@ use Rattle.office_store.specs.Bookings.Voids.{RollsNext, TakesNext, PutsNext, Ex
 use Rattle.office_store.specs.declared.bookings.corrections.Correction.{Correction}
 use Rattle.office_store.specs.declared.bookings.corrections.Rejoined.{Rejoined}
 use Rattle.office_store.specs.declared.bookings.corrections.Rollover.{Rollover}
-use Rattle.office_store.proofs.BookingsLemmas.Exchanging.{IsSmall, starts_below_with, starts_below_without, none_gone, several_taken, several_therein, until_is, have_all, there_then, own_put, own_left, others_put, others_left, put_rows, left_rows, less_rows}
+use Rattle.office_store.proofs.BookingsLemmas.Exchanging.{IsSmall, starts_below_with, starts_below_without, none_gone, several_taken, several_therein, until_is, have_all, there_then, own_put, own_left, others_put, others_left, write_rows, left_rows, less_rows}
 use Rattle.office_store.proofs.BookingsLemmas.Later.{next_lies, shares_begin}
 use Rattle.office_store.proofs.BookingsLemmas.Rolling as rolling
 
@@ -222,10 +222,10 @@ moment_if : (b : Bool) (last : Last) (row : EntryRow) → (let made : EntryRow =
 moment_if true last row = moment_rolled last row.entry
 moment_if false last row = refl
 
-put_before : (range bound : ℕ) (last : Last) (next : Option EntryRow) → ((row : EntryRow) → next ≡ Some row → moment_of row.entry ≤ bound) → AllByRecursion (λ (s : Step). s.from < s.till) (step_if range last (option_map (journal.rolled last) next))
+write_before : (range bound : ℕ) (last : Last) (next : Option EntryRow) → ((row : EntryRow) → next ≡ Some row → moment_of row.entry ≤ bound) → AllByRecursion (λ (s : Step). s.from < s.till) (step_if range last (option_map (journal.rolled last) next))
     → AllByRecursion (IsBefore bound) (step_if range last (option_map (journal.rolled last) next))
-put_before range bound last None low forward = tt
-put_before range bound last (Some row) low forward =
+write_before range bound last None low forward = tt
+write_before range bound last (Some row) low forward =
     let le = low row refl in
     let is = moment_if (row.stands && journal.is_reading row.kind) last row in
     ((forward.0, omega (arith, le, is)), tt)
@@ -394,7 +394,7 @@ module _ (v : VoidedEntry) (facts : List Fact) (lawful : AreLawful (fact.Void v 
         let forward : AllByRecursion (λ (s : Step). s.from < s.till) (steps_put (installed o) around) = all_weaker IsShareable (λ (s : Step). s.from < s.till) (λ s h. h.later) (steps_put (installed o) around) (recursion_from_All IsShareable (steps_put (installed o) around) voided_so.steps.put) in
         let comes : AllByRecursion (λ (row : Share). row.start < bound) C =
         subst (AllByRecursion (λ (row : Share). row.start < bound)) left.put
-        (all_begin law bound (steps_put (installed o) around) (put_before o.range bound last around.next (λ row found. subst (λ (r : EntryRow). moment_of r.entry ≤ bound) (same_Some next row (sym is ∙ found)) lies.earlier) forward)) in
+        (all_begin law bound (steps_put (installed o) around) (write_before o.range bound last around.next (λ row found. subst (λ (r : EntryRow). moment_of r.entry ≤ bound) (same_Some next row (sym is ∙ found)) lies.earlier) forward)) in
         let low : AllByRecursion (λ (row : Share). row.start < ended) exchanged =
         subst (λ n. AllByRecursion (λ (row : Share). row.start < n) exchanged) (sym end)
         (starts_below_with bound C (without_each B (without_each A old)) comes (starts_below_without bound B (without_each A old) (starts_below_without bound A old was))) in
@@ -413,7 +413,7 @@ module _ (v : VoidedEntry) (facts : List Fact) (lawful : AreLawful (fact.Void v 
       apart = opening_apart kept ranges facts o lawful.1 recorded
 
       abbrev put : List Interval
-      put = put_rows v.meter A B C made.from a.rows
+      put = write_rows v.meter A B C made.from a.rows
 
       abbrev rest : List Interval
       rest = left_rows v.meter A B C made.from a.rows

@@ -126,13 +126,13 @@ module _ (o : Opening) (around : Around) (out : Step) where
       let rolled_is : journal.rolled last next ≡ again = cond-true (next.stands && is_reading next.kind) again next on in
       let two : Step = step_to o.range (after last around.row.entry) next.entry in
       let come : Step = step_to o.range last (with_rolls last next.entry) in
-      let put_is : puts_by around.next ≡ come ∷ [] = ap puts_by is ∙ ap (λ (r : EntryRow). step_to o.range last r.entry ∷ []) rolled_is in
+      let write_is : puts_by around.next ≡ come ∷ [] = ap puts_by is ∙ ap (λ (r : EntryRow). step_to o.range last r.entry ∷ []) rolled_is in
       record {
         rolls = (next, is, rollover);
         outs = ap (λ n. all_shares (outs_by n)) is ∙ (two_shares two step ∙ ap₂ (λ (s t : Step). shares_of s ++ shares_of t) (sym outs) (sym out_is));
-        puts = ap all_shares put_is ∙ (one_shares come ∙ ap shares_of (sym puts));
+        puts = ap all_shares write_is ∙ (one_shares come ∙ ap shares_of (sym puts));
         gone = ap (λ n. energy_in (outs_by n)) is ∙ (two_energies two step ∙ ap₂ (λ (s t : Step). s.mwh + t.mwh) (sym outs) (sym out_is));
-        come = ap energy_in put_is ∙ (one_energy come ∙ ap (λ (s : Step). s.mwh) (sym puts));
+        come = ap energy_in write_is ∙ (one_energy come ∙ ap (λ (s : Step). s.mwh) (sym puts));
       }
 
 -- ---- all changes that a void makes to `intervals`

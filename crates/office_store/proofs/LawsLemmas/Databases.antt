@@ -61,6 +61,6 @@ module _ (db : Database) (content after : Content) (had : AreTables db content) 
     replies = same_rows poll_tree.replies reply_columns (map kept (replies_in facts)) (tree_at books_schema.tables 10 replies_table refl) a.replies;
   }
 
-pub databases_tell_their_facts : TablesTellTheirFacts → DatabasesTellTheirFacts
-databases_tell_their_facts law zone others_zone facts others db a b =
+pub databases_give_their_records : TablesTellTheirFacts → DatabasesTellTheirFacts
+databases_give_their_records law zone others_zone facts others db a b =
     law zone others_zone facts others a.content a.are (told_again db b.content a.content b.tables a.tables others_zone others b.are)

@@ -42,13 +42,13 @@ all_planned (fact.Poll p ∷ facts) h = all_planned facts h.1
 all_planned (fact.Outcome e ∷ facts) h = all_planned facts h.1
 all_planned (fact.Reply r ∷ facts) h = all_planned facts h.1
 
-put_planned : (p : DeviceList → Bool) (lists : List DeviceList) (found : Option DeviceList) → AllByRecursion (λ put. IsPlanned put.list) lists
+write_planned : (p : DeviceList → Bool) (lists : List DeviceList) (found : Option DeviceList) → AllByRecursion (λ put. IsPlanned put.list) lists
     → find p lists ≡ found → IsPut found
-put_planned p lists None h is = tt
-put_planned p lists (Some put) h is = found_has (λ (x : DeviceList). IsPlanned x.list) p lists put h is
+write_planned p lists None h is = tt
+write_planned p lists (Some put) h is = found_has (λ (x : DeviceList). IsPlanned x.list) p lists put h is
 
 pub last_put : (facts : List Fact) (device : List ℕ) → AreLawful facts → IsPut (find (λ put. same put.device device) (lists_in facts))
-last_put facts device h = put_planned (λ put. same put.device device) (lists_in facts) _ (all_planned facts h) refl
+last_put facts device h = write_planned (λ put. same put.device device) (lists_in facts) _ (all_planned facts h) refl
 
 -- ---- polls
 

@@ -84,9 +84,9 @@ IsPut (Some put) = IsPlanned put.list
 abbrev pub list_put : Option DeviceList → Option Planned
 list_put found = option_and_then (λ put. if_some put.list.points put.list) found
 
-put_read : (found : Option DeviceList) → IsPut found → AllByRecursion IsRead (points_put found)
-put_read None h = tt
-put_read (Some put) h = all_read put.list.points h.points
+write_read : (found : Option DeviceList) → IsPut found → AllByRecursion IsRead (points_put found)
+write_read None h = tt
+write_read (Some put) h = all_read put.list.points h.points
 
 same_points : (device : List ℕ) (a b : Option DeviceList) → IsPut a → IsPut b
     → IsPermutation (placed_on (listed device) 0 (points_put a)) (placed_on (listed device) 0 (points_put b)) → points_put a ≡ points_put b
@@ -102,7 +102,7 @@ same_points device a b p q h =
       scale = λ i. (e i).scale;
     })
     point_place (λ place x. refl) (λ place x. refl) (points_put a) (points_put b) h)
-    (put_read a p) (put_read b q)
+    (write_read a p) (write_read b q)
 
 -- If two point lists of a device have the same points, the lists are equal. A list without points
 -- counts as no list.

@@ -186,6 +186,6 @@ module _ (stand : RowsStand) (once : ListsArePlannedOnce) (zone others_zone : Li
     replies = same_replies;
   }
 
-pub tables_tell_their_facts : RowsStand → ListsArePlannedOnce → TablesTellTheirFacts
-tables_tell_their_facts stand once zone others_zone facts others content a b =
+pub tables_give_their_records : RowsStand → ListsArePlannedOnce → TablesTellTheirFacts
+tables_give_their_records stand once zone others_zone facts others content a b =
     (same_books stand once zone others_zone facts others content a b, same_zone stand once zone others_zone facts others content a b)

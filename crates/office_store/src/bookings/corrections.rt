@@ -173,7 +173,7 @@ fn total_after(total: u64, out: &Step, next: &Option<Rejoined>) -> Result<u64, R
 
 /// Returns the new last entry of a meter. If the voided entry was the last, the entry before it
 /// becomes the last. Otherwise the last entry is unchanged.
-fn stands_then(
+fn new_last_entry(
     found: &Surroundings,
     before: Last,
     total: u64,
@@ -227,7 +227,7 @@ pub fn correct(found: &Surroundings) -> Result<Correction, RowFault>
     let out = step_from(range, &before, &entry)?;
     let next = rejoin_next(range, &before, &voided, &found.near.next)?;
     let total = total_after(found.standing.last.total, &out, &next)?;
-    let last = stands_then(found, before, total, next.is_none())?;
+    let last = new_last_entry(found, before, total, next.is_none())?;
     let from = end_of_rows(found.opened, &last);
     Ok(Correction {
         out,

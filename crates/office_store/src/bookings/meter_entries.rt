@@ -22,7 +22,7 @@ use office_rules::{
 use sqlite::{Alter, Transaction};
 use store_facts::{book_step, entry_row, is_scale, last_row, text};
 use store_tables::{
-    EntryRow, LATEST_MOMENT, LastRow, RowFault, end_installation, insert_entry, update_last,
+    EntryRow, LATEST_MOMENT, LastRow, RowFault, close_installation, insert_entry, update_last,
 };
 
 /// The last entry of a meter after one more entry was added, with the meter's total energy. Also
@@ -51,7 +51,7 @@ fn is_in_time(entry: &Entry) -> bool
 }
 
 /// Computes a meter's state after one more entry. Reports an entry that may not follow as damage.
-fn go_on(standing: &Standing, entry: &Entry) -> Result<Advance, RowFault>
+fn advance_meter(standing: &Standing, entry: &Entry) -> Result<Advance, RowFault>
     requires { IsSoundLast standing.now.last }
     ensures advances { IfOk result (Advances standing.now entry.now) }
     ensures sound { IfOk result (λ advance. IsSoundLast advance.last) }
@@ -108,7 +108,7 @@ pub fn settle<S: Alter>(
     if !is_closing {
         return Ok(());
     }
-    end_installation(tx, meter)?;
+    close_installation(tx, meter)?;
     Ok(())
 }
 
@@ -153,7 +153,7 @@ pub fn enter_entry<S: Alter>(
     voids_leave_no_trace();
     let meter = text(&booked.meter)?;
     let standing = standing_of(tx, meter)?;
-    let advance = go_on(&standing, &booked.entry)?;
+    let advance = advance_meter(&standing, &booked.entry)?;
     let row = entry_row(booked.kind, booked.entry, standing.place, &advance.last.sf);
     book_entry(tx, meter, row, &advance, booked.kind.is_closing())
 }

@@ -9,7 +9,7 @@ use crate::bookings::places::next_hold;
 use office_events::{EndedPoll, HeldReading, MAX_REQUEST, Poll, Reply};
 use office_rules::holds_change_nothing;
 use sqlite::{Alter, Transaction};
-use store_devices::{insert_hold, insert_outcome, insert_poll, insert_reply};
+use store_devices::{insert_kept_request, insert_outcome, insert_poll, insert_rejected};
 use store_facts::{hold_row, outcome_row, poll_row, text};
 use store_tables::{GREATEST_PLACE, LATEST_MOMENT, RowFault};
 
@@ -55,7 +55,7 @@ pub fn enter_hold<S: Alter>(tx: &mut Transaction<'_, S>, held: &HeldReading) -> 
     }
     let meter = text(&held.meter)?;
     let place = next_hold(tx)?;
-    insert_hold(tx, meter, hold_row(*held, place))?;
+    insert_rejected(tx, meter, hold_row(*held, place))?;
     Ok(())
 }
 
@@ -69,7 +69,7 @@ pub fn enter_reply<S: Alter>(tx: &mut Transaction<'_, S>, reply: &Reply) -> Resu
         return Err(RowFault::Damaged);
     }
     let caller = text(&reply.caller)?;
-    insert_reply(
+    insert_kept_request(
         tx,
         caller,
         reply.number,

@@ -15,12 +15,12 @@ use crate::bookings::meter_entries::settle;
 use crate::bookings::surroundings::surroundings_of;
 use energy_core::Step;
 use interval_core::shares_add_up;
-use meter_journal::{rows_lie_within, rows_stand, voids_change_two_rows};
+use meter_journal::{rows_are_kept, rows_lie_within, voids_change_two_rows};
 use office_events::VoidedEntry;
 use office_rules::{installations_are_in_range, journals_fit, meters_are_kept, other_meters_stay};
 use sqlite::{Alter, Transaction};
 use store_facts::{book_step, drop_rows_from, take_step, text};
-use store_tables::{GREATEST_PLACE, LATEST_MOMENT, RowFault, insert_void, set_rolls};
+use store_tables::{GREATEST_PLACE, LATEST_MOMENT, RowFault, insert_void, set_rollovers};
 
 /// Sets the rollovers of the next meter entry to the new rollovers in `next`. If there is no next
 /// entry, makes no call.
@@ -37,7 +37,7 @@ fn roll_next<S: Alter>(
     let Some(joined) = next else {
         return Ok(());
     };
-    set_rolls(tx, meter, joined.rollover.place, joined.rollover.rolls)?;
+    set_rollovers(tx, meter, joined.rollover.place, joined.rollover.rolls)?;
     Ok(())
 }
 
@@ -62,7 +62,7 @@ fn take_next<S: Alter>(
 
 /// Adds to `intervals` the energy between the meter entry before the voided entry and the next
 /// entry. If there is no next entry, makes no call.
-fn put_next<S: Alter>(
+fn write_next<S: Alter>(
     tx: &mut Transaction<'_, S>,
     meter: &str,
     next: &Option<Rejoined>,
@@ -111,7 +111,7 @@ fn exchange_rows<S: Alter>(
         (ExchangesRows meter.now made.now) }
 {
     take_steps(tx, meter, &made.out, &made.next)?;
-    put_next(tx, meter, &made.next)?;
+    write_next(tx, meter, &made.next)?;
     drop_rows_from(tx, meter, made.from)?;
     Ok(())
 }
@@ -172,7 +172,7 @@ pub fn enter_void<S: Alter>(
     other_meters_stay();
     meters_are_kept();
     installations_are_in_range();
-    rows_stand();
+    rows_are_kept();
     rows_lie_within();
     shares_add_up();
     voids_change_two_rows();

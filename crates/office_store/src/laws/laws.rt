@@ -3,24 +3,24 @@ ghost use Rattle.office_store.specs.Laws.Files.{NewFilesHaveNone, OpenedFilesKee
 ghost use Rattle.office_store.specs.Laws.Files.{NewestFilesHaveTheirs, FoundFilesKeepTheirs};
 ghost use Rattle.office_store.specs.Laws.Laws.{DatabasesTellTheirFacts, LeftFactsAreFound, TablesTellTheirFacts};
 
-use meter_journal::rows_stand;
+use meter_journal::rows_are_kept;
 use read_plan::lists_are_planned_once;
 
 /// Theorem: tables determine their records. Two lists of records with the same tables are equal up
 /// to order, and have the same time zone.
-pub fn tables_tell_their_facts()
+pub fn tables_give_their_records()
     ensures { TablesTellTheirFacts }
 {
-    rows_stand();
+    rows_are_kept();
     lists_are_planned_once();
 }
 
 /// Theorem: a database determines its records. Two lists of records in one database are equal up to
 /// order, and have the same time zone.
-pub fn databases_tell_their_facts()
+pub fn databases_give_their_records()
     ensures { DatabasesTellTheirFacts }
 {
-    tables_tell_their_facts();
+    tables_give_their_records();
 }
 
 /// Theorem: the next open after a crash finds the records that the crash left.

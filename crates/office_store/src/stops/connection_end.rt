@@ -14,7 +14,7 @@ use sqlite_disk::Disk;
 /// Closes a connection to files, and returns the store of the files. If a crash of the connection
 /// leaves the records of one of some lists, the next open finds the records of one of the lists.
 /// The crash may come before or after the connection is closed.
-pub fn end<D: Disk + Drop>(connection: Connection<FileStore<D>>) -> FileStore<D>
+pub fn close_connection<D: Disk + Drop>(connection: Connection<FileStore<D>>) -> FileStore<D>
     ensures before { IsClean (view result) → (zone : List ℕ) (left : List (List Fact))
         → LeavesFacts over_files zone connection left
         → LeaveInFiles D.Disk zone left connection.store }

@@ -12,7 +12,7 @@ use Rattle.meter_journal.specs.Fitting.{AreFitting}
 use Rattle.meter_journal.specs.Journal.{Entered, Held, Voided, Journal, Around, is_reading, entries_in, rolled, struck, with_void, rows_of, passed, row_at}
 use Rattle.meter_journal.specs.Lists.{AreNumbered}
 use Rattle.meter_journal.specs.Standing.{entered_count}
-use Rattle.meter_journal.proofs.AsEntered.{rows_stand}
+use Rattle.meter_journal.proofs.AsEntered.{rows_are_kept}
 use Rattle.meter_journal.proofs.Keeping.{mapped_some}
 use Rattle.run_http.specs.Copies.{entries_before}
 
@@ -91,14 +91,14 @@ pub entries_stay : (meter : Installed) (place : ℕ) (more lines : Journal) → 
 entries_stay meter place [] lines well h le from = refl
 entries_stay meter place (Entered k e ∷ more) lines well h le from =
     let rows : List EntryRow = rows_of meter.opening (more ++ lines) in
-    let count : length rows ≡ entered_count (more ++ lines) = (rows_stand meter (more ++ lines) well h.1).count in
+    let count : length rows ≡ entered_count (more ++ lines) = (rows_are_kept meter (more ++ lines) well h.1).count in
     let row : EntryRow = record { place = length rows + 2; kind = k; entry = e; stands = true } in
     let following : place ≤ row.place = omega (arith, count, le, more_entered more lines) in
     dropped place row rows following ∙ entries_stay meter place more lines well h.1 le from
 entries_stay meter place (Held reading cause ∷ more) lines well h le from = entries_stay meter place more lines well h.1 le from
 entries_stay meter place (Voided named ∷ more) lines well h le from =
     let rows : List EntryRow = rows_of meter.opening (more ++ lines) in
-    void_leaves meter.opening place named rows h.0.around from.0 (rows_stand meter (more ++ lines) well h.1).places h.0.there
+    void_leaves meter.opening place named rows h.0.around from.0 (rows_are_kept meter (more ++ lines) well h.1).places h.0.there
     ∙ entries_stay meter place more lines well h.1 le from.1
 
 -- ---- The entries before a sequence number are the first entries.

@@ -17,7 +17,7 @@ use Rattle.meter_journal.specs.Fitting.{AreFitting}
 use Rattle.meter_journal.specs.Intervals.{rows_of_steps}
 use Rattle.meter_journal.specs.Journal as journal
 use Rattle.meter_journal.specs.Standing.{entered_count}
-use Rattle.meter_journal.proofs.AsEntered.{rows_stand}
+use Rattle.meter_journal.proofs.AsEntered.{rows_are_kept}
 use Rattle.meter_journal.proofs.Chains.{rows_lie_within, voids_go_no_further}
 use Rattle.meter_journal.proofs.InTime.{in_time}
 use Rattle.meter_journal.proofs.Keeping.{journals_are_kept}
@@ -59,7 +59,7 @@ rows_of_first : SharesAddUp → (meter : Installed) (place : ℕ) (lines : journ
 rows_of_first law meter place lines own h =
     let rows : List EntryRow = journal.rows_of meter.opening lines in
     let base : List Entry = journal.entries_in (entries_before place rows) in
-    let first = first_ones place rows (rows_stand meter lines own h).places in
+    let first = first_ones place rows (rows_are_kept meter lines own h).places in
     let parts : journal.entries_in rows ≡ journal.entries_in first.0 ++ base =
     ap journal.entries_in first.1 ∙ entries_joined first.0 (entries_before place rows) in
     let follow : AllFollow meter.range meter.opening (journal.entries_in first.0 ++ base) =
@@ -84,7 +84,7 @@ stay_in_journal : SharesAddUp → (meter : Installed) (place : ℕ) (more lines 
     → StayInJournal meter place more lines
 stay_in_journal law meter place more lines own h le void =
     let fits : AreFitting meter lines = lines_fit meter more lines h in
-    let count : length (journal.rows_of meter.opening lines) ≡ entered_count lines = (rows_stand meter lines own fits).count in
+    let count : length (journal.rows_of meter.opening lines) ≡ entered_count lines = (rows_are_kept meter lines own fits).count in
     let same = entries_stay meter place more lines own h (omega (arith, count, le)) void in
     let of_entries : List EntryRow → List Share = λ first. let base = journal.entries_in first in
     rows_before (quarter_of (last_after meter base).at) (rows_of_steps (steps_after meter base)) in
@@ -214,7 +214,7 @@ pub entries_come_after : EntriesComeAfter
 entries_come_after facts meter o h there =
     let own : opening_of facts o.meter ≡ Some o = subst (λ (m : List ℕ). opening_of facts m ≡ Some o) (sym (own_name facts meter o there)) there in
     let rows : List EntryRow = journal.rows_of (opened o) (journal_of facts o.meter) in
-    let numbers = (rows_stand (installed o) (journal_of facts o.meter) (well facts o h own) (installed_fits facts o h own)).places in
+    let numbers = (rows_are_kept (installed o) (journal_of facts o.meter) (well facts o h own) (installed_fits facts o h own)).places in
     let all : entries_before (length rows + 2) rows ≡ rows = all_below (length rows + 2) rows numbers (omega arith) in
     ap (changes_of facts (length rows + 2)) there
     ∙ ap (λ (first : List EntryRow). quarter_of (last_after (installed o) (journal.entries_in first)).at) all

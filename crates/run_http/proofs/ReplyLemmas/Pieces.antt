@@ -34,7 +34,7 @@ use Rattle.office_rules.specs.Meters.{installation_of, meter_of}
 use Rattle.run_http.specs.Copies.{quarter_of}
 use Rattle.run_http.specs.MeterReplies.{AsksRows}
 use Rattle.run_http.specs.Pieces.{ArePieces, AreSizes, BeginsReply, IsBegun, IsSettled, Piece, PiecesAreWhole, SizesRow, SizesRows, MovesOn, TellsOn, TellsRest, TextStays, body_size, last_quarter, left_after, rows_between, rows_left, text_after, text_left, with_all_rows, with_head, with_rows}
-use Rattle.run_http.specs.declared.pieces.RowsLeft.{RowsLeft}
+use Rattle.run_http.specs.declared.pieces.RemainingRows.{RemainingRows}
 use Rattle.run_http.specs.declared.row_sizes.RowSizes.{RowSizes}
 use Rattle.run_http.specs.declared.row_sizes.Sizes.{Sizes}
 use Rattle.run_http.proofs.Copies.Parts.{a_piece, all_parts, none_between, rows_stay}
@@ -80,7 +80,7 @@ module _ {B : Type 0} (ledger : B → Ledger) (old new : Office B) where
       → (o : Opening) × (opening_of facts meter ≡ Some o) × (installation_of facts o ≡ it)
   found facts it meter there = mapped (installation_of facts) (opening_of facts meter) it there
 
-  begun : (facts : List Fact) (it : Installation) (from till first end : ℕ) (last : List Share) (left : RowsLeft) → SharesAddUp → AreLawful facts
+  begun : (facts : List Fact) (it : Installation) (from till first end : ℕ) (last : List Share) (left : RemainingRows) → SharesAddUp → AreLawful facts
       → meter_of facts it.opening.meter ≡ Some it
       → first ≡ max from (quarter_of it.opening.at) → end ≡ max first (min till (quarter_of it.last.at))
       → rows_between facts (Some it.opening.meter) end till ≡ last
@@ -134,7 +134,7 @@ module _ {B : Type 0} (ledger : B → Ledger) (old new : Office B) where
       → OnlyAsks ledger old new told
   asks_as says told asked = subst (λ (a : Result (Vec Share Global) Refusal). OnlyAsks ledger old new a) (sym asked.gives) asked.asks
 
-  pub begins_rows : {E F : Type 0} (it : Installation) (from till first end : ℕ) (last : Vec Share Global) (left : RowsLeft) → SharesAddUp → FactsAreLawful
+  pub begins_rows : {E F : Type 0} (it : Installation) (from till first end : ℕ) (last : Vec Share Global) (left : RemainingRows) → SharesAddUp → FactsAreLawful
       → first ≡ max from (quarter_of it.opening.at) → end ≡ max first (min till (quarter_of it.last.at))
       → AsksRows ledger old new (λ facts. intervals_within facts (Some it.opening.meter) (Between end till)) {E = F} (Ok (Ok last))
       → left.meter ≡ Some it.opening.meter → left.from ≡ first → left.till ≡ end → left.last ≡ last → left.told ≡ 0
@@ -167,7 +167,7 @@ module _ {B : Type 0} (ledger : B → Ledger) (old new : Office B) where
   }
 
   -- If memory ran out for the rows, the call fails as `BeginsReply` allows.
-  pub begins_lacked : {E F : Type 0} (it : Installation) (from till end : ℕ) (fault : F) (result : Result (Result RowsLeft Refusal) E)
+  pub begins_lacked : {E F : Type 0} (it : Installation) (from till end : ℕ) (fault : F) (result : Result (Result RemainingRows Refusal) E)
       → AsksRows ledger old new (λ facts. intervals_within facts (Some it.opening.meter) (Between end till)) (Err fault) → IsErr result
       → BeginsReply ledger old new it from till intervals_text [] result
   begins_lacked it from till end fault (Ok told) asked is = cc is
@@ -175,7 +175,7 @@ module _ {B : Type 0} (ledger : B → Ledger) (old new : Office B) where
 
   -- ---- The chunks of a streamed response.
 
-  pub tells_on : {E F : Type 0} (left later : RowsLeft) (seconds till : ℕ) (from to : List ℕ) (rows : Vec Share Global) (shown : List Share) → SharesAddUp
+  pub tells_on : {E F : Type 0} (left later : RemainingRows) (seconds till : ℕ) (from to : List ℕ) (rows : Vec Share Global) (shown : List Share) → SharesAddUp
       → FactsAreLawful → (left.from ≤ left.till → left.from ≤ till) → till ≤ left.till → (left.till ≤ left.from → till ≡ left.till)
       → (left.from < left.till → 0 < seconds → left.from < till) → till ≤ left.from + seconds
       → AsksRows ledger old new (λ facts. intervals_within facts left.meter (Between left.from till)) {E = F} (Ok (Ok rows))
@@ -186,13 +186,13 @@ module _ {B : Type 0} (ledger : B → Ledger) (old new : Office B) where
     asks = asked.asks;
     tells = (
       record {
-        meter = ap (λ (l : RowsLeft). l.meter) is;
-        till = ap (λ (l : RowsLeft). l.till) is;
-        some = λ lt pos. let at : later.from ≡ till = ap (λ (l : RowsLeft). l.from) is in omega (arith, some lt pos, at);
+        meter = ap (λ (l : RemainingRows). l.meter) is;
+        till = ap (λ (l : RemainingRows). l.till) is;
+        some = λ lt pos. let at : later.from ≡ till = ap (λ (l : RemainingRows). l.from) is in omega (arith, some lt pos, at);
         none = λ ge.
-            let at : later.from ≡ till = ap (λ (l : RowsLeft). l.from) is in
-            let upto : later.till ≡ left.till = ap (λ (l : RowsLeft). l.till) is in omega (arith, none ge, at, upto);
-        few = let at : later.from ≡ till = ap (λ (l : RowsLeft). l.from) is in omega (arith, few, at);
+            let at : later.from ≡ till = ap (λ (l : RemainingRows). l.from) is in
+            let upto : later.till ≡ left.till = ap (λ (l : RemainingRows). l.till) is in omega (arith, none ge, at, upto);
+        few = let at : later.from ≡ till = ap (λ (l : RemainingRows). l.from) is in omega (arith, few, at);
       },
       λ past stands clean.
           let facts : List Fact = facts_of past in
@@ -204,14 +204,14 @@ module _ {B : Type 0} (ledger : B → Ledger) (old new : Office B) where
           let others : List Share = rows_between facts left.meter till left.till ++ left.last.items in
           let all : rows_left facts left ≡ shown ++ others =
           ap (λ rs. rs ++ left.last.items) parts ∙ append_assoc shown (rows_between facts left.meter till left.till) left.last.items in
-          let after : rows_left facts later ≡ others = ap (λ (l : RowsLeft). rows_left facts l) is in
+          let after : rows_left facts later ≡ others = ap (λ (l : RemainingRows). rows_left facts l) is in
           ap (λ rs. to ++ text_of later.told rs) after
-          ∙ told_on from to shown others left.told later.told put (ap (λ (l : RowsLeft). l.told) is)
+          ∙ told_on from to shown others left.told later.told put (ap (λ (l : RemainingRows). l.told) is)
           ∙ ap (λ rs. from ++ text_of left.told rs) (sym all),
     );
   }
 
-  pub tells_refused : {E F : Type 0} (left later : RowsLeft) (seconds till : ℕ) (from to : List ℕ) (why : Refusal)
+  pub tells_refused : {E F : Type 0} (left later : RemainingRows) (seconds till : ℕ) (from to : List ℕ) (why : Refusal)
       → AsksRows ledger old new (λ facts. intervals_within facts left.meter (Between left.from till)) {E = F} (Ok (Err why))
       → TellsOn ledger old new left later seconds from to {E = E} (Ok (Err why))
   tells_refused left later seconds till from to why asked = record { answer = asked.answer; asks = asked.asks; tells = sym asked.gives }
@@ -238,7 +238,7 @@ all_sized old new (row ∷ rows) (next, first, rest) whole =
     (one.0, omega (arith, later.1, one.1, line), omega (arith, later.2, one.2))
 
 -- The computed size of a response's body equals the size of the remaining text.
-body_is : (facts : List Fact) (left : RowsLeft) (sizes : Sizes) → AreSizes sizes (rows_between facts left.meter left.from left.till)
+body_is : (facts : List Fact) (left : RemainingRows) (sizes : Sizes) → AreSizes sizes (rows_between facts left.meter left.from left.till)
     → body_size left sizes ≡ length (text_left facts left)
 body_is facts left sizes are =
     let rows : List Share = rows_between facts left.meter left.from left.till in
@@ -271,7 +271,7 @@ outside found before mid after answer why there same is told =
     subst (λ was. IsOutside ⊥ was after why) same (failed_some mid after why at_why)
 
 module _ {B : Type 0} (ledger : B → Ledger) (old mid new : Office B) where
-  pub sized : {E : Type 0} (left : RowsLeft) (from to : RowSizes) (told : Sizes) → from.sizes ≡ record { bytes = 0; count = 0 } → to.is_whole ≡ true
+  pub sized : {E : Type 0} (left : RemainingRows) (from to : RowSizes) (told : Sizes) → from.sizes ≡ record { bytes = 0; count = 0 } → to.is_whole ≡ true
       → told ≡ to.sizes
       → TellsRows SizesRow ledger mid new from to (Ok tt) (λ facts. intervals_within facts left.meter (Between left.from left.till))
       → OnlyAsks {T = Unit {0}} ledger mid new (Ok tt) → SizesRows ledger mid new left {E = E} (Ok (Ok told))
@@ -291,7 +291,7 @@ module _ {B : Type 0} (ledger : B → Ledger) (old mid new : Office B) where
     );
   }
 
-  pub sized_refused : {E : Type 0} (left : RowsLeft) (from to : RowSizes) (why : Refusal)
+  pub sized_refused : {E : Type 0} (left : RemainingRows) (from to : RowSizes) (why : Refusal)
       → TellsRows SizesRow ledger mid new from to (Err why) (λ facts. intervals_within facts left.meter (Between left.from left.till))
       → OnlyAsks {T = Unit {0}} ledger mid new (Err why) → SizesRows ledger mid new left {E = E} (Ok (Err why))
   sized_refused left from to why tells asks = record {
@@ -301,30 +301,30 @@ module _ {B : Type 0} (ledger : B → Ledger) (old mid new : Office B) where
   }
 
   -- If memory ran out for a line, the call fails as `SizesRows` allows.
-  pub sizes_none : {E : Type 0} (left : RowsLeft) (answer : Result (Unit {0}) Refusal) (result : Result (Result Sizes Refusal) E)
+  pub sizes_none : {E : Type 0} (left : RemainingRows) (answer : Result (Unit {0}) Refusal) (result : Result (Result Sizes Refusal) E)
       → OnlyAsks ledger mid new answer → IsErr result → SizesRows ledger mid new left result
   sizes_none left answer (Ok told) asks is = cc is
   sizes_none left answer (Err why) asks is = record { answer = answer; asks = asks; sizes = tt }
 
   -- ---- A response whose head contains the size of its body.
 
-  first_asks : {E : Type 0} (it : Installation) (from till : ℕ) (reply : List Share → List ℕ) (put : List ℕ) (left : RowsLeft)
+  first_asks : {E : Type 0} (it : Installation) (from till : ℕ) (reply : List Share → List ℕ) (put : List ℕ) (left : RemainingRows)
       → BeginsReply ledger old mid it from till reply put {E = E} (Ok (Ok left)) → OnlyAsks {T = Unit {0}} ledger old mid (Ok tt)
   first_asks it from till reply put left begins = subst (λ (a : Result (Unit {0}) Refusal). OnlyAsks ledger old mid a) begins.begins.0 begins.asks
 
   -- If the call queries the store a second time, then the response still begins as `BeginsReply`
   -- states.
-  pub then_asks : {E : Type 0} (it : Installation) (from till : ℕ) (reply : List Share → List ℕ) (put : List ℕ) (left : RowsLeft)
+  pub then_asks : {E : Type 0} (it : Installation) (from till : ℕ) (reply : List Share → List ℕ) (put : List ℕ) (left : RemainingRows)
       (answer : Result (Unit {0}) Refusal) → BeginsReply ledger old mid it from till reply put {E = E} (Ok (Ok left)) → OnlyAsks ledger mid new answer
       → OnlyAsks ledger old new answer
   then_asks it from till reply put left answer begins asks =
       asked_after ledger old mid new answer (asked ledger old mid tt (first_asks it from till reply put left begins)) asks
 
-  pub begins_sized : {E F G : Type 0} (it : Installation) (from till size : ℕ) (text put : List ℕ) (left : RowsLeft) (sizes : Sizes)
+  pub begins_sized : {E F G : Type 0} (it : Installation) (from till size : ℕ) (text put : List ℕ) (left : RemainingRows) (sizes : Sizes)
       → BeginsReply ledger old mid it from till intervals_text [] {E = E} (Ok (Ok left)) → SizesRows ledger mid new left {E = F} (Ok (Ok sizes))
       → size ≡ body_size left sizes → put ≡ with_head size text
       → BeginsReply ledger old new it from till (with_rows text) put {E = G} (Ok (Ok left))
-  begins_sized it from till size text put left sizes begins sized size_is put_is =
+  begins_sized it from till size text put left sizes begins sized size_is write_is =
       let asks : OnlyAsks {T = Unit {0}} ledger mid new (Ok tt) =
       subst (λ (a : Result (Unit {0}) Refusal). OnlyAsks ledger mid new a) sized.sizes.0 sized.asks in
       record {
@@ -340,14 +340,14 @@ module _ {B : Type 0} (ledger : B → Ledger) (old mid new : Office B) where
               let bytes : size ≡ length (text_left facts left) = size_is ∙ body_is facts left sizes are in
               record {
                 tells =
-                    ap (λ t. t ++ text_left facts left) (put_is ∙ ap (λ n. with_head n text) bytes)
+                    ap (λ t. t ++ text_left facts left) (write_is ∙ ap (λ n. with_head n text) bytes)
                     ∙ ap (λ t. with_head (length t) text ++ t) begun.tells;
                 settled = begun.settled;
               },
         );
       }
 
-  pub sized_not : {E F G : Type 0} (it : Installation) (from till : ℕ) (text put : List ℕ) (left : RowsLeft) (why : Refusal)
+  pub sized_not : {E F G : Type 0} (it : Installation) (from till : ℕ) (text put : List ℕ) (left : RemainingRows) (why : Refusal)
       → BeginsReply ledger old mid it from till intervals_text [] {E = E} (Ok (Ok left)) → SizesRows ledger mid new left {E = F} (Ok (Err why))
       → BeginsReply ledger old new it from till (with_rows text) put {E = G} (Ok (Err why))
   sized_not it from till text put left why begins sized =
@@ -366,8 +366,8 @@ module _ {B : Type 0} (ledger : B → Ledger) (old mid new : Office B) where
       }
 
   -- If memory ran out while rows were measured, the call fails as `BeginsReply` allows.
-  pub sizes_lacked : {E F : Type 0} (it : Installation) (from till : ℕ) (text put : List ℕ) (left : RowsLeft) (answer : Result (Unit {0}) Refusal)
-      (result : Result (Result RowsLeft Refusal) F) → BeginsReply ledger old mid it from till intervals_text [] {E = E} (Ok (Ok left))
+  pub sizes_lacked : {E F : Type 0} (it : Installation) (from till : ℕ) (text put : List ℕ) (left : RemainingRows) (answer : Result (Unit {0}) Refusal)
+      (result : Result (Result RemainingRows Refusal) F) → BeginsReply ledger old mid it from till intervals_text [] {E = E} (Ok (Ok left))
       → OnlyAsks ledger mid new answer → IsErr result → BeginsReply ledger old new it from till (with_rows text) put result
   sizes_lacked it from till text put left answer (Ok told) begins asks is = cc is
   sizes_lacked it from till text put left answer (Err why) begins asks is =
@@ -381,16 +381,16 @@ module _ {B : Type 0} (ledger : B → Ledger) (old new : Office B) where
   refused_so it from till reply other put text why begins = record { answer = begins.answer; asks = begins.asks; begins = begins.begins }
 
   pub lacked_so : {E F : Type 0} (it : Installation) (from till : ℕ) (reply other : List Share → List ℕ) (put text : List ℕ) (fault : E)
-      (result : Result (Result RowsLeft Refusal) F) → BeginsReply ledger old new it from till reply put (Err fault) → IsErr result
+      (result : Result (Result RemainingRows Refusal) F) → BeginsReply ledger old new it from till reply put (Err fault) → IsErr result
       → BeginsReply ledger old new it from till other text result
   lacked_so it from till reply other put text fault (Ok told) begins is = cc is
   lacked_so it from till reply other put text fault (Err why) begins is = record { answer = begins.answer; asks = begins.asks; begins = tt }
 
   -- The response with all quarter hours of a meter begins with a head without Content-Length.
-  pub with_text_head : {E F : Type 0} (it : Installation) (from till : ℕ) (text put : List ℕ) (left : RowsLeft)
+  pub with_text_head : {E F : Type 0} (it : Installation) (from till : ℕ) (text put : List ℕ) (left : RemainingRows)
       → BeginsReply ledger old new it from till intervals_text [] {E = E} (Ok (Ok left)) → put ≡ text ++ text_head
       → BeginsReply ledger old new it from till (with_all_rows text) put {E = F} (Ok (Ok left))
-  with_text_head it from till text put left begins put_is = record {
+  with_text_head it from till text put left begins write_is = record {
     answer = begins.answer;
     asks = begins.asks;
     begins = (
@@ -401,7 +401,7 @@ module _ {B : Type 0} (ledger : B → Ledger) (old new : Office B) where
           let begun = begins.begins.2 past stands clean there in
           record {
             tells =
-                ap (λ t. t ++ text_left facts left) put_is ∙ append_assoc text text_head (text_left facts left)
+                ap (λ t. t ++ text_left facts left) write_is ∙ append_assoc text text_head (text_left facts left)
                 ∙ ap (λ t. text ++ (text_head ++ t)) begun.tells;
             settled = begun.settled;
           },
@@ -409,14 +409,14 @@ module _ {B : Type 0} (ledger : B → Ledger) (old new : Office B) where
   }
 
 -- The end of a response has the stored last rows and the number of all rows.
-rest_told : (left : RowsLeft) (from between to : List ℕ) (count : ℕ) → between ≡ from ++ flat_map share_line left.last.items → count ≡ left.told + length left.last.items
+rest_told : (left : RemainingRows) (from between to : List ℕ) (count : ℕ) → between ≡ from ++ flat_map share_line left.last.items → count ≡ left.told + length left.last.items
     → to ≡ between ++ end_line count → TellsRest left from to
 rest_told left from between to count lines counted put = λ facts le.
     put ∙ ap (λ t. t ++ end_line count) lines ∙ append_assoc from (flat_map share_line left.last.items) (end_line count)
     ∙ ap (λ n. from ++ (flat_map share_line left.last.items ++ end_line n)) counted
     ∙ ap (λ rs. from ++ text_of left.told (rs ++ left.last.items)) (sym (none_between facts left.meter left.from left.till le))
 
-pub rest_on : {E : Type 0} (left : RowsLeft) (from between to : List ℕ) (count : ℕ) (result : Result (Unit {0}) E)
+pub rest_on : {E : Type 0} (left : RemainingRows) (from between to : List ℕ) (count : ℕ) (result : Result (Unit {0}) E)
     → between ≡ from ++ flat_map share_line left.last.items → count ≡ left.told + length left.last.items
     → OnOk result (to ≡ between ++ end_line count) → OnOk result (TellsRest left from to)
 rest_on left from between to count (Ok x) lines counted put = rest_told left from between to count lines counted put
@@ -437,7 +437,7 @@ text_stays law further facts meter o left h there named settled void =
 
 -- After a chunk, the rows still to be queried belong to the same meter as before. They start before
 -- the quarter hour of the meter's last entry.
-settled_on : (facts : List Fact) (left later : RowsLeft) (seconds : ℕ) → MovesOn left later seconds → IsSettled facts left → IsSettled facts later
+settled_on : (facts : List Fact) (left later : RemainingRows) (seconds : ℕ) → MovesOn left later seconds → IsSettled facts left → IsSettled facts later
 settled_on facts left later seconds moves settled = λ lt.
     let last : ℕ = last_quarter (option_and_then (meter_of facts) left.meter) in
     let same : last_quarter (option_and_then (meter_of facts) later.meter) ≡ last = ap (λ m. last_quarter (option_and_then (meter_of facts) m)) moves.meter in
@@ -449,19 +449,19 @@ settled_on facts left later seconds moves settled = λ lt.
     omega (arith, upto, same, moves.till)
 
 -- The state of a streamed response after some chunks.
-record Goes (facts : List Fact) (meter : List ℕ) (left later : RowsLeft) (before after : List ℕ) : Type 0 where
+record Goes (facts : List Fact) (meter : List ℕ) (left later : RemainingRows) (before after : List ℕ) : Type 0 where
   named : later.meter ≡ Some meter
   settled : IsSettled facts later
   told : after ++ text_left facts later ≡ before ++ text_left facts left
 
-goes : SharesAddUp → (facts : List Fact) (meter : List ℕ) (o : Opening) (left : RowsLeft) (text : List ℕ) (pieces : List Piece)
+goes : SharesAddUp → (facts : List Fact) (meter : List ℕ) (o : Opening) (left : RemainingRows) (text : List ℕ) (pieces : List Piece)
     → opening_of facts meter ≡ Some o → left.meter ≡ Some meter → IsSettled facts left → ArePieces facts meter o left text pieces
     → Goes facts meter left (left_after left pieces) text (text_after text pieces)
 goes law facts meter o left text [] there named settled are = record { named = named; settled = settled; told = refl }
 goes law facts meter o left text (piece ∷ earlier) there named settled are =
     let before = goes law facts meter o left text earlier there named settled are.1 in
     let one = are.0 in
-    let at : RowsLeft = left_after left earlier in
+    let at : RemainingRows = left_after left earlier in
     let same : piece.later.meter ≡ Some meter = one.moves.meter ∙ before.named in
     let on : IsSettled facts piece.later = settled_on facts at piece.later one.seconds one.moves before.settled in
     let now : text_left (piece.further ++ facts) at ≡ text_left facts at =
@@ -475,5 +475,5 @@ goes law facts meter o left text (piece ∷ earlier) there named settled are =
           ap (λ t. piece.text ++ t) (sym later) ∙ one.tells ∙ ap (λ t. text_after text earlier ++ t) now ∙ before.told;
     }
 
-pub pieces_are_whole : SharesAddUp → PiecesAreWhole
-pieces_are_whole law facts meter o left text pieces there named settled are = (goes law facts meter o left text pieces there named settled are).told
+pub chunks_form_response : SharesAddUp → PiecesAreWhole
+chunks_form_response law facts meter o left text pieces there named settled are = (goes law facts meter o left text pieces there named settled are).told

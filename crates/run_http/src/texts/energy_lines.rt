@@ -4,39 +4,39 @@ ghost use Rattle.std.specs.Fmt.{digit_glyph};
 ghost use Rattle.sun_points.specs.Decimal.{low_digits, magnitude_text};
 ghost use Rattle.run_http.specs.Texts.EnergyLines as energy;
 
-use crate::texts::families::{MetricKind, put_family, put_next_family};
+use crate::texts::families::{MetricKind, write_family, write_next_family};
 use office_core::SiteRow;
 use office_events::{Installation, Name};
-use run_status::{put, put_number};
+use run_status::{append_bytes, write_number};
 use std::alloc::AllocError;
 
 // Appends a byte of a Prometheus label's value, escaped if necessary.
-fn put_label_byte(text: &mut Vec<u8>, byte: u8) -> Result<(), AllocError>
+fn write_label_byte(text: &mut Vec<u8>, byte: u8) -> Result<(), AllocError>
     ensures { OnOk result (text.new.items ≡ text.old.items ++ energy.label_byte byte) }
 {
     match byte {
-        b'\\' => put(text, b"\\\\"),
-        b'"' => put(text, b"\\\""),
-        b'\n' => put(text, b"\\n"),
-        _ => put(text, &[byte]),
+        b'\\' => append_bytes(text, b"\\\\"),
+        b'"' => append_bytes(text, b"\\\""),
+        b'\n' => append_bytes(text, b"\\n"),
+        _ => append_bytes(text, &[byte]),
     }
 }
 
 // Appends to a text the bytes `before` and the value of a Prometheus label.
-fn put_label(text: &mut Vec<u8>, before: &[u8], value: &Name) -> Result<(), AllocError>
+fn write_label(text: &mut Vec<u8>, before: &[u8], value: &Name) -> Result<(), AllocError>
     ensures { OnOk result (text.new.items
         ≡ energy.with_label text.old.items before.now value.now) }
 {
-    put(text, before)?;
+    append_bytes(text, before)?;
     for &byte in value.as_bytes() {
-        put_label_byte(text, byte)?;
+        write_label_byte(text, byte)?;
     }
     Ok(())
 }
 
 // Appends to a text the bytes `before` and the three labels of a meter's metric: meter, register
 // and device.
-fn put_labels(
+fn write_labels(
     text: &mut Vec<u8>,
     before: &[u8],
     row: &SiteRow,
@@ -45,9 +45,9 @@ fn put_labels(
     ensures { OnOk result (text.new.items
         ≡ energy.with_labels text.old.items before.now row.now meter.now) }
 {
-    put_label(text, before, &meter.opening.meter)?;
-    put_label(text, b"\",register=\"", &row.register.name)?;
-    put_label(text, b"\",device=\"", &row.register.device)
+    write_label(text, before, &meter.opening.meter)?;
+    write_label(text, b"\",register=\"", &row.register.name)?;
+    write_label(text, b"\",device=\"", &row.register.device)
 }
 
 fn last_digit(number: u64) -> u8
@@ -68,99 +68,99 @@ fn last_digits(number: u64) -> [u8; 3]
 }
 
 // Appends to a text the bytes `before`, and a number divided by 1,000 with three decimals.
-fn put_thousandth(text: &mut Vec<u8>, before: &[u8], number: u64) -> Result<(), AllocError>
+fn write_thousandth(text: &mut Vec<u8>, before: &[u8], number: u64) -> Result<(), AllocError>
     ensures { OnOk result (text.new.items
         ≡ text.old.items ++ before.now ++ magnitude_text number (negsuc 2)) }
 {
-    put_number(text, before, number / 1000)?;
-    put(text, b".")?;
-    put(text, &last_digits(number))
+    write_number(text, before, number / 1000)?;
+    append_bytes(text, b".")?;
+    append_bytes(text, &last_digits(number))
 }
 
-fn put_energy(text: &mut Vec<u8>, row: &SiteRow, meter: &Installation) -> Result<(), AllocError>
+fn write_energy(text: &mut Vec<u8>, row: &SiteRow, meter: &Installation) -> Result<(), AllocError>
     ensures { OnOk result (text.new.items
         ≡ energy.with_energy text.old.items row.now meter.now) }
 {
-    put_labels(
+    write_labels(
         text,
         b"\nsunreg_energy_watthours_total{meter=\"",
         row,
         meter,
     )?;
-    put_thousandth(text, b"\"} ", meter.total)
+    write_thousandth(text, b"\"} ", meter.total)
 }
 
-fn put_entry(text: &mut Vec<u8>, row: &SiteRow, meter: &Installation) -> Result<(), AllocError>
+fn write_entry(text: &mut Vec<u8>, row: &SiteRow, meter: &Installation) -> Result<(), AllocError>
     ensures { OnOk result (text.new.items ≡ energy.with_entry text.old.items row.now meter.now) }
 {
-    put_labels(
+    write_labels(
         text,
         b"\nsunreg_last_entry_timestamp_seconds{meter=\"",
         row,
         meter,
     )?;
-    put_number(text, b"\"} ", meter.last.at)
+    write_number(text, b"\"} ", meter.last.at)
 }
 
 // Appends the energy metric of the meter at an accounting register, if the meter is open.
-fn put_energy_of(text: &mut Vec<u8>, row: &SiteRow) -> Result<(), AllocError>
+fn write_energy_of(text: &mut Vec<u8>, row: &SiteRow) -> Result<(), AllocError>
     ensures { OnOk result (text.new.items
         ≡ energy.with_energy_of text.old.items row.now row.now.meter) }
 {
     match &row.meter {
-        Some(meter) if !meter.ended => put_energy(text, row, meter),
+        Some(meter) if !meter.ended => write_energy(text, row, meter),
         _ => Ok(()),
     }
 }
 
 // Appends the metric with the time of the last entry of the meter at an accounting register, if the
 // meter is open.
-fn put_entry_of(text: &mut Vec<u8>, row: &SiteRow) -> Result<(), AllocError>
+fn write_entry_of(text: &mut Vec<u8>, row: &SiteRow) -> Result<(), AllocError>
     ensures { OnOk result (text.new.items
         ≡ energy.with_entry_of text.old.items row.now row.now.meter) }
 {
     match &row.meter {
-        Some(meter) if !meter.ended => put_entry(text, row, meter),
+        Some(meter) if !meter.ended => write_entry(text, row, meter),
         _ => Ok(()),
     }
 }
 
-fn put_energies(text: &mut Vec<u8>, rows: &[SiteRow]) -> Result<(), AllocError>
+fn write_energies(text: &mut Vec<u8>, rows: &[SiteRow]) -> Result<(), AllocError>
     ensures { OnOk result (text.new.items ≡ energy.with_energies text.old.items rows.now) }
 {
     for row in rows {
-        put_energy_of(text, row)?;
+        write_energy_of(text, row)?;
     }
     Ok(())
 }
 
-fn put_entries(text: &mut Vec<u8>, rows: &[SiteRow]) -> Result<(), AllocError>
+fn write_entries(text: &mut Vec<u8>, rows: &[SiteRow]) -> Result<(), AllocError>
     ensures { OnOk result (text.new.items ≡ energy.with_entries text.old.items rows.now) }
 {
     for row in rows {
-        put_entry_of(text, row)?;
+        write_entry_of(text, row)?;
     }
     Ok(())
 }
 
 /// Appends the energy metrics of the open meters, and the time of each meter's last entry. If
 /// memory runs out, a part of the text remains.
-pub(crate) fn put_meters(text: &mut Vec<u8>, rows: &[SiteRow]) -> Result<(), AllocError>
+pub(crate) fn write_meters(text: &mut Vec<u8>, rows: &[SiteRow]) -> Result<(), AllocError>
     ensures { OnOk result (text.new.items ≡ energy.with_meters text.old.items rows.now) }
 {
-    put_family(
+    write_family(
         text,
         b"sunreg_energy_watthours_total",
         b"Energy of a meter that is open.",
         MetricKind::Counter,
     )?;
-    put_energies(text, rows)?;
-    put_next_family(
+    write_energies(text, rows)?;
+    write_next_family(
         text,
         b"sunreg_last_entry_timestamp_seconds",
         b"Moment of the last entry of a meter.",
         MetricKind::Gauge,
     )?;
-    put_entries(text, rows)?;
-    put(text, b"\n")
+    write_entries(text, rows)?;
+    append_bytes(text, b"\n")
 }

@@ -2,7 +2,7 @@
 ghost use Rattle.std.specs.Prelude.{◌≡◌, ◌++◌, OnOk, codes};
 ghost use Rattle.run_http.specs.Texts.Families as families;
 
-use run_status::{put, put_word};
+use run_status::{append_bytes, write_word};
 use std::alloc::AllocError;
 
 /// The type of a Prometheus metric.
@@ -24,7 +24,7 @@ fn kind_word(kind: MetricKind) -> &'static [u8]
 }
 
 /// Appends the `HELP` and `TYPE` lines of a metric.
-pub(crate) fn put_family(
+pub(crate) fn write_family(
     text: &mut Vec<u8>,
     name: &[u8],
     help: &[u8],
@@ -33,14 +33,14 @@ pub(crate) fn put_family(
     ensures { OnOk result (text.new.items
         ≡ text.old.items ++ families.family_text name.now help.now kind) }
 {
-    put_word(text, b"# HELP ", name)?;
-    put_word(text, b" ", help)?;
-    put_word(text, b"\n# TYPE ", name)?;
-    put_word(text, b" ", kind_word(kind))
+    write_word(text, b"# HELP ", name)?;
+    write_word(text, b" ", help)?;
+    write_word(text, b"\n# TYPE ", name)?;
+    write_word(text, b" ", kind_word(kind))
 }
 
 /// Appends a line feed, and the `HELP` and `TYPE` lines of the next metric.
-pub(crate) fn put_next_family(
+pub(crate) fn write_next_family(
     text: &mut Vec<u8>,
     name: &[u8],
     help: &[u8],
@@ -49,6 +49,6 @@ pub(crate) fn put_next_family(
     ensures { OnOk result (text.new.items
         ≡ text.old.items ++ codes "\n" ++ families.family_text name.now help.now kind) }
 {
-    put(text, b"\n")?;
-    put_family(text, name, help, kind)
+    append_bytes(text, b"\n")?;
+    write_family(text, name, help, kind)
 }

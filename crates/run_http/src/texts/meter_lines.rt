@@ -8,67 +8,67 @@ use energy_core::{Entry, Last};
 use interval_core::Share;
 use meter_journal::{EntryKind, EntryRow};
 use office_books::MeterEntry;
-use run_status::{put, put_number, put_scale};
+use run_status::{append_bytes, write_number, write_scale};
 use std::alloc::AllocError;
 
 /// Appends the last line of a report, with the number of rows.
-pub(crate) fn put_end(text: &mut Vec<u8>, count: usize) -> Result<(), AllocError>
+pub(crate) fn append_end(text: &mut Vec<u8>, count: usize) -> Result<(), AllocError>
     ensures { OnOk result (text.new.items ≡ text.old.items ++ end_line count) }
 {
-    put_number(text, b"end ", count as u64)?;
-    put(text, b"\n")
+    write_number(text, b"end ", count as u64)?;
+    append_bytes(text, b"\n")
 }
 
 /// Appends the line of a quarter hour: its start in seconds since 1970-01-01 UTC, and its energy in
 /// mWh.
-pub(crate) fn put_share(text: &mut Vec<u8>, row: &Share) -> Result<(), AllocError>
+pub(crate) fn write_share(text: &mut Vec<u8>, row: &Share) -> Result<(), AllocError>
     ensures { OnOk result (text.new.items ≡ text.old.items ++ share_line row.now) }
 {
-    put_number(text, b"", row.start)?;
-    put_number(text, b" ", row.mwh)?;
-    put(text, b"\n")
+    write_number(text, b"", row.start)?;
+    write_number(text, b" ", row.mwh)?;
+    append_bytes(text, b"\n")
 }
 
 /// Appends a line for each quarter hour.
-pub(crate) fn put_share_lines(text: &mut Vec<u8>, rows: &[Share]) -> Result<(), AllocError>
+pub(crate) fn write_share_lines(text: &mut Vec<u8>, rows: &[Share]) -> Result<(), AllocError>
     ensures { OnOk result (text.new.items ≡ text.old.items ++ flat_map share_line rows.now) }
 {
     for row in rows {
-        put_share(text, row)?;
+        write_share(text, row)?;
     }
     Ok(())
 }
 
 /// Appends a line for each quarter hour of a meter, and a last line with their number. If memory
 /// runs out, a part of the text remains.
-pub fn put_shares(text: &mut Vec<u8>, rows: &[Share]) -> Result<(), AllocError>
+pub fn write_shares(text: &mut Vec<u8>, rows: &[Share]) -> Result<(), AllocError>
     ensures { OnOk result (text.new.items ≡ text.old.items ++ intervals_text rows.now) }
 {
-    put_share_lines(text, rows)?;
-    put_end(text, rows.len())
+    write_share_lines(text, rows)?;
+    append_end(text, rows.len())
 }
 
-fn put_kind(text: &mut Vec<u8>, kind: EntryKind) -> Result<(), AllocError>
+fn write_kind(text: &mut Vec<u8>, kind: EntryKind) -> Result<(), AllocError>
     ensures { OnOk result (text.new.items ≡ text.old.items ++ lines.kind_word kind) }
 {
     match kind {
-        EntryKind::Reading => put(text, b" reading "),
-        EntryKind::Manual => put(text, b" manual "),
-        EntryKind::Closing => put(text, b" closing "),
-        EntryKind::Reset => put(text, b" reset "),
-        EntryKind::Rescale => put(text, b" rescale "),
+        EntryKind::Reading => append_bytes(text, b" reading "),
+        EntryKind::Manual => append_bytes(text, b" manual "),
+        EntryKind::Closing => append_bytes(text, b" closing "),
+        EntryKind::Reset => append_bytes(text, b" reset "),
+        EntryKind::Rescale => append_bytes(text, b" rescale "),
     }
 }
 
-fn put_numbers(text: &mut Vec<u8>, entry: &Entry) -> Result<(), AllocError>
+fn append_numbers(text: &mut Vec<u8>, entry: &Entry) -> Result<(), AllocError>
     ensures { OnOk result (text.new.items ≡ text.old.items ++ lines.numbers_text entry.now) }
 {
     match *entry {
         Entry::Step { at, raw, rolls } => {
-            put_number(text, b"", at)?;
-            put_number(text, b" ", u64::from(raw))?;
-            put_number(text, b" ", u64::from(rolls))?;
-            put(text, b" 0")
+            write_number(text, b"", at)?;
+            write_number(text, b" ", u64::from(raw))?;
+            write_number(text, b" ", u64::from(rolls))?;
+            append_bytes(text, b" 0")
         }
         Entry::Change {
             at,
@@ -76,69 +76,69 @@ fn put_numbers(text: &mut Vec<u8>, entry: &Entry) -> Result<(), AllocError>
             after,
             sf: _,
         } => {
-            put_number(text, b"", at)?;
-            put_number(text, b" ", u64::from(before))?;
-            put_number(text, b" 0 ", u64::from(after))
+            write_number(text, b"", at)?;
+            write_number(text, b" ", u64::from(before))?;
+            write_number(text, b" 0 ", u64::from(after))
         }
     }
 }
 
 // Appends the word that says whether a meter entry is valid (`stands`) or voided.
-fn put_standing(text: &mut Vec<u8>, stands: bool) -> Result<(), AllocError>
+fn write_standing(text: &mut Vec<u8>, stands: bool) -> Result<(), AllocError>
     ensures { OnOk result (text.new.items ≡ text.old.items ++ lines.standing_word stands) }
 {
     if stands {
-        put(text, b" stands\n")
+        append_bytes(text, b" stands\n")
     } else {
-        put(text, b" void\n")
+        append_bytes(text, b" void\n")
     }
 }
 
-fn put_opening(text: &mut Vec<u8>, last: &Last) -> Result<(), AllocError>
+fn write_opening(text: &mut Vec<u8>, last: &Last) -> Result<(), AllocError>
     ensures { OnOk result (text.new.items ≡ text.old.items ++ lines.opening_line last.now) }
 {
-    put_number(text, b"1 opening ", last.at)?;
-    put_number(text, b" ", u64::from(last.raw))?;
-    put_scale(text, b" 0 0 ", last.sf)?;
-    put(text, b" stands\n")
+    write_number(text, b"1 opening ", last.at)?;
+    write_number(text, b" ", u64::from(last.raw))?;
+    write_scale(text, b" 0 0 ", last.sf)?;
+    append_bytes(text, b" stands\n")
 }
 
-fn put_later(text: &mut Vec<u8>, row: &EntryRow, sf: i16) -> Result<(), AllocError>
+fn write_later(text: &mut Vec<u8>, row: &EntryRow, sf: i16) -> Result<(), AllocError>
     ensures { OnOk result (text.new.items ≡ text.old.items ++ lines.later_line row.now sf) }
 {
-    put_number(text, b"", row.place)?;
-    put_kind(text, row.kind)?;
-    put_numbers(text, &row.entry)?;
-    put_scale(text, b" ", sf)?;
-    put_standing(text, row.stands)
+    write_number(text, b"", row.place)?;
+    write_kind(text, row.kind)?;
+    append_numbers(text, &row.entry)?;
+    write_scale(text, b" ", sf)?;
+    write_standing(text, row.stands)
 }
 
-fn put_entry(text: &mut Vec<u8>, entry: &MeterEntry) -> Result<(), AllocError>
+fn write_entry(text: &mut Vec<u8>, entry: &MeterEntry) -> Result<(), AllocError>
     ensures { OnOk result (text.new.items ≡ text.old.items ++ lines.entry_line entry.now) }
 {
     match entry {
-        MeterEntry::Opening(last) => put_opening(text, last),
-        MeterEntry::Later { row, sf } => put_later(text, row, *sf),
+        MeterEntry::Opening(last) => write_opening(text, last),
+        MeterEntry::Later { row, sf } => write_later(text, row, *sf),
     }
 }
 
-fn put_entry_lines(text: &mut Vec<u8>, entries: &[MeterEntry]) -> Result<(), AllocError>
+fn write_entry_lines(text: &mut Vec<u8>, entries: &[MeterEntry]) -> Result<(), AllocError>
     ensures { OnOk result (text.new.items
         ≡ text.old.items ++ flat_map lines.entry_line entries.now) }
 {
     for entry in entries {
-        put_entry(text, entry)?;
+        write_entry(text, entry)?;
     }
     Ok(())
 }
 
 /// Appends a line for each entry of a meter, and a last line with their number. If memory runs out,
 /// a part of the text remains.
-pub fn put_entries(text: &mut Vec<u8>, entries: &[MeterEntry]) -> Result<(), AllocError>
+pub fn write_entries(text: &mut Vec<u8>, entries: &[MeterEntry]) -> Result<(), AllocError>
     ensures { OnOk result (text.new.items ≡ text.old.items ++ lines.entries_text entries.now) }
 {
-    put_entry_lines(text, entries)?;
-    put_end(text, entries.len())
+    write_entry_lines(text, entries)?;
+    append_end(text, entries.len())
 }
 
 // ---- The text lines of voided entries.
@@ -153,33 +153,33 @@ fn moment(entry: &Entry) -> u64
 }
 
 // Appends the line of a voided meter entry other than the opening entry.
-fn put_voided_row(text: &mut Vec<u8>, row: &EntryRow) -> Result<(), AllocError>
+fn write_voided_row(text: &mut Vec<u8>, row: &EntryRow) -> Result<(), AllocError>
     ensures { OnOk result (text.new.items ≡ text.old.items ++ lines.void_row_line row.now) }
 {
-    put_number(text, b"", row.place)?;
-    put_kind(text, row.kind)?;
-    put_number(text, b"", moment(&row.entry))?;
-    put(text, b"\n")
+    write_number(text, b"", row.place)?;
+    write_kind(text, row.kind)?;
+    write_number(text, b"", moment(&row.entry))?;
+    append_bytes(text, b"\n")
 }
 
-fn put_void(text: &mut Vec<u8>, entry: &MeterEntry) -> Result<(), AllocError>
+fn write_void(text: &mut Vec<u8>, entry: &MeterEntry) -> Result<(), AllocError>
     ensures { OnOk result (text.new.items ≡ text.old.items ++ lines.void_line entry.now) }
 {
     match entry {
         MeterEntry::Opening(last) => {
-            put_number(text, b"1 opening ", last.at)?;
-            put(text, b"\n")
+            write_number(text, b"1 opening ", last.at)?;
+            append_bytes(text, b"\n")
         }
-        MeterEntry::Later { row, .. } => put_voided_row(text, row),
+        MeterEntry::Later { row, .. } => write_voided_row(text, row),
     }
 }
 
-fn put_void_lines(text: &mut Vec<u8>, entries: &[MeterEntry]) -> Result<(), AllocError>
+fn write_void_lines(text: &mut Vec<u8>, entries: &[MeterEntry]) -> Result<(), AllocError>
     ensures { OnOk result (text.new.items
         ≡ text.old.items ++ flat_map lines.void_line entries.now) }
 {
     for entry in entries {
-        put_void(text, entry)?;
+        write_void(text, entry)?;
     }
     Ok(())
 }
@@ -187,9 +187,9 @@ fn put_void_lines(text: &mut Vec<u8>, entries: &[MeterEntry]) -> Result<(), Allo
 /// Appends a line for each voided entry of a meter, and a last line with their number. The line of
 /// an entry has its sequence number, its kind and its time. If memory runs out, a part of the text
 /// remains.
-pub fn put_voids(text: &mut Vec<u8>, entries: &[MeterEntry]) -> Result<(), AllocError>
+pub fn write_voids(text: &mut Vec<u8>, entries: &[MeterEntry]) -> Result<(), AllocError>
     ensures { OnOk result (text.new.items ≡ text.old.items ++ lines.voids_text entries.now) }
 {
-    put_void_lines(text, entries)?;
-    put_end(text, entries.len())
+    write_void_lines(text, entries)?;
+    append_end(text, entries.len())
 }

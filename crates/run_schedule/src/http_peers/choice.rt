@@ -44,7 +44,7 @@ fn first_free(places: &[Place]) -> Option<usize>
 
 /// Returns the slot for a new HTTP connection: the first free slot, otherwise the slot of the idle
 /// connection with the earliest deadline. Returns `None` if all connections wait for a response.
-pub fn place_for(places: &[Place]) -> Option<usize>
+pub fn choose_slot(places: &[Place]) -> Option<usize>
     ensures { IsChosen places.now result }
 {
     match first_free(places) {

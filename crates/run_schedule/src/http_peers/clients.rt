@@ -3,7 +3,7 @@
 ghost use Rattle.std.specs.Prelude.{◌≡◌, ◌+◌, ◌<◌, ◌≤◌};
 ghost use Rattle.run_schedule.specs.HttpPeers.Clients as clients;
 
-use crate::http_peers::peers::MOST_PEERS;
+use crate::http_peers::peers::MOST_CLIENTS;
 
 /// The number of spare file descriptors. A new connection has a descriptor before it replaces
 /// another connection, and the descriptor of a closed connection may stay open for a short time.
@@ -19,7 +19,7 @@ const OPEN: usize = 12;
 pub fn wanted_descriptors(devices: usize) -> usize
     ensures { result ≡ clients.wanted_descriptors devices }
 {
-    devices.saturating_add(MOST_PEERS + SPARE)
+    devices.saturating_add(MOST_CLIENTS + SPARE)
 }
 
 /// Returns the limit on open file descriptors that lets `sunreg run` with this many devices use all
@@ -27,7 +27,7 @@ pub fn wanted_descriptors(devices: usize) -> usize
 pub fn needed_limit(devices: usize) -> usize
     ensures { result ≡ clients.needed_limit devices }
 {
-    devices.saturating_add(MOST_PEERS + SPARE + OPEN)
+    devices.saturating_add(MOST_CLIENTS + SPARE + OPEN)
 }
 
 /// Returns how many HTTP clients the server accepts at the same time with this many file
@@ -39,5 +39,5 @@ pub fn clients_for(descriptors: usize, devices: usize) -> usize
     descriptors
         .saturating_sub(devices)
         .saturating_sub(SPARE)
-        .min(MOST_PEERS)
+        .min(MOST_CLIENTS)
 }

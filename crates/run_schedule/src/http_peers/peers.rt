@@ -1,9 +1,9 @@
 //! The slots of all HTTP connections.
-use crate::http_peers::choice::place_for;
+use crate::http_peers::choice::choose_slot;
 use crate::http_peers::place::Place;
 
 /// The most HTTP connections that are open at the same time.
-pub const MOST_PEERS: usize = 64;
+pub const MOST_CLIENTS: usize = 64;
 
 /// The slot that a new HTTP connection got.
 #[derive(Clone, Copy, Debug, PartialEq, Eq)]
@@ -38,8 +38,8 @@ impl Peers {
     pub fn admit(&mut self, now: u64, seconds: u64) -> Option<Admission>
         ensures { Admits (min (now + seconds) (2 ^ 64 - 1)) self.old.places self.new.places result }
     {
-        let place = place_for(&self.places)?;
-        if place >= MOST_PEERS {
+        let place = choose_slot(&self.places)?;
+        if place >= MOST_CLIENTS {
             return None;
         }
         let drops = !self.places[place].is_free();
@@ -57,7 +57,7 @@ impl Peers {
 
     /// Records that the client in a slot got its response. The connection becomes idle with the
     /// deadline `until`, and a new connection may replace it.
-    pub fn linger(&mut self, place: usize, until: u64)
+    pub fn set_idle(&mut self, place: usize, until: u64)
         requires { place < 64 }
         ensures { self.new.places ≡ slice_set self.old.places place (Place.Silent until) }
     {
@@ -65,7 +65,7 @@ impl Peers {
     }
 
     /// Frees the slot of a connection that has ended.
-    pub fn end(&mut self, place: usize)
+    pub fn free_slot(&mut self, place: usize)
         requires { place < 64 }
         ensures { self.new.places ≡ slice_set self.old.places place Place.Free }
     {

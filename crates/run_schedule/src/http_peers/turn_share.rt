@@ -3,7 +3,7 @@ ghost use Rattle.std.specs.Prelude.{◌≡◌, ◌<◌, ℕ, List};
 ghost use Rattle.run_schedule.specs.HttpPeers.TurnShares as shares;
 ghost use Rattle.run_schedule.specs.HttpPeers.TurnShares.{AreFew, MayReply};
 
-use crate::http_peers::peers::MOST_PEERS;
+use crate::http_peers::peers::MOST_CLIENTS;
 
 /// The limit in bytes for the responses of one iteration of the main loop. Further requests wait
 /// for the next iteration. The rows of a meter over two years are 1.8 MB and take 50 to 100 ms, so
@@ -29,7 +29,7 @@ impl TurnShare {
         ensures { result ≡ shares.whole }
     {
         TurnShare {
-            requests: MOST_PEERS,
+            requests: MOST_CLIENTS,
             bytes: MOST_BYTES,
             milliseconds: MOST_MILLISECONDS,
         }
@@ -68,7 +68,7 @@ pub fn place_at(first: usize, step: usize) -> usize
     ensures place { result < 64 }
     ensures round { first < 64 → step < 64 → result ≡ shares.place_at first step }
 {
-    first.saturating_add(step) % MOST_PEERS
+    first.saturating_add(step) % MOST_CLIENTS
 }
 
 /// Theorem: each iteration of the main loop reaches every client slot. If the next iteration begins

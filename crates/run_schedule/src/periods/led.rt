@@ -65,7 +65,7 @@ fn rank(length: Period, text: &[u8]) -> u32
 
 // Returns the period in a file name. The period has the configured length, or the alternative
 // length (`other_length`).
-fn told_by<'a>(file: &[u8], length: Period, name: &'a [u8]) -> Option<&'a [u8]>
+fn name_by_length<'a>(file: &[u8], length: Period, name: &'a [u8]) -> Option<&'a [u8]>
     ensures { IsToldBy file.now length name.now result }
 {
     match period_of_file(file, length, name) {
@@ -83,19 +83,19 @@ fn is_before(length: Period, text: &[u8], other: &[u8]) -> bool
 /// The period of the current file among the file names seen so far, such as `2026-11` or `2026`.
 /// `None` if no name so far has a period.
 #[derive(Drop)]
-pub struct LedPeriod {
+pub struct ActivePeriod {
     pub text: Option<Vec<u8>>,
 }
 
-impl LedPeriod {
+impl ActivePeriod {
     ghost use Rattle.std.specs.Prelude.{◌≡◌, [], OnOk, OnErr, None};
     ghost use Rattle.run_schedule.specs.Periods.Led.{SeesOneMore};
 
     /// Makes the value before any file name was seen.
-    pub fn none() -> LedPeriod
+    pub fn none() -> ActivePeriod
         ensures { result.text ≡ None }
     {
-        LedPeriod { text: None }
+        ActivePeriod { text: None }
     }
 
     // Returns whether the file of the period `text` outranks the current file among the names so
@@ -124,7 +124,7 @@ impl LedPeriod {
             (SeesOneMore file.now length name.now self.old.text self.new.text) }
         ensures unseen { OnErr result (self.new ≡ self.old) }
     {
-        match told_by(file, length, name) {
+        match name_by_length(file, length, name) {
             None => Ok(()),
             Some(text) => {
                 if !self.gives_way_to(length, text) {

@@ -37,7 +37,7 @@ impl OnwardTime {
     }
 
     /// Makes the latest reported time the lower bound for the next run of the polling loop.
-    pub fn go_on(&mut self)
+    pub fn advance_least(&mut self)
         ensures { self.new ≡ record { least = self.old.latest; latest = self.old.latest } }
     {
         self.least = self.latest;

@@ -78,7 +78,7 @@ impl Timing {
     }
 
     /// Records that the connection attempt succeeded, so that the polling round begins.
-    pub fn stand(&mut self, every: u64, now: u64)
+    pub fn begin_round(&mut self, every: u64, now: u64)
         ensures { self.new ≡ timings.stands every now }
     {
         self.phase = Phase::Polling;

@@ -10,10 +10,10 @@ use Rattle.run_status.specs.Monitor.Output.{IsPut, IsSentTo, kept, sent_in, sent
 
 -- After the frames of an event are queued, the queue has all these frames, or none of them if
 -- memory ran out.
-pub put_or_not : (e : Event) (frames old left new : List ℕ) (done : Bool) → left ≡ kept e old
+pub write_or_not : (e : Event) (frames old left new : List ℕ) (done : Bool) → left ≡ kept e old
     → new ≡ cond done (left ++ frames) left → IsPut e frames old new
-put_or_not e frames old left new true was is = inl (is ∙ ap (λ xs. xs ++ frames) was)
-put_or_not e frames old left new false was is = inr (is ∙ was ∙ sym (append-nil (kept e old)))
+write_or_not e frames old left new true was is = inl (is ∙ ap (λ xs. xs ++ frames) was)
+write_or_not e frames old left new false was is = inr (is ∙ was ∙ sym (append-nil (kept e old)))
 
 -- The element at an index of a mapped list is the mapped element at that index.
 pub seen_at : {X : Type 0} (f : X → List ℕ) (xs : List X) (place : ℕ) (d : X) → place < length xs

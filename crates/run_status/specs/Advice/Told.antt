@@ -1,7 +1,7 @@
 -- The last reported number of each device and meter, so that no message repeats.
 use Rattle.std.specs.Prelude.{◌≡◌, ◌==◌, ℕ, Bool, true, false, ◌&&◌, List, [], ◌∷◌, ◌++◌, position, slice_get, slice_set, Option, Some, None, if◌then◌else◌}
 use Rattle.std.specs.Str.{bytes_eq}
-use Rattle.run_status.specs.declared.advice.told.ToldNumber.{ToldNumber}
+use Rattle.run_status.specs.declared.advice.told.ReportedNumber.{ReportedNumber}
 use Rattle.run_status.specs.declared.advice.told.Topic.{Topic}
 use Rattle.run_status.specs.declared.advice.told.Topic.TheVariants.{Connection, Round, Meter}
 
@@ -12,7 +12,7 @@ topic_number Round = 2
 topic_number Meter = 3
 
 -- The entry of a number that was reported about a device or meter.
-abbrev pub told_number : Topic → (name : Option (List ℕ)) → (number : ℕ) → ToldNumber
+abbrev pub told_number : Topic → (name : Option (List ℕ)) → (number : ℕ) → ReportedNumber
 told_number topic name number = record { topic = topic; name = name; number = number }
 
 -- True if two optional names are equal. Two missing names are also equal.
@@ -23,65 +23,65 @@ is_same_name (Some a) None = false
 is_same_name (Some a) (Some b) = bytes_eq a b
 
 -- True if the two entries have the same topic and the same device or meter.
-abbrev pub are_of_same : ToldNumber → ToldNumber → Bool
+abbrev pub are_of_same : ReportedNumber → ReportedNumber → Bool
 are_of_same a b = (topic_number a.topic == topic_number b.topic) && is_same_name a.name b.name
 
 -- The index of the entry with the same topic and the same device or meter as `told`.
-abbrev pub place_of : ToldNumber → List ToldNumber → Option ℕ
+abbrev pub place_of : ReportedNumber → List ReportedNumber → Option ℕ
 place_of told numbers = position (λ one. are_of_same one told) numbers
 
 -- True if the number differs from the last reported number. False if no number was reported before.
-abbrev pub is_other : Option ToldNumber → (number : ℕ) → Bool
+abbrev pub is_other : Option ReportedNumber → (number : ℕ) → Bool
 is_other None number = false
 is_other (Some before) number = if before.number == number then false else true
 
 -- The list with the new number at the index `place` if `other` is true, otherwise the unchanged
 -- list.
-abbrev pub changed_to : (other : Bool) → (place : ℕ) → ToldNumber → List ToldNumber
-    → List ToldNumber
+abbrev pub changed_to : (other : Bool) → (place : ℕ) → ReportedNumber → List ReportedNumber
+    → List ReportedNumber
 changed_to true place told numbers = slice_set numbers place told
 changed_to false place told numbers = numbers
 
 -- The entry at the index `place` gets the new number. `is_told` is true if the number differs and
 -- must be reported.
-abbrev pub Changes : (place : ℕ) → ToldNumber → (old new : List ToldNumber) → (is_told : Bool)
+abbrev pub Changes : (place : ℕ) → ReportedNumber → (old new : List ReportedNumber) → (is_told : Bool)
     → Type 0
 Changes place told old new is_told =
     (is_told ≡ is_other (slice_get old place) told.number)
     × (new ≡ changed_to is_told place told old)
 
 -- The list with a further reported number if `room` is true, otherwise the unchanged list.
-abbrev pub pushed : (room : Bool) → ToldNumber → List ToldNumber → List ToldNumber
+abbrev pub pushed : (room : Bool) → ReportedNumber → List ReportedNumber → List ReportedNumber
 pushed true told numbers = numbers ++ told ∷ []
 pushed false told numbers = numbers
 
 -- If the list has room, then an entry is added to the list. `is_told` is true if the entry was
 -- added, and its number must be reported.
-abbrev pub Adds : ToldNumber → (old new : List ToldNumber) → (is_told : Bool) → Type 0
+abbrev pub Adds : ReportedNumber → (old new : List ReportedNumber) → (is_told : Bool) → Type 0
 Adds told old new is_told = new ≡ pushed is_told told old
 
 -- The entry at the index gets the new number. Without an index, an entry with that number is added
 -- to the list.
-abbrev pub TellsNumberAt : (place : Option ℕ) → ToldNumber → (old new : List ToldNumber)
+abbrev pub TellsNumberAt : (place : Option ℕ) → ReportedNumber → (old new : List ReportedNumber)
     → (is_told : Bool) → Type 0
 TellsNumberAt None told old new is_told = Adds told old new is_told
 TellsNumberAt (Some place) told old new is_told = Changes place told old new is_told
 
 -- `is_told` is true if a number about a device or meter must be reported. Then the last number on
 -- the same topic was different or missing.
-abbrev pub TellsNumber : ToldNumber → (old new : List ToldNumber) → (is_told : Bool) → Type 0
+abbrev pub TellsNumber : ReportedNumber → (old new : List ReportedNumber) → (is_told : Bool) → Type 0
 TellsNumber told old new is_told = TellsNumberAt (place_of told old) told old new is_told
 
 -- The entry of a device or meter about which no number was reported. Its number is 0.
-abbrev pub nothing_of : Topic → (name : Option (List ℕ)) → ToldNumber
+abbrev pub nothing_of : Topic → (name : Option (List ℕ)) → ReportedNumber
 nothing_of topic name = told_number topic name 0
 
 -- The entry at the index gets the number 0. Without an index, nothing changes.
-abbrev pub ForgetsAt : (place : Option ℕ) → ToldNumber → (old new : List ToldNumber) → Type 0
+abbrev pub ForgetsAt : (place : Option ℕ) → ReportedNumber → (old new : List ReportedNumber) → Type 0
 ForgetsAt None none old new = new ≡ old
 ForgetsAt (Some place) none old new = (changed : Bool) × Changes place none old new changed
 
 -- The entry with this topic and this device or meter, if there is one, gets the number 0.
-abbrev pub Forgets : Topic → (name : Option (List ℕ)) → (old new : List ToldNumber) → Type 0
+abbrev pub Forgets : Topic → (name : Option (List ℕ)) → (old new : List ReportedNumber) → Type 0
 Forgets topic name old new =
     ForgetsAt (place_of (nothing_of topic name) old) (nothing_of topic name) old new

@@ -3,19 +3,19 @@ ghost use Rattle.std.specs.Prelude.{◌≡◌, ◌≤◌, ◌-◌, ◌^◌, OnOk
 ghost use Rattle.run_status.specs.Advice.Sentences as sentences;
 
 use crate::advice::lacks::{DeviceLack, Lack};
-use crate::status::{put, put_number, put_word};
+use crate::status::{append_bytes, write_number, write_word};
 use energy_core::Cause;
 use office_events::{Command, Event, Name, Refusal, Register, ScaleSource};
 use printed_numbers::{Kind, Meaning, meaning_of};
 use std::alloc::AllocError;
 
 // Appends the device's name to a message, or `-` if the message concerns no single device.
-fn put_subject(text: &mut Vec<u8>, device: &Option<Name>) -> Result<(), AllocError>
+fn write_subject(text: &mut Vec<u8>, device: &Option<Name>) -> Result<(), AllocError>
     ensures { OnOk result (text.new.items ≡ sentences.with_subject device.now text.old.items) }
 {
     match device {
-        Some(name) => put_word(text, b"sunreg: ", name.as_bytes()),
-        None => put(text, b"sunreg: -"),
+        Some(name) => write_word(text, b"sunreg: ", name.as_bytes()),
+        None => append_bytes(text, b"sunreg: -"),
     }
 }
 
@@ -42,18 +42,18 @@ fn last_needed(register: &Register) -> u64
 }
 
 // Appends to a message the name of the device whose point list lacks an accounting register.
-fn put_list_of(text: &mut Vec<u8>, device: &Option<Name>) -> Result<(), AllocError>
+fn write_list_of(text: &mut Vec<u8>, device: &Option<Name>) -> Result<(), AllocError>
     ensures { OnOk result (text.new.items ≡ sentences.with_list_of device.now text.old.items) }
 {
     match device {
-        Some(name) => put_word(text, b": missing from the point list of ", name.as_bytes()),
-        None => put_word(text, b": missing from the point list of ", b"-"),
+        Some(name) => write_word(text, b": missing from the point list of ", name.as_bytes()),
+        None => write_word(text, b": missing from the point list of ", b"-"),
     }
 }
 
 // Appends the message that no read of the point list covers an accounting register, with the Modbus
 // addresses to add.
-fn put_unread(
+fn write_unread(
     text: &mut Vec<u8>,
     device: &Option<Name>,
     register: &Register,
@@ -61,83 +61,83 @@ fn put_unread(
     ensures { OnOk result (text.new.items
         ≡ sentences.with_unread device.now register.now text.old.items) }
 {
-    put_word(text, b"sunreg: register ", register.name.as_bytes())?;
-    put_list_of(text, device)?;
-    put_number(
+    write_word(text, b"sunreg: register ", register.name.as_bytes())?;
+    write_list_of(text, device)?;
+    write_number(
         text,
         b"; add function ",
         u64::from(register.function.code()),
     )?;
-    put_number(text, b", registers ", first_needed(register))?;
-    put_number(text, b" to ", last_needed(register))?;
-    put(text, b" to it\n")
+    write_number(text, b", registers ", first_needed(register))?;
+    write_number(text, b" to ", last_needed(register))?;
+    append_bytes(text, b" to it\n")
 }
 
-fn put_unmetered(text: &mut Vec<u8>, register: &Register) -> Result<(), AllocError>
+fn write_unmetered(text: &mut Vec<u8>, register: &Register) -> Result<(), AllocError>
     ensures { OnOk result (text.new.items ≡ sentences.with_unmetered register.now text.old.items) }
 {
-    put_word(text, b"sunreg: register ", register.name.as_bytes())?;
-    put_word(
+    write_word(text, b"sunreg: register ", register.name.as_bytes())?;
+    write_word(
         text,
         b": no open meter; install one with POST /registers/",
         register.name.as_bytes(),
     )?;
-    put(text, b"/install\n")
+    append_bytes(text, b"/install\n")
 }
 
-fn put_unlisted(text: &mut Vec<u8>, device: &Option<Name>) -> Result<(), AllocError>
+fn write_unlisted(text: &mut Vec<u8>, device: &Option<Name>) -> Result<(), AllocError>
     ensures { OnOk result (text.new.items ≡ sentences.with_unlisted device.now text.old.items) }
 {
-    put_subject(text, device)?;
+    write_subject(text, device)?;
     match device {
-        Some(name) => put_word(
+        Some(name) => write_word(
             text,
             b": no point list; create one with sunreg scan --list, then POST /devices/",
             name.as_bytes(),
         )?,
-        None => put(
+        None => append_bytes(
             text,
             b": no point list; create one with sunreg scan --list, then POST /devices/-",
         )?,
     }
-    put(text, b"/list\n")
+    append_bytes(text, b"/list\n")
 }
 
 /// Appends a message that says what a device lacks and what to do. If memory runs out, a part of
 /// the message remains.
-pub fn put_lack(text: &mut Vec<u8>, lack: &DeviceLack) -> Result<(), AllocError>
+pub fn write_lack(text: &mut Vec<u8>, lack: &DeviceLack) -> Result<(), AllocError>
     ensures { OnOk result (text.new.items ≡ sentences.with_lack lack.now text.old.items) }
 {
     let device = &lack.device;
     match &lack.lack {
         Lack::NoDevice => {
-            put_subject(text, device)?;
-            put(
+            write_subject(text, device)?;
+            append_bytes(
                 text,
                 b": the office has no device with this name; add it with POST /devices\n",
             )
         }
-        Lack::NoList => put_unlisted(text, device),
+        Lack::NoList => write_unlisted(text, device),
         Lack::NoRegister => {
-            put_subject(text, device)?;
-            put(
+            write_subject(text, device)?;
+            append_bytes(
                 text,
                 b": no register, so its energy is not recorded; add one with POST /registers\n",
             )
         }
-        Lack::NotInList(register) => put_unread(text, device, register),
-        Lack::NoMeter(register) => put_unmetered(text, register),
+        Lack::NotInList(register) => write_unread(text, device, register),
+        Lack::NoMeter(register) => write_unmetered(text, register),
     }
 }
 
 // Appends to a message the text `before`, the meaning of a printed number, and what to do.
-fn put_meaning(text: &mut Vec<u8>, before: &[u8], meaning: &Meaning) -> Result<(), AllocError>
+fn append_meaning(text: &mut Vec<u8>, before: &[u8], meaning: &Meaning) -> Result<(), AllocError>
     ensures { OnOk result (text.new.items
         ≡ sentences.with_meaning before.now meaning.now text.old.items) }
 {
-    put_word(text, before, meaning.means.as_bytes())?;
-    put_word(text, b"; ", meaning.remedy.as_bytes())?;
-    put(text, b"\n")
+    write_word(text, before, meaning.means.as_bytes())?;
+    write_word(text, b"; ", meaning.remedy.as_bytes())?;
+    append_bytes(text, b"\n")
 }
 
 // Returns what the device lacks, if that is why the program refused the device's event. Returns
@@ -154,7 +154,7 @@ fn lack_by(event: &Event, why: Refusal) -> Option<Lack>
 
 /// Appends a message that explains why the program refused a device's event, and what to do. If
 /// memory runs out, a part of the message remains.
-pub fn put_refusal(
+pub fn append_refusal(
     text: &mut Vec<u8>,
     device: &Option<Name>,
     event: &Event,
@@ -163,7 +163,7 @@ pub fn put_refusal(
     ensures { sentences.PutsRefusal device.now event.now why text.old.items text.new.items result }
 {
     if let Some(lack) = lack_by(event, why) {
-        return put_lack(
+        return write_lack(
             text,
             &DeviceLack {
                 device: *device,
@@ -173,8 +173,8 @@ pub fn put_refusal(
     }
     match meaning_of(Kind::Refused, u32::from(why.number())) {
         Some(meaning) => {
-            put_subject(text, device)?;
-            put_meaning(text, b": ", meaning)
+            write_subject(text, device)?;
+            append_meaning(text, b": ", meaning)
         }
         None => Ok(()),
     }
@@ -182,13 +182,13 @@ pub fn put_refusal(
 
 /// Appends a message that explains why the program rejected a meter's reading, and what to do. If
 /// memory runs out, a part of the message remains.
-pub fn put_held(text: &mut Vec<u8>, meter: &Name, cause: Cause) -> Result<(), AllocError>
+pub fn write_held(text: &mut Vec<u8>, meter: &Name, cause: Cause) -> Result<(), AllocError>
     ensures { sentences.PutsHeld meter.now cause text.old.items text.new.items result }
 {
     match meaning_of(Kind::Held, u32::from(cause.number())) {
         Some(meaning) => {
-            put_word(text, b"sunreg: ", meter.as_bytes())?;
-            put_meaning(text, b": reading rejected: ", meaning)
+            write_word(text, b"sunreg: ", meter.as_bytes())?;
+            append_meaning(text, b": reading rejected: ", meaning)
         }
         None => Ok(()),
     }

@@ -37,7 +37,7 @@ impl Topic {
 
 /// The number that was last reported about a device or a meter; 0 if none was reported.
 #[derive(Clone, Copy, Debug, PartialEq, Eq)]
-pub struct ToldNumber {
+pub struct ReportedNumber {
     pub topic: Topic,
     pub name: Option<Name>,
     pub number: u8,
@@ -55,12 +55,12 @@ fn is_same_name(a: &Option<Name>, b: &Option<Name>) -> bool
     }
 }
 
-impl ToldNumber {
+impl ReportedNumber {
     ghost use Rattle.std.specs.Prelude.{◌≡◌};
     ghost use Rattle.run_status.specs.Advice.Told as specs;
 
     // Returns whether two entries have the same topic and the same device or meter.
-    fn is_of_same(&self, other: &ToldNumber) -> bool
+    fn is_of_same(&self, other: &ReportedNumber) -> bool
         ensures { result ≡ specs.are_of_same self.now other.now }
     {
         self.topic.number() == other.topic.number() && is_same_name(&self.name, &other.name)
@@ -71,7 +71,7 @@ impl ToldNumber {
 /// the last reported number.
 #[derive(Drop)]
 pub struct Told {
-    pub numbers: Vec<ToldNumber>,
+    pub numbers: Vec<ReportedNumber>,
 }
 
 impl Told {
@@ -88,7 +88,7 @@ impl Told {
     }
 
     // Returns the index of the entry with the same topic and the same device or meter as `told`.
-    fn place_of(&self, told: &ToldNumber) -> Option<usize>
+    fn place_of(&self, told: &ReportedNumber) -> Option<usize>
         ensures { result ≡ specs.place_of told.now self.now.numbers.items }
     {
         self.numbers.iter().position(|one| one.is_of_same(told))
@@ -100,7 +100,7 @@ impl Told {
             ≡ specs.pushed (is_ok result) (specs.told_number topic name number)
             self.old.numbers.items }
     {
-        self.numbers.push(ToldNumber {
+        self.numbers.push(ReportedNumber {
             topic,
             name,
             number,
@@ -109,7 +109,7 @@ impl Told {
     }
 
     // Adds an entry for a device or meter, and returns whether the list had room.
-    fn add(&mut self, told: ToldNumber) -> bool
+    fn add(&mut self, told: ReportedNumber) -> bool
         ensures { specs.Adds told self.old.numbers.items self.new.numbers.items result }
     {
         self.numbers.len() < MOST_TOLD && self.push(told.topic, told.name, told.number).is_ok()
@@ -117,7 +117,7 @@ impl Told {
 
     // Replaces the number of the entry at an index, and returns whether the new number is
     // different.
-    fn change(&mut self, place: usize, told: ToldNumber) -> bool
+    fn change(&mut self, place: usize, told: ReportedNumber) -> bool
         ensures { specs.Changes place told self.old.numbers.items self.new.numbers.items result }
     {
         if place >= self.numbers.len() {
@@ -134,7 +134,7 @@ impl Told {
     ///
     /// A number is reported if it differs from the last number on the same topic. If the list has
     /// no room for a device or meter, then no number about that device or meter is reported.
-    pub fn tell(&mut self, told: ToldNumber) -> bool
+    pub fn report_once(&mut self, told: ReportedNumber) -> bool
         ensures { specs.TellsNumber told self.old.numbers.items self.new.numbers.items result }
     {
         match self.place_of(&told) {
@@ -148,7 +148,7 @@ impl Told {
     pub fn forget(&mut self, topic: Topic, name: Option<Name>)
         ensures { specs.Forgets topic name self.old.numbers.items self.new.numbers.items }
     {
-        let none = ToldNumber {
+        let none = ReportedNumber {
             topic,
             name,
             number: 0,

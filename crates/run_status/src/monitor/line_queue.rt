@@ -2,7 +2,7 @@
 ghost use Rattle.std.specs.Prelude.{◌≡◌, OnOk};
 ghost use Rattle.run_status.specs.Monitor.Queues as queues;
 
-use crate::status::{put, put_number};
+use crate::status::{append_bytes, write_number};
 use std::alloc::{AllocError, Global};
 
 /// The most bytes in the queue. A longer text is accepted if the queue is empty.
@@ -27,12 +27,12 @@ fn count_lines(text: &[u8]) -> u64
 }
 
 // Appends the line that says how many lines were dropped up to the time `at`.
-fn put_dropped(text: &mut Vec<u8>, at: u64, dropped: u64) -> Result<(), AllocError>
+fn write_dropped(text: &mut Vec<u8>, at: u64, dropped: u64) -> Result<(), AllocError>
     ensures { OnOk result (text.new.items ≡ queues.with_dropped at dropped text.old.items) }
 {
-    put_number(text, b"", at)?;
-    put_number(text, b" - dropped ", dropped)?;
-    put(text, b" lines\n")
+    write_number(text, b"", at)?;
+    write_number(text, b" - dropped ", dropped)?;
+    append_bytes(text, b" lines\n")
 }
 
 impl LineQueue {
@@ -89,7 +89,7 @@ impl LineQueue {
     }
 
     // Adds lines at the end of the queue, or drops and counts them.
-    fn put_after(&mut self, lines: &[u8])
+    fn write_after(&mut self, lines: &[u8])
         ensures { queues.PutsAfter lines.now (queue_of self.old) (queue_of self.new) }
     {
         if !self.has_room(lines) {
@@ -104,23 +104,23 @@ impl LineQueue {
 
     /// Adds complete lines to the queue. If room or memory does not suffice for all of them, the
     /// queue drops and counts all of them.
-    pub fn put(&mut self, lines: &[u8])
+    pub fn push_lines(&mut self, lines: &[u8])
         ensures { queues.Puts lines.now (queue_of self.old) (queue_of self.new) }
     {
         self.empty();
-        self.put_after(lines);
+        self.write_after(lines);
     }
 
     /// Adds the line that says how many lines were dropped up to the time `at`, once all waiting
     /// lines were written. If memory runs out, a later call adds that line.
-    pub fn tell_dropped(&mut self, at: u64)
+    pub fn append_dropped(&mut self, at: u64)
         ensures { queues.TellsDropped at (queue_of self.old) (queue_of self.new) }
     {
         if self.dropped == 0 || !self.is_written() {
             return;
         }
         self.empty();
-        match put_dropped(&mut self.bytes, at, self.dropped) {
+        match write_dropped(&mut self.bytes, at, self.dropped) {
             Ok(()) => self.dropped = 0,
             Err(_) => self.bytes.clear(),
         }

@@ -2,25 +2,25 @@
 ghost use Rattle.std.specs.Prelude.{◌≡◌, OnOk};
 ghost use Rattle.run_status.specs.Monitor.Lines as lines;
 
-use crate::status::{put, put_number, put_word};
+use crate::status::{append_bytes, write_number, write_word};
 use office_events::{Answer, Event, Name, Note, Refusal};
 use poll_core::Closing;
 use std::alloc::AllocError;
 
 /// Appends the beginning of a log line: a timestamp and a device's name, or `-` for a name that is
 /// not valid. If memory runs out, a part of the text remains.
-pub fn put_head(text: &mut Vec<u8>, at: u64, name: &Option<Name>) -> Result<(), AllocError>
+pub fn write_head(text: &mut Vec<u8>, at: u64, name: &Option<Name>) -> Result<(), AllocError>
     ensures { OnOk result (text.new.items ≡ lines.with_head at name.now text.old.items) }
 {
-    put_number(text, b"", at)?;
+    write_number(text, b"", at)?;
     match name {
-        Some(name) => put_word(text, b" ", name.as_bytes()),
-        None => put(text, b" -"),
+        Some(name) => write_word(text, b" ", name.as_bytes()),
+        None => append_bytes(text, b" -"),
     }
 }
 
 // Appends the log line of a connection that began or ended.
-fn put_event(
+fn write_event(
     text: &mut Vec<u8>,
     at: u64,
     name: &Option<Name>,
@@ -31,16 +31,16 @@ fn put_event(
 {
     match event {
         Event::Connected(_) => {
-            put_head(text, at, name)?;
-            put(text, b" connected\n")
+            write_head(text, at, name)?;
+            append_bytes(text, b" connected\n")
         }
         Event::Gone(_, Closing::Gone) => {
-            put_head(text, at, name)?;
-            put(text, b" gone\n")
+            write_head(text, at, name)?;
+            append_bytes(text, b" gone\n")
         }
         Event::Gone(_, Closing::Failed) => {
-            put_head(text, at, name)?;
-            put(text, b" failed\n")
+            write_head(text, at, name)?;
+            append_bytes(text, b" failed\n")
         }
         Event::Bytes(_, _) => Ok(()),
         Event::Tick => Ok(()),
@@ -50,7 +50,7 @@ fn put_event(
 }
 
 // Appends the log line of a device's event that the program accepted or refused.
-fn put_answered(
+fn write_answered(
     text: &mut Vec<u8>,
     at: u64,
     name: &Option<Name>,
@@ -61,33 +61,38 @@ fn put_answered(
         ≡ lines.with_answer at name.now event.now answer text.old.items) }
 {
     match answer {
-        Ok(_) => put_event(text, at, name, event),
+        Ok(_) => write_event(text, at, name, event),
         Err(why) => {
-            put_head(text, at, name)?;
-            put_number(text, b" refused ", u64::from(why.number()))?;
-            put(text, b"\n")
+            write_head(text, at, name)?;
+            write_number(text, b" refused ", u64::from(why.number()))?;
+            append_bytes(text, b"\n")
         }
     }
 }
 
 // Appends the log line of a rejected reading, with the cause of the rejection.
-fn put_note(text: &mut Vec<u8>, at: u64, name: &Option<Name>, note: &Note) -> Result<(), AllocError>
+fn append_note(
+    text: &mut Vec<u8>,
+    at: u64,
+    name: &Option<Name>,
+    note: &Note,
+) -> Result<(), AllocError>
     ensures { OnOk result (text.new.items ≡ lines.with_note at name.now note.now text.old.items) }
 {
     match note {
         Note::Outcome { .. } => Ok(()),
         Note::Reading { .. } => Ok(()),
         Note::Held { meter, raw, cause } => {
-            put_head(text, at, name)?;
-            put_word(text, b" held ", meter.as_bytes())?;
-            put_number(text, b" ", u64::from(*raw))?;
-            put_number(text, b" cause ", u64::from(cause.number()))?;
-            put(text, b"\n")
+            write_head(text, at, name)?;
+            write_word(text, b" held ", meter.as_bytes())?;
+            write_number(text, b" ", u64::from(*raw))?;
+            write_number(text, b" cause ", u64::from(cause.number()))?;
+            append_bytes(text, b"\n")
         }
     }
 }
 
-fn put_notes(
+fn append_notes(
     text: &mut Vec<u8>,
     at: u64,
     name: &Option<Name>,
@@ -97,7 +102,7 @@ fn put_notes(
         ≡ lines.with_notes at name.now notes.now text.old.items) }
 {
     for note in notes {
-        put_note(text, at, name, note)?;
+        append_note(text, at, name, note)?;
     }
     Ok(())
 }
@@ -106,7 +111,7 @@ fn put_notes(
 ///
 /// A connection that began or ended, a refusal, and each rejected reading have a line. A poll has
 /// no line. If memory runs out, a part of the text remains.
-pub fn put_lines(
+pub fn write_lines(
     text: &mut Vec<u8>,
     at: u64,
     name: &Option<Name>,
@@ -117,13 +122,13 @@ pub fn put_lines(
     ensures { OnOk result (text.new.items
         ≡ lines.with_lines at name.now event.now answer notes.now text.old.items) }
 {
-    put_answered(text, at, name, event, answer)?;
-    put_notes(text, at, name, notes)
+    write_answered(text, at, name, event, answer)?;
+    append_notes(text, at, name, notes)
 }
 
 /// Appends the log line of a polling round: how many of its polls were answered, timed out
 /// (`silent`), or ended otherwise (`failed`).
-pub fn put_sum(
+pub fn write_sum(
     text: &mut Vec<u8>,
     at: u64,
     name: &Option<Name>,
@@ -134,9 +139,9 @@ pub fn put_sum(
     ensures { OnOk result (text.new.items
         ≡ lines.with_sum at name.now answered silent failed text.old.items) }
 {
-    put_head(text, at, name)?;
-    put_number(text, b" round answered ", answered)?;
-    put_number(text, b" silent ", silent)?;
-    put_number(text, b" failed ", failed)?;
-    put(text, b"\n")
+    write_head(text, at, name)?;
+    write_number(text, b" round answered ", answered)?;
+    write_number(text, b" silent ", silent)?;
+    write_number(text, b" failed ", failed)?;
+    append_bytes(text, b"\n")
 }

@@ -19,8 +19,8 @@ fn is_end(event: &Event) -> bool
 
 /// Queues frames for a device if memory suffices. The end of a connection first drops the frames
 /// that were not sent.
-#[tactic(auto, using(crate::proofs::MonitorLemmas::Queues::put_or_not))]
-pub(crate) fn put_frames(queue: &mut Vec<u8>, event: &Event, frames: &[u8])
+#[tactic(auto, using(crate::proofs::MonitorLemmas::Queues::write_or_not))]
+pub(crate) fn write_frames(queue: &mut Vec<u8>, event: &Event, frames: &[u8])
     ensures { sending.IsPut event.now frames.now queue.old.items queue.new.items }
 {
     if is_end(event) {

@@ -1,6 +1,6 @@
 //! The observer of the program's events.
 use crate::monitor::device_state::{followed, unconnected};
-use crate::monitor::output::put_frames;
+use crate::monitor::output::write_frames;
 use crate::status::{Counts, DeviceState};
 use office_events::{Answer, Event, Name, Note, Observer, Refusal};
 use std::alloc::{AllocError, Global};
@@ -67,7 +67,7 @@ impl RunMonitor {
             (queues_of self.new) }
     {
         if place < self.outgoing.len() {
-            put_frames(&mut self.outgoing[place], event, frames);
+            write_frames(&mut self.outgoing[place], event, frames);
         }
     }
 }

@@ -42,7 +42,7 @@ impl Counts {
     }
 
     // Counts a poll that ended with this outcome.
-    fn end(&mut self, outcome: Outcome)
+    fn count_outcome(&mut self, outcome: Outcome)
         ensures { self.new ≡ counting.ended outcome self.old }
     {
         match outcome {
@@ -66,7 +66,7 @@ impl Counts {
         ensures { self.new ≡ counting.noted note.now self.old }
     {
         match *note {
-            Note::Outcome { outcome, .. } => self.end(outcome),
+            Note::Outcome { outcome, .. } => self.count_outcome(outcome),
             Note::Reading { .. } => self.readings = self.readings.saturating_add(1),
             Note::Held { cause, .. } => self.hold(cause),
         }

@@ -6,33 +6,33 @@ use itoa::Buffer;
 use std::alloc::AllocError;
 
 /// Appends bytes to a text. If memory runs out, the text may have only a part of the bytes.
-pub fn put(text: &mut Vec<u8>, bytes: &[u8]) -> Result<(), AllocError>
+pub fn append_bytes(text: &mut Vec<u8>, bytes: &[u8]) -> Result<(), AllocError>
     ensures { OnOk result (text.new.items ≡ text.old.items ++ bytes.now) }
 {
     text.extend_from_slice(bytes)
 }
 
 /// Appends to a text the bytes `before`, and then a number in decimal digits.
-pub fn put_number(text: &mut Vec<u8>, before: &[u8], number: u64) -> Result<(), AllocError>
+pub fn write_number(text: &mut Vec<u8>, before: &[u8], number: u64) -> Result<(), AllocError>
     ensures { OnOk result (text.new.items ≡ text.old.items ++ before.now ++ decimal number) }
 {
-    put(text, before)?;
+    append_bytes(text, before)?;
     let mut buffer = Buffer::new();
-    put(text, buffer.format(number).as_bytes())
+    append_bytes(text, buffer.format(number).as_bytes())
 }
 
 /// Appends to a text the bytes `before`, and then a word.
-pub fn put_word(text: &mut Vec<u8>, before: &[u8], word: &[u8]) -> Result<(), AllocError>
+pub fn write_word(text: &mut Vec<u8>, before: &[u8], word: &[u8]) -> Result<(), AllocError>
     ensures { OnOk result (text.new.items ≡ text.old.items ++ before.now ++ word.now) }
 {
-    put(text, before)?;
-    put(text, word)
+    append_bytes(text, before)?;
+    append_bytes(text, word)
 }
 
 /// Appends to a text the bytes `before`, and then a scale exponent, which may be negative.
-pub fn put_scale(text: &mut Vec<u8>, before: &[u8], sf: i16) -> Result<(), AllocError>
+pub fn write_scale(text: &mut Vec<u8>, before: &[u8], sf: i16) -> Result<(), AllocError>
     ensures { OnOk result (text.new.items ≡ text.old.items ++ before.now ++ signed_decimal sf) }
 {
     let mut buffer = Buffer::new();
-    put_word(text, before, buffer.format(sf).as_bytes())
+    write_word(text, before, buffer.format(sf).as_bytes())
 }

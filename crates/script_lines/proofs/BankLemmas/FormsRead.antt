@@ -6,7 +6,7 @@ use Rattle.std.specs.Str.{bytes_eq}
 use Rattle.std.proofs.lemmas.Grind.{common_steps}
 use Rattle.mb_device.specs.declared.kinds.Kind.{Kind}
 use Rattle.mb_device.specs.declared.kinds.Kind.TheVariants as kind
-use Rattle.script_lines.specs.LineWords.Fields.{Field, Number, Of, Spell, Word, first_value, nothing_more}
+use Rattle.script_lines.specs.LineWords.Fields.{Field, Number, Of, Spell, Word, first_value, end_of_words}
 use Rattle.script_lines.specs.Bank.Forms.{IsBankLine, IsPart, bank_form, kind_word, trick_form}
 use Rattle.script_lines.specs.Bank.BankLine.{area_said, bank_said, cut_said, frame_said, kind_of, kinds, plain_of, set_said, three_said, trick_said, tricks, two_said}
 use Rattle.script_lines.specs.Bank.Seen.{ReadsBank}
@@ -19,7 +19,7 @@ use Rattle.mb_device.specs.declared.trick.Trick.TheVariants as trick
 use Rattle.script_lines.proofs.Chosen.{chosen, is_text, meant, same}
 use Rattle.script_lines.proofs.Made.{bound, first_spelled}
 
-nothing_spelled : (words : List (List ℕ)) (none : Unit {0}) → nothing_more words ≡ Some none → Spell words []
+nothing_spelled : (words : List (List ℕ)) (none : Unit {0}) → end_of_words words ≡ Some none → Spell words []
 nothing_spelled [] none h = tt
 nothing_spelled (word ∷ words) none h = cc h
 
@@ -33,7 +33,7 @@ two_form : (words : List (List ℕ)) (two : ℕ × ℕ) → two_said words ≡ S
 two_form words two h =
     let a = bound (first_value Number words) _ two h in
     let b = bound (first_value Number a.0.1) _ two a.2 in
-    let none = bound (nothing_more b.0.1) _ two b.2 in
+    let none = bound (end_of_words b.0.1) _ two b.2 in
     subst (λ (two : ℕ × ℕ). Spell words (numbers_form two)) (same _ two none.2)
     (first_spelled Number words a.0 (Of Number b.0.0 ∷ []) a.1 (first_spelled Number a.0.1 b.0 [] b.1 (nothing_spelled b.0.1 none.0 none.1)))
 
@@ -70,7 +70,7 @@ as_few n h = grind (arith, common_steps)
 cut_form : (words : List (List ℕ)) (t : Trick) → cut_said words ≡ Some t → IsTrick (codes "cut" ∷ words) t
 cut_form words t h =
     let count = bound (first_value Number words) _ t h in
-    let none = bound (nothing_more count.0.1) _ t count.2 in
+    let none = bound (end_of_words count.0.1) _ t count.2 in
     elim (chosen (nat_le count.0.0 259) (Some (trick.Cut count.0.0)) None t none.2) [
       | inl here ↦
           subst (λ (t : Trick). IsTrick (codes "cut" ∷ words) t) (same (trick.Cut count.0.0) t here.1)
@@ -78,7 +78,7 @@ cut_form words t h =
       | inr gone ↦ cc gone
     ]
 
-alone : (word : List ℕ) (words : List (List ℕ)) (none : Unit {0}) (t : Trick) → nothing_more words ≡ Some none → IsWord t word → IsTrick (word ∷ words) t
+alone : (word : List ℕ) (words : List (List ℕ)) (none : Unit {0}) (t : Trick) → end_of_words words ≡ Some none → IsWord t word → IsTrick (word ∷ words) t
 alone word [] none t h is = is
 alone word (more ∷ words) none t h is = cc h
 
@@ -89,7 +89,7 @@ trick_is (word ∷ words) t h =
       | inl here ↦ subst (λ (w : List ℕ). IsTrick (w ∷ words) t) (sym (is_text word _ here.0)) (cut_form words t here.1)
       | inr there ↦
           let plain = bound (plain_of word) _ t there in
-          let none = bound (nothing_more words) _ t plain.2 in
+          let none = bound (end_of_words words) _ t plain.2 in
           alone word words none.0 t none.1 (subst (λ (t : Trick). IsWord t word) (same plain.0 t none.2) (plain_is word plain.0 plain.1))
     ]
 

@@ -4,7 +4,7 @@ use Rattle.std.specs.Prelude.{ℕ, nat_le, if◌then◌else◌, List, [], ◌∷
 use Rattle.std.specs.Str.{bytes_eq}
 use Rattle.mb_device.specs.declared.kinds.Kind.{Kind}
 use Rattle.mb_device.specs.declared.kinds.Kind.TheVariants as kind
-use Rattle.script_lines.specs.LineWords.Fields.{Number, first_value, nothing_more, ◌>>=◌}
+use Rattle.script_lines.specs.LineWords.Fields.{Number, first_value, end_of_words, ◌>>=◌}
 use Rattle.script_lines.specs.LineWords.Meanings.{meaning_in}
 use Rattle.script_lines.specs.declared.bank.bank.BankLine.{BankLine}
 use Rattle.script_lines.specs.declared.bank.bank.BankLine.TheVariants as line
@@ -28,7 +28,7 @@ kind_of word = meaning_in kinds word
 -- The two numbers that the words spell. `None` if the words are not exactly two numbers.
 abbrev pub two_said : List (List ℕ) → Option (ℕ × ℕ)
 two_said words =
-    first_value Number words >>= λ a. first_value Number a.1 >>= λ b. nothing_more b.1 >>= λ none.
+    first_value Number words >>= λ a. first_value Number a.1 >>= λ b. end_of_words b.1 >>= λ none.
     Some (a.0, b.0)
 
 -- The kind of Modbus addresses and the two numbers that the words spell. `None` if the words are
@@ -57,7 +57,7 @@ plain_of word = meaning_in tricks word
 -- of at most 259.
 abbrev pub cut_said : List (List ℕ) → Option Trick
 cut_said words =
-    first_value Number words >>= λ count. nothing_more count.1 >>= λ none. if nat_le count.0 259
+    first_value Number words >>= λ count. end_of_words count.1 >>= λ none. if nat_le count.0 259
     then Some (trick.Cut count.0) else None
 
 -- The injected fault that the words spell. The words are the fault's name, or `cut` and a number of
@@ -66,7 +66,7 @@ abbrev pub trick_said : List (List ℕ) → Option Trick
 trick_said [] = None
 trick_said (word ∷ words) =
     if bytes_eq word (codes "cut") then cut_said words
-    else (plain_of word >>= λ trick. nothing_more words >>= λ none. Some trick)
+    else (plain_of word >>= λ trick. end_of_words words >>= λ none. Some trick)
 
 -- The setup line that injects a fault into the simulator's response to one numbered frame, from the
 -- words after `trick`.

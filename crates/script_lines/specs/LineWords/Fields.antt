@@ -84,6 +84,6 @@ first_value kind [] = option_map (λ value. (value, [])) (missing kind)
 first_value kind (word ∷ words) = option_map (λ value. (value, words)) (spelled kind word)
 
 -- A parsing step that succeeds if and only if no word of the line is left to parse.
-abbrev pub nothing_more : List (List ℕ) → Option (Unit {0})
-nothing_more [] = Some tt
-nothing_more (word ∷ words) = None
+abbrev pub end_of_words : List (List ℕ) → Option (Unit {0})
+end_of_words [] = Some tt
+end_of_words (word ∷ words) = None

@@ -4,7 +4,7 @@ ghost use Rattle.script_lines.specs.Bank.BankLine as said;
 ghost use Rattle.script_lines.specs.LineWords.Words.{words_of};
 
 use crate::bank::bank::{BankLine, GivenArea, GivenCell};
-use crate::line_words::{Words, meaning_in, next_number, nothing_more};
+use crate::line_words::{Words, end_of_words, meaning_in, next_number};
 use mb_device::{Kind, Trick};
 
 /// The maximum number of bytes that a cut response keeps.
@@ -41,7 +41,7 @@ impl BankLine {
 fn line_in(line: &[u8]) -> Option<BankLine>
     ensures { result ≡ said.bank_said (words_of line.now) }
 {
-    let mut words = Words::of(line);
+    let mut words = Words::new(line);
     let first = words.next_word()?;
     if first == b"area".as_slice() {
         area(&mut words)
@@ -99,7 +99,7 @@ fn two(words: &mut Words<'_>) -> Option<(u64, u64)>
 {
     let first = next_number(words)?;
     let second = next_number(words)?;
-    nothing_more(words)?;
+    end_of_words(words)?;
     Some((first, second))
 }
 
@@ -117,7 +117,7 @@ fn trick_in(words: &mut Words<'_>) -> Option<Trick>
         return cut(words);
     }
     let trick = plain_of(word)?;
-    nothing_more(words)?;
+    end_of_words(words)?;
     Some(trick)
 }
 
@@ -127,7 +127,7 @@ fn cut(words: &mut Words<'_>) -> Option<Trick>
     ensures { result ≡ said.cut_said words.old }
 {
     let count = next_number(words)?;
-    nothing_more(words)?;
+    end_of_words(words)?;
     if count <= MOST_CUT {
         Some(Trick::Cut(count as u16))
     } else {

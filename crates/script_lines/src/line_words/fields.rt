@@ -1,6 +1,6 @@
 //! Parses the next word of a line as a name, a number, a scale, a range or a timestamp.
 ghost use Rattle.std.specs.Prelude.{◌≡◌, option_map};
-ghost use Rattle.script_lines.specs.LineWords.Fields.{AnyName, Number, Signed, Scale, Range, Moment, first_value, nothing_more};
+ghost use Rattle.script_lines.specs.LineWords.Fields.{AnyName, Number, Signed, Scale, Range, Moment, first_value, end_of_words};
 ghost use Rattle.script_lines.specs.LineWords.Values.{name_of, scale_of, signed_of};
 
 use crate::line_words::values::number;
@@ -96,8 +96,8 @@ pub fn next_moment(words: &mut Words<'_>) -> Option<Option<u64>>
 }
 
 /// Succeeds if and only if no word of the line is left.
-pub fn nothing_more(words: &mut Words<'_>) -> Option<()>
-    ensures { result ≡ nothing_more words.old }
+pub fn end_of_words(words: &mut Words<'_>) -> Option<()>
+    ensures { result ≡ end_of_words words.old }
 {
     match words.next_word() {
         Some(_) => None,

@@ -25,7 +25,7 @@ impl<'a> Words<'a> {
     ghost use Rattle.script_lines.specs.LineWords.Words.{TakesFirst, words_of};
 
     /// Creates an iterator over the words of a line.
-    pub fn of(line: &'a [u8]) -> Self
+    pub fn new(line: &'a [u8]) -> Self
         ensures { result ≡ words_of line.now }
     {
         Words { rest: Some(line) }

@@ -47,7 +47,7 @@ fn run_text<W: Write>(setup: &mut Setup, text: &[u8], output: &mut W) -> Result<
     ensures { running.TextRuns setup.old text.now result setup.new
         (W.contents output.old) (W.contents output.new) }
 {
-    let mut lines = InputLines::of(text);
+    let mut lines = InputLines::new(text);
     while let Some(line) = lines.next_line() {
         match run_line(setup, line.number, line.text, output) {
             Ok(()) => {}

@@ -59,7 +59,7 @@ pub(crate) fn run_line<C: Connects, W: Write>(
 
 // Returns whether a setup line is allowed at this position. The lines `area` and `trick` are
 // allowed only before a device is connected.
-fn may_stand(connected: bool, said: &BankLine) -> bool
+fn is_allowed(connected: bool, said: &BankLine) -> bool
     ensures yes { result ≡ true → form.MayStand connected said.now }
     ensures no { result ≡ false → form.MayNotStand connected said.now }
 {
@@ -72,7 +72,7 @@ fn may_stand(connected: bool, said: &BankLine) -> bool
 
 // Applies a setup line to the register map, and returns whether the map accepts the line. Lines
 // that inject faults are skipped, because each new connection gets these faults when it is opened.
-fn take_line(bank: &mut Bank, said: &BankLine) -> bool
+fn apply_bank_line(bank: &mut Bank, said: &BankLine) -> bool
     ensures taken { result ≡ setting.takes bank.old said.now }
     ensures after { bank.new ≡ form.maps_with bank.old said.now }
 {
@@ -84,7 +84,7 @@ fn take_line(bank: &mut Bank, said: &BankLine) -> bool
 }
 
 // Prints `ok` or a refusal, depending on whether the register map accepted a setup line.
-fn tell_taken<W: Write>(taken: bool, output: &mut W) -> io::Result<()>
+fn print_acceptance<W: Write>(taken: bool, output: &mut W) -> io::Result<()>
     ensures { GotText result (form.taken_text taken)
         (W.contents output.old) (W.contents output.new) }
 {
@@ -106,11 +106,11 @@ fn run_bank_line<L: Link + Drop, W: Write>(
         (loop_state run.old.office run.old.bank run.old.connected (W.contents output.old))
         (loop_state run.new.office run.new.bank run.new.connected (W.contents output.new)) }
 {
-    if !may_stand(run.connected, said) {
+    if !is_allowed(run.connected, said) {
         return Ok(false);
     }
-    let taken = take_line(&mut run.bank, said);
-    tell_taken(taken, output)?;
+    let taken = apply_bank_line(&mut run.bank, said);
+    print_acceptance(taken, output)?;
     Ok(true)
 }
 
@@ -131,30 +131,30 @@ fn run_script_line<C: Connects, W: Write>(
         ScriptLine::Event { at, event } => run_event(alloc, run, at, &event, connects, output),
         ScriptLine::Start { at, start } => run_start(alloc, run, at, &start, output),
         ScriptLine::List { .. } => {
-            carry_alike(alloc, run, said, output)?;
+            execute_as_script(alloc, run, said, output)?;
             Ok(true)
         }
         ScriptLine::Meter { .. } => {
-            carry_alike(alloc, run, said, output)?;
+            execute_as_script(alloc, run, said, output)?;
             Ok(true)
         }
         ScriptLine::Intervals { .. } => {
-            carry_alike(alloc, run, said, output)?;
+            execute_as_script(alloc, run, said, output)?;
             Ok(true)
         }
         ScriptLine::Days { .. } => {
-            carry_alike(alloc, run, said, output)?;
+            execute_as_script(alloc, run, said, output)?;
             Ok(true)
         }
         ScriptLine::Poll { .. } => {
-            carry_alike(alloc, run, said, output)?;
+            execute_as_script(alloc, run, said, output)?;
             Ok(true)
         }
     }
 }
 
 // Executes a script line that does not use the simulator.
-fn carry_alike<L: Link + Drop, W: Write>(
+fn execute_as_script<L: Link + Drop, W: Write>(
     alloc: Global,
     run: &mut Run<'_, L>,
     said: ScriptLine,

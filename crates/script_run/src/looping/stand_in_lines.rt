@@ -38,7 +38,7 @@ pub(crate) fn start<L: Link + Drop, W: Write>(
         Ok(answer) => {
             write_accepted(&answer, office.notes(), office.outgoing(), output)?;
             wires.send(device, office.outgoing(), count_of(&answer), bank);
-            bring_answers(alloc, office, wires, at, device, output)
+            feed_responses(alloc, office, wires, at, device, output)
         }
         Err(why) => write_refusal(why, output),
     }
@@ -52,7 +52,7 @@ fn count_of(answer: &Answer) -> u64 {
 }
 
 // Passes the responses on a device's connection to the office, if the device has a connection.
-fn bring_answers<L: Link + Drop, W: Write>(
+fn feed_responses<L: Link + Drop, W: Write>(
     alloc: Global,
     office: &mut Office<ListBooks>,
     wires: &mut Wires<'_, L>,

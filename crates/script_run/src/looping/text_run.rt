@@ -49,7 +49,7 @@ pub fn loop_text<R: Read, C: Connects, W: Write>(
 // device.
 fn tricks_in(alloc: Global, text: &[u8]) -> Result<Vec<(u64, Trick)>, AllocError> {
     let mut tricks = Vec::new(alloc);
-    let mut lines = InputLines::of(text);
+    let mut lines = InputLines::new(text);
     while let Some(line) = lines.next_line() {
         match BankLine::read(line.text) {
             Some(BankLine::Trick { frame, trick }) => tricks.push((frame, trick))?,
@@ -116,12 +116,12 @@ fn run_opened<C: Connects, W: Write>(
             };
             run_lines(alloc, &mut run, text, connects, output)
         }
-        Err((_, why)) => tell_refused(why, output),
+        Err((_, why)) => print_refused(why, output),
     }
 }
 
 // Prints the refusal that explains why the office could not be created.
-fn tell_refused<W: Write>(why: Refusal, output: &mut W) -> ExitStatus
+fn print_refused<W: Write>(why: Refusal, output: &mut W) -> ExitStatus
     ensures { TellsText (refused_line why) result (W.contents output.old) (W.contents output.new) }
 {
     match write_refusal(why, output) {
@@ -130,7 +130,7 @@ fn tell_refused<W: Write>(why: Refusal, output: &mut W) -> ExitStatus
     }
 }
 
-fn tell_bad<W: Write>(number: u64, output: &mut W) -> ExitStatus
+fn print_bad_line<W: Write>(number: u64, output: &mut W) -> ExitStatus
     ensures { TellsText (bad_line number) result (W.contents output.old) (W.contents output.new) }
 {
     match write_bad_line(number, output) {
@@ -150,12 +150,12 @@ fn run_lines<C: Connects, W: Write>(
         (loop_state run.old.office run.old.bank run.old.connected (W.contents output.old))
         (W.contents output.new) }
 {
-    let mut lines = InputLines::of(text);
+    let mut lines = InputLines::new(text);
     while let Some(line) = lines.next_line() {
         match run_line(alloc, run, line.text, connects, output) {
             Ok(fine) => {
                 if !fine {
-                    return tell_bad(line.number, output);
+                    return print_bad_line(line.number, output);
                 }
             }
             Err(_) => return ExitStatus::Failed,

@@ -6,7 +6,7 @@ ghost use Rattle.script_run.specs.Replaying.Lines.{LinePrints};
 ghost use Rattle.script_run.specs.Replaying.TextRun.{LineRuns, MayCarryOut};
 
 use crate::replaying::events::{feed, feed_list, feed_start};
-use crate::replaying::questions::{tell_days, tell_intervals, tell_meter, tell_poll};
+use crate::replaying::questions::{append_meter_lines, print_days, print_intervals, print_poll};
 use command_io::ExitStatus;
 use memory_books::ListBooks;
 use office_core::Office;
@@ -30,10 +30,10 @@ pub fn carry_out<W: Write>(
         ScriptLine::Event { at, event } => feed(office, at, &event, output),
         ScriptLine::List { at, list } => feed_list(alloc, office, at, &list, output),
         ScriptLine::Start { at, start } => feed_start(office, at, &start, output),
-        ScriptLine::Meter { name } => tell_meter(office, &name, output),
-        ScriptLine::Intervals { name } => tell_intervals(office, &name, output),
-        ScriptLine::Days { name } => tell_days(office, &name, output),
-        ScriptLine::Poll { number } => tell_poll(office, number, output),
+        ScriptLine::Meter { name } => append_meter_lines(office, &name, output),
+        ScriptLine::Intervals { name } => print_intervals(office, &name, output),
+        ScriptLine::Days { name } => print_days(office, &name, output),
+        ScriptLine::Poll { number } => print_poll(office, number, output),
     }
 }
 

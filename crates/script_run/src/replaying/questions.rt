@@ -12,7 +12,7 @@ use script_text::{write_end, write_meter, write_poll, write_refusal};
 use std::io::{self, ErrorKind, Write};
 
 /// Prints the line of a meter, with its last count, its total energy, and whether it was closed.
-pub(crate) fn tell_meter<W: Write>(
+pub(crate) fn append_meter_lines<W: Write>(
     office: &mut Office<ListBooks>,
     name: &Option<Name>,
     output: &mut W,
@@ -27,7 +27,7 @@ pub(crate) fn tell_meter<W: Write>(
 }
 
 /// Prints the number and the outcome of a poll.
-pub(crate) fn tell_poll<W: Write>(
+pub(crate) fn print_poll<W: Write>(
     office: &mut Office<ListBooks>,
     number: u64,
     output: &mut W,
@@ -42,7 +42,7 @@ pub(crate) fn tell_poll<W: Write>(
 }
 
 /// Prints the energy of a meter in each quarter hour, in mWh.
-pub(crate) fn tell_intervals<W: Write>(
+pub(crate) fn print_intervals<W: Write>(
     office: &mut Office<ListBooks>,
     meter: &Option<Name>,
     output: &mut W,
@@ -59,7 +59,7 @@ pub(crate) fn tell_intervals<W: Write>(
 }
 
 /// Prints the energy of an accounting register on each civil day of the script's time zone, in mWh.
-pub(crate) fn tell_days<W: Write>(
+pub(crate) fn print_days<W: Write>(
     office: &mut Office<ListBooks>,
     register: &Option<Name>,
     output: &mut W,

@@ -24,7 +24,7 @@ fn run_text<W: Write>(alloc: Global, zone: Zone, text: &[u8], output: &mut W) ->
             };
         }
     };
-    let mut lines = InputLines::of(text);
+    let mut lines = InputLines::new(text);
     while let Some(line) = lines.next_line() {
         match run_line(alloc, &mut office, line.number, line.text, output) {
             Ok(()) => {}

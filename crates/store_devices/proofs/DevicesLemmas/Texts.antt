@@ -43,19 +43,19 @@ pub insert_point_plain : IsPlain (understood books_schema insert_point)
 unfolding understood everything
 insert_point_plain = (refl, refl)
 
--- ---- the SQL text of `drop_points`
+-- ---- the SQL text of `delete_points`
 
-abbrev pub drop_points : List ℕ
-drop_points = codes "DELETE FROM points WHERE device = ?1"
+abbrev pub delete_points : List ℕ
+delete_points = codes "DELETE FROM points WHERE device = ?1"
 
 abbrev pub drop_points_tests : List Term
 drop_points_tests = is_param 1 0 ∷ []
 
-pub drop_points_is : command_of (understood books_schema drop_points) ≡ Delete 2 (record { lets = []; body = scan 3 drop_points_tests (col 1 0 ∷ []) [] no_limit })
+pub drop_points_is : command_of (understood books_schema delete_points) ≡ Delete 2 (record { lets = []; body = scan 3 drop_points_tests (col 1 0 ∷ []) [] no_limit })
 unfolding understood everything
 drop_points_is = refl
 
-pub drop_points_plain : IsPlain (understood books_schema drop_points)
+pub drop_points_plain : IsPlain (understood books_schema delete_points)
 unfolding understood everything
 drop_points_plain = (refl, refl)
 

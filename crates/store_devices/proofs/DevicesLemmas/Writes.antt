@@ -30,10 +30,10 @@ pub insert_point : (old new : State) (p : Listed) (r : Result ℕ Error) → Exe
 insert_point old new p r h =
     inserts points_table 2 refl point_columns p (Null ∷ point_columns p) (chosen_rowid _ _ (point_cast p)) old new text.insert_point_terms 9 text.insert_point (point_columns p) r text.insert_point_is text.insert_point_plain (λ rows s. s.1) h
 
-pub drop_points : (device : List ℕ) (old new : State) (r : Result ℕ Error) → Executes text.drop_points (Text device ∷ []) old new r → OnOk r (Turns (Edits points point_columns (without_where (is_point_of device))) old.now new.now)
-drop_points device old new r h =
+pub delete_points : (device : List ℕ) (old new : State) (r : Result ℕ Error) → Executes text.delete_points (Text device ∷ []) old new r → OnOk r (Turns (Edits points point_columns (without_where (is_point_of device))) old.now new.now)
+delete_points device old new r h =
     deletes points_table 2 refl (Text device ∷ []) text.drop_points_tests point_columns (is_point_of device)
-    (λ n p. rw (text_is p.device device, and_true (bytes_eq p.device device)) refl) old new text.drop_points r text.drop_points_is text.drop_points_plain h
+    (λ n p. rw (text_is p.device device, and_true (bytes_eq p.device device)) refl) old new text.delete_points r text.drop_points_is text.drop_points_plain h
 
 register_cast : (x : Registered) → cast_row (plainly registers_table) (register_columns x) ≡ register_columns x
 register_cast x = simp (cast_null, cast_int)

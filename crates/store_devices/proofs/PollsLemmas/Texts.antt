@@ -53,35 +53,35 @@ pub insert_outcome_plain : IsPlain (understood books_schema insert_outcome)
 unfolding understood everything
 insert_outcome_plain = (refl, refl)
 
--- ---- the SQL text of `insert_hold`
+-- ---- the SQL text of `insert_rejected`
 
-abbrev pub insert_hold : List ℕ
-insert_hold = codes "INSERT INTO holds (place, meter, poll, moment, raw, sf, cause) VALUES (?1, ?2, ?3, ?4, ?5, ?6, ?7)"
+abbrev pub insert_rejected : List ℕ
+insert_rejected = codes "INSERT INTO holds (place, meter, poll, moment, raw, sf, cause) VALUES (?1, ?2, ?3, ?4, ?5, ?6, ?7)"
 
 abbrev pub insert_hold_terms : List Term
 insert_hold_terms = col 0 0 ∷ lit Null ∷ col 0 1 ∷ col 0 2 ∷ col 0 3 ∷ col 0 4 ∷ col 0 5 ∷ col 0 6 ∷ []
 
-pub insert_hold_is : command_of (understood books_schema insert_hold) ≡ Insert 7 (Values insert_hold_terms 8)
+pub insert_hold_is : command_of (understood books_schema insert_rejected) ≡ Insert 7 (Values insert_hold_terms 8)
 unfolding understood everything
 insert_hold_is = refl
 
-pub insert_hold_plain : IsPlain (understood books_schema insert_hold)
+pub insert_hold_plain : IsPlain (understood books_schema insert_rejected)
 unfolding understood everything
 insert_hold_plain = (refl, refl)
 
--- ---- the SQL text of `insert_reply`
+-- ---- the SQL text of `insert_kept_request`
 
-abbrev pub insert_reply : List ℕ
-insert_reply = codes "INSERT INTO replies (caller, number, request, kind, moment) VALUES (?1, ?2, ?3, ?4, ?5)"
+abbrev pub insert_kept_request : List ℕ
+insert_kept_request = codes "INSERT INTO replies (caller, number, request, kind, moment) VALUES (?1, ?2, ?3, ?4, ?5)"
 
 abbrev pub insert_reply_terms : List Term
 insert_reply_terms = lit Null ∷ col 0 0 ∷ col 0 1 ∷ col 0 2 ∷ col 0 3 ∷ col 0 4 ∷ []
 
-pub insert_reply_is : command_of (understood books_schema insert_reply) ≡ Insert 10 (Values insert_reply_terms 6)
+pub insert_reply_is : command_of (understood books_schema insert_kept_request) ≡ Insert 10 (Values insert_reply_terms 6)
 unfolding understood everything
 insert_reply_is = refl
 
-pub insert_reply_plain : IsPlain (understood books_schema insert_reply)
+pub insert_reply_plain : IsPlain (understood books_schema insert_kept_request)
 unfolding understood everything
 insert_reply_plain = (refl, refl)
 

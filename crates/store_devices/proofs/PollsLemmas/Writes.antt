@@ -33,14 +33,14 @@ insert_outcome old new o r h =
 hold_cast : (x : Held) → cast_row (plainly holds_table) (hold_columns x) ≡ hold_columns x
 hold_cast x = simp (cast_null, cast_int)
 
-pub insert_hold : (old new : State) (x : Held) (r : Result ℕ Error) → Executes text.insert_hold (hold_shown x) old new r → OnOk r (Turns (Edits holds hold_columns (with_row x)) old.now new.now)
-insert_hold old new x r h =
+pub insert_rejected : (old new : State) (x : Held) (r : Result ℕ Error) → Executes text.insert_rejected (hold_shown x) old new r → OnOk r (Turns (Edits holds hold_columns (with_row x)) old.now new.now)
+insert_rejected old new x r h =
     inserts holds_table 7 refl hold_columns x (hold_columns x) (given_rowid _ (drop 1 (hold_columns x)) (pos x.row.place) (hold_cast x)) old new text.insert_hold_terms 8
-    text.insert_hold (hold_shown x) r text.insert_hold_is text.insert_hold_plain (λ rows s. s.1) h
+    text.insert_rejected (hold_shown x) r text.insert_hold_is text.insert_hold_plain (λ rows s. s.1) h
 
 reply_cast : (k : Kept) → cast_row (plainly replies_table) (Null ∷ reply_columns k) ≡ Null ∷ reply_columns k
 reply_cast k = simp (cast_null, cast_int)
 
-pub insert_reply : (old new : State) (k : Kept) (r : Result ℕ Error) → Executes text.insert_reply (reply_columns k) old new r → OnOk r (Turns (Edits replies reply_columns (with_row k)) old.now new.now)
-insert_reply old new k r h =
-    inserts replies_table 10 refl reply_columns k (Null ∷ reply_columns k) (chosen_rowid _ _ (reply_cast k)) old new text.insert_reply_terms 6 text.insert_reply (reply_columns k) r text.insert_reply_is text.insert_reply_plain (λ rows s. s.1) h
+pub insert_kept_request : (old new : State) (k : Kept) (r : Result ℕ Error) → Executes text.insert_kept_request (reply_columns k) old new r → OnOk r (Turns (Edits replies reply_columns (with_row k)) old.now new.now)
+insert_kept_request old new k r h =
+    inserts replies_table 10 refl reply_columns k (Null ∷ reply_columns k) (chosen_rowid _ _ (reply_cast k)) old new text.insert_reply_terms 6 text.insert_kept_request (reply_columns k) r text.insert_reply_is text.insert_reply_plain (λ rows s. s.1) h

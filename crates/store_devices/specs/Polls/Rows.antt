@@ -19,7 +19,7 @@ use Rattle.store_tables.specs.Limits.{greatest_place, IsPlace, latest_moment}
 use Rattle.store_devices.specs.declared.polls.rows.PollRow.{PollRow}
 use Rattle.store_devices.specs.declared.polls.rows.Poll.{Poll}
 use Rattle.store_devices.specs.declared.polls.rows.OutcomeRow.{OutcomeRow}
-use Rattle.store_devices.specs.declared.polls.rows.HoldRow.{HoldRow}
+use Rattle.store_devices.specs.declared.polls.rows.RejectedRow.{RejectedRow}
 use Rattle.office_events.specs.declared.answers.CommandKind.{CommandKind}
 use Rattle.office_events.specs.declared.answers.CommandKind.TheVariants as kind
 use Rattle.store_devices.specs.declared.polls.rows.Repeat.{Repeat}
@@ -187,7 +187,7 @@ outcome_in row =
 -- A rejected reading of a meter, as a row of the table `holds`.
 pub record Held : Type 0 where
   pub meter : List ℕ
-  pub row : HoldRow
+  pub row : RejectedRow
 
 -- The columns of a rejected reading in the table `holds`.
 abbrev pub hold_columns : Held → Row
@@ -213,7 +213,7 @@ hold_place_shown h = Int (pos h.row.place) ∷ []
 
 -- True if every value of a rejected reading is in its range. The predicate does not check the name
 -- of the reading's meter.
-pub record IsSoundHold (h : HoldRow) : Type 0 where
+pub record IsSoundHold (h : RejectedRow) : Type 0 where
   pub place : IsPlace h.place
   pub poll : IsPlace h.poll
   pub moment : h.moment ≤ latest_moment

@@ -46,7 +46,7 @@ fn insert_point<'a, S: Alter>(
 }
 
 /// Deletes all points of a device's point list.
-fn drop_points<S: Alter>(tx: &mut Transaction<'_, S>, device: &str) -> Result<usize, Error>
+fn delete_points<S: Alter>(tx: &mut Transaction<'_, S>, device: &str) -> Result<usize, Error>
     ensures same_reference { IsSameBorrow tx.old.conn tx.new.conn }
     ensures does { Steps (state S.Store tx.old.conn.now) (state S.Store tx.new.conn.now) result
         (Edits trees.points point_columns (without_where (is_point_of device.now))) }
@@ -89,7 +89,7 @@ pub fn replace_points<S: Alter>(
     ensures does { Steps (state S.Store tx.old.conn.now) (state S.Store tx.new.conn.now) result
         (Edits trees.points point_columns (with_list device.now points.now)) }
 {
-    drop_points(tx, device)?;
+    delete_points(tx, device)?;
     insert_points(tx, device, points)
 }
 

@@ -7,7 +7,7 @@ ghost use Rattle.store_devices.specs.Polls.Rows.{poll_in, poll_shown, IsStarted,
 ghost use Rattle.store_devices.specs.Polls.Rows.{IsSoundStarted, greatest_count, malformation_of, lost_of};
 ghost use Rattle.store_devices.specs.Polls.Rows.{outcome_of, outcome_in, kind_in, same_bytes, repeat_in};
 
-use crate::polls::kinds::kind_spelled;
+use crate::polls::kinds::parse_kind;
 use crate::polls::rows::{OutcomeRow, Poll, PollRow, Repeat};
 use office_events::CommandKind;
 use poll_core::{LostCause, Malformation, Outcome};
@@ -142,7 +142,7 @@ fn kind(row: &Row, at: usize) -> Result<CommandKind, RowFault>
     ensures { result ≡ or_damaged (kind_in (column row.now at)) }
 {
     match row.get_ref(at) {
-        Ok(ValueRef::Text(word)) => match kind_spelled(word) {
+        Ok(ValueRef::Text(word)) => match parse_kind(word) {
             Some(kind) => Ok(kind),
             None => Err(RowFault::Damaged),
         },

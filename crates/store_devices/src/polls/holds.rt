@@ -7,15 +7,15 @@ ghost use Rattle.store_tables.specs.Asking.{AsksInside, TellsRows, ShowsFirst};
 ghost use Rattle.store_devices.specs.Polls.Rows.{hold_columns, hold_place, hold_place_shown, IsSoundHold};
 ghost use Rattle.store_devices.specs.Polls.Trees.{holds};
 
-use crate::polls::rows::HoldRow;
+use crate::polls::rows::RejectedRow;
 use sqlite::{Alter, Error, Row, Transaction, params};
 use store_tables::{number, signed};
 
 /// Inserts a rejected reading of a meter.
-pub fn insert_hold<S: Alter>(
+pub fn insert_rejected<S: Alter>(
     tx: &mut Transaction<'_, S>,
     meter: &str,
-    hold: HoldRow,
+    hold: RejectedRow,
 ) -> Result<usize, Error>
     requires sound { IsSoundHold hold }
     ensures same_reference { IsSameBorrow tx.old.conn tx.new.conn }

@@ -5,7 +5,7 @@ ghost use Rattle.store_devices.specs.Polls.Rows.{kind_word, kind_of};
 use office_events::CommandKind;
 
 /// Returns the kind of command that a word in the table `replies` names, or None.
-pub(crate) fn kind_spelled(word: &[u8]) -> Option<CommandKind>
+pub(crate) fn parse_kind(word: &[u8]) -> Option<CommandKind>
     ensures { result ≡ kind_of word.now }
 {
     if word == b"device".as_slice() {

@@ -19,7 +19,7 @@ use store_tables::RowFault;
 
 /// Stores an accepted request under its idempotency key, `caller` and `number`, with the kind of
 /// its command.
-pub fn insert_reply<S: Alter>(
+pub fn insert_kept_request<S: Alter>(
     tx: &mut Transaction<'_, S>,
     caller: &str,
     number: u64,

@@ -43,7 +43,7 @@ pub struct OutcomeRow {
 
 /// A rejected reading of a meter, without the name of the meter.
 #[derive(Clone, Copy, Debug, PartialEq, Eq)]
-pub struct HoldRow {
+pub struct RejectedRow {
     /// The index of the rejected reading, from 1.
     pub place: u64,
     /// The number of the poll that read the counter.

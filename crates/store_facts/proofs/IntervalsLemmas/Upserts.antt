@@ -46,7 +46,7 @@ use Rattle.sqlite_keyed.proofs.ListLemmas.{all_unmap, none_from_any}
 use Rattle.store_tables.specs.Schema.{books_schema, intervals_table}
 use Rattle.store_tables.specs.Content.{AreApart, Edits, id_of, same_id}
 use Rattle.store_tables.specs.Steps.{Turns}
-use Rattle.store_tables.proofs.Fresh.{put_fresh}
+use Rattle.store_tables.proofs.Fresh.{write_fresh}
 use Rattle.store_tables.proofs.Frames.{frame, tree_at}
 use Rattle.store_tables.proofs.Apart.{apart_permutation, apart_more, changed_apart}
 use Rattle.store_tables.proofs.Edits.{changed, edited_rows, given_are, same_id-flips}
@@ -224,7 +224,7 @@ module _ (meter : List ℕ) (start mwh : ℕ) where
           let trees = ap (λ (v : Written). v.trees) (same_value wrote.2) in
           let free = none_but (is_taken (db intervals) new) (subst (λ r. not (is_taken (db intervals) r) && true ≡ true) (row_cast fresh) step.fresh) in
           let rows : w.trees intervals ≡ put_row new (db intervals) = ap (λ (f : Trees). f intervals) trees ∙ (step.rows ∙ ap (λ (r : Row). put_row r (db intervals)) (row_cast fresh)) in
-          let put = subst (IsPermutation (new ∷ db intervals)) (sym rows) (put_fresh new (db intervals) free) in
+          let put = subst (IsPermutation (new ∷ db intervals)) (sym rows) (write_fresh new (db intervals) free) in
           record {
             keeps = apart_permutation _ _ put (apart_more new (db intervals) refl apart free);
             others = subst (λ (f : Trees). AllByRecursion (λ t. t.tree ≢ intervals → f t.tree ≡ db t.tree) books_schema.tables) (sym trees) step.tables;

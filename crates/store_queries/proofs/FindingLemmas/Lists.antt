@@ -163,8 +163,8 @@ pub all_found : {X : Type 0} (P : X → Type 0) (p : X → Bool) (xs : List X) (
 all_found P p [] x all is = absurd (cc)
 all_found P p (y ∷ ys) x all is = found_step P (p y) y x (find p ys) all.0 (all_found P p ys x all.1) is
 
-put_of : List Fact → (device : List ℕ) → Option DeviceList
-put_of facts device = find (λ (put : DeviceList). same put.device device) (lists_in facts)
+write_of : List Fact → (device : List ℕ) → Option DeviceList
+write_of facts device = find (λ (put : DeviceList). same put.device device) (lists_in facts)
 
 -- True if the records have a point list of a device, and the list has the given points.
 pub record HasList (facts : List Fact) (device : List ℕ) (points : List ListedPoint) : Type 0 where
@@ -173,8 +173,8 @@ pub record HasList (facts : List Fact) (device : List ℕ) (points : List Listed
   pub planned : IsPlanned list
   pub points_are : list.points ≡ points
 
-some_list : (facts : List Fact) (device : List ℕ) (points ps : List ListedPoint) (put : DeviceList) → IsPlanned put.list → put_of facts device ≡ Some put → put.list.points ≡ ps → points ≡ ps → points ≢ [] → HasList facts device points
-unfolding put_of
+some_list : (facts : List Fact) (device : List ℕ) (points ps : List ListedPoint) (put : DeviceList) → IsPlanned put.list → write_of facts device ≡ Some put → put.list.points ≡ ps → points ≡ ps → points ≢ [] → HasList facts device points
+unfolding write_of
 some_list facts device points [] put planned found own are some = absurd (some are)
 some_list facts device points (p ∷ ps) put planned found own are some = record {
   list = put.list;
@@ -183,15 +183,15 @@ some_list facts device points (p ∷ ps) put planned found own are some = record
   points_are = own ∙ sym are;
 }
 
-list_by : (facts : List Fact) (device : List ℕ) (points : List ListedPoint) (o : Option DeviceList) → AreLawful facts → put_of facts device ≡ o → points ≡ points_put o → points ≢ [] → HasList facts device points
-unfolding put_of
+list_by : (facts : List Fact) (device : List ℕ) (points : List ListedPoint) (o : Option DeviceList) → AreLawful facts → write_of facts device ≡ o → points ≡ points_put o → points ≢ [] → HasList facts device points
+unfolding write_of
 list_by facts device points None lawful found are some = absurd (some are)
 list_by facts device points (Some put) lawful found are some =
     some_list facts device points put.list.points put (all_found (λ (q : DeviceList). IsPlanned q.list) (λ (q : DeviceList). same q.device device) (lists_in facts) put (all_planned facts lawful) found) found refl are some
 
 pub has_list : (facts : List Fact) (device : List ℕ) (points : List ListedPoint) → AreLawful facts → points ≡ points_of facts device → points ≢ [] → HasList facts device points
-unfolding put_of
-has_list facts device points lawful are some = list_by facts device points (put_of facts device) lawful refl are some
+unfolding write_of
+has_list facts device points lawful are some = list_by facts device points (write_of facts device) lawful refl are some
 
 none_by : (o : Option DeviceList) → points_put o ≡ [] → option_and_then (λ (q : DeviceList). if_some q.list.points q.list) o ≡ None
 none_by None h = refl

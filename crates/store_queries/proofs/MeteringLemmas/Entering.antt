@@ -19,7 +19,7 @@ use Rattle.meter_journal.specs.Voids.{VoidsChangeTwoRows}
 use Rattle.office_events.specs.declared.facts.Opening.{Opening}
 use Rattle.office_events.specs.declared.facts.Fact.{Fact}
 use Rattle.office_events.specs.declared.questions.Installation.{Installation}
-use Rattle.office_events.specs.declared.questions.EntryPlace.{EntryPlace}
+use Rattle.office_events.specs.declared.questions.EntryContext.{EntryContext}
 use Rattle.office_rules.specs.Facts.{same, openings_in, opening_of, voids_in}
 use Rattle.office_rules.specs.Lawful.{AreLawful}
 use Rattle.office_rules.specs.Meters.{rows_of, installation_of, meter_of, entry_at, place_in, standing, is_ended, installed, journal_of}
@@ -77,13 +77,13 @@ journal_is journals stand change facts meter entries voids rows shown void are =
     ∙ reverse-reverse (rows_of facts o)
 
 -- The answer for an index of a meter depends on whether the meter has an opening.
-by_opening : (facts : List Fact) (place : ℕ) (whole : Installation) (found : Option EntryPlace) (opening : Option Opening) → Some whole ≡ option_map (installation_of facts) opening
+by_opening : (facts : List Fact) (place : ℕ) (whole : Installation) (found : Option EntryContext) (opening : Option Opening) → Some whole ≡ option_map (installation_of facts) opening
     → ((o : Opening) → opening ≡ Some o → whole ≡ installation_of facts o → found ≡ option_map (place_in facts o) (row_at place (rows_of facts o)))
     → found ≡ option_and_then (λ o. option_map (place_in facts o) (row_at place (rows_of facts o))) opening
 by_opening facts place whole found None is tells = absurd (let e = is in cc)
 by_opening facts place whole found (Some o) is tells = tells o refl (same_Some _ _ is)
 
-pub entry_is : (facts : List Fact) (meter : List ℕ) (place : ℕ) (whole : Installation) (rows : List EntryRow) (found : Option EntryPlace) → Some whole ≡ meter_of facts meter → FindsJournal meter facts rows
+pub entry_is : (facts : List Fact) (meter : List ℕ) (place : ℕ) (whole : Installation) (rows : List EntryRow) (found : Option EntryContext) → Some whole ≡ meter_of facts meter → FindsJournal meter facts rows
     → ((o : Opening) → whole ≡ installation_of facts o → latest_first rows ≡ rows_of facts o → found ≡ option_map (place_in facts o) (row_at place (rows_of facts o)))
     → found ≡ entry_at facts meter place
 entry_is facts meter place whole rows found is journal tells =
@@ -98,7 +98,7 @@ none_at facts place (Some o) is = absurd (let e = is in cc)
 pub no_entry : (facts : List Fact) (meter : List ℕ) (place : ℕ) → None ≡ meter_of facts meter → None ≡ entry_at facts meter place
 no_entry facts meter place is = none_at facts place (opening_of facts meter) is
 
-pub placed_is : (facts : List Fact) (meter text : List ℕ) (place : ℕ) (x : Option Installation) (whole : Installation) (rows told : List EntryRow) (r : Result (Option EntryPlace) RowFault) → x ≡ Some whole → x ≡ meter_of facts meter → text ≡ meter
+pub placed_is : (facts : List Fact) (meter text : List ℕ) (place : ℕ) (x : Option Installation) (whole : Installation) (rows told : List EntryRow) (r : Result (Option EntryContext) RowFault) → x ≡ Some whole → x ≡ meter_of facts meter → text ≡ meter
     → told ≡ rows → FindsJournal text facts rows
     → ((o : Opening) → whole ≡ installation_of facts o → latest_first told ≡ rows_of facts o → IfOk r (λ found. found ≡ option_map (place_in facts o) (row_at place (rows_of facts o))))
     → IfOk r (λ found. found ≡ entry_at facts meter place)
@@ -112,14 +112,14 @@ from_derefs a b c d rows one two are = subst (λ (l : List Row). AreJournal l d 
 
 pub placed_found : (facts : List Fact) (o : Opening) (place : ℕ) (whole before : Installation) (rows firsts : List EntryRow) (index : ℕ) (row : EntryRow) (next : Option EntryRow) → whole ≡ installation_of facts o → latest_first rows ≡ rows_of facts o
     → row_at place (latest_first rows) ≡ Some (record { before = latest_first (take index rows); row = row; next = next }) → firsts ≡ take index rows → before ≡ standing whole.opening (entries_in (latest_first firsts)) whole.ended
-    → Some (let p : EntryPlace = record { before = before; row = row; next = next } in p) ≡ option_map (place_in facts o) (row_at place (rows_of facts o))
+    → Some (let p : EntryContext = record { before = before; row = row; next = next } in p) ≡ option_map (place_in facts o) (row_at place (rows_of facts o))
 placed_found facts o place whole before rows firsts index row next whole_is rows_are found first_is stood =
     let around : Around = record { before = latest_first (take index rows); row = row; next = next } in
     let at : row_at place (rows_of facts o) ≡ Some around = ap (row_at place) (sym rows_are) ∙ found in
     let was : before ≡ standing o (entries_in around.before) (is_ended facts o) =
     stood ∙ ap (λ (rs : List EntryRow). standing whole.opening (entries_in (latest_first rs)) whole.ended) first_is
     ∙ ap (λ (w : Installation). standing w.opening (entries_in around.before) w.ended) whole_is in
-    ap (λ (b : Installation). Some (let p : EntryPlace = record { before = b; row = row; next = next } in p)) was ∙ sym (ap (option_map (place_in facts o)) at)
+    ap (λ (b : Installation). Some (let p : EntryContext = record { before = b; row = row; next = next } in p)) was ∙ sym (ap (option_map (place_in facts o)) at)
 
 -- If the earlier meter entries that are not voided may follow one another, the energy before an
 -- entry can be computed from them.
@@ -141,7 +141,7 @@ can_be_placed ranges journals stand kept facts o place rows lawful there are =
     }
 
 -- If finding a meter entry by its index reports `Damaged`, a row has a value out of its range.
-pub placed_fault : InstallationsAreInRange → JournalsFit → RowsStand → PlacesWereKept → (facts : List Fact) (meter text : List ℕ) (place : ℕ) (x : Option Installation) (whole : Installation) (rows told : List EntryRow) (r : Result (Option EntryPlace) RowFault)
+pub placed_fault : InstallationsAreInRange → JournalsFit → RowsStand → PlacesWereKept → (facts : List Fact) (meter text : List ℕ) (place : ℕ) (x : Option Installation) (whole : Installation) (rows told : List EntryRow) (r : Result (Option EntryContext) RowFault)
     → (Sound : Type 0) → (Sound → AreLawful facts) → x ≡ Some whole → x ≡ meter_of facts meter → text ≡ meter → told ≡ rows → FindsJournal text facts rows → IfErr r (λ e. (e ≡ Damaged) × (¬ CanBePlaced whole.opening told place))
     → IfErr r (IsRowFault Sound)
 placed_fault ranges journals stand kept facts meter text place x whole rows told (Ok y) Sound lawful is found_is named same_rows journal h = tt

@@ -20,7 +20,7 @@ use Rattle.meter_journal.proofs.Keeping.{entries_standing, mapped_some}
 use Rattle.sqlite.specs.Order.{Row}
 use Rattle.office_events.specs.declared.facts.Fact.{Fact}
 use Rattle.office_events.specs.declared.facts.Opening.{Opening}
-use Rattle.office_events.specs.declared.questions.EntryPlace.{EntryPlace}
+use Rattle.office_events.specs.declared.questions.EntryContext.{EntryContext}
 use Rattle.office_events.specs.declared.questions.Installation.{Installation}
 use Rattle.office_rules.specs.Facts.{same, openings_in, opening_of, voids_in}
 use Rattle.office_rules.specs.Laws.{IsRecorded, JournalsFit}
@@ -148,7 +148,7 @@ module _ (journals : JournalsFit) (stand : RowsStand) (change : VoidsChangeTwoRo
         ap (λ (x : stored.EntryRow). row_from x true) it.is ∙ ap (row_from (entry_row e.sf it.row)) (sym it.stands)
         ∙ back_by e.sf (last_of (opened o) (entries_in it.before)) it.row.place it.row.kind it.row.entry it.row.stands it.shape (λ off. absurd (let f : true ≡ false = sym it.stands ∙ off in cc)) scale ∙ sym it.next
 
-    seen_near : (whole : Installation) (p : EntryPlace) → Some whole ≡ meter_of facts meter → IsSeen whole seen sides.stands p → TellsNear facts meter place (Some p)
+    seen_near : (whole : Installation) (p : EntryContext) → Some whole ≡ meter_of facts meter → IsSeen whole seen sides.stands p → TellsNear facts meter place (Some p)
     seen_near whole p whole_is h =
         let whole_of : whole ≡ installation_of facts o = same_Some _ _ (whole_is ∙ ap (option_map (installation_of facts)) there) in
         let found_at : Some (place_in facts o around) ≡ entry_at facts meter place =
@@ -159,28 +159,28 @@ module _ (journals : JournalsFit) (stand : RowsStand) (change : VoidsChangeTwoRo
         h.before ∙ ap (λ (l : Last). let i : Installation = record whole { last = l } in i) before_is
         ∙ ap (λ (w : Installation). let i : Installation = record { opening = w.opening; last = last_of (opened o) (entries_in around.before); total = whole.total; ended = w.ended } in i) whole_of in
         let all_same : p ≡ with_energy whole.total (place_in facts o around) =
-        ap (λ (b : Installation). let q : EntryPlace = record { before = b; row = p.row; next = p.next } in q) before_same
-        ∙ ap₂ (λ (r : EntryRow) (n : Option EntryRow). let q : EntryPlace = record { before = (with_energy whole.total (place_in facts o around)).before; row = r; next = n } in q) row_same next_same in
-        subst (λ (q : EntryPlace). TellsNear facts meter place (Some q)) (sym all_same)
+        ap (λ (b : Installation). let q : EntryContext = record { before = b; row = p.row; next = p.next } in q) before_same
+        ∙ ap₂ (λ (r : EntryRow) (n : Option EntryRow). let q : EntryContext = record { before = (with_energy whole.total (place_in facts o around)).before; row = r; next = n } in q) row_same next_same in
+        subst (λ (q : EntryContext). TellsNear facts meter place (Some q)) (sym all_same)
         (tells_near facts meter place whole (Some (place_in facts o around)) whole_is found_at (within_whole kept places facts lawful meter place))
 
 -- If a meter entry is built from the rows around it, the result equals the entry in the records.
 pub seen_rightly : JournalsFit → RowsStand → VoidsChangeTwoRows → JournalsAreKept → PlacesWereKept → (facts : List Fact) (meter : List ℕ) (place : ℕ) → 2 ≤ place → (vs : List Voided) → IsPermutation (filter (is_void_of meter) (map voided (voids_in facts))) vs
-    → (sides : Sides) → AreSides vs place sides → (seen : stored_around.Around) → FindsAround meter place sides.before sides.after facts seen → (whole : Installation) (p : EntryPlace) → Some whole ≡ meter_of facts meter → IsSeen whole seen sides.stands p
+    → (sides : Sides) → AreSides vs place sides → (seen : stored_around.Around) → FindsAround meter place sides.before sides.after facts seen → (whole : Installation) (p : EntryContext) → Some whole ≡ meter_of facts meter → IsSeen whole seen sides.stands p
     → TellsNear facts meter place (Some p)
 seen_rightly journals stand change kept places facts meter place late vs all sides are seen finds whole p whole_is h =
     let o = mapped_some (installation_of facts) (opening_of facts meter) whole (sym whole_is) in
     seen_near journals stand change kept places facts meter o.0 o.1 finds.entry.lawful vs all place late sides are seen finds whole p whole_is h
 
-if_seen : (facts : List Fact) (meter : List ℕ) (place : ℕ) (whole : Installation) (seen : stored_around.Around) (stands : Bool) (r : Option EntryPlace) → IfSome r (IsSeen whole seen stands)
-    → ((p : EntryPlace) → Some whole ≡ meter_of facts meter → IsSeen whole seen stands p → TellsNear facts meter place (Some p)) → IfSome r (λ p. TellsOf meter place whole facts (Some p))
+if_seen : (facts : List Fact) (meter : List ℕ) (place : ℕ) (whole : Installation) (seen : stored_around.Around) (stands : Bool) (r : Option EntryContext) → IfSome r (IsSeen whole seen stands)
+    → ((p : EntryContext) → Some whole ≡ meter_of facts meter → IsSeen whole seen stands p → TellsNear facts meter place (Some p)) → IfSome r (λ p. TellsOf meter place whole facts (Some p))
 if_seen facts meter place whole seen stands None h tells = tt
 if_seen facts meter place whole seen stands (Some p) h tells = λ whole_is. tells p whole_is h
 
 -- If an entry is built from the rows of `entries` and `voids`, the result equals the entry in the
 -- records.
 pub told_rightly : JournalsFit → RowsStand → VoidsChangeTwoRows → JournalsAreKept → PlacesWereKept → (facts : List Fact) (meter : List ℕ) (place : ℕ) → 2 ≤ place → (shown told : List Row) (sides : Sides) (found : Option stored_around.Around) (seen : stored_around.Around)
-    (whole : Installation) (r : Option EntryPlace) → ShowsVoids meter facts shown → told ≡ shown → ByVoids (λ (vs : List Voided). AreSides vs place sides) told → IfSome found (FindsAround meter place sides.before sides.after facts) → found ≡ Some seen
+    (whole : Installation) (r : Option EntryContext) → ShowsVoids meter facts shown → told ≡ shown → ByVoids (λ (vs : List Voided). AreSides vs place sides) told → IfSome found (FindsAround meter place sides.before sides.after facts) → found ≡ Some seen
     → IfSome r (IsSeen whole seen sides.stands) → TellsRightly meter place whole facts r
 told_rightly journals stand change kept places facts meter place late shown told sides found seen whole r shows same by finds is h =
     let are : AreSides shows.voids place sides = by shows.voids (same ∙ shows.shown) in

@@ -8,7 +8,7 @@ use Rattle.meter_journal.specs.declared.lines.EntryRow as journal
 use Rattle.sqlite.specs.Order.{Row}
 use Rattle.office_events.specs.declared.facts.Fact.{Fact}
 use Rattle.office_events.specs.declared.questions.Installation.{Installation}
-use Rattle.office_events.specs.declared.questions.EntryPlace.{EntryPlace}
+use Rattle.office_events.specs.declared.questions.EntryContext.{EntryContext}
 use Rattle.office_rules.specs.Lawful.{AreLawful}
 use Rattle.office_rules.specs.Meters.{meter_of}
 use Rattle.office_books.specs.Near.{TellsNear}
@@ -85,7 +85,7 @@ abbrev pub stood : Installation → EntryRow → Installation
 stood whole before = record whole { last = counter_after before }
 
 -- True if `seen` is the meter entry that the rows `around` determine.
-pub record IsSeen (whole : Installation) (around : Around) (stands : Bool) (seen : EntryPlace) :
+pub record IsSeen (whole : Installation) (around : Around) (stands : Bool) (seen : EntryContext) :
     Type 0 where
   pub before : seen.before ≡ stood whole around.before
   pub row : Some seen.row ≡ row_from around.entry stands
@@ -94,13 +94,13 @@ pub record IsSeen (whole : Installation) (around : Around) (stands : Bool) (seen
 -- True if the answer is the meter's entry at index `place`, where `whole` is the meter's
 -- installation.
 abbrev pub TellsOf : (meter : List ℕ) → (place : ℕ) → Installation → List Fact
-    → Option EntryPlace → Type 0
+    → Option EntryContext → Type 0
 TellsOf meter place whole facts found =
     Some whole ≡ meter_of facts meter → TellsNear facts meter place found
 
 -- True if the rules accepted the records, and an entry that was built from rows is the meter's
 -- entry at index `place`.
 pub record TellsRightly (meter : List ℕ) (place : ℕ) (whole : Installation) (facts : List Fact)
-    (found : Option EntryPlace) : Type 0 where
+    (found : Option EntryContext) : Type 0 where
   pub lawful : AreLawful facts
   pub right : IfSome found (λ p. TellsOf meter place whole facts (Some p))

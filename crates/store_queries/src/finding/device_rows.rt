@@ -10,7 +10,7 @@ ghost use Rattle.store_queries.specs.Finding.Reading.{device_with, IsDeviceOf};
 ghost use Rattle.store_queries.specs.Finding.Showing.{ShowsDevices};
 ghost use Rattle.store_queries.specs.Finding.Sound.{IsReadableDevice, HasReadableDevices};
 
-use crate::finding::memory::put;
+use crate::finding::memory::push_item;
 use office_events::{Device, Timeout, Window};
 use poll_core::{MAX_TIMEOUT, MAX_WINDOW};
 use sqlite::{Alter, Connection, Row};
@@ -69,7 +69,7 @@ fn devices_in(rows: &Vec<Row>) -> Result<Vec<Device>, RowFault>
     let mut devices = Vec::new(*rows.allocator());
     for row in rows {
         let device = device_in(row)?;
-        put(&mut devices, device)?;
+        push_item(&mut devices, device)?;
     }
     Ok(devices)
 }

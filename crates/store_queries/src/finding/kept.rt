@@ -13,7 +13,7 @@ use sqlite::{Alter, Connection};
 use store_facts::text;
 use store_tables::{RowFault, check_open};
 
-fn told(repeat: store_devices::Repeat) -> Repeat
+fn convert_repeat(repeat: store_devices::Repeat) -> Repeat
     ensures { result ≡ repeat_from repeat }
 {
     match repeat {
@@ -58,6 +58,6 @@ pub fn repeat<S: Alter>(
     let caller = text(caller)?;
     match row_of(conn, caller, number, request)? {
         None => Ok(None),
-        Some(kept) => Ok(Some(told(kept))),
+        Some(kept) => Ok(Some(convert_repeat(kept))),
     }
 }

@@ -15,7 +15,7 @@ pub(crate) fn want_of_memory() -> RowFault
 }
 
 /// Appends an item, or returns the fault that reports out of memory.
-pub(crate) fn put<T: Drop>(items: &mut Vec<T>, item: T) -> Result<(), RowFault>
+pub(crate) fn push_item<T: Drop>(items: &mut Vec<T>, item: T) -> Result<(), RowFault>
     ensures put { OnOk result (items.new.items ≡ items.old.items ++ item ∷ []) }
     ensures fault { IfErr result (λ e. e ≡ Sql (SqliteFailure OutOfMemory)) }
 {

@@ -10,7 +10,7 @@ ghost use Rattle.store_queries.specs.Finding.Points.{point_with, IsPointOf, IsRe
 ghost use Rattle.store_queries.specs.Finding.Points.{HasReadablePoints};
 ghost use Rattle.store_queries.specs.Finding.Showing.{ShowsPoints};
 
-use crate::finding::memory::put;
+use crate::finding::memory::push_item;
 use point_list::{ListedPoint, PointName, PointScale, fixed_scale, point_type};
 use sqlite::{Alter, Connection, Row};
 use store_devices::{point_rows, read_point};
@@ -81,7 +81,7 @@ pub(crate) fn points_in(rows: &Vec<Row>) -> Result<Vec<ListedPoint>, RowFault>
     let mut points = Vec::new(*rows.allocator());
     for row in rows {
         let point = point_in(row)?;
-        put(&mut points, point)?;
+        push_item(&mut points, point)?;
     }
     Ok(points)
 }

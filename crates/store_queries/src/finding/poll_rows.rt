@@ -13,7 +13,7 @@ ghost use Rattle.store_queries.specs.Finding.Reading.{HasNumbers, IsPollOf, ende
 ghost use Rattle.store_queries.specs.Finding.Showing.{ShowsPendingPolls, FindsPoll};
 ghost use Rattle.store_queries.specs.Finding.Sound.{IsReadablePoll, HasReadablePolls, HasReadableOutcomes};
 
-use crate::finding::memory::put;
+use crate::finding::memory::push_item;
 use mb_wire::ReadSpan;
 use office_events::{EndedPoll, Poll, PollRow};
 use sqlite::{Alter, Connection, Row};
@@ -68,7 +68,7 @@ fn polls_in(rows: &Vec<Row>) -> Result<Vec<Poll>, RowFault>
     let mut polls = Vec::new(*rows.allocator());
     for row in rows {
         let poll = poll_in(row)?;
-        put(&mut polls, poll)?;
+        push_item(&mut polls, poll)?;
     }
     Ok(polls)
 }

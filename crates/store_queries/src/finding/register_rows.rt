@@ -10,9 +10,9 @@ ghost use Rattle.store_queries.specs.Finding.Reading.{register_with, source_from
 ghost use Rattle.store_queries.specs.Finding.Showing.{ShowsRegisters, FindsRegister};
 ghost use Rattle.store_queries.specs.Finding.Sound.{IsReadableRegister, HasReadableRegisters};
 
-use crate::finding::memory::put;
+use crate::finding::memory::push_item;
 use mb_wire::ReadSpan;
-use office_books::keep_read;
+use office_books::retain_covered;
 use office_events::{Name, Register, ScaleSource};
 use sqlite::{Alter, Connection, Row};
 use store_devices::{RegisterScale, read_register, register_of, register_rows};
@@ -60,7 +60,7 @@ fn registers_in(rows: &Vec<Row>) -> Result<Vec<Register>, RowFault>
     let mut registers = Vec::new(*rows.allocator());
     for row in rows {
         let register = register_in(row)?;
-        put(&mut registers, register)?;
+        push_item(&mut registers, register)?;
     }
     Ok(registers)
 }
@@ -133,7 +133,7 @@ pub fn registers_read<S: Alter>(
         (λ facts. IsUtf8 device.now × HasReadableRegisters facts) }
 {
     let mut found = registers(conn, device)?;
-    keep_read(&mut found, span);
+    retain_covered(&mut found, span);
     Ok(found)
 }
 

@@ -14,9 +14,9 @@ ghost use Rattle.store_queries.specs.Metering.Around.{stood, TellsOf, TellsRight
 use crate::metering::entries::{entry, voids};
 use crate::metering::journal::{entry_row, is_voided};
 use crate::metering::meters::meter;
-use meter_journal::{journals_are_kept, places_were_kept, rows_stand, voids_change_two_rows};
+use meter_journal::{journals_are_kept, places_were_kept, rows_are_kept, voids_change_two_rows};
 use office_books::{is_sound, with_whole_energy};
-use office_events::{EntryPlace, Installation, Name};
+use office_events::{EntryContext, Installation, Name};
 use office_rules::journals_fit;
 use sqlite::{Alter, Connection, Row};
 use std::alloc::Global;
@@ -175,7 +175,7 @@ fn stood_after(whole: &Installation, before: &EntryRow) -> Installation
 
 /// Builds an entry from its row and the rows around it. Returns None if no office can have these
 /// rows.
-fn seen(whole: &Installation, around: &Around, stands: bool) -> Option<EntryPlace>
+fn seen(whole: &Installation, around: &Around, stands: bool) -> Option<EntryContext>
     ensures seen { IfSome result (IsSeen whole.now around.now stands) }
     ensures sound { IfSome result (λ found. IsSound found.before) }
 {
@@ -185,24 +185,24 @@ fn seen(whole: &Installation, around: &Around, stands: bool) -> Option<EntryPlac
     if !is_sound(&before) {
         return None;
     }
-    Some(EntryPlace { before, row, next })
+    Some(EntryContext { before, row, next })
 }
 
 /// Returns the entry of a meter at an index from its row and the rows around it. Returns None if
 /// these rows don't determine the entry.
-fn told_around<S: Alter>(
+fn entry_from_neighbours<S: Alter>(
     conn: &mut Connection<S>,
     meter: &str,
     whole: &Installation,
     place: u64,
-) -> Result<Option<EntryPlace>, RowFault>
+) -> Result<Option<EntryContext>, RowFault>
     requires { conn.old.in_transaction ≡ false }
     ensures finds { Finds S.Store conn.old conn.new result
         (TellsRightly meter.now place whole.now) HasReadableJournals }
     ensures sound { IfOk result (λ found. IfSome found (λ p. IsSound p.before)) }
 {
     journals_fit();
-    rows_stand();
+    rows_are_kept();
     voids_change_two_rows();
     journals_are_kept();
     places_were_kept();
@@ -217,13 +217,13 @@ fn told_around<S: Alter>(
 }
 
 /// Returns the entry of a meter at an index from all rows of the meter in `entries`.
-fn told_by_all<S: Alter>(
+fn entry_from_all_rows<S: Alter>(
     alloc: Global,
     conn: &mut Connection<S>,
     name: &Name,
     whole: &Installation,
     place: u64,
-) -> Result<Option<EntryPlace>, RowFault>
+) -> Result<Option<EntryContext>, RowFault>
     requires idle { conn.old.in_transaction ≡ false }
     requires sound { IsSound whole.now }
     ensures finds { Finds S.Store conn.old conn.new result
@@ -248,7 +248,7 @@ pub fn entry_near<S: Alter>(
     conn: &mut Connection<S>,
     name: &Name,
     place: u64,
-) -> Result<Option<EntryPlace>, RowFault>
+) -> Result<Option<EntryContext>, RowFault>
     requires { conn.old.in_transaction ≡ false }
     ensures finds { Finds S.Store conn.old conn.new result
         (λ facts found. TellsNear facts name.now place found)
@@ -261,8 +261,8 @@ pub fn entry_near<S: Alter>(
     let Some(whole) = meter(conn, name)? else {
         return Ok(None);
     };
-    match told_around(conn, text, &whole, place)? {
+    match entry_from_neighbours(conn, text, &whole, place)? {
         Some(found) => Ok(Some(found)),
-        None => told_by_all(alloc, conn, name, &whole, place),
+        None => entry_from_all_rows(alloc, conn, name, &whole, place),
     }
 }

@@ -9,8 +9,8 @@ ghost use Rattle.store_queries.specs.Finding.Finding.{Finds};
 use crate::metering::journal::journal_rows;
 use crate::metering::meters::meter;
 use crate::metering::places::placed;
-use meter_journal::{EntryRow, places_were_kept, rows_stand, voids_change_two_rows};
-use office_events::{EntryPlace, Name};
+use meter_journal::{EntryRow, places_were_kept, rows_are_kept, voids_change_two_rows};
+use office_events::{EntryContext, Name};
 use office_rules::{installations_are_in_range, journals_fit};
 use sqlite::{Alter, Connection, Row};
 use std::alloc::Global;
@@ -24,7 +24,7 @@ fn entries<S: Alter>(conn: &mut Connection<S>, meter: &str) -> Result<Vec<Row>, 
         (λ facts rows. ShowsEntries meter.now facts rows.items) HasReadableJournals }
 {
     journals_fit();
-    rows_stand();
+    rows_are_kept();
     check_open(conn)?;
     let rows = entry_rows(conn, meter)?;
     Ok(rows)
@@ -52,7 +52,7 @@ pub(crate) fn rows<S: Alter>(
         (λ facts rows. FindsJournal meter.now facts rows.items) HasReadableJournals }
 {
     journals_fit();
-    rows_stand();
+    rows_are_kept();
     voids_change_two_rows();
     let entries = entries(conn, meter)?;
     let voids = voids(conn, meter)?;
@@ -66,7 +66,7 @@ pub fn entry<S: Alter>(
     conn: &mut Connection<S>,
     name: &Name,
     place: u64,
-) -> Result<Option<EntryPlace>, RowFault>
+) -> Result<Option<EntryContext>, RowFault>
     requires { conn.old.in_transaction ≡ false }
     ensures finds { Finds S.Store conn.old conn.new result
         (λ facts found. found ≡ entry_at facts name.now place)
@@ -74,7 +74,7 @@ pub fn entry<S: Alter>(
     ensures sound { IfOk result (λ found. IfSome found (λ p. IsSound p.before)) }
 {
     journals_fit();
-    rows_stand();
+    rows_are_kept();
     places_were_kept();
     installations_are_in_range();
     let text = text(name)?;

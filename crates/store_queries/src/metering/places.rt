@@ -17,7 +17,7 @@ ghost use Rattle.store_queries.specs.Metering.Entries.{CanBePlaced};
 use energy_core::{MAX_RANGE, MIN_RANGE};
 use meter_journal::{EntryRow, Installed, Tally, are_numbered, checked_tally, find_row};
 use office_books::installation_after;
-use office_events::{EntryPlace, Installation};
+use office_events::{EntryContext, Installation};
 use store_tables::RowFault;
 
 /// Returns the first `count` journal rows, or all rows if there are fewer.
@@ -70,7 +70,7 @@ pub(crate) fn placed(
     whole: &Installation,
     rows: &[EntryRow],
     place: u64,
-) -> Result<Option<EntryPlace>, RowFault>
+) -> Result<Option<EntryContext>, RowFault>
     ensures found { (facts : List Fact) (o : Opening) → whole.now ≡ installation_of facts o
         → lists.latest_first rows.now ≡ rows_of facts o → IfOk result
         (λ found. found ≡ option_map (place_in facts o) (row_at place (rows_of facts o))) }
@@ -85,7 +85,7 @@ pub(crate) fn placed(
         return Ok(None);
     };
     let before = stood_after(whole, first(rows, found.index))?;
-    Ok(Some(EntryPlace {
+    Ok(Some(EntryContext {
         before,
         row: found.row,
         next: found.next,

@@ -9,7 +9,7 @@ ghost use Rattle.store_queries.specs.Finding.Finding.{Finds, OfLawful, ReadsAll}
 ghost use Rattle.store_queries.specs.Metering.RegisterMeters.{AreRowsOf, ShowsMetersAt};
 ghost use Rattle.store_queries.specs.Metering.Sound.{HasReadableMeters};
 
-use crate::finding::put;
+use crate::finding::push_item;
 use crate::metering::installations::standing;
 use office_events::{Installation, Name};
 use sqlite::{Alter, Connection, Row};
@@ -36,7 +36,7 @@ fn installed_in(rows: &Vec<Row>) -> Result<Vec<store_tables::Installation>, RowF
     let mut installed = Vec::new(*rows.allocator());
     for row in rows {
         let installation = read_installation(row)?;
-        put(&mut installed, installation)?;
+        push_item(&mut installed, installation)?;
     }
     Ok(installed)
 }
@@ -71,7 +71,7 @@ fn standing_all<S: Alter>(
     let mut found = Vec::new(alloc);
     for row in rows {
         let installation = standing(conn, row)?;
-        put(&mut found, installation)?;
+        push_item(&mut found, installation)?;
     }
     Ok(found)
 }

@@ -29,8 +29,8 @@ insert_entry_plain = (refl, refl)
 
 -- ---- set_rolls
 
-abbrev pub set_rolls : List ℕ
-set_rolls = codes "UPDATE entries SET rolls = ?3 WHERE meter = ?1 AND place = ?2"
+abbrev pub set_rollovers : List ℕ
+set_rollovers = codes "UPDATE entries SET rolls = ?3 WHERE meter = ?1 AND place = ?2"
 
 abbrev pub roll_entry_tests : List Term
 roll_entry_tests = is_param 1 0 ∷ is_param 2 1 ∷ []
@@ -38,11 +38,11 @@ roll_entry_tests = is_param 1 0 ∷ is_param 2 1 ∷ []
 abbrev pub roll_entry_news : List Term
 roll_entry_news = col 1 0 ∷ col 1 1 ∷ col 1 2 ∷ col 1 3 ∷ col 1 4 ∷ col 1 5 ∷ col 0 2 ∷ col 1 7 ∷ col 1 8 ∷ []
 
-pub roll_entry_is : command_of (understood books_schema set_rolls) ≡ Update 5 (record { lets = []; body = scan 9 roll_entry_tests (col 1 0 ∷ roll_entry_news) [] no_limit })
+pub roll_entry_is : command_of (understood books_schema set_rollovers) ≡ Update 5 (record { lets = []; body = scan 9 roll_entry_tests (col 1 0 ∷ roll_entry_news) [] no_limit })
 unfolding understood everything
 roll_entry_is = refl
 
-pub roll_entry_plain : IsPlain (understood books_schema set_rolls)
+pub roll_entry_plain : IsPlain (understood books_schema set_rollovers)
 unfolding understood everything
 roll_entry_plain = (refl, refl)
 

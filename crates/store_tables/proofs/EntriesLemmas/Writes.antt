@@ -29,11 +29,11 @@ module _ (meter : List ℕ) (place rolls : ℕ) where
   abbrev pub roll_params : Row
   roll_params = Text meter ∷ Int (pos place) ∷ Int (pos rolls) ∷ []
 
-  pub set_rolls : (old new : State) (r : Result ℕ Error) → Executes text.set_rolls roll_params old new r → OnOk r (Turns (Edits entries entry_columns (changed_where (is_entry meter place) (rolled rolls))) old.now new.now)
-  set_rolls old new r h =
+  pub set_rollovers : (old new : State) (r : Result ℕ Error) → Executes text.set_rollovers roll_params old new r → OnOk r (Turns (Edits entries entry_columns (changed_where (is_entry meter place) (rolled rolls))) old.now new.now)
+  set_rollovers old new r h =
       updates entries_table 5 refl roll_params text.roll_entry_tests text.roll_entry_news entry_columns (is_entry meter place) (rolled rolls)
       (λ n e. rw (text_is e.meter meter, number_is e.entry.place place, and_true (e.entry.place == place)) refl) (λ n e. simp cast_int) rowid_stays
-      old new text.set_rolls r text.roll_entry_is text.roll_entry_plain h
+      old new text.set_rollovers r text.roll_entry_is text.roll_entry_plain h
 
 -- ---- voids
 

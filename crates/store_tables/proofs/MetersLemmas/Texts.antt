@@ -48,8 +48,8 @@ move_installation_plain = (refl, refl)
 
 -- ---- end_installation
 
-abbrev pub end_installation : List ℕ
-end_installation = codes "UPDATE installations SET ended = 1 WHERE meter = ?1"
+abbrev pub close_installation : List ℕ
+close_installation = codes "UPDATE installations SET ended = 1 WHERE meter = ?1"
 
 abbrev pub end_installation_tests : List Term
 end_installation_tests = is_param 2 0 ∷ []
@@ -57,11 +57,11 @@ end_installation_tests = is_param 2 0 ∷ []
 abbrev pub end_installation_news : List Term
 end_installation_news = col 1 0 ∷ lit Null ∷ col 1 2 ∷ col 1 3 ∷ col 1 4 ∷ lit (Int (pos 1)) ∷ col 1 6 ∷ col 1 7 ∷ col 1 8 ∷ col 1 9 ∷ []
 
-pub end_installation_is : command_of (understood books_schema end_installation) ≡ Update 4 (record { lets = []; body = scan 7 end_installation_tests (col 1 0 ∷ end_installation_news) [] no_limit })
+pub end_installation_is : command_of (understood books_schema close_installation) ≡ Update 4 (record { lets = []; body = scan 7 end_installation_tests (col 1 0 ∷ end_installation_news) [] no_limit })
 unfolding understood everything
 end_installation_is = refl
 
-pub end_installation_plain : IsPlain (understood books_schema end_installation)
+pub end_installation_plain : IsPlain (understood books_schema close_installation)
 unfolding understood everything
 end_installation_plain = (refl, refl)
 

@@ -37,11 +37,11 @@ module _ (meter : List ℕ) (last : LastRow) where
       (λ n i. rw (text_is i.meter meter, and_true (bytes_eq i.meter meter)) refl) (λ n i. simp (cast_int, cast_null)) rowid_stays
       old new text.update_last r text.move_installation_is text.move_installation_plain h
 
-pub end_installation : (meter : List ℕ) (old new : State) (r : Result ℕ Error) → Executes text.end_installation (Text meter ∷ []) old new r → OnOk r (Turns (Edits installations installed_columns (changed_where (is_meter meter) ended)) old.now new.now)
-end_installation meter old new r h =
+pub close_installation : (meter : List ℕ) (old new : State) (r : Result ℕ Error) → Executes text.close_installation (Text meter ∷ []) old new r → OnOk r (Turns (Edits installations installed_columns (changed_where (is_meter meter) ended)) old.now new.now)
+close_installation meter old new r h =
     updates installations_table 4 refl (Text meter ∷ []) text.end_installation_tests text.end_installation_news installed_columns (is_meter meter) ended
     (λ n i. rw (text_is i.meter meter, and_true (bytes_eq i.meter meter)) refl) (λ n i. simp (cast_int, cast_null)) rowid_stays
-    old new text.end_installation r text.end_installation_is text.end_installation_plain h
+    old new text.close_installation r text.end_installation_is text.end_installation_plain h
 
 -- ---- ranges
 

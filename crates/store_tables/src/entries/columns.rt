@@ -16,7 +16,7 @@ use sqlite::Row;
 fn kind(row: &Row, at: usize) -> Result<EntryKind, RowFault>
     ensures { result ≡ or_damaged (kind_in (column row.now at)) }
 {
-    match EntryKind::of(whole(row, at, 1, 6)?) {
+    match EntryKind::from_number(whole(row, at, 1, 6)?) {
         Some(kind) => Ok(kind),
         None => Err(RowFault::Damaged),
     }

@@ -52,7 +52,7 @@ pub fn insert_entry<S: Alter>(
 
 /// Sets how often the counter rolled over between the entry at index `place` and the entry before
 /// it.
-pub fn set_rolls<S: Alter>(
+pub fn set_rollovers<S: Alter>(
     tx: &mut Transaction<'_, S>,
     meter: &str,
     place: u64,

@@ -22,7 +22,7 @@ pub enum EntryKind {
 
 impl EntryKind {
     /// Returns the kind of entry with a number from 1 to 6, or None for any other number.
-    pub(crate) fn of(number: u64) -> Option<EntryKind>
+    pub(crate) fn from_number(number: u64) -> Option<EntryKind>
         ensures { result ≡ kind_of number }
     {
         match number {

@@ -86,7 +86,10 @@ pub fn update_last<S: Alter>(
 }
 
 /// Records that a meter was closed.
-pub fn end_installation<S: Alter>(tx: &mut Transaction<'_, S>, meter: &str) -> Result<usize, Error>
+pub fn close_installation<S: Alter>(
+    tx: &mut Transaction<'_, S>,
+    meter: &str,
+) -> Result<usize, Error>
     ensures same_reference { IsSameBorrow tx.old.conn tx.new.conn }
     ensures does { Steps (state S.Store tx.old.conn.now) (state S.Store tx.new.conn.now) result
         (Edits installations installed_columns (changed_where (is_meter meter.now) ended)) }

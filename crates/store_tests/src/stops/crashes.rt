@@ -121,7 +121,7 @@ fn stop_all(rt: &impl Abort, alloc: Global, case: &Case) {
 // Checks that a crash leaves either the file before the change in flight or the file after this
 // change. Every acknowledged change is in the file.
 #[test]
-fn what_was_acknowledged_stands(rt: HostRuntime) {
+fn what_was_acknowledged_is_kept(rt: HostRuntime) {
     for case in &CASES {
         stop_all(&rt, rt.alloc(), case);
     }

@@ -1,5 +1,5 @@
 //! Asserts which rows the file of a metering office has after a crash.
-use crate::made::{found, made, opened};
+use crate::made::{create_store, found, opened};
 use crate::stops::asked::Asked;
 use crate::stops::offices::acknowledges;
 use crate::stops::shown::{number, shows};
@@ -132,7 +132,7 @@ fn is_in_state<S: Alter>(rt: &impl Abort, connection: &mut Connection<S>, state:
 
 /// Returns true if the store has the changes of all acknowledged steps, and possibly of the step in
 /// flight. The last step is the request.
-fn may_stand<S: Alter>(
+fn may_be_recorded<S: Alter>(
     rt: &impl Abort,
     connection: &mut Connection<S>,
     asked: Asked,
@@ -152,7 +152,7 @@ fn may_stand<S: Alter>(
 }
 
 /// Asserts that the store recorded the request exactly once.
-fn stands_once<S: Alter>(rt: &impl Abort, connection: &mut Connection<S>, asked: Asked) {
+fn assert_recorded_once<S: Alter>(rt: &impl Abort, connection: &mut Connection<S>, asked: Asked) {
     match asked {
         Asked::Exchange => shows(rt, connection, &EXCHANGED_ROWS),
         Asked::Void => shows(rt, connection, &VOIDED_ROWS),
@@ -178,7 +178,7 @@ fn retried<S: Alter + Drop>(
 ) -> S {
     let books = reopened(rt, alloc, found(rt, alloc, connection), Some(asked));
     let mut connection = books.into_connection();
-    stands_once(rt, &mut connection, asked);
+    assert_recorded_once(rt, &mut connection, asked);
     connection.into_store()
 }
 
@@ -186,7 +186,7 @@ fn retried<S: Alter + Drop>(
 /// the store.
 fn remade<S: Alter + Drop>(rt: &impl Abort, alloc: Global, mut connection: Connection<S>) -> S {
     assert!(rt; number(rt, &mut connection, "SELECT count(*) FROM sqlite_schema") == 0);
-    let books = made(rt, alloc, connection, "UTC0");
+    let books = create_store(rt, alloc, connection, "UTC0");
     let mut connection = found(rt, alloc, books.into_connection()).into_connection();
     assert!(rt; is_in_state(rt, &mut connection, 1));
     connection.into_store()
@@ -194,7 +194,7 @@ fn remade<S: Alter + Drop>(rt: &impl Abort, alloc: Global, mut connection: Conne
 
 /// Asserts that the acknowledged steps are recorded, and at most the step in flight. If no step was
 /// acknowledged, there may be no tables. Returns the store.
-pub(crate) fn stands<S: Alter + Drop>(
+pub(crate) fn assert_recovered<S: Alter + Drop>(
     rt: &impl Abort,
     alloc: Global,
     connection: Connection<S>,
@@ -206,7 +206,7 @@ pub(crate) fn stands<S: Alter + Drop>(
             let books = reopened(rt, alloc, books, None);
             let mut connection = books.into_connection();
             assert!(rt;
-                may_stand(rt, &mut connection, asked, steps),
+                may_be_recorded(rt, &mut connection, asked, steps),
                 "{asked:?} {steps}"
             );
             if 7 <= steps {

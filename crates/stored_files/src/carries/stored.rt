@@ -9,7 +9,7 @@ ghost use Rattle.office_store.specs.Database.{HasFile};
 ghost use Rattle.stored_files.specs.BooksFound.{HasPast};
 ghost use Rattle.stored_files.specs.Carries.GoingOn.{GoesOn, GoesOnFrom, GoesOnIn, IsCarriedInto};
 
-use crate::carries::zones::told_zone;
+use crate::carries::zones::read_zone_text;
 use carried_books::{CarryFault, carry_books};
 use office_books::Books;
 use office_core::Office;
@@ -48,7 +48,7 @@ fn carry_into<O: Books, N: Books>(
 }
 
 // Creates the tables of a new office, and rolls the old store over into the new office.
-fn carry_anew<O: Books, S: Alter + Drop>(
+fn carry_into_created<O: Books, S: Alter + Drop>(
     alloc: Global,
     old: O,
     zone: &str,
@@ -78,7 +78,7 @@ fn carry_opened<S: Alter + Drop>(
         → IfOk result (GoesOnFrom S.Store old facts zone.now until new) }
 {
     match SqlBooks::open(alloc, old) {
-        Ok(books) => carry_anew(alloc, books, zone, until, new),
+        Ok(books) => carry_into_created(alloc, books, zone, until, new),
         Err(unopened) => Err(CarryEnd::Unopened(unopened.fault)),
     }
 }
@@ -98,7 +98,7 @@ pub fn carry_stored<S: Alter + Drop>(
         → IfOk result (IsCarriedInto S.Store (facts_of past) has.zone until new) }
 {
     let mut old = old;
-    match told_zone(&mut old) {
+    match read_zone_text(&mut old) {
         Ok(zone) => carry_opened(alloc, old, &zone, until, new),
         Err(fault) => Err(CarryEnd::Unopened(fault)),
     }

@@ -94,7 +94,7 @@ fn zone_of_file<S: Alter>(connection: &mut Connection<S>) -> Result<String, Open
 
 /// Returns the time zone of an office's file as text, for tables of any version. Writes nothing to
 /// the file.
-pub fn told_zone<S: Alter>(connection: &mut Connection<S>) -> Result<String, OpenFault>
+pub fn read_zone_text<S: Alter>(connection: &mut Connection<S>) -> Result<String, OpenFault>
     ensures foreign { ((layout : TheLayout) → ¬ IsNamedAs connection.old.schema layout)
         → result ≡ Err OpenFault.NotOurs }
     ensures clean { HasCleanDisk (state S.Store connection.new)

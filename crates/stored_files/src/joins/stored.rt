@@ -10,7 +10,7 @@ ghost use Rattle.stored_files.specs.Joins.Stored.{AreBefore, IsOfZone, JoinsBook
 ghost use Rattle.stored_files.specs.Joins.Stored.{JoinsOffice, PartsBooks, PartsFrom};
 ghost use Rattle.stored_files.specs.Joins.Stored.{RefusesIn, RefusesOffice};
 
-use crate::carries::told_zone;
+use crate::carries::read_zone_text;
 use carried_books::{Keeping, Unjoined};
 use interval_core::{DayRange, Zone};
 use office_books::Books;
@@ -173,7 +173,7 @@ pub fn join_stored<S: Alter + Drop, K: Keeping>(
         (facts_of past) before) }
 {
     let mut connection = connection;
-    match told_zone(&mut connection) {
+    match read_zone_text(&mut connection) {
         Ok(zone) => {
             if !is_of_zone(&zone, &before) {
                 return refused(before, JoinFault::OtherZone);

@@ -24,10 +24,10 @@ is_refusal _ = false
 
 -- True if explanations follow a round of polls. They follow only if the round was completed, or if
 -- the office refused it. Any other failure is reported without explanations.
-abbrev pub is_told : PollEnd → Bool
-is_told (Polled done) = is_finished done
-is_told (Unopened why) = is_refusal why
-is_told Unconnected = false
+abbrev pub has_messages : PollEnd → Bool
+has_messages (Polled done) = is_finished done
+has_messages (Unopened why) = is_refusal why
+has_messages Unconnected = false
 
 -- True if a task that serves HTTP ended because its office refused to open.
 abbrev pub is_refused_serving : ServeEnd → Bool

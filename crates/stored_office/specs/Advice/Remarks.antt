@@ -6,7 +6,7 @@ use Rattle.printed_numbers.specs.Numbers.{has_number}
 use Rattle.printed_numbers.specs.declared.kind.Kind.{Kind}
 use Rattle.printed_numbers.specs.declared.kind.Kind.TheVariants as kind
 use Rattle.run_status.specs.Advice.Sentences.{MeansAfter, with_subject}
-use Rattle.script_lines.specs.LineWords.Fields.{AnyName, Number, first_value, nothing_more, ◌>>=◌}
+use Rattle.script_lines.specs.LineWords.Fields.{AnyName, Number, first_value, end_of_words, ◌>>=◌}
 use Rattle.stored_office.specs.declared.advice.remarks.Remark.{Remark}
 use Rattle.stored_office.specs.declared.advice.remarks.Remark.TheVariants.{Refused, Held}
 
@@ -24,7 +24,7 @@ abbrev pub refusal_of : (words : List (List ℕ)) → Option Remark
 refusal_of words =
     exactly (codes "refused") words >>= λ rest.
     first_value Number rest >>= λ number.
-    nothing_more number.1 >>= λ none.
+    end_of_words number.1 >>= λ none.
     small number.0 >>= λ n.
     Some (Refused n)
 
@@ -36,7 +36,7 @@ hold_of words =
     first_value Number meter.1 >>= λ raw.
     exactly (codes "cause") raw.1 >>= λ following.
     first_value Number following >>= λ number.
-    nothing_more number.1 >>= λ none.
+    end_of_words number.1 >>= λ none.
     meter.0 >>= λ name.
     small number.0 >>= λ n.
     Some (Held name n)

@@ -9,8 +9,8 @@ use office_rounds::RoundFault;
 
 /// Returns whether explanations follow a round of polls. They follow only if the round was
 /// completed, or if the office refused it. Any other failure is reported without explanations.
-pub(crate) fn is_told(end: PollEnd) -> bool
-    ensures { result ≡ ends.is_told end }
+pub(crate) fn has_messages(end: PollEnd) -> bool
+    ensures { result ≡ ends.has_messages end }
 {
     match end {
         PollEnd::Polled(Ok(())) => true,

@@ -1,30 +1,30 @@
 //! Writes messages about missing parts of a device's setup after a round of polls.
 ghost use Rattle.std.specs.Prelude.{◌≡◌, OnOk, false};
 ghost use Rattle.run_status.specs.Advice.Lacks.{LooksUp};
-ghost use Rattle.stored_office.specs.Advice.Ends.{is_told};
+ghost use Rattle.stored_office.specs.Advice.Ends.{has_messages};
 ghost use Rattle.stored_office.specs.Advice.Lacking.{PutsLacks, with_lacks};
 
-use crate::advice::ends::is_told;
+use crate::advice::ends::has_messages;
 use office_books::{Books, BooksFault};
 use office_events::Name;
 use office_program::PollEnd;
-use run_status::{DeviceLack, add_lacks, put_lack};
+use run_status::{DeviceLack, add_lacks, write_lack};
 use std::alloc::{AllocError, Global};
 use std::io::Write;
 
 // Appends a line to a text for each part that is missing in a device's setup.
-fn put_lacks(text: &mut Vec<u8>, lacks: &[DeviceLack]) -> Result<(), AllocError>
+fn write_lacks(text: &mut Vec<u8>, lacks: &[DeviceLack]) -> Result<(), AllocError>
     ensures { OnOk result (text.new.items ≡ with_lacks lacks.now text.old.items) }
 {
     for lack in lacks {
-        put_lack(text, lack)?;
+        write_lack(text, lack)?;
     }
     Ok(())
 }
 
 // Queries the store for missing parts of a device's setup, and appends a line to a text for each
 // missing part.
-fn put_lacks_of<B: Books>(
+fn write_lacks_of<B: Books>(
     alloc: Global,
     text: &mut Vec<u8>,
     books: &mut B,
@@ -36,7 +36,7 @@ fn put_lacks_of<B: Books>(
 {
     let mut lacks = Vec::new(alloc);
     add_lacks(&mut lacks, books, device)?;
-    put_lacks(text, &lacks)?;
+    write_lacks(text, &lacks)?;
     Ok(())
 }
 
@@ -51,12 +51,12 @@ pub fn say_lacks<B: Books, E: Write>(
     errors: &mut E,
 )
     ensures looks { LooksUp (B.ledger books.old) (B.ledger books.new) }
-    ensures silent { is_told end ≡ false → (errors.new ≡ errors.old) × (books.new ≡ books.old) }
+    ensures silent { has_messages end ≡ false → (errors.new ≡ errors.old) × (books.new ≡ books.old) }
 {
-    if !is_told(end) {
+    if !has_messages(end) {
         return;
     }
     let mut text = Vec::new(alloc);
-    let _found = put_lacks_of(alloc, &mut text, books, &Name::new(device.as_bytes()));
+    let _found = write_lacks_of(alloc, &mut text, books, &Name::new(device.as_bytes()));
     let _said = errors.write_all(&text);
 }

@@ -1,12 +1,12 @@
 //! Writes explanations of the lines that a round of polls printed.
 ghost use Rattle.std.specs.Prelude.{◌≡◌, OnOk, false};
 ghost use Rattle.command_io.specs.Lines.{speaking_lines};
-ghost use Rattle.stored_office.specs.Advice.Ends.{is_told};
+ghost use Rattle.stored_office.specs.Advice.Ends.{has_messages};
 ghost use Rattle.stored_office.specs.Advice.PrintedLines as printing;
 ghost use Rattle.stored_office.specs.Advice.PrintedLines.{Explains, ExplainsLine};
 
-use crate::advice::ends::is_told;
-use crate::advice::remarks::{Remark, put_remark, remark_in};
+use crate::advice::ends::has_messages;
+use crate::advice::remarks::{Remark, remark_in, write_remark};
 use command_io::InputLines;
 use office_events::Name;
 use office_program::PollEnd;
@@ -25,27 +25,31 @@ fn is_left(remark: &Remark) -> bool
 }
 
 // Appends the explanation of a printed line to a text, if the line has an explanation.
-fn put_line(text: &mut Vec<u8>, device: &Option<Name>, line: &[u8]) -> Result<(), AllocError>
+fn write_line(text: &mut Vec<u8>, device: &Option<Name>, line: &[u8]) -> Result<(), AllocError>
     ensures { OnOk result (ExplainsLine device.now line.now text.old.items text.new.items) }
 {
     let Some(remark) = remark_in(line) else {
         return Ok(());
     };
     if is_left(&remark) {
-        put_remark(text, device, remark)
+        write_remark(text, device, remark)
     } else {
         Ok(())
     }
 }
 
 // Appends the explanations of all printed lines of a round to a text.
-fn put_remarks(text: &mut Vec<u8>, device: &Option<Name>, printed: &[u8]) -> Result<(), AllocError>
+fn write_remarks(
+    text: &mut Vec<u8>,
+    device: &Option<Name>,
+    printed: &[u8],
+) -> Result<(), AllocError>
     ensures { OnOk result (Explains device.now (speaking_lines printed.now)
         text.old.items text.new.items) }
 {
-    let mut lines = InputLines::of(printed);
+    let mut lines = InputLines::new(printed);
     while let Some(line) = lines.next_line() {
-        put_line(text, device, line.text)?;
+        write_line(text, device, line.text)?;
     }
     Ok(())
 }
@@ -60,12 +64,12 @@ pub fn say_remarks<E: Write>(
     printed: &[u8],
     errors: &mut E,
 )
-    ensures silent { is_told end ≡ false → errors.new ≡ errors.old }
+    ensures silent { has_messages end ≡ false → errors.new ≡ errors.old }
 {
-    if !is_told(end) {
+    if !has_messages(end) {
         return;
     }
     let mut text = Vec::new(alloc);
-    let _put = put_remarks(&mut text, &Name::new(device.as_bytes()), printed);
+    let _put = write_remarks(&mut text, &Name::new(device.as_bytes()), printed);
     let _said = errors.write_all(&text);
 }

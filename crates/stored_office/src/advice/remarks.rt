@@ -8,8 +8,8 @@ ghost use Rattle.stored_office.specs.Advice.Remarks.{MayMean, Says};
 
 use office_events::Name;
 use printed_numbers::{Kind, Meaning, meaning_of};
-use run_status::put;
-use script_lines::{Words, next_name, next_number, nothing_more};
+use run_status::append_bytes;
+use script_lines::{Words, end_of_words, next_name, next_number};
 use std::alloc::AllocError;
 
 /// A printed line of a round of polls that needs an explanation.
@@ -46,10 +46,10 @@ fn next_exactly(words: &mut Words<'_>, wanted: &[u8]) -> Option<()>
 fn refusal_in(line: &[u8]) -> Option<Remark>
     ensures { result ≡ remarks.refusal_of (words_of line.now) }
 {
-    let mut words = Words::of(line);
+    let mut words = Words::new(line);
     next_exactly(&mut words, b"refused")?;
     let number = next_number(&mut words)?;
-    nothing_more(&mut words)?;
+    end_of_words(&mut words)?;
     let number = small(number)?;
     Some(Remark::Refused(number))
 }
@@ -58,13 +58,13 @@ fn refusal_in(line: &[u8]) -> Option<Remark>
 fn hold_in(line: &[u8]) -> Option<Remark>
     ensures { result ≡ remarks.hold_of (words_of line.now) }
 {
-    let mut words = Words::of(line);
+    let mut words = Words::new(line);
     next_exactly(&mut words, b"held")?;
     let meter = next_name(&mut words)?;
     let _raw = next_number(&mut words)?;
     next_exactly(&mut words, b"cause")?;
     let number = next_number(&mut words)?;
-    nothing_more(&mut words)?;
+    end_of_words(&mut words)?;
     let meter = meter?;
     let number = small(number)?;
     Some(Remark::Held(meter, number))
@@ -82,30 +82,30 @@ pub(crate) fn remark_in(line: &[u8]) -> Option<Remark>
 
 // Appends the name of the device or meter that an explanation is about to a text, if there is such
 // a name.
-fn put_subject(text: &mut Vec<u8>, name: &Option<Name>) -> Result<(), AllocError>
+fn write_subject(text: &mut Vec<u8>, name: &Option<Name>) -> Result<(), AllocError>
     ensures { OnOk result (text.new.items ≡ with_subject name.now text.old.items) }
 {
-    put(text, b"sunreg: ")?;
+    append_bytes(text, b"sunreg: ")?;
     match name {
-        Some(name) => put(text, name.as_bytes()),
-        None => put(text, b"-"),
+        Some(name) => append_bytes(text, name.as_bytes()),
+        None => append_bytes(text, b"-"),
     }
 }
 
 // Appends `before` to a text, and then the meaning of a number and its remedy.
-fn put_meaning(text: &mut Vec<u8>, before: &[u8], meaning: &Meaning) -> Result<(), AllocError>
+fn append_meaning(text: &mut Vec<u8>, before: &[u8], meaning: &Meaning) -> Result<(), AllocError>
     ensures { OnOk result (text.new.items ≡ with_meaning before.now meaning.now text.old.items) }
 {
-    put(text, before)?;
-    put(text, meaning.means.as_bytes())?;
-    put(text, b"; ")?;
-    put(text, meaning.remedy.as_bytes())?;
-    put(text, b"\n")
+    append_bytes(text, before)?;
+    append_bytes(text, meaning.means.as_bytes())?;
+    append_bytes(text, b"; ")?;
+    append_bytes(text, meaning.remedy.as_bytes())?;
+    append_bytes(text, b"\n")
 }
 
 // Appends the meaning of a number and its remedy to a text. Appends nothing if the program never
 // prints this number for its kind.
-fn put_number_of(
+fn write_number_of(
     text: &mut Vec<u8>,
     subject: &Option<Name>,
     kind: Kind,
@@ -117,8 +117,8 @@ fn put_number_of(
 {
     match meaning_of(kind, number) {
         Some(meaning) => {
-            put_subject(text, subject)?;
-            put_meaning(text, before, meaning)
+            write_subject(text, subject)?;
+            append_meaning(text, before, meaning)
         }
         None => Ok(()),
     }
@@ -126,7 +126,7 @@ fn put_number_of(
 
 /// Appends a line with the meaning of a printed number and its remedy to a text. Appends nothing if
 /// the number has no meaning. If memory runs out, the line is incomplete.
-pub(crate) fn put_remark(
+pub(crate) fn write_remark(
     text: &mut Vec<u8>,
     device: &Option<Name>,
     remark: Remark,
@@ -134,8 +134,8 @@ pub(crate) fn put_remark(
     ensures { OnOk result (Says device.now remark text.old.items text.new.items) }
 {
     match remark {
-        Remark::Refused(number) => put_number_of(text, device, Kind::Refused, b": ", number),
-        Remark::Held(meter, number) => put_number_of(
+        Remark::Refused(number) => write_number_of(text, device, Kind::Refused, b": ", number),
+        Remark::Held(meter, number) => write_number_of(
             text,
             &Some(meter),
             Kind::Held,

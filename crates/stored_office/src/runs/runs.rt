@@ -35,7 +35,7 @@ pub fn run_stored<S: Alter + Drop>(
 /// Processes events over a new store, with the days of a time zone. The only premise is that the
 /// disk returned what was written to it. Returns None if the store could not be created, or if the
 /// office could not be opened.
-pub fn run_anew<S: Alter + Drop>(
+pub fn run_created<S: Alter + Drop>(
     alloc: Global,
     connection: Connection<S>,
     zone: &str,

@@ -11,7 +11,7 @@ ghost use Rattle.stored_office.specs.Tasks.Tasks.{IsOf, Does, DoesOver};
 use crate::advice::say_lacks;
 use command_io::ExitStatus;
 use energy_report::{ReportForm, StatementForm};
-use kept_books::KeptBooks;
+use kept_books::CachedBooks;
 use office_books::Books;
 use office_program::{
     CommandEnd, NamedFiles, PollEnd, ServeEnd, check_books, enter_books, poll_books, report_books,
@@ -212,7 +212,7 @@ pub fn carry_out_stored<
 {
     match SqlBooks::open(alloc, connection) {
         Ok(opened) => {
-            let books = KeptBooks::new(alloc, opened);
+            let books = CachedBooks::new(alloc, opened);
             let done = carry_out(rt, alloc, books, task, files, clock, output, errors);
             Ok(done.end)
         }

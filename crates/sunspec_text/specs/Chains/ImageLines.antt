@@ -4,7 +4,7 @@ use Rattle.std.specs.Prelude.{ℕ, ◌+◌, ◌%◌, ◌==◌, nat_le, if◌then
 use Rattle.std.specs.declared.option.Option.{Option}
 use Rattle.std.specs.declared.result.Result.{Result}
 use Rattle.mb_wire.specs.Bytes.{words_of as words_spelled}
-use Rattle.sun_chain.specs.Image.{Words, put_words}
+use Rattle.sun_chain.specs.Image.{Words, add_words}
 use Rattle.command_io.specs.Lines.{Line}
 use Rattle.script_lines.specs.LineWords.Words.{words_of}
 use Rattle.script_lines.specs.LineWords.Values.{bytes_of, number_of}
@@ -39,34 +39,34 @@ address_of word = option_and_then register_address (number_of word)
 
 -- The parsed words of a line with their first address. `None` if the words or the address are
 -- malformed.
-abbrev pub put_at : Option ℕ → Option (List ℕ) → Option Put
-put_at None words = None
-put_at (Some address) None = None
-put_at (Some address) (Some words) = Some (record { address = address; words = words })
+abbrev pub append_at : Option ℕ → Option (List ℕ) → Option Put
+append_at None words = None
+append_at (Some address) None = None
+append_at (Some address) (Some words) = Some (record { address = address; words = words })
 
 -- The content of a line `ADDRESS HEX`, from the words of the line. If the hexadecimal digits are
 -- missing, the line has no words of the device.
-abbrev pub put_said : List (List ℕ) → Option Put
-put_said [] = None
-put_said (address ∷ []) = put_at (address_of address) (Some [])
-put_said (address ∷ hex ∷ []) = put_at (address_of address) (words_of_hex hex)
-put_said (address ∷ hex ∷ more ∷ rest) = None
+abbrev pub write_said : List (List ℕ) → Option Put
+write_said [] = None
+write_said (address ∷ []) = append_at (address_of address) (Some [])
+write_said (address ∷ hex ∷ []) = append_at (address_of address) (words_of_hex hex)
+write_said (address ∷ hex ∷ more ∷ rest) = None
 
 -- The content of a line `ADDRESS HEX`, or `None` if the line is malformed.
-abbrev pub put_of : List ℕ → Option Put
-put_of line = put_said (words_of line)
+abbrev pub write_of : List ℕ → Option Put
+write_of line = write_said (words_of line)
 
 -- The image of a device's words after adding the words of one line. `None` if these words extend
 -- past address 65,535.
 abbrev pub words_after_put : Words → Put → Option Words
 words_after_put word put =
     if nat_le (put.address + length put.words) 65536
-    then Some (put_words word put.address put.words)
+    then Some (add_words word put.address put.words)
     else None
 
 -- The image of a device's words after reading one line, or `None` if the line is malformed.
 abbrev pub words_after : Words → List ℕ → Option Words
-words_after word line = option_and_then (words_after_put word) (put_of line)
+words_after word line = option_and_then (words_after_put word) (write_of line)
 
 -- Applies the next parsing step to the image. If there is no image, returns the number of the
 -- malformed line.

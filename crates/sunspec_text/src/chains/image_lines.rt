@@ -1,7 +1,7 @@
 //! Reads a device's words from lines `ADDRESS HEX`, where HEX are the words from ADDRESS on.
 ghost use Rattle.std.specs.Prelude.{◌≡◌, IfOk, IfErr, OnOk, Some, option_map};
 ghost use Rattle.sun_chain.specs.Image.{word_in};
-ghost use Rattle.sunspec_text.specs.Chains.ImageLines.{SpellsWords, address_of, put_of, words_after};
+ghost use Rattle.sunspec_text.specs.Chains.ImageLines.{SpellsWords, address_of, write_of, words_after};
 ghost use Rattle.command_io.specs.Lines.{seen_line};
 ghost use Rattle.sunspec_text.specs.Chains.Seen.{ExplainsLine, ExplainsText, TellsImage, seen_put};
 
@@ -32,15 +32,15 @@ pub(crate) fn load(alloc: Global, text: &[u8]) -> Result<Image, LoadFault>
     ensures fault { IfErr result (ExplainsText text.now) }
 {
     let mut image = Image::new(alloc);
-    let mut lines = InputLines::of(text);
+    let mut lines = InputLines::new(text);
     while let Some(line) = lines.next_line() {
-        put_line(alloc, &mut image, line)?;
+        write_line(alloc, &mut image, line)?;
     }
     Ok(image)
 }
 
 // Parses a line `ADDRESS HEX`, and adds its words to the image.
-fn put_line(alloc: Global, image: &mut Image, line: InputLine<'_>) -> Result<(), LoadFault>
+fn write_line(alloc: Global, image: &mut Image, line: InputLine<'_>) -> Result<(), LoadFault>
     ensures put { OnOk result
         (words_after (word_in image.old) line.entry.text.now ≡ Some (word_in image.new)) }
     ensures bad { IfErr result
@@ -61,9 +61,9 @@ fn put_line(alloc: Global, image: &mut Image, line: InputLine<'_>) -> Result<(),
 
 // Parses a line `ADDRESS HEX`. Returns `None` if the line is malformed.
 fn read_put(alloc: Global, line: &[u8]) -> Result<Option<Put>, AllocError>
-    ensures { IfOk result (λ said. option_map seen_put said ≡ put_of line.now) }
+    ensures { IfOk result (λ said. option_map seen_put said ≡ write_of line.now) }
 {
-    let mut words = Words::of(line);
+    let mut words = Words::new(line);
     let Some(first) = words.next_word() else {
         return Ok(None);
     };

@@ -13,9 +13,9 @@ returns-in-Ok-Some-clause-shown g c =
     let begun = c.new-client.result in
     let words = c.in-Ok-Some.words.items in
     shows_read c.args.unit begun.unit (counter_span c.args.function c.args.address c.args.scale) (span_view c.in-Some.span) (g.L.Link.remaining c.args.link.now) (g.L.Link.given c.args.link.now)
-    begun.reader.rest begun.next (line (g.L.Link.remaining c.read.new.link) (g.L.Link.given c.read.new.link) c.read.new.self) (Some words) c.args.address c.args.scale c.shown_in.result
+    begun.reader.rest begun.next (line (g.L.Link.remaining c.read.new.link) (g.L.Link.given c.read.new.link) c.read.new.self) (Some words) c.args.address c.args.scale c.decode_counter.result
     c.in-Some.ensures c.new-client.ensures.unit c.new-client.ensures.nothing c.new-client.ensures.first (rw c.in-Ok-Some.field-0-is at c.in-Ok-Some.ensures.read)
-    (shows_words c.in-Some.span.address c.deref.result.now words c.args.address c.args.scale c.shown_in.result c.shown_in.ensures c.deref.ensures.value)
+    (shows_words c.in-Some.span.address c.deref.result.now words c.args.address c.args.scale c.decode_counter.result c.decode_counter.ensures c.deref.ensures.value)
 
 pub returns-in-Ok-None-clause-shown : goal.returns-in-Ok-None-clause-shown
 returns-in-Ok-None-clause-shown g c =

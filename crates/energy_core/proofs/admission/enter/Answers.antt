@@ -13,5 +13,5 @@ returns-clause-account g c opening es h =
       till = c.moment-till.result;
       mwh = c.energy-mwh.result;
     } in
-    let is : entered range c.args.terms.now.total c.args.last.now c.args.entry.now ≡ Ok (c.stand.result, step) = search rules in
-    account_where_entered range opening es c.args.last.now c.args.terms.now.total c.args.entry.now c.stand.result step h is
+    let is : entered range c.args.terms.now.total c.args.last.now c.args.entry.now ≡ Ok (c.last_after.result, step) = search rules in
+    account_where_entered range opening es c.args.last.now c.args.terms.now.total c.args.entry.now c.last_after.result step h is

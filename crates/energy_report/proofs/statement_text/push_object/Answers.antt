@@ -27,14 +27,14 @@ returns c =
     let e3 : c.push-3.new.self ≡ page ++ t3 =
     pushed page c.push-2.new.self c.push-3.new.self t2 (codes "\",") e2 c.push-3.ensures.bytes in
     let t4 = t3 ++ stand_members unit (codes "first") row.entries.first in
-    let e4 : c.push_stand_members.new.page ≡ page ++ t4 =
-    pushed page c.push-3.new.self c.push_stand_members.new.page t3 (stand_members unit (codes "first") row.entries.first) e3 c.push_stand_members.ensures.bytes in
+    let e4 : c.push_counter_members.new.page ≡ page ++ t4 =
+    pushed page c.push-3.new.self c.push_counter_members.new.page t3 (stand_members unit (codes "first") row.entries.first) e3 c.push_counter_members.ensures.bytes in
     let t5 = t4 ++ stand_members unit (codes "last") row.entries.last in
-    let e5 : c.push_stand_members-2.new.page ≡ page ++ t5 =
-    pushed page c.push_stand_members.new.page c.push_stand_members-2.new.page t4 (stand_members unit (codes "last") row.entries.last) e4 c.push_stand_members-2.ensures.bytes in
+    let e5 : c.push_counter_members-2.new.page ≡ page ++ t5 =
+    pushed page c.push_counter_members.new.page c.push_counter_members-2.new.page t4 (stand_members unit (codes "last") row.entries.last) e4 c.push_counter_members-2.ensures.bytes in
     let t6 = t5 ++ codes "\"energy_" in
     let e6 : c.push-4.new.self ≡ page ++ t6 =
-    pushed page c.push_stand_members-2.new.page c.push-4.new.self t5 (codes "\"energy_") e5 c.push-4.ensures.bytes in
+    pushed page c.push_counter_members-2.new.page c.push-4.new.self t5 (codes "\"energy_") e5 c.push-4.ensures.bytes in
     let t7 = t6 ++ unit_word unit in
     let e7 : c.push-5.new.self ≡ page ++ t7 =
     pushed page c.push-4.new.self c.push-5.new.self t6 (unit_word unit) e6 word in

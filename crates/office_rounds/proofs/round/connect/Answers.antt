@@ -7,7 +7,7 @@ pub returns-in-Some-clause-connects : goal.returns-in-Some-clause-connects
 returns-in-Some-clause-connects g c =
     let old = c.args.progress.now in
     let wish : Some c.in-Some.connected ≡ Some (event.Connected old.round.device) = c.in-Some.ensures ∙ ap wish_of c.requires in
-    c.tell.ensures.connects c.requires (cc)
+    c.feed_next.ensures.connects c.requires (cc)
 
 pub returns-in-None-clause-connects : goal.returns-in-None-clause-connects
 returns-in-None-clause-connects g c =

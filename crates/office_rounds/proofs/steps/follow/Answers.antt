@@ -8,7 +8,7 @@ returns-in-Ok-clause-steps g c = λ now anew device past begun from fed going wi
       (
         so.1.0,
         so.1.1,
-        over_as device past so.0 c.go_on.new.progress.round now c.is_over.result so.1.0.holds so.1.2 anew c.is_over.ensures,
+        over_as device past so.0 c.feed_requested.new.progress.round now c.is_over.result so.1.0.holds so.1.2 anew c.is_over.ensures,
       ),
     )
 

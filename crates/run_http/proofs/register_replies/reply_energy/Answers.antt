@@ -6,12 +6,12 @@ use Rattle.run_http.proofs.register_replies.reply_energy.Goals as goal
 
 pub returns-in_err-answer : goal.returns-in_err-answer
 returns-in_err-answer g c =
-    lacked g.B.Books.ledger c.args.office.now c.put_energy.new.office c.args.register.now c.args.form.now _ _ c.args.text.now.items c.args.text.now.items
-    c.put_energy.result c.from_residual.result c.put_energy.ensures c.from_residual.ensures.0
+    lacked g.B.Books.ledger c.args.office.now c.write_energy.new.office c.args.register.now c.args.form.now _ _ c.args.text.now.items c.args.text.now.items
+    c.write_energy.result c.from_residual.result c.write_energy.ensures c.from_residual.ensures.0
 
 pub returns : goal.returns
 returns g c =
-    let body = c.put_energy.new.output.items in
-    let puts : OnOk c.put_energy_reply.result (c.put_energy_reply.new.text.items ≡ with_energy_reply c.in_ok-answer.answer body c.args.text.now.items) = search rules in
-    replied g.B.Books.ledger c.args.office.now c.put_energy.new.office c.args.register.now c.args.form.now c.new-body.result.items body c.args.text.now.items
-    c.put_energy_reply.new.text.items c.in_ok-answer.answer c.put_energy_reply.result c.in_ok-answer.ensures c.new-body.ensures.items puts
+    let body = c.write_energy.new.output.items in
+    let puts : OnOk c.write_energy_reply.result (c.write_energy_reply.new.text.items ≡ with_energy_reply c.in_ok-answer.answer body c.args.text.now.items) = search rules in
+    replied g.B.Books.ledger c.args.office.now c.write_energy.new.office c.args.register.now c.args.form.now c.new-body.result.items body c.args.text.now.items
+    c.write_energy_reply.new.text.items c.in_ok-answer.answer c.write_energy_reply.result c.in_ok-answer.ensures c.new-body.ensures.items puts

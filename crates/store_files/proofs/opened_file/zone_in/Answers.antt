@@ -6,5 +6,5 @@ pub returns-then-has_version : goal.returns-then-has_version
 returns-then-has_version c = record {
   tells = λ m is.
       let row_is = c.row-item.is ∙ ap (λ rs. get_or rs 0 c.row-item.result) is in
-      tells_zone c.args.version m c.told_zone.result ((c.if-has_version.ensures m row_is).0 refl) (c.told_zone.ensures.fault m row_is) (c.told_zone.ensures.zone m row_is) (c.told_zone.ensures.rule m row_is);
+      tells_zone c.args.version m c.read_zone_text.result ((c.if-has_version.ensures m row_is).0 refl) (c.read_zone_text.ensures.fault m row_is) (c.read_zone_text.ensures.zone m row_is) (c.read_zone_text.ensures.rule m row_is);
 }

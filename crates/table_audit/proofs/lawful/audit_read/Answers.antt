@@ -19,7 +19,7 @@ returns-clause-fine c =
     let begins : c.args.entries.now ≡ c.in-Some.first.now ∷ drop 1 c.args.entries.now = search rules in
     let first = begins ∙ ap (λ (rows : List TableRow). c.in-Some.first.now ∷ rows) (sym (all_later c.args.entries.now)) in
     let gone = where_none _ _ c.in_ok-refused.field-0 c.in_default-2.is c.in_ok-refused.ensures.gone in
-    told_too c.tell_rest.result c.tell_rest.ensures.agrees
+    told_too c.append_rest.result c.append_rest.ensures.agrees
     (rest_is_lawful c.finished_is_fine.ensures c.args.range c.args.row.now c.args.voids.now c.args.entries.now c.args.shares.now
     c.in-Some-opened.meter c.in-Some.first.now later c.go_over.new.progress first c.in-Some-opened.ensures.may
     c.in-Some-opened.ensures.opened gone)

@@ -6,5 +6,5 @@ pub returns-clause-told : goal.returns-clause-told
 returns-clause-told c =
     let given : c.as_slice.result.now ≡ c.audit_installation.new.found.first.items = search rules in
     told_named c.args.place c.args.row.now c.args.rows.now c.args.meter.now c.in_ok-_fine._fine c.new-found.result c.audit_installation.new.found
-    c.as_slice.result.now c.args.findings.now c.tell.new.self c.count.new.self given c.count.ensures.first
-    c.new-found.ensures.none c.in_ok-_fine.ensures.fine c.in_ok-_fine.ensures.tells c.in_ok-tell.ensures.first
+    c.as_slice.result.now c.args.findings.now c.append_differences.new.self c.count.new.self given c.count.ensures.first
+    c.new-found.ensures.none c.in_ok-_fine.ensures.fine c.in_ok-_fine.ensures.tells c.in_ok-append_differences.ensures.first

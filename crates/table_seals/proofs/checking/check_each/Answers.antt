@@ -9,21 +9,21 @@ use Rattle.table_seals.proofs.checking.check_each.Goals as goal
 
 pub loop-seal-preserved : goal.loop-seal-preserved
 loop-seal-preserved g c =
-    made g.S.Store c.args.conn.now c.check_told.new.conn c.in_ok-check_told.field-0 c.check_told.new.differing _ _
-    (finds_then g.S.Store c.args.conn.now c.loop-seal.conn c.check_told.new.conn c.loop-seal.differing (Ok c.in_ok-check_told.field-0) _ _
-    (λ content _. TellsNamesAt c.args.known.now (map sealed_of (take (c.loop-seal.seal-index + 1) c.args.seals.now)) content (map string_bytes c.check_told.new.differing.items))
-    c.loop-seal.invariant c.in_ok-check_told.ensures
+    made g.S.Store c.args.conn.now c.check_and_report.new.conn c.in_ok-check_and_report.field-0 c.check_and_report.new.differing _ _
+    (finds_then g.S.Store c.args.conn.now c.loop-seal.conn c.check_and_report.new.conn c.loop-seal.differing (Ok c.in_ok-check_and_report.field-0) _ _
+    (λ content _. TellsNamesAt c.args.known.now (map sealed_of (take (c.loop-seal.seal-index + 1) c.args.seals.now)) content (map string_bytes c.check_and_report.new.differing.items))
+    c.loop-seal.invariant c.in_ok-check_and_report.ensures
     (λ content _ before one installed are. next_told installed content c.args.seals.now c.loop-seal.seal-index c.seal-item.result
-    (map string_bytes c.loop-seal.differing.items) (map string_bytes c.check_told.new.differing.items) (omega arith) c.seal-item.is
+    (map string_bytes c.loop-seal.differing.items) (map string_bytes c.check_and_report.new.differing.items) (omega arith) c.seal-item.is
     (before installed are) (one installed are)))
     (λ content told. told)
 
-pub returns-in_err-check_told : goal.returns-in_err-check_told
-returns-in_err-check_told g c =
-    passed_on g.S.Store c.args.conn.now c.check_told.new.conn c.in_err-check_told.field-0.0 c.from_residual.result _ _
-    (finds_then g.S.Store c.args.conn.now c.loop-seal.conn c.check_told.new.conn c.loop-seal.differing (Err c.in_err-check_told.field-0.0) _ _
+pub returns-in_err-check_and_report : goal.returns-in_err-check_and_report
+returns-in_err-check_and_report g c =
+    passed_on g.S.Store c.args.conn.now c.check_and_report.new.conn c.in_err-check_and_report.field-0.0 c.from_residual.result _ _
+    (finds_then g.S.Store c.args.conn.now c.loop-seal.conn c.check_and_report.new.conn c.loop-seal.differing (Err c.in_err-check_and_report.field-0.0) _ _
     (λ content _. Unit {0})
-    c.loop-seal.invariant c.in_err-check_told.ensures (λ content _ before one. tt))
+    c.loop-seal.invariant c.in_err-check_and_report.ensures (λ content _ before one. tt))
     c.from_residual.ensures.1
 
 pub returns : goal.returns

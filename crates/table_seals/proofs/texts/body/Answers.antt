@@ -10,7 +10,7 @@ pub returns : goal.returns
 returns c =
     let same : flat_map text_of c.args.seal.now.meters.items ≡ flat_map meter_text (map sealed_of c.args.seal.now.meters.items) =
     sym (flat_map-map meter_text sealed_of c.args.seal.now.meters.items) in
-    let made : c.put_polls_part.new.text.items ≡ (codes "seal 2\n" ++ flat_map text_of c.args.seal.now.meters.items) ++ polls_part (sealed_polls_of c.args.seal.now.polls) =
+    let made : c.write_polls_part.new.text.items ≡ (codes "seal 2\n" ++ flat_map text_of c.args.seal.now.meters.items) ++ polls_part (sealed_polls_of c.args.seal.now.polls) =
     search rules in
     made ∙ append_assoc (codes "seal 2\n") (flat_map text_of c.args.seal.now.meters.items) (polls_part (sealed_polls_of c.args.seal.now.polls))
     ∙ ap (λ (t : List ℕ). codes "seal 2\n" ++ t ++ polls_part (sealed_polls_of c.args.seal.now.polls)) same

@@ -14,7 +14,7 @@ loop-one-preserved c =
     let i = c.loop-one.one-index in
     let one = c.one-item.result in
     let before = take i known in
-    c.in_ok-add_told.ensures
+    c.in_ok-add_part_statement.ensures
     ∙ ap (λ (rows : List MeterStatement). rows ++ rows_of_those zone range (one ∷ [])) c.loop-one.invariant
     ∙ sym (rows_both zone range before (one ∷ []))
     ∙ ap (rows_of_those zone range) (ap (λ (k : KeptMeter). before ++ k ∷ []) c.one-item.is ∙ sym (take_more known i one c.loop-one-test.true))

@@ -22,7 +22,7 @@ returns-in_default g c =
     record {
       output = refl;
       taken = λ from days h. opened g.W.Write.contents days c.args.total from c.args.self.now _ c.if-self.false there none
-          (record { form = refl; now = refl; count = refl; failed = refl }) (ap Some c.of.ensures) h;
+          (record { form = refl; now = refl; count = refl; failed = refl }) (ap Some c.new.ensures) h;
     }
 
 pub returns-then-has_both : goal.returns-then-has_both
@@ -42,5 +42,5 @@ returns g c =
     record {
       output = c.write_row.ensures.output;
       taken = λ from days h. next_row g.W.Write.contents days c.args.total from c.args.self.now c.write_row.new.self _ c.in-Some.open c.if-self.false there
-          c.in-Some.is other c.write_row.ensures (record { form = refl; now = refl; count = refl; failed = refl }) (ap Some c.of-2.ensures) h;
+          c.in-Some.is other c.write_row.ensures (record { form = refl; now = refl; count = refl; failed = refl }) (ap Some c.new-2.ensures) h;
     }

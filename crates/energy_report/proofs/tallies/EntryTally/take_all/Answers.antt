@@ -9,7 +9,7 @@ loop-entry-preserved c = λ before is.
     let entries : List MeterEntry = c.args.entries.now in
     let i : ℕ = c.loop-entry.entry-index in
     let lt : i < length entries = c.loop-entry-test.true in
-    c.take.ensures (before ++ take i entries) (c.loop-entry.invariant before is)
+    c.count_entry.ensures (before ++ take i entries) (c.loop-entry.invariant before is)
     ∙ ap (tally_of c.args.zone.now c.args.range.now)
     (append_assoc before (take i entries) (_ ∷ []) ∙ ap (λ (es : List MeterEntry). before ++ es) (sym (take_more entries i _ lt)))
 

@@ -13,7 +13,7 @@ returns-in-Some-clause-found g c = λ known holds clean.
 
 pub returns-clause-found : goal.returns-clause-found
 returns-clause-found g c = λ known holds clean.
-    c.keep_read.ensures ∙ ap (filter (is_read_by c.args.span)) (c.in_ok-found.ensures.found known holds.0 clean)
+    c.retain_covered.ensures ∙ ap (filter (is_read_by c.args.span)) (c.in_ok-found.ensures.found known holds.0 clean)
 
 pub returns-clause-reads : goal.returns-clause-reads
 returns-clause-reads g c =

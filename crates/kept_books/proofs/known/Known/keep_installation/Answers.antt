@@ -8,7 +8,7 @@ pub returns-in-Some : goal.returns-in-Some
 returns-in-Some c = λ known is are. record {
   lists = are.lists;
   registers = are.registers;
-  standing = kept_too (IsLatest known) c.args.self.now.standing c.put-in-Some.new.self c.in-Some.row.opening.meter c.in-Some.row c.put-in-Some.ensures
+  standing = kept_too (IsLatest known) c.args.self.now.standing c.insert-in-Some.new.self c.in-Some.row.opening.meter c.in-Some.row c.insert-in-Some.ensures
       (found_latest known c.args.register.now c.in-Some.row (sym is ∙ c.in-Some.is)) are.standing;
   polls = are.polls;
 }

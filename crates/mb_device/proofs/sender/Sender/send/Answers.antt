@@ -20,7 +20,7 @@ returns-clause-after g c =
     let trick = c.find_trick-trick.result in
     let later = take c.self.inside.len c.self.inside.later in
     let next = goes_on c.args.self.now c.self.inside.is_cut c.self.inside.tricks.now c.self.inside.next later answer (sym c.self.view_is) c.requires.going in
-    c.go_on.ensures
+    c.advance_frame.ensures
     ∙ ap (λ f. following trick f c.args.self.now) c.write_by-end.ensures.written
     ∙ ap (λ t. following t (spelled_by t answer) c.args.self.now) c.find_trick-trick.ensures
     ∙ sym next

@@ -13,9 +13,9 @@ returns-in-Ok c = record {
 
 pub returns-in-Err : goal.returns-in-Err
 returns-in-Err c =
-    let noted : failures_in c.told.new.last_failure ≡ faults_after c.told.result (failures_in c.args.self.now.last_failure) =
-    c.told.ensures.noted ∙ ap (λ (l : Option BooksFault). faults_after c.told.result (failures_in l)) c.in-Err.ensures.failure in
+    let noted : failures_in c.note_failure.new.last_failure ≡ faults_after c.note_failure.result (failures_in c.args.self.now.last_failure) =
+    c.note_failure.ensures.noted ∙ ap (λ (l : Option BooksFault). faults_after c.note_failure.result (failures_in l)) c.in-Err.ensures.failure in
     record {
-      books = not_added c.args.self.now (record c.add.new.self { last_failure = c.told.new.last_failure }) c.args.facts.items c.in-Err.lacks c.told.result
-          c.told.ensures.answer c.in-Err.ensures.err c.in-Err.ensures.zone c.in-Err.ensures.tables c.in-Err.ensures.same_figures noted c.in-Err.ensures.nothing;
+      books = not_added c.args.self.now (record c.add.new.self { last_failure = c.note_failure.new.last_failure }) c.args.facts.items c.in-Err.lacks c.note_failure.result
+          c.note_failure.ensures.answer c.in-Err.ensures.err c.in-Err.ensures.zone c.in-Err.ensures.tables c.in-Err.ensures.same_figures noted c.in-Err.ensures.nothing;
     }

@@ -3,5 +3,5 @@ use Rattle.memory_books.proofs.list_books.ListBooksBooks.meters.Goals as goal
 
 pub returns-clause-reads : goal.returns-clause-reads
 returns-clause-reads c =
-    reads_then _ _ _ _ c.told.result c.in_ok-ready.ensures.reads
-    (only_noted c.ready.new.self c.told.new.last_failure c.told.result c.told.ensures.noted)
+    reads_then _ _ _ _ c.note_failure.result c.in_ok-ready.ensures.reads
+    (only_noted c.ready.new.self c.note_failure.new.last_failure c.note_failure.result c.note_failure.ensures.noted)

@@ -1,7 +1,7 @@
 use Rattle.std.proofs.Common.{◌≡◌, true, false, refl, ap, subst, ◌∙◌}
 use Rattle.office_rules.specs.History.{facts_of, slots_of, next_poll}
 use Rattle.office_booking.specs.Sessions.Keeping.{KeepsSlots}
-use Rattle.office_booking.specs.declared.settling.drafts.Draft.{Draft}
+use Rattle.office_booking.specs.declared.settling.drafts.PendingWrite.{PendingWrite}
 use Rattle.office_booking.proofs.SettlingLemmas.Moments.{reaches_all}
 use Rattle.office_booking.proofs.SettlingLemmas.Happened.{slots_happened, draft_stands}
 use Rattle.office_books.proofs.Moving.{answered, failed_reading}
@@ -13,19 +13,19 @@ returns-in_err-settle_slots-clause-quiet g c = λ past next settles.
     let quiet = c.in_err-settle_slots.ensures.quiet (next_poll (facts_of past)) (slots_of past) (reaches_all past _ _ _ next) settles in
     let never : false ≡ true = quiet.ok in absurd (cc)
 
-pub returns-in_err-book_all-clause-quiet : goal.returns-in_err-book_all-clause-quiet
-returns-in_err-book_all-clause-quiet g c = λ past next settles.
+pub returns-in_err-write_records-clause-quiet : goal.returns-in_err-write_records-clause-quiet
+returns-in_err-write_records-clause-quiet g c = λ past next settles.
     let quiet = c.in_ok-settle_slots.ensures.quiet (next_poll (facts_of past)) (slots_of past) (reaches_all past _ _ _ next) settles in
-    let booked = c.in_err-book_all.ensures.quiet (ap (λ (d : Draft). d.facts.items) quiet.draft ∙ c.new-draft.ensures.facts) in
+    let booked = c.in_err-write_records.ensures.quiet (ap (λ (d : PendingWrite). d.facts.items) quiet.draft ∙ c.new-draft.ensures.facts) in
     let never : false ≡ true = booked.0 in absurd (cc)
 
 pub returns-clause-quiet : goal.returns-clause-quiet
 returns-clause-quiet g c = λ past next settles.
     let quiet = c.in_ok-settle_slots.ensures.quiet (next_poll (facts_of past)) (slots_of past) (reaches_all past _ _ _ next) settles in
-    let booked = c.in_ok-book_all.ensures.quiet (ap (λ (d : Draft). d.facts.items) quiet.draft ∙ c.new-draft.ensures.facts) in
+    let booked = c.in_ok-write_records.ensures.quiet (ap (λ (d : PendingWrite). d.facts.items) quiet.draft ∙ c.new-draft.ensures.facts) in
     record {
       ok = refl;
-      told = ap (λ (d : Draft). d.notes.items) quiet.draft ∙ c.new-draft.ensures.notes;
+      told = ap (λ (d : PendingWrite). d.notes.items) quiet.draft ∙ c.new-draft.ensures.notes;
       books = booked.1 ∙ quiet.books;
     }
 
@@ -34,16 +34,16 @@ returns-in_err-settle_slots-clause-settles g c = λ past next.
     settles_not past _ _ _ _ _ _ _ (failed_reading {S = Unit {0}} _ _ _ _ _ c.in_err-settle_slots.ensures.reads)
     c.from_residual.ensures.1
 
-pub returns-in_err-book_all-clause-settles : goal.returns-in_err-book_all-clause-settles
-returns-in_err-book_all-clause-settles g c = λ past next.
+pub returns-in_err-write_records-clause-settles : goal.returns-in_err-write_records-clause-settles
+returns-in_err-write_records-clause-settles g c = λ past next.
     let grown =
     draft_stands c.facts_are_lawful.ensures past _ _ _ c.requires.settling next _ _ _ c.settle_slots.new.draft c.new-draft.ensures.facts c.new-draft.ensures.notes
     (c.in_ok-settle_slots.ensures.adds (next_poll (facts_of past)) (slots_of past) (reaches_all past _ _ _ next)) in
     settles_not past _ _ _ _ _ _ _
     (moves_after _ _ _ c.settle_slots.new.draft.facts.items (facts_of past) _ _ _ c.in_ok-settle_slots.ensures.reads
     (λ known clean. ((grown known clean).facts, (grown known clean).lawful))
-    (c.in_err-book_all.ensures.moves (facts_of past)) (c.in_err-book_all.ensures.refused (facts_of past)) c.in_err-book_all.ensures.goes)
-    c.from_residual-in_err-book_all.ensures.1
+    (c.in_err-write_records.ensures.moves (facts_of past)) (c.in_err-write_records.ensures.refused (facts_of past)) c.in_err-write_records.ensures.goes)
+    c.from_residual-in_err-write_records.ensures.1
 
 pub returns-clause-settles : goal.returns-clause-settles
 returns-clause-settles g c = λ past next.
@@ -59,6 +59,6 @@ returns-clause-settles g c = λ past next.
           answered _ _ _ _ _ _
           (moves_after _ _ _ c.settle_slots.new.draft.facts.items (facts_of past) _ _ _ c.in_ok-settle_slots.ensures.reads
           (λ known clean. ((grown known clean).facts, (grown known clean).lawful))
-          (c.in_ok-book_all.ensures.moves (facts_of past)) (c.in_ok-book_all.ensures.refused (facts_of past)) c.in_ok-book_all.ensures.goes);
-      notes = λ known clean. (grown known (c.in_ok-book_all.ensures.goes.clean clean)).notes;
+          (c.in_ok-write_records.ensures.moves (facts_of past)) (c.in_ok-write_records.ensures.refused (facts_of past)) c.in_ok-write_records.ensures.goes);
+      notes = λ known clean. (grown known (c.in_ok-write_records.ensures.goes.clean clean)).notes;
     }

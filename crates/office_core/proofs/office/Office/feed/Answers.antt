@@ -6,17 +6,17 @@ pub returns-clause-stands : goal.returns-clause-stands
 returns-clause-stands g c = λ past stands clean.
     let on = stands.goes c.if-self.false in
     let takes =
-    c.take-answer.ensures.takes past (record {
+    c.process_event-answer.ensures.takes past (record {
       books = stands.books;
       goes = record { latest = on.latest; slots = on.slots };
-      planned = c.asks_planned.ensures;
+      planned = c.prove_list_is_planned.ensures;
       notes = c.new.ensures.items;
       outgoing = c.none-self.ensures;
     }) clean in
     record {
       books = takes.books;
       goes = λ goes_on.
-          let going : stops c.args.event.now c.take-answer.result ≡ false = sym c.stops-self.ensures ∙ goes_on in
+          let going : stops c.args.event.now c.process_event-answer.result ≡ false = sym c.stops-self.ensures ∙ goes_on in
           let next = takes.goes going in
           record { latest = next.latest; slots = next.slots };
     }

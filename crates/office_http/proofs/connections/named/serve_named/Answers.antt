@@ -33,18 +33,18 @@ returns-then-not-may_ask-clause-handles g c =
     let names = texts c.args.names.now in
     let half = c.read_head.new.inbox in
     let foreign = subst (λ b. may_ask_in names b c.in_ok-head.head ≡ false) c.bytes.ensures (sym c.may_ask.ensures ∙ c.if-not-may_ask.true) in
-    turned_away names g.B.Books.ledger c.args.moment c.args.office.now c.new-inbox.result half c.in_ok-head.head c.turn_away.result
-    (g.L.Link.remaining c.args.link.now) (g.L.Link.remaining c.read_head.new.link) (g.L.Link.remaining c.turn_away.new.link)
-    (g.L.Link.given c.args.link.now) (g.L.Link.given c.read_head.new.link) (g.L.Link.given c.turn_away.new.link)
-    (g.L.Link.last c.args.link.now) (g.L.Link.last c.read_head.new.link) (g.L.Link.last c.turn_away.new.link)
+    turned_away names g.B.Books.ledger c.args.moment c.args.office.now c.new-inbox.result half c.in_ok-head.head c.write_misdirected.result
+    (g.L.Link.remaining c.args.link.now) (g.L.Link.remaining c.read_head.new.link) (g.L.Link.remaining c.write_misdirected.new.link)
+    (g.L.Link.given c.args.link.now) (g.L.Link.given c.read_head.new.link) (g.L.Link.given c.write_misdirected.new.link)
+    (g.L.Link.last c.args.link.now) (g.L.Link.last c.read_head.new.link) (g.L.Link.last c.write_misdirected.new.link)
     c.new-inbox.ensures.empty c.in_ok-head.ensures.reads c.in_ok-head.ensures.stops c.in_ok-head.ensures.given
-    c.turn_away.ensures.remaining c.turn_away.ensures.last foreign c.turn_away.ensures.replies
+    c.write_misdirected.ensures.remaining c.write_misdirected.ensures.last foreign c.write_misdirected.ensures.replies
 
 pub returns-then-not-may_ask-clause-counts : goal.returns-then-not-may_ask-clause-counts
 returns-then-not-may_ask-clause-counts g c = record {
   failures = search rules;
   turns = search rules;
-  few = λ count is. subst (λ n. n ≤ min (count + MOST_TAKES) (2 ^ 64 - 1)) (sym c.turn_away.ensures.takes)
+  few = λ count is. subst (λ n. n ≤ min (count + MOST_TAKES) (2 ^ 64 - 1)) (sym c.write_misdirected.ensures.takes)
       (few_takes _ c.new-inbox.result c.read_head.new.inbox _ _ c.new-inbox.ensures.takes c.in_ok-head.ensures.takes count is);
 }
 

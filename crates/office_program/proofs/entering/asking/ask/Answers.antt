@@ -10,8 +10,8 @@ returns-in-Some-clause-enters g c = λ moments later timed past stands clean.
     let is = c.in-Ok.ensures.tells past stands clean in
     let told = told_so g.B.Books.ledger past _ _ c.doubt_of.new.office _ c.in-Ok.doubt is in
     doubted g.B.Books.ledger past c.args.progress (round_state (g.W.Write.contents c.args.output.now) moments (failures_of g.B.Books.ledger c.args.office.now))
-    (round_state (g.W.Write.contents c.tell_doubt.new.output) later (failures_of g.B.Books.ledger c.doubt_of.new.office)) c.doubt_of.new.office c.args.at
-    c.in-Some.mwh c.args.asked c.tell_doubt.result timed is.stands (sym told.0 ∙ c.in-Some.is) told.1 c.tell_doubt.ensures
+    (round_state (g.W.Write.contents c.print_doubted.new.output) later (failures_of g.B.Books.ledger c.doubt_of.new.office)) c.doubt_of.new.office c.args.at
+    c.in-Some.mwh c.args.asked c.print_doubted.result timed is.stands (sym told.0 ∙ c.in-Some.is) told.1 c.print_doubted.ensures
 
 pub returns-in-None-clause-enters : goal.returns-in-None-clause-enters
 returns-in-None-clause-enters g c = λ moments later timed past stands clean.
@@ -32,6 +32,6 @@ pub returns-in-Err-clause-enters : goal.returns-in-Err-clause-enters
 returns-in-Err-clause-enters g c = λ moments later timed past stands clean.
     let is = c.in-Err.ensures.tells past stands clean in
     undecided g.B.Books.ledger past c.args.progress (round_state (g.W.Write.contents c.args.output.now) moments (failures_of g.B.Books.ledger c.args.office.now))
-    (round_state (g.W.Write.contents c.tell_undecided.new.output) later (failures_of g.B.Books.ledger c.doubt_of.new.office)) c.doubt_of.new.office c.args.at
-    c.args.asked c.in-Err.why c.tell_undecided.result timed is.stands (told_why g.B.Books.ledger past _ _ c.doubt_of.new.office _ c.in-Err.why is)
-    c.tell_undecided.ensures
+    (round_state (g.W.Write.contents c.print_undecided.new.output) later (failures_of g.B.Books.ledger c.doubt_of.new.office)) c.doubt_of.new.office c.args.at
+    c.args.asked c.in-Err.why c.print_undecided.result timed is.stands (told_why g.B.Books.ledger past _ _ c.doubt_of.new.office _ c.in-Err.why is)
+    c.print_undecided.ensures

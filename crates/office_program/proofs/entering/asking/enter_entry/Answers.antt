@@ -20,5 +20,5 @@ returns-in-Faulty-clause-enters g c = λ past stands clean.
     rw c.in-Faulty.is
     (faulty g.B.Books.ledger (telling_of g.F.NamedFiles c.args.files.now) past c.args.progress
     (desk_of g.B.Books g.C.Clock g.W.Write c.args.office.now c.args.clock.now c.args.output.now)
-    (desk_of g.B.Books g.C.Clock g.W.Write c.args.office.now c.args.clock.now c.tell_faults.new.output) c.args.office.now c.in-Faulty.faults c.rows.result.now
-    c.tell_faults.result stands refl refl c.rows.ensures c.tell_faults.ensures.text c.tell_faults.ensures.next)
+    (desk_of g.B.Books g.C.Clock g.W.Write c.args.office.now c.args.clock.now c.print_list_faults.new.output) c.args.office.now c.in-Faulty.faults c.rows.result.now
+    c.print_list_faults.result stands refl refl c.rows.ensures c.print_list_faults.ensures.text c.print_list_faults.ensures.next)

@@ -23,5 +23,5 @@ pub returns-in-Err-clause-enters : goal.returns-in-Err-clause-enters
 returns-in-Err-clause-enters g c = λ past stands clean.
     line_faulty g.B.Books.ledger (telling_of g.F.NamedFiles c.args.files.now) c.args.caller.now (seen_line c.args.line) past c.args.progress
     (desk_of g.B.Books g.C.Clock g.W.Write c.args.office.now c.args.clock.now c.args.output.now)
-    (desk_of g.B.Books g.C.Clock g.W.Write c.args.office.now c.args.clock.now c.tell_fault.new.output) c.args.office.now c.args.office.now
-    c.in-Err.fault c.tell_fault.result (record { office = refl; moments = refl; failures = refl }) c.in-Err.ensures c.tell_fault.ensures
+    (desk_of g.B.Books g.C.Clock g.W.Write c.args.office.now c.args.clock.now c.print_one_fault.new.output) c.args.office.now c.args.office.now
+    c.in-Err.fault c.print_one_fault.result (record { office = refl; moments = refl; failures = refl }) c.in-Err.ensures c.print_one_fault.ensures

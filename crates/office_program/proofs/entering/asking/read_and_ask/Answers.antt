@@ -31,13 +31,13 @@ returns-in-None-clause-enters g c = λ moments later timed past stands clean.
     let found = found_as (telling_of g.F.NamedFiles c.args.files.now) past c.args.read c.in-Ok.found None _ _ c.in-None.is is.told in
     unread g.B.Books.ledger (telling_of g.F.NamedFiles c.args.files.now) c.args.read past c.args.progress
     (round_state (g.W.Write.contents c.args.output.now) moments (failures_of g.B.Books.ledger c.args.office.now))
-    (round_state (g.W.Write.contents c.tell_unread.new.output) later (failures_of g.B.Books.ledger c.shown_for.new.office)) c.shown_for.new.office c.args.at c.tell_unread.result timed
-    is.stands found.0 found.1 c.tell_unread.ensures
+    (round_state (g.W.Write.contents c.print_unread.new.output) later (failures_of g.B.Books.ledger c.shown_for.new.office)) c.shown_for.new.office c.args.at c.print_unread.result timed
+    is.stands found.0 found.1 c.print_unread.ensures
 
 pub returns-in-Err-clause-enters : goal.returns-in-Err-clause-enters
 returns-in-Err-clause-enters g c = λ moments later timed past stands clean.
     let is = c.in-Err.ensures.fills past stands clean in
     unknown g.B.Books.ledger (telling_of g.F.NamedFiles c.args.files.now) c.args.read past c.args.progress
     (round_state (g.W.Write.contents c.args.output.now) moments (failures_of g.B.Books.ledger c.args.office.now))
-    (round_state (g.W.Write.contents c.tell_undecided.new.output) later (failures_of g.B.Books.ledger c.shown_for.new.office)) c.shown_for.new.office c.args.at c.in-Err.why
-    c.tell_undecided.result timed is.stands is.told c.tell_undecided.ensures
+    (round_state (g.W.Write.contents c.print_undecided.new.output) later (failures_of g.B.Books.ledger c.shown_for.new.office)) c.shown_for.new.office c.args.at c.in-Err.why
+    c.print_undecided.result timed is.stands is.told c.print_undecided.ensures

@@ -8,8 +8,8 @@ pub loop-line-init : goal.loop-line-init
 loop-line-init g c = (
   looks_none (g.B.Books.ledger c.args.books.now),
   λ facts holds clean.
-      begins (telling_of g.F.NamedFiles c.args.files.now) c.args.caller.now (speaking_lines c.args.text.now) c.of-lines.result facts (g.W.Write.contents c.args.output.now)
-      c.of-lines.ensures,
+      begins (telling_of g.F.NamedFiles c.args.files.now) c.args.caller.now (speaking_lines c.args.text.now) c.new-lines.result facts (g.W.Write.contents c.args.output.now)
+      c.new-lines.ensures,
 )
 
 pub loop-line-preserved : goal.loop-line-preserved

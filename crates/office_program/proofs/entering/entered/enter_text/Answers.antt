@@ -10,8 +10,8 @@ pub loop-line-init : goal.loop-line-init
 loop-line-init g c = (
   record { clean = λ clean. clean; zone = refl },
   λ past stands clean.
-      begins g.B.Books.ledger (telling_of g.F.NamedFiles c.args.files.now) c.args.caller.now (speaking_lines c.args.text.now) c.of-lines.result past c.args.first
-      (desk_of g.B.Books g.C.Clock g.W.Write c.args.office.now c.args.clock.now c.args.output.now) c.from-progress.result c.args.office.now stands c.of-lines.ensures
+      begins g.B.Books.ledger (telling_of g.F.NamedFiles c.args.files.now) c.args.caller.now (speaking_lines c.args.text.now) c.new-lines.result past c.args.first
+      (desk_of g.B.Books g.C.Clock g.W.Write c.args.office.now c.args.clock.now c.args.output.now) c.from-progress.result c.args.office.now stands c.new-lines.ensures
       c.from-progress.ensures,
 )
 

@@ -1,5 +1,5 @@
 use Rattle.std.proofs.Common.{◌≡◌, true, rules}
-use Rattle.energy_report.specs.Statements.{was_there}
+use Rattle.energy_report.specs.Statements.{was_installed}
 use Rattle.office_program.proofs.StatementLemmas.{one_refused, one_stated}
 use Rattle.office_program.proofs.texts.statement.add_statement.Goals as goal
 
@@ -11,6 +11,6 @@ returns-in-Err-clause-states g c =
 
 pub returns-in-Ok-push-clause-states : goal.returns-in-Ok-push-clause-states
 returns-in-Ok-push-clause-states g c =
-    let there : was_there c.args.zone.now c.args.range.now c.args.row.now ≡ true = search rules in
+    let there : was_installed c.args.zone.now c.args.range.now c.args.row.now ≡ true = search rules in
     one_stated g.B.Books.ledger c.args.zone.now c.args.range.now c.args.office.now c.meter_statement.new.office c.args.row.now c.args.rows.now.items
     c.push.new.self.items c.in-Ok.statement there c.in-Ok-push.ensures.items c.in-Ok.ensures.tells

@@ -14,5 +14,5 @@ returns-in-Some-clause-turns g c = λ past stands clean.
 pub returns-in-None-clause-turns : goal.returns-in-None-clause-turns
 returns-in-None-clause-turns g c = λ past stands clean.
     turns_as g.B.Books.ledger g.V.Observer.sees c.args.at past (failures_of g.B.Books.ledger c.args.office.now) _ _ c.args.observer.now
-    (scene c.go_on.new.office (failures_of g.B.Books.ledger c.go_on.new.office) c.go_on.new.rounds c.go_on.new.observer)
-    (ap (λ f. table f c.args.rounds.now) (c.in-None.ensures c.args.piece)) (c.go_on.ensures.turns past stands clean)
+    (scene c.feed_requests.new.office (failures_of g.B.Books.ledger c.feed_requests.new.office) c.feed_requests.new.rounds c.feed_requests.new.observer)
+    (ap (λ f. table f c.args.rounds.now) (c.in-None.ensures c.args.piece)) (c.feed_requests.ensures.turns past stands clean)

@@ -8,5 +8,5 @@ use Rattle.office_rounds.proofs.driver.turns.turn.Goals as goal
 pub returns-in-Connected-clause-turns : goal.returns-in-Connected-clause-turns
 returns-in-Connected-clause-turns g c = λ past stands clean.
     turns_as g.B.Books.ledger g.V.Observer.sees c.args.at past (failures_of g.B.Books.ledger c.args.office.now) _ _ c.args.observer.now
-    (scene c.go_on.new.office (failures_of g.B.Books.ledger c.go_on.new.office) c.go_on.new.rounds c.go_on.new.observer)
-    (ap (table None) c.join.ensures ∙ ap (λ h. opened h c.args.rounds.now) (sym c.in-Connected.is)) (c.go_on.ensures.turns past stands clean)
+    (scene c.feed_requests.new.office (failures_of g.B.Books.ledger c.feed_requests.new.office) c.feed_requests.new.rounds c.feed_requests.new.observer)
+    (ap (table None) c.join.ensures ∙ ap (λ h. opened h c.args.rounds.now) (sym c.in-Connected.is)) (c.feed_requests.ensures.turns past stands clean)

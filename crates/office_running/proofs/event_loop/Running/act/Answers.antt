@@ -5,4 +5,4 @@ use Rattle.office_running.proofs.event_loop.Running.act.Goals as goal
 pub returns : goal.returns
 returns g c =
     let names = texts c.args.names.now in
-    goes_both names c.args.now.moment g.B.Books.ledger c.args.office.now c.go_on.new.office c.end_rounds.new.office c.go_on.ensures (c.end_rounds.ensures names)
+    goes_both names c.args.now.moment g.B.Books.ledger c.args.office.now c.attend_all.new.office c.end_rounds.new.office c.attend_all.ensures (c.end_rounds.ensures names)

@@ -25,11 +25,11 @@ pub returns-clause-does : goal.returns-clause-does
 returns-clause-does g c =
     let a = state g.S.Store c.args.tx.now.conn.now in
     let b = state g.S.Store c.update_last.new.tx.conn.now in
-    let d = state g.S.Store c.end_installation.new.tx.conn.now in
+    let d = state g.S.Store c.close_installation.new.tx.conn.now in
     let meter = c.args.meter.now in
     let P = Edits meter_tree.installations installed_columns (changed_where (is_meter meter) (moved c.args.last)) in
     let Q = Edits meter_tree.installations installed_columns (changed_where (is_meter meter) ended) in
     subst (λ (closing : Bool). Goes {X = Unit {0}} {E = RowFault} a d (Ok tt) (Settles meter c.args.last closing)) (sym c.if-not-is_closing.false)
-    (completed {D = Error} a b d c.in_ok-update_last.field-0 c.in_ok-end_installation.field-0 P Q (Settles meter c.args.last true)
-    (of_steps a b (Ok c.in_ok-update_last.field-0) P c.in_ok-update_last.ensures.does) c.in_ok-end_installation.ensures.does
+    (completed {D = Error} a b d c.in_ok-update_last.field-0 c.in_ok-close_installation.field-0 P Q (Settles meter c.args.last true)
+    (of_steps a b (Ok c.in_ok-update_last.field-0) P c.in_ok-update_last.ensures.does) c.in_ok-close_installation.ensures.does
     (λ content mid after p q. settles_closed meter c.args.last content mid after p q))

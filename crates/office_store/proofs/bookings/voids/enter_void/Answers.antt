@@ -21,5 +21,5 @@ returns-clause-does g c =
     let made = c.in_ok-made.made in
     goes_then (state g.S.Store c.args.tx.now.conn.now) (state g.S.Store c.surroundings_of.new.tx.conn.now) (state g.S.Store c.book_void.new.tx.conn.now) found c.book_void.result
     (IsAround meter c.args.voided.now.place found) (EntersVoid meter c.args.voided.now.place c.args.voided.now.at made) (Records (fact.Void c.args.voided.now)) c.in_ok-found.ensures.does c.book_void.ensures.does
-    (void_entered c.other_meters_stay.ensures c.meters_are_kept.ensures c.installations_are_in_range.ensures c.rows_stand.ensures c.rows_lie_within.ensures c.shares_add_up.ensures c.voids_change_two_rows.ensures
+    (void_entered c.other_meters_stay.ensures c.meters_are_kept.ensures c.installations_are_in_range.ensures c.rows_are_kept.ensures c.rows_lie_within.ensures c.shares_add_up.ensures c.voids_change_two_rows.ensures
     c.args.voided.now meter found made (omega arith) c.in_ok-meter.ensures.text c.in_ok-made.ensures.corrects)

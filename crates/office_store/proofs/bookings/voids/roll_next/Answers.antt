@@ -7,4 +7,4 @@ returns-in_default-clause-does g c = none_rolled c.args.meter.now c.args.next.no
 
 pub returns-clause-does : goal.returns-clause-does
 returns-clause-does g c =
-    one_rolled c.args.meter.now c.args.next.now (state g.S.Store c.args.tx.now.conn.now) (state g.S.Store c.set_rolls.new.tx.conn.now) c.in_ok-set_rolls.field-0 c.in-Some.joined c.in-Some.is c.in_ok-set_rolls.ensures.does
+    one_rolled c.args.meter.now c.args.next.now (state g.S.Store c.args.tx.now.conn.now) (state g.S.Store c.set_rollovers.new.tx.conn.now) c.in_ok-set_rollovers.field-0 c.in-Some.joined c.in-Some.is c.in_ok-set_rollovers.ensures.does

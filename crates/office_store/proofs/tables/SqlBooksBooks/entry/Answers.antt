@@ -1,6 +1,6 @@
 use Rattle.std.proofs.Common.{[]}
 use Rattle.std.specs.Prelude.{Option, IfSome}
-use Rattle.office_events.specs.declared.questions.EntryPlace.{EntryPlace}
+use Rattle.office_events.specs.declared.questions.EntryContext.{EntryContext}
 use Rattle.office_rules.specs.Ranges.{IsSound}
 use Rattle.office_store.proofs.Looking.{finds, reads, sound}
 use Rattle.office_store.proofs.tables.SqlBooksBooks.entry.Goals as goal
@@ -12,7 +12,7 @@ returns-clause-found g c =
 pub returns-clause-reads : goal.returns-clause-reads
 returns-clause-reads g c = record {
   reads = reads g.S.Store c.args.self.now.connection c.entry-found.new.conn c.args.self.now.failures c.answered.new.failures c.args.self.now.zone c.answered.result c.answered.ensures.noted c.entry-found.ensures.finds.looks;
-  sound = sound (λ (place : Option EntryPlace). IfSome place (λ (p : EntryPlace). IsSound p.before)) c.entry-found.result c.answered.result c.answered.ensures.answer c.entry-found.ensures.sound;
+  sound = sound (λ (place : Option EntryContext). IfSome place (λ (p : EntryContext). IsSound p.before)) c.entry-found.result c.answered.result c.answered.ensures.answer c.entry-found.ensures.sound;
 }
 
 pub invariant_of-self : goal.invariant_of-self

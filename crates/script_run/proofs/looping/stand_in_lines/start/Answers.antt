@@ -17,8 +17,8 @@ returns-in_ok-write_accepted-in-Ok g c = λ connected.
     let answer = c.in-Ok.answer in
     let old = g.W.Write.contents c.args.output.now in
     let mid = g.W.Write.contents c.write_accepted.new.output in
-    started c.args.at c.args.device.now e answer c.args.office.now c.feed.new.self c.bring_answers.new.office c.args.bank.now c.send.new.bank connected
-    old mid (g.W.Write.contents c.bring_answers.new.output) c.bring_answers.result
+    started c.args.at c.args.device.now e answer c.args.office.now c.feed.new.self c.feed_responses.new.office c.args.bank.now c.send.new.bank connected
+    old mid (g.W.Write.contents c.feed_responses.new.output) c.feed_responses.result
     (λ past stands.
     let told = c.in-Ok.ensures.told past stands tt in (
       was_replied past c.args.at e (Ok answer) c.args.office.now c.feed.new.self (c.in-Ok.ensures.answers past stands tt) c.in-Ok.ensures.ends
@@ -28,7 +28,7 @@ returns-in_ok-write_accepted-in-Ok g c = λ connected.
           ∙ ap (λ frames. accepted_text answer (notes_after past c.args.at e (Ok answer)) frames) (c.outgoing.ensures ∙ told.outgoing))
           c.in_ok-write_accepted-in-Ok.ensures,
     ))
-    c.send.ensures c.bring_answers.ensures
+    c.send.ensures c.feed_responses.ensures
 
 pub returns-in-Err : goal.returns-in-Err
 returns-in-Err g c = λ connected.

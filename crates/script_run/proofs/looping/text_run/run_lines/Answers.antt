@@ -8,8 +8,8 @@ use Rattle.script_run.proofs.looping.text_run.run_lines.Goals as goal
 
 pub loop-line-init : goal.loop-line-init
 loop-line-init g c = λ past stands.
-    from_start past (speaking_lines c.args.text.now) c.of-lines.result
-    (loop_state c.args.run.now.office c.args.run.now.bank c.args.run.now.connected (g.W.Write.contents c.args.output.now)) c.of-lines.ensures stands
+    from_start past (speaking_lines c.args.text.now) c.new-lines.result
+    (loop_state c.args.run.now.office c.args.run.now.bank c.args.run.now.connected (g.W.Write.contents c.args.output.now)) c.new-lines.ensures stands
 
 pub loop-line-preserved : goal.loop-line-preserved
 loop-line-preserved g c = λ past stands.
@@ -31,12 +31,12 @@ returns-then-not-fine g c = λ past stands.
     let after = c.run_line.new.run in
     let here = loop_state before.office before.bank before.connected (g.W.Write.contents c.loop-line.output) in
     let there = loop_state after.office after.bank after.connected (g.W.Write.contents c.run_line.new.output) in
-    stopped c.tell_bad.result past (speaking_lines c.args.text.now) c.loop-line.lines c.next_line.new.self line
+    stopped c.print_bad_line.result past (speaking_lines c.args.text.now) c.loop-line.lines c.next_line.new.self line
     (loop_state c.args.run.now.office c.args.run.now.bank c.args.run.now.connected (g.W.Write.contents c.args.output.now)) here
-    (g.W.Write.contents c.run_line.new.output) (g.W.Write.contents c.tell_bad.new.output) c.in-Some.ensures
+    (g.W.Write.contents c.run_line.new.output) (g.W.Write.contents c.print_bad_line.new.output) c.in-Some.ensures
     (line_wrong c.in-Ok.fine (WordsPrint (words_of line.text)) (AreWrong before.connected (words_of line.text)) here there c.if-not-fine.true
     c.in-Ok.ensures)
-    c.tell_bad.ensures ran
+    c.print_bad_line.ensures ran
 
 pub returns : goal.returns
 returns g c = λ past stands.

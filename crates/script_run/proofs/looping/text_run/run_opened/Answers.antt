@@ -14,8 +14,8 @@ returns-in-Ok g c =
 
 pub returns-in-Err : goal.returns-in-Err
 returns-in-Err g c =
-    not_opened c.tell_refused.result c.in-Err.why c.args.zone c.args.text.now (g.W.Write.contents c.args.output.now)
-    (g.W.Write.contents c.tell_refused.new.output)
+    not_opened c.print_refused.result c.in-Err.why c.args.zone c.args.text.now (g.W.Write.contents c.args.output.now)
+    (g.W.Write.contents c.print_refused.new.output)
     (refused_for_memory c.in-Err.why _ _ refl refl c.in-Err.ensures.passed.not_stopped
     (c.in-Err.ensures.refused [] (empty_books c.new.result c.new.ensures.empty) tt))
-    c.tell_refused.ensures
+    c.print_refused.ensures

@@ -28,7 +28,7 @@ loop-line-init g c = record {
   past = Opened 0 ∷ [];
   appended = Appends-nil _;
   stands = c.in-Ok.ensures.opened [] (empty_books c.new.result c.new.ensures.empty) tt;
-  so_far = from_start c.args.zone (speaking_lines c.args.text.now) c.of-lines.result (stage_of (Opened 0 ∷ []) c.in-Ok.office) c.of-lines.ensures
+  so_far = from_start c.args.zone (speaking_lines c.args.text.now) c.new-lines.result (stage_of (Opened 0 ∷ []) c.in-Ok.office) c.new-lines.ensures
       (same_stage _ _ _ _ _ c.in-Ok.ensures.fresh.goes (c.in-Ok.ensures.passed.zone ∙ c.new.ensures.zone));
 }
 

@@ -7,7 +7,7 @@ use Rattle.store_queries.proofs.finding.device_rows.devices_in.Goals as goal
 
 pub loop-row-preserved : goal.loop-row-preserved
 loop-row-preserved c =
-    subst (HasReadSome c.args.rows.now.items device_shown IsDeviceOf (c.loop-row.row-index + 1)) (sym c.in_ok-put.ensures.put)
+    subst (HasReadSome c.args.rows.now.items device_shown IsDeviceOf (c.loop-row.row-index + 1)) (sym c.in_ok-push_item.ensures.put)
     (read_more c.args.rows.now.items device_shown IsDeviceOf c.loop-row.row-index c.row-item.result (subst (λ rows. c.loop-row.row-index < length rows) c.deref-row-items.ensures.value c.loop-row-test.true)
     (subst (λ rows. c.row-item.result ≡ get_or rows c.loop-row.row-index c.row-item.result) c.deref-row-items.ensures.value c.row-item.is) IsReadableDevice c.loop-row.devices.items c.in_ok-device.device c.in_ok-device.ensures c.loop-row.invariant)
 

@@ -17,7 +17,7 @@ returns-in-None g c =
 
 pub returns-in-Some : goal.returns-in-Some
 returns-in-Some g c =
-    answered g.S.Store c.args.conn.now c.row_of.new.conn (Some c.in-Some.kept) (Some c.told.result) _ _ _ _ (become g.S.Store c.args.conn.now c.row_of.new.conn _ (Some c.in-Some.kept) _ _ c.in-Some.is c.in_ok-row_of.ensures)
+    answered g.S.Store c.args.conn.now c.row_of.new.conn (Some c.in-Some.kept) (Some c.convert_repeat.result) _ _ _ _ (become g.S.Store c.args.conn.now c.row_of.new.conn _ (Some c.in-Some.kept) _ _ c.in-Some.is c.in_ok-row_of.ensures)
     (λ facts h.
-    ap Some c.told.ensures
+    ap Some c.convert_repeat.ensures
     ∙ (this_repeat facts c.in_ok-caller.caller.now c.args.number c.args.request.now c.in-Some.kept h ∙ ap (λ caller. repeat_of facts caller c.args.number c.args.request.now) c.in_ok-caller.ensures.text))

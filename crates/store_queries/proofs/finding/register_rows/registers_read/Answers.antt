@@ -7,4 +7,4 @@ use Rattle.store_queries.proofs.finding.register_rows.registers_read.Goals as go
 pub returns : goal.returns
 returns g c =
     answered g.S.Store c.args.conn.now c.registers.new.conn c.in_ok-found.found _ _ _ _ _ c.in_ok-found.ensures
-    (λ facts are. c.keep_read.ensures ∙ ap (filter (is_read_by c.args.span)) are)
+    (λ facts are. c.retain_covered.ensures ∙ ap (filter (is_read_by c.args.span)) are)

@@ -17,4 +17,4 @@ returns-in_err-rows g c =
 pub returns : goal.returns
 returns g c =
     asked g.S.Store c.args.conn.now c.check_open.new.conn (record { mode = c.in_ok-check_open.ensures.autocommit; opened = c.in_ok-check_open.ensures.opened; kept = c.in_ok-check_open.ensures.kept; survives = c.in_ok-check_open.ensures.survives }) c.entry_rows.new.conn c.in_ok-rows.ensures.asks c.in_ok-rows.rows (λ facts answer. ShowsEntries c.args.meter.now facts answer.items) HasReadableJournals
-    (λ clean content has zone facts are. shows_entries c.journals_fit.ensures c.rows_stand.ensures facts c.args.meter.now are.entries.rows c.in_ok-rows.rows.items are.lawful are.entries.each (c.in_ok-rows.ensures.shows clean content has are.entries.rows are.entries.there))
+    (λ clean content has zone facts are. shows_entries c.journals_fit.ensures c.rows_are_kept.ensures facts c.args.meter.now are.entries.rows c.in_ok-rows.rows.items are.lawful are.entries.each (c.in_ok-rows.ensures.shows clean content has are.entries.rows are.entries.there))

@@ -35,5 +35,5 @@ returns-clause-finds g c =
     placed_is facts c.args.name.now c.in_ok-text.text.now c.args.place c.in_ok-whole.field-0 c.in-Some.whole c.in_ok-rows.rows.items c.deref.result.now c.placed.result c.in-Some.is h.0 c.in_ok-text.ensures.text c.deref.ensures.value h.1
     (c.placed.ensures.found facts))
     (λ facts h.
-    placed_fault c.installations_are_in_range.ensures c.journals_fit.ensures c.rows_stand.ensures c.places_were_kept.ensures facts c.args.name.now c.in_ok-text.text.now c.args.place c.in_ok-whole.field-0 c.in-Some.whole c.in_ok-rows.rows.items
+    placed_fault c.installations_are_in_range.ensures c.journals_fit.ensures c.rows_are_kept.ensures c.places_were_kept.ensures facts c.args.name.now c.in_ok-text.text.now c.args.place c.in_ok-whole.field-0 c.in-Some.whole c.in_ok-rows.rows.items
     c.deref.result.now c.placed.result (IsUtf8 c.args.name.now × HasReadableJournals facts) (λ s. s.1.meters.lawful) c.in-Some.is h.0 c.in_ok-text.ensures.text c.deref.ensures.value h.1 c.placed.ensures.fault)

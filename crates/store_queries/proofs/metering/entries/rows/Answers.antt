@@ -24,6 +24,6 @@ returns g c =
     (finds_then g.S.Store c.args.conn.now c.entries.new.conn c.voids.new.conn c.in_ok-entries.entries (Ok c.in_ok-voids.voids) (λ facts rows. ShowsEntries c.args.meter.now facts rows.items) (λ facts rows. ShowsVoids c.args.meter.now facts rows.items) HasReadableJournals HasReadableJournals c.in_ok-entries.ensures c.in_ok-voids.ensures)
     (λ facts h.
     IfOk-weaker c.journal_rows.result (λ rows. AreJournal c.deref.result.now c.deref-2.result.now rows.items) (λ rows. FindsJournal c.args.meter.now facts rows.items) (λ rows are.
-    journal_is c.journals_fit.ensures c.rows_stand.ensures c.voids_change_two_rows.ensures facts c.args.meter.now c.in_ok-entries.entries.items c.in_ok-voids.voids.items rows.items h.0 h.1
+    journal_is c.journals_fit.ensures c.rows_are_kept.ensures c.voids_change_two_rows.ensures facts c.args.meter.now c.in_ok-entries.entries.items c.in_ok-voids.voids.items rows.items h.0 h.1
     (from_derefs c.deref.result.now c.deref-2.result.now c.in_ok-entries.entries.items c.in_ok-voids.voids.items rows.items c.deref.ensures.value c.deref-2.ensures.value are)) c.journal_rows.ensures.journal)
     (λ facts h. journal_fault (HasReadableJournals facts) c.in_ok-entries.entries.items c.in_ok-voids.voids.items c.deref.result.now c.deref-2.result.now c.journal_rows.result c.deref.ensures.value c.deref-2.ensures.value h.0.entries h.1.voids h.0.shown h.1.shown c.journal_rows.ensures.fault (λ s. (h.0.sound s.meters, h.1.sound s)))

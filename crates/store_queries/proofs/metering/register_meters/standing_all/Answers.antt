@@ -16,10 +16,10 @@ standing-requires g c = (c.loop-row.invariant.looks []).mode c.requires
 
 pub loop-row-preserved : goal.loop-row-preserved
 loop-row-preserved g c =
-    answered g.S.Store c.args.conn.now c.standing.new.conn c.in_ok-installation.installation c.put.new.items _ _ _ HasReadableMeters
+    answered g.S.Store c.args.conn.now c.standing.new.conn c.in_ok-installation.installation c.push_item.new.items _ _ _ HasReadableMeters
     (finds_then g.S.Store c.args.conn.now c.loop-row.conn c.standing.new.conn c.loop-row.found (Ok c.in_ok-installation.installation) _ (IsStanding c.row-item.result) HasReadableMeters _ c.loop-row.invariant c.in_ok-installation.ensures.finds)
     (λ facts h openings each.
-    one_more_stands facts openings c.args.rows.now c.loop-row.row-index c.row-item.result c.in_ok-installation.installation c.loop-row.found.items c.put.new.items.items each c.loop-row-test.true c.row-item.is h.1 (h.0 openings each) c.in_ok-put.ensures.put)
+    one_more_stands facts openings c.args.rows.now c.loop-row.row-index c.row-item.result c.in_ok-installation.installation c.loop-row.found.items c.push_item.new.items.items each c.loop-row-test.true c.row-item.is h.1 (h.0 openings each) c.in_ok-push_item.ensures.put)
 
 pub returns-in_err-installation : goal.returns-in_err-installation
 returns-in_err-installation g c =
@@ -27,11 +27,11 @@ returns-in_err-installation g c =
     c.loop-row.invariant c.in_err-installation.ensures.finds
     (λ facts h s. let it = row_there facts s.1 c.args.rows.now c.loop-row.row-index c.row-item.result s.2 c.loop-row-test.true c.row-item.is in (s.0, it.0, it.1)) c.from_residual.ensures.1
 
-pub returns-in_err-put : goal.returns-in_err-put
-returns-in_err-put g c =
-    unread g.S.Store c.args.conn.now c.standing.new.conn c.in_ok-installation.installation c.in_err-put.field-0.0 c.from_residual-in_err-put.result _ _ _ (λ facts. HasReadableMeters facts × (openings : List Opening) × AreRowsOf facts openings c.args.rows.now)
+pub returns-in_err-push_item : goal.returns-in_err-push_item
+returns-in_err-push_item g c =
+    unread g.S.Store c.args.conn.now c.standing.new.conn c.in_ok-installation.installation c.in_err-push_item.field-0.0 c.from_residual-in_err-push_item.result _ _ _ (λ facts. HasReadableMeters facts × (openings : List Opening) × AreRowsOf facts openings c.args.rows.now)
     (finds_then g.S.Store c.args.conn.now c.loop-row.conn c.standing.new.conn c.loop-row.found (Ok c.in_ok-installation.installation) _ (IsStanding c.row-item.result) HasReadableMeters _ c.loop-row.invariant c.in_ok-installation.ensures.finds)
-    (λ facts h. subst (IsRowFault (HasReadableMeters facts × (openings : List Opening) × AreRowsOf facts openings c.args.rows.now)) (sym c.in_err-put.ensures.fault) refl) c.from_residual-in_err-put.ensures.1
+    (λ facts h. subst (IsRowFault (HasReadableMeters facts × (openings : List Opening) × AreRowsOf facts openings c.args.rows.now)) (sym c.in_err-push_item.ensures.fault) refl) c.from_residual-in_err-push_item.ensures.1
 
 pub returns : goal.returns
 returns g c =

@@ -9,7 +9,7 @@ use Rattle.stored_files.proofs.joins.stored.join_stored.Goals as goal
 pub returns-then-not-is_of_zone-clause-refuses : goal.returns-then-not-is_of_zone-clause-refuses
 returns-then-not-is_of_zone-clause-refuses g c past has =
     let facts = facts_of past in
-    let mid = c.told_zone.new.connection in
+    let mid = c.read_zone_text.new.connection in
     let told = is_told g.S.Store c.args.connection mid has.zone facts c.in-Ok.zone has.has c.in-Ok.ensures.clean c.in-Ok.ensures.tells in
     subst (λ result. IfErr result (RefusesOffice g.K.Keeping g.S.Store c.args.connection has.zone c.args.range c.args.register.now facts c.args.before))
     (sym c.refused.ensures)
@@ -19,7 +19,7 @@ returns-then-not-is_of_zone-clause-refuses g c past has =
 pub returns-else-not-is_of_zone-clause-joins : goal.returns-else-not-is_of_zone-clause-joins
 returns-else-not-is_of_zone-clause-joins g c past has =
     let facts = facts_of past in
-    let mid = c.told_zone.new.connection in
+    let mid = c.read_zone_text.new.connection in
     let told = is_told g.S.Store c.args.connection mid has.zone facts c.in-Ok.zone has.has c.in-Ok.ensures.clean c.in-Ok.ensures.tells in
     joins_office g.K.Keeping c.args.range c.args.register.now facts g.S.Store c.args.connection mid (string_bytes c.in-Ok.zone) has.zone c.args.before c.in-Ok.ensures.clean told
     c.join_in_zone.result
@@ -29,7 +29,7 @@ returns-else-not-is_of_zone-clause-joins g c past has =
 pub returns-else-not-is_of_zone-clause-refuses : goal.returns-else-not-is_of_zone-clause-refuses
 returns-else-not-is_of_zone-clause-refuses g c past has =
     let facts = facts_of past in
-    let mid = c.told_zone.new.connection in
+    let mid = c.read_zone_text.new.connection in
     let told = is_told g.S.Store c.args.connection mid has.zone facts c.in-Ok.zone has.has c.in-Ok.ensures.clean c.in-Ok.ensures.tells in
     refuses_office g.K.Keeping c.args.range c.args.register.now facts g.S.Store c.args.connection mid (string_bytes c.in-Ok.zone) has.zone c.args.before c.in-Ok.ensures.clean told
     c.join_in_zone.result

@@ -1,5 +1,5 @@
 use Rattle.std.proofs.Common.{Some, None, sym, subst, ◌∙◌}
-use Rattle.office_events.specs.declared.questions.EntryPlace.{EntryPlace}
+use Rattle.office_events.specs.declared.questions.EntryContext.{EntryContext}
 use Rattle.std.specs.Prelude.{◌≡◌}
 use Rattle.office_books.specs.Near.{TellsNear}
 use Rattle.office_books.proofs.Within.{within_whole, tells_near, tells_none}
@@ -18,7 +18,7 @@ returns-in_default-entry-clause-found c = λ known lawful are.
 
 pub returns-clause-found : goal.returns-clause-found
 returns-clause-found c = λ known lawful are.
-    subst (λ (p : EntryPlace). TellsNear known c.args.name.now c.args.place (Some p)) (sym c.with_whole_energy.ensures.same)
+    subst (λ (p : EntryContext). TellsNear known c.args.name.now c.args.place (Some p)) (sym c.with_whole_energy.ensures.same)
     (tells_near known c.args.name.now c.args.place c.in-Some.whole (Some c.in-Some-entry.found) (sym c.in-Some.is ∙ c.row.ensures.found known lawful are)
     (sym c.in-Some-entry.is ∙ c.entry.ensures.found known lawful are)
     (within_whole c.journals_are_kept.ensures c.places_were_kept.ensures known lawful c.args.name.now c.args.place))

@@ -1,7 +1,0 @@
-use Rattle.std.proofs.Common.{rules}
-use Rattle.std.proofs.lemmas.Fn.{filter_same}
-use Rattle.office_rules.specs.Readings.{is_read_by}
-use Rattle.office_books.proofs.readings.keep_read.Goals as goal
-
-pub returns : goal.returns
-returns c = filter_same _ (is_read_by c.args.span) _ (λ x b f r. (search rules, search rules)) _ _ c.retain.ensures.filtered
