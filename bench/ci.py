@@ -17,6 +17,7 @@ import sys
 import time
 
 sys.dont_write_bytecode = True
+import identity
 import kit
 
 SECOND = 1 / 600
@@ -30,6 +31,7 @@ OF_LINE, OF_FRONT_END = 0.2, 10
 # case seen. If the system kills a part for its memory, the kit tries it once more.
 AT_ONCE = 0.8
 rt, costs = kit.load_rt(), kit.costs()
+SOURCES = identity.checksum()
 in_lanes = rt.in_lanes
 
 
@@ -76,11 +78,13 @@ def minutes(processors, gigabytes):
 
 def copy_program(crate, to):
     """Copies the program of a crate as LLVM built it, if the crate is sunreg and the program is in
-    its out/."""
+    its out/. Marks the copy as proved: the kit links a program after its proof."""
     built = f"{crate.folder}/out/{crate.name}"
     if crate.name == "sunreg" and os.path.isfile(built):
         shutil.copyfile(built, f"{to}.new")
         os.chmod(f"{to}.new", 0o755)
+        if SOURCES == identity.checksum():
+            identity.mark(f"{to}.new", kit.logic(), SOURCES)
         os.replace(f"{to}.new", to)
 
 

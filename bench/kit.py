@@ -22,6 +22,12 @@ def folder_of_kit():
     return os.path.dirname(told.stdout.strip())
 
 
+def logic():
+    """Returns the identifier of the logic in which the kit proves."""
+    said = subprocess.run(["rt", "version"], check=True, capture_output=True, text=True).stdout
+    return said.split()[-1]
+
+
 def of_links(room):
     """Makes a folder in the room that replaces the kit and has nothing kept beside it, and returns
     it."""

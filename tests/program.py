@@ -43,6 +43,7 @@ CHECKS = [
     Check("arguments", "arguments.py", 150, 120, ""),
     Check("words", "words.sh", 299, 120, ""),
     Check("manual", "words.sh --man", 19, 60, "man groff"),
+    Check("build_identity", "build_identity.py PROGRAM", 36, 60, ""),
     Check("scan", "scan.sh", 17, 120, ""),
     Check("stand_in", "stand_in.py", 52, 120, ""),
     Check("enter", "enter.sh", 54, 120, "sqlite3"),

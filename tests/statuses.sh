@@ -61,11 +61,11 @@ done
 
 run '' --versions
 is 'no such option' 2 '' "error: unexpected argument '--versions' found"
-# (the sources have the version and the logic of the kit)
+# (the sources have the version; build_identity.py tests the line about the build)
 version=$(sed -n 's/^ *version: "\(.*\)",$/\1/p' "$here/../crates/command_words/src/table.rt")
-logic=$(sed -n 's/^const LOGIC: &str = "\(.*\)";$/\1/p' "$here/../crates/sunreg/src/version.rt")
 run '' --version
-is 'version' 0 "$(printf 'sunreg %s\nproved by the Rattle kit, logic %s' "${version:-none}" "${logic:-none}")" ''
+sed -i '2s/^\(not \)\{0,1\}proved[: ].*/(its build)/' "$room/out"
+is 'version' 0 "$(printf 'sunreg %s\n(its build)' "${version:-none}")" ''
 run '' explain held 1
 is 'explain' 0 "$(printf '%s\n' 'held 1: the device reports 0: not accumulated' \
     "Usual cause: a device that doesn't count this energy, or that has just started." \

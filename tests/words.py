@@ -186,9 +186,8 @@ def check_version(program):
     first, second = run(program, "--version").stdout.splitlines()
     holds("the version", bool(re.fullmatch(r"sunreg \d+(\.\d+)+", first)), True)
     holds("its short form", run(program, "-V").stdout, f"{first}\n{second}\n")
-    if shutil.which("rt"):
-        kit = subprocess.run(["rt", "version"], capture_output=True, text=True).stdout.strip()
-        holds("the logic of the kit (crates/sunreg/src/version.rt)", second.split(" ")[-1], kit.split(" ")[-1])
+    is_proved = r"proved by the Rattle kit, logic ([0-9a-f]{16}), sources [0-9a-f]{32}"
+    holds("its build", bool(re.fullmatch(f"not proved: compiled without ./sunreg-build, .*|{is_proved}", second)), True)
 
 
 def check_terminal(program):
