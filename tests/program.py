@@ -40,6 +40,7 @@ CHECKS = [
     Check("readme", "readme.sh", 14, 120, ""),
     Check("cases", "cases.sh", 459, 120, ""),
     Check("statuses", "statuses.sh", 52, 120, ""),
+    Check("zones", "zones.py PROGRAM", 650, 120, "tzdata"),
     Check("arguments", "arguments.py", 150, 120, ""),
     Check("words", "words.sh", 299, 120, ""),
     Check("manual", "words.sh --man", 19, 60, "man groff"),

@@ -15,6 +15,7 @@ mod new_office;
 mod opening;
 mod parts;
 mod recovery;
+mod zones;
 
 pub use audits::{audit, audit_several};
 pub use backups::backup;

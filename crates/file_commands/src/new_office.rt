@@ -3,6 +3,7 @@ use crate::copies::{Pair, make_whole, remove};
 use crate::parts::{
     begin_new_part, check_name, finish_part, make_empty_log, rename_over, unwritable,
 };
+use crate::zones::{rule_of_name, similar_name};
 use interval_core::Zone;
 use office_store::OpenFault;
 use std::{fs, io};
@@ -122,17 +123,48 @@ fn create_in<'a, D: Databases>(
     make_office(rt, databases, path, zone, length.is_some())
 }
 
-/// Creates an office with the days of a time zone, in the file at a path.
+// Creates an office with the days of a named zone, and prints the zone's rule.
+fn create_by_rule<'a, D: Databases>(
+    rt: &HostRuntime,
+    databases: &D,
+    path: &'a str,
+    rule: &str,
+) -> Result<(), Failure<'a>> {
+    create_in(rt, databases, path, rule)?;
+    match println!(rt; "zone {rule}") {
+        Ok(()) => Ok(()),
+        Err(_) => Err(Failure::Streams),
+    }
+}
+
+// Names the zone that the person may have meant, on standard error.
+fn report_similar(rt: &HostRuntime, zone: &str) {
+    if let Ok(Some(name)) = similar_name(rt, zone) {
+        let _said = eprintln!(rt; "sunreg: the system has the time zone {name}");
+    }
+}
+
+/// Creates an office in the file at a path. Its days are those of a time zone: the POSIX rule
+/// `zone`, or the present rule of the zone that has this name in the operating system's zone files.
 pub fn create<'a, D: Databases>(
     rt: &HostRuntime,
     databases: &D,
     path: &'a str,
     zone: &'a str,
 ) -> Ending<'a> {
-    if Zone::read(zone).is_err() {
-        return Ending::NoZone(zone);
-    }
-    match create_in(rt, databases, path, zone) {
+    let created = if Zone::read(zone).is_ok() {
+        create_in(rt, databases, path, zone)
+    } else {
+        let Ok(rule) = rule_of_name(rt, zone) else {
+            return Ending::Failed(Failure::Memory);
+        };
+        let Some(rule) = rule else {
+            report_similar(rt, zone);
+            return Ending::NoZone(zone);
+        };
+        create_by_rule(rt, databases, path, rule.as_str())
+    };
+    match created {
         Ok(()) => Ending::Fine,
         Err(failure) => Ending::Failed(failure),
     }
