@@ -1,4 +1,5 @@
 """run_carry.py PROGRAM ROOM [--short]: see run_carry.sh."""
+import contextlib
 import glob
 import os
 import random
@@ -114,20 +115,37 @@ class Process:
 
 
 class Device:
-    """A Modbus device whose counter follows the time."""
+    """A Modbus device whose counter follows the time, with a log of the values that it sent."""
 
     def __init__(self):
-        self.begun = time.monotonic()
+        self.begun, self.log, self.streams = time.monotonic(), [], []
         self.listener = socket.create_server(("127.0.0.1", 0))
         self.port = self.listener.getsockname()[1]
-        threading.Thread(target=self.accept, daemon=True).start()
+        threading.Thread(target=self.accept, args=(self.listener,), daemon=True).start()
 
     def raw(self):
         return 5000 + int(100 * (time.monotonic() - self.begun))
 
-    def accept(self):
+    def stop(self):
+        """Refuses new connections, and closes those that it has. The counter goes on."""
+        self.listener.shutdown(socket.SHUT_RDWR)
+        self.listener.close()
+        for stream in self.streams:
+            with contextlib.suppress(OSError):
+                stream.shutdown(socket.SHUT_RDWR)
+
+    def start(self):
+        """Accepts connections again, at the same port."""
+        self.listener = socket.create_server(("127.0.0.1", self.port))
+        threading.Thread(target=self.accept, args=(self.listener,), daemon=True).start()
+
+    def accept(self, listener):
         while True:
-            stream, _ = self.listener.accept()
+            try:
+                stream, _ = listener.accept()
+            except OSError:
+                return
+            self.streams.append(stream)
             threading.Thread(target=self.serve, args=(stream,), daemon=True).start()
 
     def serve(self, stream):
@@ -143,11 +161,13 @@ class Device:
                 pending += more
                 while len(pending) >= 12:
                     request, pending = pending[:12], pending[12:]
-                    data = self.raw().to_bytes(4, "big")
+                    raw = self.raw()
+                    data = raw.to_bytes(4, "big")
                     try:
                         stream.sendall(request[:4] + bytes([0, 3 + len(data), request[6], request[7], len(data)]) + data)
                     except OSError:
                         return
+                    self.log.append((time.monotonic(), raw))
 
 
 def wait_until(is_so, seconds):
@@ -218,9 +238,9 @@ def asked(path, sql):
     return rows
 
 
-def energy(path, clock):
-    """Returns the energy of the register in a file, in mWh, of all days."""
-    told = call("report", "--db", path, "--register", "main", clock=clock)
+def energy(path, clock, register="main"):
+    """Returns the energy of a register in a file, in mWh, of all days."""
+    told = call("report", "--db", path, "--register", register, clock=clock)
     if told.returncode != 0:
         return None
     return sum(int(line.split()[2]) for line in told.stdout.splitlines() if not line.startswith("end"))
@@ -311,6 +331,66 @@ def crossing(name, file, zone, period, end, before, after, seconds=8):
     same(f"{name}: the files before stay as they are", [open(f"{folder}/{it}", "rb").read() for it in (file, before)], kept)
     same(f"{name}: and there is no other", files_of(path), [file, before, after])
     holds_energy(f"{name}, going on", path, clock)
+
+
+def holds_log(what, path, clock, register, meter, device):
+    """The readings in all files together are values that the device sent, in its order, and the
+    energy of the files is the increase from the opening to the last of them."""
+    folder = os.path.dirname(path)
+    rows = [row for name in files_of(path) for row in asked(f"{folder}/{name}", f"SELECT moment, raw FROM entries WHERE meter = '{meter}' AND kind = 2 ORDER BY place")]
+    sent = {raw: clock.offset + time.time() - time.monotonic() + at for at, raw in device.log}
+    same(f"{what}: readings of {meter} that {register} never sent", [raw for _, raw in rows if raw not in sent], [])
+    late = [(at, raw) for at, raw in rows if raw in sent and abs(at - sent[raw]) > 2]
+    same(f"{what}: readings of {meter} at another time", late, [])
+    same(f"{what}: readings of {meter} in order", rows, sorted(set(rows)))
+    told = sum(energy(f"{folder}/{name}", clock, register) or 0 for name in files_of(path))
+    same(f"{what}: energy of {register}", told, (rows[-1][1] - 5000) * 1000 if rows else None)
+    return rows
+
+
+def two_devices():
+    """One of two devices is dead over the end of a month, while a backup runs. Its first reading
+    after the month's end books what it counted meanwhile."""
+    end = moment(2026, 12, 1)
+    clock = Clock("two", end - 7200)
+    path = office("two", "office.db", "UTC0", clock)
+    folder = os.path.dirname(path)
+    lines = f"5 device aux 1 5 1\n6 list aux @{folder}/inv.csv\n7 register side aux 3 40094 0\n8 install side m2 5000 0 1000000000\n"
+    entered = call("enter", "--db", path, "--caller", "site", clock=clock, text=lines)
+    same("two: enter", (entered.returncode, entered.stdout), (0, "ok\nok\nok\nok\n"))
+    clock.set(end - 12)
+    main, side = Device(), Device()
+    run = begin(path, "month", main, clock, f"aux=127.0.0.1:{side.port}")
+    holds("two: both are polled", run.wait_for("main round answered", 20, 2) or wait_until(lambda: len(main.log) > 1 and len(side.log) > 1, 20), run.told())
+    side.stop()
+    dead = len(side.log)
+    copy = f"{folder}/copy.db"
+    saved = call("backup", "--db", f"{folder}/office-2026-11.db", "--to", copy, clock=clock)
+    same("two: backup", (saved.returncode, saved.stderr), (0, ""))
+    holds("two: both meters are rolled over", run.wait_for(f"carried 2 meters into {folder}/office-2026-12.db", 30), run.told())
+    before = len(main.log)
+    holds("two: the other device is polled", wait_until(lambda: len(main.log) >= before + 2, 20), run.told())
+    same("two: the dead device sent nothing", len(side.log), dead)
+    side.start()
+    holds("two: the device is polled again", wait_until(lambda: len(side.log) >= dead + 2, 60), run.told())
+    time.sleep(EVERY)
+    run.end()
+    same("two: files", files_of(path), ["office.db", "office-2026-11.db", "office-2026-12.db"])
+    holds_log("two", path, clock, "main", "m1", main)
+    rows = holds_log("two", path, clock, "side", "m2", side)
+    # (the first two files end before the device died, and the third begins after it came back)
+    old = asked(f"{folder}/office-2026-11.db", "SELECT max(raw) FROM entries WHERE meter = 'm2' AND kind = 2")[0][0]
+    new = asked(f"{folder}/office-2026-12.db", "SELECT min(raw) FROM entries WHERE meter = 'm2' AND kind = 2")[0][0]
+    same("two: the readings around the gap", (old, new), (side.log[dead - 1][1], side.log[dead][1]))
+    holds("two: readings on both sides", len(rows) >= 2, rows)
+    for name in files_of(path):
+        audit = call("audit", "--db", f"{folder}/{name}", clock=clock)
+        holds(f"two: audit of {name}", audit.returncode == 0 and audit.stdout.startswith("fine:"), audit.stdout + audit.stderr)
+    audit = call("audit", "--db", copy, clock=clock)
+    holds("two: audit of the backup", audit.returncode == 0 and audit.stdout.startswith("fine:"), audit.stdout + audit.stderr)
+    last = asked(copy, "SELECT meter, last_raw FROM installations WHERE ended = 0 ORDER BY meter")
+    sent = {"m1": {raw for _, raw in main.log}, "m2": {raw for _, raw in side.log}}
+    same("two: what the backup has last was sent", [(meter, raw in sent[meter] or raw == 5000) for meter, raw in last], [("m1", True), ("m2", True)])
 
 
 def with_an_end():
@@ -655,6 +735,7 @@ def main():
     crossing("summer", "office.db", ZURICH, "month", moment(2026, 6, 30, 22), "office-2026-06.db", "office-2026-07.db")
     crossing("new-year", "office", "UTC0", "month", moment(2027, 1, 1), "office-2026-12", "office-2027-01")
     crossing("year", "office.db", ZURICH, "year", moment(2026, 12, 31, 23), "office-2026.db", "office-2027.db")
+    two_devices()
     with_an_end()
     clock_set_back()
     clock_ahead()
