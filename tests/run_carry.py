@@ -127,7 +127,7 @@ class Device:
         return 5000 + int(100 * (time.monotonic() - self.begun))
 
     def stop(self):
-        """Refuses new connections, and closes those that it has. The counter goes on."""
+        """Refuses new connections, and closes the present ones. The counter keeps counting."""
         self.listener.shutdown(socket.SHUT_RDWR)
         self.listener.close()
         for stream in self.streams:
@@ -334,8 +334,8 @@ def crossing(name, file, zone, period, end, before, after, seconds=8):
 
 
 def holds_log(what, path, clock, register, meter, device):
-    """The readings in all files together are values that the device sent, in its order, and the
-    energy of the files is the increase from the opening to the last of them."""
+    """The readings in all files together are values that the device sent, in order. The energy of
+    the files is the increase from the opening to the last reading."""
     folder = os.path.dirname(path)
     rows = [row for name in files_of(path) for row in asked(f"{folder}/{name}", f"SELECT moment, raw FROM entries WHERE meter = '{meter}' AND kind = 2 ORDER BY place")]
     sent = {raw: clock.offset + time.time() - time.monotonic() + at for at, raw in device.log}
