@@ -9,8 +9,8 @@ import re
 import sys
 
 TOP = os.path.dirname(os.path.dirname(os.path.realpath(__file__)))
-PROGRAMS = {"sunreg", "script_cases", "http_cases"}
-OF_TESTS = {"script_cases", "http_cases", "failing_books"}
+PROGRAMS = {"sunreg", "golden_cases"}
+OF_TESTS = {"golden_cases", "failing_books"}
 
 
 def lists():
@@ -56,7 +56,7 @@ def main():
     faults = [f"the map lacks {it} --> {name}" for it, name in sorted(wanted - drawn)]
     faults += [f"the map has {it} --> {name}" for it, name in sorted(drawn - wanted)]
     rows = re.findall(r"^\| \[?`(\w+)`", text, re.M)
-    faults += [f"{it} has {rows.count(it)} rows" for it in sorted(crates.keys() - {"script_cases", "http_cases"} | set(rows)) if rows.count(it) != 1 or it not in crates]
+    faults += [f"{it} has {rows.count(it)} rows" for it in sorted(crates.keys() - {"golden_cases"} | set(rows)) if rows.count(it) != 1 or it not in crates]
     chain = max((chain_of(crates, it) for it in libraries), key=len)
     counted = (("Libraries", len(libraries)), ("Crates of tests", len(tests)), ("The longest chain of libraries", len(chain)))
     for what, count in counted:
@@ -64,7 +64,7 @@ def main():
             faults.append(f"the page doesn't say how many: {what}, {count}")
     print("\n".join(faults + [f"{len(libraries)} libraries, {len(tests)} crates of tests; the longest chain has {len(chain)}: {' '.join(chain)}"]))
     # (an arrow, a crate's row and a count of the page are one thing each)
-    compared = len(wanted | drawn) + len(crates.keys() - {"script_cases"} | set(rows)) + len(counted)
+    compared = len(wanted | drawn) + len(crates.keys() - {"golden_cases"} | set(rows)) + len(counted)
     print(f"{compared - len(faults)} passed, {len(faults)} failed")
     return 1 if faults else 0
 

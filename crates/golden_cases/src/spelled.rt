@@ -1,4 +1,4 @@
-//! Decodes the requests of golden tests, and finds where two texts differ.
+//! Decodes the requests of golden tests.
 use std::alloc::{AllocError, Global};
 
 /// Decodes a request from the text of a golden test. Each line of the text ends with CR LF, unless
@@ -36,21 +36,4 @@ fn repeat_byte(escape: &str, bytes: &mut Vec<u8>) -> Result<(), AllocError> {
         bytes.push(byte)?;
     }
     Ok(())
-}
-
-/// Returns the number of the first line in which two texts differ. The first line has number 1.
-pub(crate) fn differs_at(left: &[u8], right: &[u8]) -> Option<u64> {
-    if left == right {
-        return None;
-    }
-    let mut line = 1u64;
-    for (one, other) in left.iter().zip(right.iter()) {
-        if one != other {
-            break;
-        }
-        if *one == b'\n' {
-            line = line.saturating_add(1);
-        }
-    }
-    Some(line)
 }

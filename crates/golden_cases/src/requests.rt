@@ -1,6 +1,6 @@
 //! Runs the requests of a golden test with a store in memory.
-use crate::case_text::decode;
-use crate::replies::{run, serve};
+use crate::responses::{run, serve};
+use crate::spelled::decode;
 use interval_core::Zone;
 use memory_books::ListBooks;
 use office_core::Office;

@@ -1,5 +1,5 @@
-//! Runs a golden test, and compares texts.
-use crate::case_kind::{Command, Kind};
+//! Runs the golden tests of commands that read a text.
+use crate::kinds::{Command, Script};
 use command_io::ExitStatus;
 use interval_core::Zone;
 use script_run::{Loopback, loop_text, replay};
@@ -11,26 +11,26 @@ use sunspec_text::{chain_text, plan_text};
 pub(crate) fn play<'r>(
     rt: &'r HostRuntime,
     loopback: &mut Loopback<'r, HostRuntime>,
-    kind: Kind,
+    script: Script,
     text: &[u8],
 ) -> io::Result<Vec<u8>> {
     let mut printed = Vec::new(rt.alloc());
     let zone = zone_of(text);
-    if kind.by_lines {
+    if script.by_lines {
         for line in after_first(text).split_inclusive(|byte| *byte == b'\n') {
-            play_text(rt, loopback, kind.command, zone, line, &mut printed)?;
+            play_text(rt, loopback, script.command, zone, line, &mut printed)?;
         }
-    } else if kind.command == Command::Plan {
+    } else if script.command == Command::Plan {
         play_text(
             rt,
             loopback,
-            kind.command,
+            script.command,
             zone,
             after_first(text),
             &mut printed,
         )?;
     } else {
-        play_text(rt, loopback, kind.command, zone, text, &mut printed)?;
+        play_text(rt, loopback, script.command, zone, text, &mut printed)?;
     }
     Ok(printed)
 }
@@ -119,21 +119,4 @@ fn is_refused(printed: &[u8]) -> bool {
     [b"bad line ".as_slice(), b"too long", b"fault ", b"row "]
         .iter()
         .any(|word| last.starts_with(word))
-}
-
-/// Returns the number of the first line in which two texts differ. Lines are numbered from 1.
-pub(crate) fn differs_at(left: &[u8], right: &[u8]) -> Option<u64> {
-    if left == right {
-        return None;
-    }
-    let mut line = 1u64;
-    for (one, other) in left.iter().zip(right.iter()) {
-        if one != other {
-            break;
-        }
-        if *one == b'\n' {
-            line = line.saturating_add(1);
-        }
-    }
-    Some(line)
 }
