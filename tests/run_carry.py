@@ -206,10 +206,11 @@ def office(name, file, zone, clock, user=None):
     return path
 
 
-def begin(path, period, device, clock, *words, named=None, **more):
+def begin(path, period, device, clock, *words, named=None, others="", **more):
+    """Starts a run over an office's files. `others` are devices beside inv, with their addresses."""
     port = free_port()
     run = Process(
-        "run", "--db", named or path, "--carry", period, "--listen", str(port), "--every", str(EVERY), "--devices", f"inv=127.0.0.1:{device.port}", *words, clock=clock, **more,
+        "run", "--db", named or path, "--carry", period, "--listen", str(port), "--every", str(EVERY), "--devices", f"inv=127.0.0.1:{device.port}{others}", *words, clock=clock, **more,
     )
     run.port = port
     return run
@@ -360,8 +361,8 @@ def two_devices():
     same("two: enter", (entered.returncode, entered.stdout), (0, "ok\nok\nok\nok\n"))
     clock.set(end - 12)
     main, side = Device(), Device()
-    run = begin(path, "month", main, clock, f"aux=127.0.0.1:{side.port}")
-    holds("two: both are polled", run.wait_for("main round answered", 20, 2) or wait_until(lambda: len(main.log) > 1 and len(side.log) > 1, 20), run.told())
+    run = begin(path, "month", main, clock, others=f",aux=127.0.0.1:{side.port}")
+    holds("two: both are polled", wait_until(lambda: len(main.log) > 1 and len(side.log) > 1, 20), run.told())
     side.stop()
     dead = len(side.log)
     copy = f"{folder}/copy.db"

@@ -57,11 +57,11 @@ def check_rules(room):
 
 
 def check_wrong(room):
-    near = "sunreg: the system has the time zone Europe/Berlin\n"
-    rows = [("Berlin", near), ("europe/berlin", near), ("Europe/BERLIN", near)]
-    rows += [(zone, "") for zone in ("", "/", "Europe", "Europe/", "/Europe/Berlin", "Europe//Berlin", "Nowhere/Atlantis", "../zoneinfo/UTC", "Europe/../UTC", "zone1970.tab", "A" * 64, "A" * 65)]
-    for zone, hint in rows:
-        file = f"{room}/wrong.db"
+    rows = [(zone, "Europe/Berlin") for zone in ("Berlin", "europe/berlin", "Europe/BERLIN", "/Europe/Berlin", "Europe//Berlin")]
+    rows += [(zone, "Etc/UTC") for zone in ("../zoneinfo/UTC", "Europe/../UTC")]
+    rows += [(zone, "") for zone in ("", "/", "Europe", "Europe/", "Nowhere/Atlantis", "zone1970.tab", "A" * 64, "A" * 65)]
+    for zone, similar in rows:
+        file, hint = f"{room}/wrong.db", f"sunreg: the system has the time zone {similar}\n" if similar else ""
         same(f"--zone {zone!r}", create(file, zone), (2, "", hint + invalid(zone)))
         same(f"no file for {zone!r}", os.path.exists(file), False)
 
