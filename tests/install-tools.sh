@@ -86,6 +86,8 @@ packages() {
             systemd-analyze) echo systemd ;;
             man) echo man-db ;;
             setpriv) echo util-linux ;;
+            dpkg-deb) echo dpkg ;;
+            dpkg-shlibdeps) echo dpkg-dev ;;
             rt | root) ;;
             *) echo "$it" ;;
         esac
@@ -133,7 +135,7 @@ here=$(dirname "$(readlink -f "$0")")
 room=$(mktemp -d) || exit 0
 trap 'rm -rf "$room"' EXIT
 of_gate='python3 curl sqlite3 faketime chromium tzdata setpriv man groff'
-of_long='cc libmodbus pymodbus mbpoll prometheus openssl nginx promtool systemd-analyze postgresql clickhouse-server clickhouse-client'
+of_long='cc libmodbus pymodbus mbpoll prometheus openssl nginx promtool systemd-analyze postgresql clickhouse-server clickhouse-client dpkg-deb dpkg-shlibdeps lintian zsh fish'
 case ${1:-} in
     --lacking)
         shift
