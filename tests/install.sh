@@ -1,16 +1,15 @@
 #!/bin/bash
-# install.sh [PROGRAM]: types the commands of docs/INSTALL.md in order, and compares their output
-# with the page. Then it lets the unit's program end in each way. PROGRAM is out/sunreg by default,
-# which `./sunreg-build` makes; tests/deploy/office.py replaces a program that is not built. Nothing
-# of this machine changes. All commands run in separate namespaces, over a temporary /etc, /var,
-# /usr/local, /root, /run and /dev. Their systemd has only the units of the page. Their network is a
-# loopback, where 192.0.2.7 and meters.example are this machine. The script names commands that need
-# a network, and does not type them. As root it installs missing tools by apt (not with
-# PEERS_INSTALL=no), and skips the commands of tools that it can't install. It needs root and
-# cgroups of version 2, takes two and a half minutes, and ends with 'N passed, M failed'.
+# install.sh [PROGRAM]: types the commands of docs/INSTALL.md and docs/PACKAGES.md in order, and
+# compares their output with the pages. Then it lets the unit's program end in each way. PROGRAM is
+# out/sunreg by default, which `./sunreg-build` makes; tests/deploy/office.py replaces a program
+# that is not built. Nothing of this machine changes. All commands run in separate namespaces, over
+# a temporary /etc, /var, /usr, /root, /run and /dev. Their systemd has only the units of the pages.
+# Their network is a loopback, where 192.0.2.7 and meters.example are this machine. The script names
+# commands that need a network, and does not type them. As root it installs missing tools by apt
+# (not with PEERS_INSTALL=no), and skips the commands of tools that it can't install. It needs root
+# and cgroups of version 2, takes three minutes, and ends with 'N passed, M failed'.
 set -u
 here=$(dirname "$(readlink -f "$0")")
-page=$here/../docs/INSTALL.md
 PATH=$PATH:/usr/sbin:/sbin
 
 # ---- within the namespaces
@@ -53,7 +52,7 @@ type_it() {
     fi
 }
 
-# type_page: types the commands in the page's blocks
+# type_page NAME: types the commands in the blocks of a page of docs/
 type_page() {
     local in_block='' command='' wanted='' line
     while IFS= read -r line <&3; do
@@ -66,7 +65,7 @@ type_page() {
                 [ "$line" != '```' ] || in_block='' command='' ;;
             yes:*) wanted=$wanted${wanted:+$'\n'}$line ;;
         esac
-    done 3< "$page"
+    done 3< "docs/$1"
 }
 
 # over FOLDER: mounts a temporary folder over one
@@ -172,9 +171,10 @@ typing() {
         printf 'area holding 40000 100\nset holding 40095 5200\n' | out/sunreg stand-in --host 192.0.2.7 --port 502 --connections 1000 > "$ROOM/device" 2>&1 &
     fi
     umask 022
-    type_page
+    type_page INSTALL.md
+    type_page PACKAGES.md
     same 'the user is gone' "$(id -u sunreg 2> "$ROOM/said")" ''
-    same 'and all files are' "$(find /etc /var/lib /usr/local/bin /root -name '*sunreg*' 2> "$ROOM/said")" ''
+    same 'and all files are' "$(find /etc /var/lib /usr/bin /usr/lib/systemd /usr/local/bin /root -name '*sunreg*' 2> "$ROOM/said")" ''
     unit_ends
     echo "$passed passed, $failed failed"
     [ "$failed" = 0 ]
@@ -185,7 +185,7 @@ within() {
     local it
     mount --make-rprivate /
     mount -t tmpfs -o mode=755 scratch "$ROOM" || exit 2
-    for it in /etc /var /usr/local /root; do
+    for it in /etc /var /usr /root; do
         over $it || { echo "install.sh: $it can't be laid over" >&2; exit 2; }
     done
     mkdir "$ROOM/dev" "$ROOM/dev/shm" "$ROOM/dev/pts" "$ROOM/units"
@@ -213,14 +213,16 @@ within() {
     mkdir -p /usr/local/src
     cp -r "$ROOM.copy" /usr/local/src/sunreg
     chmod -R a+rX /usr/local/src/sunreg
-    for it in sysinit basic multi-user shutdown network-online nss-lookup time-sync; do
+    for it in sysinit basic multi-user shutdown timers network-online nss-lookup time-sync; do
         printf '[Unit]\nDefaultDependencies=no\n' > "$ROOM/units/$it.target"
     done
     for it in systemd-journald.service systemd-journald.socket systemd-journald-dev-log.socket nginx.service prometheus.service; do
         cp "/lib/systemd/system/$it" "$ROOM/units" 2> "$ROOM/said"
     done
+    # only the units of a package
+    mount -t tmpfs -o mode=755 scratch /usr/lib/systemd/system
     (bash "$0" --typing "$ROOM" "$is_built" "$lacks"; echo $? > "$ROOM.copy/ended") &
-    export container=sunreg-install SYSTEMD_UNIT_PATH=/etc/systemd/system:$ROOM/units SYSTEMD_LOG_TARGET=null
+    export container=sunreg-install SYSTEMD_UNIT_PATH=/etc/systemd/system:/usr/lib/systemd/system:$ROOM/units SYSTEMD_LOG_TARGET=null
     exec setpriv --bounding-set=-sys_time,-sys_module,-sys_boot,-sys_rawio,-syslog --inh-caps=-all /lib/systemd/systemd --unit=multi-user.target > "$ROOM/systemd" 2>&1 < /dev/null
 }
 

@@ -114,7 +114,9 @@ def run(db, listen, every, devices, **_):
 
 if __name__ == "__main__":
     command, words = sys.argv[1], sys.argv[2:]
-    if command == "help":
+    if command == "completions":
+        print("# a mock has none")
+    elif command == "help":
         print("Polls devices on a schedule and serves HTTP until stopped")
     else:
         {"create": create, "run": run}[command](**{name.lstrip("-"): value for name, value in zip(words[::2], words[1::2])})
