@@ -20,7 +20,7 @@ LC_ALL=C.UTF-8
 export LC_ALL PATH
 passed=0
 failed=0
-CHECKS=143
+CHECKS=148
 
 # same WHAT GOT WANTED: compares a result with the expected one, and counts it
 same() {
@@ -125,6 +125,18 @@ sunreg: to delete both, type: rm -r /var/lib/sunreg && userdel sunreg'
     same 'purge: without systemd and without data' "$(package --purge sunreg)" '0 '
     same 'purge: the folder and the user are gone' "$(find /var/lib/sunreg 2> "$room/said")$(account)" ''
 
+    # over an installation by hand, whose user and settings stay
+    useradd --system --uid 777 --home-dir /var/lib/sunreg --shell /usr/sbin/nologin sunreg
+    install -d -o sunreg -g sunreg -m 700 /var/lib/sunreg
+    printf 'EVERY=900\n' > /etc/default/sunreg
+    same 'by hand: install' "$(package --force-confold -i "$first")" '0 '
+    same 'by hand: the user' "$(id -u sunreg) $(account)" "777 $user"
+    same 'by hand: the folder' "$(stat -c '%u %a' /var/lib/sunreg)" '777 700'
+    same 'by hand: the settings' "$(cat /etc/default/sunreg)" EVERY=900
+    # a folder that can't be removed, as where a disk is mounted
+    mount -t tmpfs -o uid=777 scratch /var/lib/sunreg
+    same 'purge: a disk without data' "$(package --purge sunreg) $(account)" "0  $user"
+
     # the image has no other file than these
     chown 65532:65532 "$room/out/image/data"
     same 'the image: its program' "$(chroot --userspec=65532:65532 "$room/out/image" /sunreg --version | head -n 1)" 'sunreg 1.0'
@@ -150,6 +162,7 @@ install dpkg-deb lintian dpkg-shlibdeps systemd-analyze zsh fish man root
 chmod 755 "$room"
 cd "$room" || exit 2
 mkdir tree other home out over
+ln -s /dev/shm shm
 
 # ---- the package
 
@@ -173,12 +186,12 @@ cp "$here/../docs/sunreg.1" tree/docs
 deb=sunreg_1.0_amd64.deb
 same 'build' "$(build tree --output . "$program")" "dpkg-deb: building package 'sunreg' in './$deb'.
 0"
-# a second build: another folder, newer files, other permissions, another time zone, and the program
-# of out/
+# a second build: other folders, another file system, newer files, other permissions, another time
+# zone, and the program of out/
 cp "$program" out/sunreg
 cp -r tree/deploy tree/docs out other
 find other -type d -exec chmod 700 {} +
-same 'build: again' "$(umask 077; export TZ=Asia/Tokyo; build "$room/other")" "dpkg-deb: building package 'sunreg' in '$room/other/out/$deb'.
+same 'build: again' "$(umask 077; export TZ=Asia/Tokyo TMPDIR="$room/shm"; build "$room/other")" "dpkg-deb: building package 'sunreg' in '$room/other/out/$deb'.
 0"
 same 'build: the same bytes' "$(sha256sum < "other/out/$deb")" "$(sha256sum < $deb)"
 same 'build: without a program' "$(build tree --output . none)" 'deploy/debian/build: none is not built: run ./sunreg-build
