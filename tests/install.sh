@@ -209,6 +209,8 @@ within() {
     # as on a fresh machine
     userdel sunreg 2> "$ROOM/said"
     rm -rf /var/lib/sunreg /etc/default/sunreg /etc/nginx/sunreg.* /etc/systemd/system/* /var/log/journal
+    # (a trigger of man-db reads all manual pages, which takes minutes)
+    echo no-triggers > /etc/dpkg/dpkg.cfg.d/no-triggers
     # the top of the repository, with the program, in a folder that another user can read
     mkdir -p /usr/local/src
     cp -r "$ROOM.copy" /usr/local/src/sunreg

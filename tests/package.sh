@@ -20,7 +20,7 @@ LC_ALL=C.UTF-8
 export LC_ALL PATH
 passed=0
 failed=0
-CHECKS=148
+CHECKS=149
 
 # same WHAT GOT WANTED: compares a result with the expected one, and counts it
 same() {
@@ -194,6 +194,7 @@ find other -type d -exec chmod 700 {} +
 same 'build: again' "$(umask 077; export TZ=Asia/Tokyo TMPDIR="$room/shm"; build "$room/other")" "dpkg-deb: building package 'sunreg' in '$room/other/out/$deb'.
 0"
 same 'build: the same bytes' "$(sha256sum < "other/out/$deb")" "$(sha256sum < $deb)"
+same 'build: the date of each file' "$(export SOURCE_DATE_EPOCH=4102444800; build tree --output late "$program" > said; dpkg-deb --contents late/$deb | awk '{ print $4 }' | sort -u)" 2100-01-01
 same 'build: without a program' "$(build tree --output . none)" 'deploy/debian/build: none is not built: run ./sunreg-build
 1'
 printf '#!/bin/sh\nexit 3\n' > bad

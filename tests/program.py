@@ -77,7 +77,7 @@ LONG = [
     Check("central", "central.sh", 100, 3600, "clickhouse-server clickhouse-client"),
     Check("deploy", "deploy.sh", 145, 900, ""),
     Check("install", "install.sh", 15, 900, "root"),
-    Check("package", "package.sh PROGRAM", 148, 600, "dpkg-deb"),
+    Check("package", "package.sh PROGRAM", 149, 600, "dpkg-deb"),
     Check("unbuilt", "unbuilt.sh", 120, 1800, "rt"),
     Check("built", "built.sh", 25, 3600, "rt"),
     Check("files_as_one", "files_as_one.sh", 900, 1800, "sqlite3 tzdata"),
