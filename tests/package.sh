@@ -10,9 +10,9 @@
 # - as root, the files of the container's image: the program runs in that folder by chroot
 #
 # As root the script installs missing tools by apt (not with PEERS_INSTALL=no). It names tools that
-# it can't install, and skips their checks. It takes half a minute, and ends with 'N passed, M
-# failed', and with ', K skipped' if checks were skipped. CHECKS is the number of all checks. Change
-# it where you add a check, or a command to the program.
+# it can't install, and skips their checks. It takes a minute, and ends with 'N passed, M failed',
+# and with ', K skipped' if checks were skipped. CHECKS is the number of all checks. Change it where
+# you add a check, or a command to the program.
 set -u
 here=$(dirname "$(readlink -f "$0")")
 PATH=$PATH:/usr/sbin:/sbin
