@@ -7,7 +7,7 @@
 # Their network is a loopback, where 192.0.2.7 and meters.example are this machine. The script names
 # commands that need a network, and does not type them. As root it installs missing tools by apt
 # (not with PEERS_INSTALL=no), and skips the commands of tools that it can't install. It needs root
-# and cgroups of version 2, takes three minutes, and ends with 'N passed, M failed'.
+# and cgroups of version 2, takes some minutes, and ends with 'N passed, M failed'.
 set -u
 here=$(dirname "$(readlink -f "$0")")
 PATH=$PATH:/usr/sbin:/sbin

@@ -402,8 +402,8 @@ if has root && unshare --mount true 2> said; then
     read -r passed_within failed_within < counts || failed_within=1
     passed=$((passed + ${passed_within:-0}))
     failed=$((failed + failed_within))
-else
-    lacks="$lacks root"
+elif has root; then
+    lacks="$lacks namespaces"
 fi
 
 skipped=$((CHECKS - passed - failed))
