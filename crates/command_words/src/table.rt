@@ -140,7 +140,7 @@ const SCRIPT_ZONE: OptionText<'static> = OptionText {
 const NEW_ZONE: OptionText<'static> = OptionText {
     name: "zone",
     value: Value::Required("TEXT"),
-    help: "POSIX time zone for days, like CET-1CEST,M3.5.0,M10.5.0/3",
+    help: "Time zone of days: a name like Europe/Berlin, or a POSIX rule",
 };
 
 const HTTP_PORT: OptionText<'static> = OptionText {
