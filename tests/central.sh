@@ -2,6 +2,8 @@
 # central.sh [PROGRAM]: copies the energy of many offices into ClickHouse with central/collect.
 # PROGRAM is out/sunreg by default. Two servers of ClickHouse are the shards, on ports of 127.0.0.1.
 # CENTRAL_PARTS chooses the parts, all by default:
+# - `fleet`: the list of sites, the jobs for Prometheus and the metrics of collect. This part needs
+#   no ClickHouse
 # - `hostile`: sites that redirect, never end, or send too much, and the memory of collect. This
 #   part needs no ClickHouse
 # - `copies`: the copies after events at mock offices, reported faults, and the same rows in
@@ -25,12 +27,18 @@ trap 'rm -rf "$room"' EXIT
 . "$here/peers/install.sh"
 
 install python3 curl sqlite3 openssl clickhouse-server clickhouse-client postgresql
-export PYTHONDONTWRITEBYTECODE=1 CENTRAL_PARTS="${CENTRAL_PARTS:-hostile copies failures kills measures}"
+export PYTHONDONTWRITEBYTECODE=1 CENTRAL_PARTS="${CENTRAL_PARTS:-fleet hostile copies failures kills measures}"
 status=0
+case " $CENTRAL_PARTS " in
+    *" fleet "*) python3 "$here/central/fleet.py" || status=1 ;;
+esac
 case " $CENTRAL_PARTS " in
     *" hostile "*) python3 "$here/central/hostile.py" "$room" || status=1 ;;
 esac
-[ "$CENTRAL_PARTS" != hostile ] || exit $status
+case " $CENTRAL_PARTS " in
+    *" copies "* | *" failures "* | *" kills "* | *" measures "*) ;;
+    *) exit $status ;;
+esac
 [ -z "$(lacking clickhouse-server clickhouse-client)" ] || exit 2
 python3 "$here/central/central.py" "$room" "$program" "$(postgres_folder)" || status=1
 exit $status

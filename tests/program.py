@@ -69,6 +69,7 @@ CHECKS = [
     Check("texts", "texts.py", 60, 360, "rt"),
     Check("rooms", "rooms.py", 150, 60, ""),
     Check("prose", "prose.py", 3700, 60, ""),
+    Check("fleet", "central/fleet.py", 80, 120, ""),
     Check("page", "page.sh PROGRAM", 71, 180, "chromium"),
 ]
 LONG = [

@@ -619,12 +619,12 @@ def tells_faults(shards, mocks):
 
     # arguments and files
     for what, text, wanted in (
-        ("a line without URL", "north\n", "line 1 is no NAME URL [METER..]"),
-        ("a name that is none", "nor'th http://127.0.0.1\n", "line 1 is no NAME URL [METER..]"),
-        ("a URL that is none", "\nnorth ftp://127.0.0.1\n", "line 2 is no NAME URL [METER..]"),
-        ("a URL with a password", "north http://me:it@127.0.0.1\n", "line 1 is no NAME URL [METER..]"),
-        ("a meter that is none", "north http://127.0.0.1 1m\n", "line 1 is no NAME URL [METER..]"),
-        ("a name twice", "north http://127.0.0.1\nnorth http://127.0.0.2\n", "line 2 names north again"),
+        ("a line without URL", "north\n", "line 1: there is no URL after the name"),
+        ("a name that is none", "nor'th http://127.0.0.1\n", "line 1: the name is not 1 to 64 letters, digits, _, . and -, with a letter or a digit first"),
+        ("a URL that is none", "\nnorth ftp://127.0.0.1\n", "line 2: the URL is not http://HOST or https://HOST, with or without :PORT and /PATH"),
+        ("a URL with a password", "north http://me:it@127.0.0.1\n", "line 1: the URL has a user: write user=NAME password=WORD after the URL"),
+        ("a meter that is none", "north http://127.0.0.1 1m\n", "line 1: word 3 is no name of a meter, and neither user=NAME nor password=WORD"),
+        ("a name twice", "north http://127.0.0.1\nnorth http://127.0.0.2\n", "line 2: the name north is that of line 1"),
     ):
         with open(f"{ROOM}/wrong", "w") as file:
             file.write(text)
