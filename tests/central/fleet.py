@@ -23,7 +23,7 @@ import urllib.parse
 
 import offices as mock
 
-CHECKS = 80
+CHECKS = 82
 COLLECT = pathlib.Path(__file__).resolve().parent.parent.parent / "central/collect"
 OK = b"HTTP/1.1 200 OK\r\nConnection: close\r\n\r\n"
 NOVEMBER = 1793491200
@@ -148,6 +148,7 @@ def reads_lists(collect):
         ("nor'th http://h\n", name),
         (f"{'n' * 65} http://h\n", name),
         ("-n http://h\n", name),
+        ("-n http://h\n-n http://h\n", name),
         ("n ftp://h\n", url),
         ("n http://h:0\n", url),
         ("n http://h:65536\n", url),
@@ -169,7 +170,7 @@ def reads_lists(collect):
         (at + f"user=a password={'Secret77' * 32}\n", "word 4: password= needs 1 to 255 characters of ASCII"),
         ("n http://h user=a password=Secret77\n", "a password needs TLS: write https:// in the URL"),
     ):
-        same(f"a fault of {text[:60]!r}", faults_of(text), [f"line 1: {wanted}"])
+        same(f"a fault of {text[:60]!r}", faults_of(text), [f"line {place}: {wanted}" for place in range(1, text.count("\n") + 1)])
     same("the longest words", faults_of(f"{'n' * 64} https://h user={'u' * 255} password={'p' * 255} m123456789012345\nn http://h:65535\n"), [])
     same("all faults at once", faults_of("# 1\nn\nn http://h\n\nn http://h 1m\nn ftp://h user=a\n"), [
         "line 2: there is no URL after the name",
@@ -224,11 +225,13 @@ def writes_jobs(collector):
     same("the jobs", [json.loads(it[4:]) for it in text.splitlines()], wanted)
     same("jobs of chosen sites", (collector.run(path, "six", "--targets", jobs), [json.loads(it[4:]) for it in pathlib.Path(jobs).read_text().splitlines()]), ((0, [], []), wanted[2:3]))
     same("a part of them is left nowhere", sorted(it for it in os.listdir(room) if it.endswith(".new")), [])
+    # (only files of this room are named: a wrong collect would replace a device of the machine)
     os.mkdir(f"{room}/folder")
     os.symlink(jobs, f"{room}/link")
-    for name, why in (("folder", "it is no regular file"), ("link", "it is no regular file"), ("no/jobs", "No such file or directory")):
+    os.mkfifo(f"{room}/pipe")
+    for name, why in (("folder", "it is no regular file"), ("link", "it is no regular file"), ("pipe", "it is no regular file"), ("no/jobs", "No such file or directory")):
         same(f"jobs to {name}", collector.run(path, "--targets", f"{room}/{name}"), (3, [], [f"collect: can't write {room}/{name}: {why}"]))
-    same("jobs to a device", (collector.run(path, "--targets", "/dev/null")[0], stat.S_ISCHR(os.stat("/dev/null").st_mode)), (3, True))
+    same("they stay as they were", [stat.S_IFMT(os.lstat(f"{room}/{name}").st_mode) for name in ("folder", "link", "pipe")], [stat.S_IFDIR, stat.S_IFLNK, stat.S_IFIFO])
     same("nothing of it asks ClickHouse", collector.tables.sites, {})
 
 
