@@ -1,11 +1,14 @@
 #!/bin/sh
-# deploy.sh [PROGRAM]: tests the files of deploy/. PROGRAM is out/sunreg by default, which
-# `./sunreg-build` makes.
+# deploy.sh [PROGRAM]: tests the files of deploy/, and those of central/ for a fleet. PROGRAM is
+# out/sunreg by default, which `./sunreg-build` makes.
 # - the units, with systemd-analyze
 # - the configuration of nginx, with Debian's nginx and curl. Behind nginx is
 #   tests/deploy/office.py, which records its requests, and then the program, if it is built
+# - the certificate that certbot has renewed, with a nginx that runs
 # - the files of Prometheus, with promtool and a Prometheus that sends its requests through nginx
-# - the dashboard's queries
+# - the file of Alertmanager, with amtool and an Alertmanager that sends mail and a webhook to
+#   tests/deploy/receivers.py
+# - the dashboards' queries
 #
 # As root the script installs missing tools by apt (not with PEERS_INSTALL=no). It names tools that
 # it can't install, and skips their checks. It uses only this machine's loopback, and takes a minute
@@ -14,6 +17,7 @@
 set -u
 here=$(dirname "$(readlink -f "$0")")
 deploy=$here/../deploy
+central=$here/../central
 program=${1:-${SUNREG:-$here/../out/sunreg}}
 [ ! -x "$program" ] || program=$(readlink -f "$program")
 room=$(mktemp -d) || exit 2
@@ -23,15 +27,18 @@ trap 'for it in $children; do kill -9 "$it" 2> /dev/null; done; [ ! -s "$room/ng
 # (nginx and prometheus may be in folders that only root searches)
 PATH=$PATH:/usr/sbin:/sbin
 
-install python3 curl openssl systemd-analyze nginx promtool prometheus-server
+install python3 curl openssl systemd-analyze nginx promtool prometheus-server amtool
 chmod 755 "$room"
 cd "$room" || exit 2
 passed=0
 failed=0
-CHECKS=145
+CHECKS=213
 port=${DEPLOY_PORT:-18700}
 tls=$((port + 1))
 prometheus=$((port + 2))
+alertmanager=$((port + 4))
+mail=$((port + 5))
+hook=$((port + 6))
 
 # same WHAT GOT WANTED: compares a result with the expected one, and counts it
 same() {
@@ -82,11 +89,27 @@ if has systemd-analyze; then
     # of 100: 5 when this was written
     fine 'the backup: its exposure' systemd-analyze security --offline=yes --threshold=6 ./sunreg-backup.service
     fine 'the backup: its time' systemd-analyze calendar "$(sed -n 's/^OnCalendar=//p' sunreg-backup.timer)"
+    for it in sunreg-collect sunreg-collect-whole; do
+        sed "s|/usr/local/bin/sunreg-collect|/bin/true|" "$central/$it.service" > "$it.service"
+        cp "$central/$it.timer" .
+        systemd-analyze verify "./$it.service" "./$it.timer" > said 2>&1
+        same "$it: systemd-analyze verify" "$? $(grep sunreg said)" '0 '
+        # of 100: 12 when this was written
+        fine "$it: its exposure" systemd-analyze security --offline=yes --threshold=12 "./$it.service"
+        fine "$it: its time" systemd-analyze calendar "$(sed -n 's/^OnCalendar=//p' "$it.timer")"
+    done
     same 'the unit: a word that systemd does not know is seen' "$(echo 'ProtectAll=yes' >> less/sunreg.service; systemd-analyze verify less/sunreg.service 2>&1 | grep -c ProtectAll)" 1
 fi
 same 'the settings are those of the command and of the backup' "$(sed -n 's/^\([A-Z_]*\)=.*/\1/p' "$deploy/sunreg.env" | sort)" \
     "$({ grep '^ExecStart=' "$deploy/sunreg.service" | grep -o '\$[{A-Z}]*' | tr -d '${}'; sed -n 's/^for it in \([A-Z_ ]*\); do$/\1/p' "$deploy/backup" | tr ' ' '\n'; } | sort -u)"
 same 'the backup may write its folder' "$(sed -n 's/^ReadWritePaths=-//p' "$deploy/sunreg-backup.service")" "$(sed -n 's/^BACKUPS=//p' "$deploy/sunreg.env")"
+same 'the weekly copy differs from the hourly one only in --whole, its limit and its name' "$(for it in sunreg-collect sunreg-collect-whole; do
+    sed '1,4d; s/--whole //; s/^TimeoutStartSec=.*//; s/sunreg-collect-whole/sunreg-collect/' "$central/$it.service" > "plain.$it"; done; diff plain.sunreg-collect plain.sunreg-collect-whole)" ''
+same 'only the weekly copy reads all' "$(grep -l -e ' --whole ' "$central"/*.service)" "$central/sunreg-collect-whole.service"
+same 'the settings of the copies are those of their command' "$(sed -n 's/^\([A-Z_]*\)=.*/\1/p' "$central/sunreg-collect.env" | sort | xargs)" "$(grep -h '^ExecStart=' "$central"/*.service | grep -o '\$[{A-Z}]*' | tr -d '${}' | sort -u | xargs)"
+same 'the copies may write the folder of their metrics' "$(sed -n 's/^ReadWritePaths=-//p' "$central"/*.service | sort -u)" "$(dirname "$(sed -n 's/^METRICS=//p' "$central/sunreg-collect.env")")"
+same 'each option of their command is one of collect' "$(for it in $(grep -h '^ExecStart=' "$central"/*.service | sed 's/.*sunreg-collect //' | grep -o -e '--[a-z]*' | sort -u); do
+    "$central/collect" --help | grep -q -e "^  $it" || echo "$it"; done)" ''
 fine 'the backup: its syntax' sh -n "$deploy/backup"
 same 'each option of its command is one of run' "$(for it in $(grep '^ExecStart=' "$deploy/sunreg.service" | grep -o ' --[a-z]*'); do
     grep -q "^ *${it} <" "$here/arguments.py" || echo "$it"; done)" ''
@@ -228,7 +251,67 @@ end 1'
     same 'a caller that is the user' "$(status_of "$(asks desk /devices -H 'Office-Caller: other' -H 'Office-Request: 1' -d '{}')") $(came Office-Caller)" '200 desk'
 fi
 
-# ---- Prometheus and the dashboard
+# ---- a certificate that was renewed
+
+# renewed FOLDER DAYS: makes a certificate in a folder, as certbot keeps it
+renewed() {
+    mkdir -p "$1"
+    openssl req -x509 -newkey ec -pkeyopt ec_paramgen_curve:P-256 -nodes -days "$2" -subj /CN=localhost -addext subjectAltName=DNS:localhost -keyout "$1/privkey.pem" -out "$1/fullchain.pem" 2> said
+}
+
+# hooked FOLDER: runs the script that certbot runs, for a folder, and prints its status and its text
+hooked() {
+    RENEWED_LINEAGE=$1 PATH=$room/stubs:$PATH sh certificate > said 2>&1
+    echo "$? $(head -n 1 said)"
+}
+
+# served: prints the fingerprint of the certificate that nginx shows
+served() {
+    openssl s_client -connect "localhost:$tls" -servername localhost < /dev/null 2> said | openssl x509 -noout -fingerprint 2> said
+}
+
+# files_of_nginx: prints the checksums of its certificate and key, and files beside them
+files_of_nginx() {
+    cat cert.pem key.pem | cksum
+    ls | grep -E '^(cert|key)\.pem\.'
+}
+
+fine 'the certificate: its syntax' sh -n "$deploy/certificate"
+if has nginx && has openssl; then
+    sed "s|=/etc/ssl/certs/sunreg.pem|=$room/cert.pem|; s|=/etc/ssl/private/sunreg.key|=$room/key.pem|" "$deploy/certificate" > certificate
+    mkdir stubs
+    printf '#!/bin/sh\n[ ! -e %s/refuses ] || { echo nginx: refused >&2; exit 1; }\nexec %s -p %s -c nginx.conf -e %s/nginx.errors "$@"\n' "$room" "$(command -v nginx)" "$room" "$room" > stubs/nginx
+    printf '#!/bin/sh\n[ "$*" = "reload nginx" ] && [ ! -e %s/refuses-reload ] && exec %s/stubs/nginx -s reload\n' "$room" "$room" > stubs/systemctl
+    chmod 755 stubs/nginx stubs/systemctl
+    renewed fresh 30
+    renewed other 30
+    before=$(files_of_nginx)
+    mkdir mixed && cp fresh/fullchain.pem mixed && cp other/privkey.pem mixed
+    mkdir broken && cp fresh/privkey.pem broken && echo none > broken/fullchain.pem
+    same 'the certificate: nothing was renewed' "$(hooked '')" "1 sunreg-certificate: no fullchain.pem and privkey.pem in RENEWED_LINEAGE, which is ''"
+    same 'the certificate: another key' "$(hooked "$room/mixed")" "1 sunreg-certificate: the key in $room/mixed does not fit its certificate"
+    same 'the certificate: no certificate' "$(hooked "$room/broken" > ended; tail -n 1 said)" "sunreg-certificate: $room/broken/fullchain.pem is no certificate"
+    touch refuses
+    same 'the certificate: nginx refuses it' "$(hooked "$room/fresh")" '1 sunreg-certificate: nginx refuses the new certificate: nginx: refused'
+    rm refuses
+    same 'the certificate: the old files are as before' "$(files_of_nginx)" "$before"
+    mkdir expired && cp fresh/privkey.pem expired
+    openssl req -new -key fresh/privkey.pem -subj /CN=localhost 2> said | openssl x509 -req -signkey fresh/privkey.pem -days -1 -out expired/fullchain.pem 2> said
+    same 'the certificate: it has expired' "$(hooked "$room/expired") $(files_of_nginx)" "1 sunreg-certificate: the certificate in $room/expired has expired $before"
+    same 'the certificate: it is renewed' "$(hooked "$room/fresh")" "0 sunreg-certificate: nginx has the certificate that ends on $(openssl x509 -noout -enddate -in fresh/fullchain.pem | cut -d = -f 2)"
+    same 'the certificate: its files' "$(files_of_nginx) $(stat -c %a cert.pem key.pem | xargs)" "$(cat fresh/fullchain.pem fresh/privkey.pem | cksum) 644 600"
+    is_served() {
+        [ "$(served)" = "$(openssl x509 -noout -fingerprint -in fresh/fullchain.pem)" ]
+    }
+    fine 'the certificate: nginx shows it' waits is_served
+    same 'the certificate: and serves requests' "$(status_of "$(asks eye /status)")" 200
+    touch refuses-reload
+    same 'the certificate: nginx does not reload' "$(hooked "$room/fresh")" '1 sunreg-certificate: the new certificate is in place, but nginx does not reload: type systemctl status nginx'
+    rm refuses-reload
+    same 'the certificate: the paths are those of nginx.conf' "$(sed -n 's/^certificate=//p; s/^key=//p' "$deploy/certificate")" "$(sed -n 's/^ *ssl_certificate[_key]* \(.*\);/\1/p' "$deploy/nginx.conf")"
+fi
+
+# ---- Prometheus and the dashboards
 
 # metrics: prints the names of the program's metrics, from its source
 metrics() {
@@ -250,17 +333,24 @@ for it in alerts.yml grafana.json; do
     same "$it: all its metrics are those of the program" "$(strange "$deploy/$it")" ''
 done
 same 'grafana.json: all metrics of the program are in it' "$(unused "$deploy/grafana.json")" ''
+same 'central/alerts.yml: all its metrics are those of collect' "$(grep -h -o 'sunreg_[a-z_]*' "$central/alerts.yml" "$central/grafana.json" | sort -u | while read -r it; do grep -q "^    \"$it\": \"" "$central/collect" || echo "$it"; done)" ''
+same 'central/grafana.json: all metrics of collect are in it' "$(sed -n 's/^    "\(sunreg_collect_[a-z_]*\)": ".*/\1/p' "$central/collect" | while read -r it; do grep -q "$it" "$central/grafana.json" || echo "$it"; done)" ''
 same 'its labels are those of the program' "$(grep -o '[a-z]*=\\*"[a-z_]*\\*"' "$deploy/alerts.yml" | grep -v '^job=' | tr -d '\\' | sort -u | while read -r it; do
     sed 's/\\//g' "$here/../crates/run_http/src/texts/metrics.rt" | grep -q -F "$it" || echo "$it"; done)" ''
-python3 - "$deploy/grafana.json" > queries.yml 2> said << 'END'
-import json, sys
+# queries FILE LABEL: prints the queries of a dashboard as rules, and checks its panels. Several
+# sites are on one panel. So each legend names the site, or the query is one sum over all sites
+queries() {
+    python3 - "$1" "$2" << 'END'
+import json, re, sys
 
-board = json.load(open(sys.argv[1]))
+board, label = json.load(open(sys.argv[1])), "{{%s}}" % sys.argv[2]
 panels = board["panels"]
 assert len({it["id"] for it in panels}) == len(panels) and all(it["targets"] for it in panels)
-# (several offices are on one panel)
-legends = [target["legendFormat"] for it in panels for target in it["targets"]]
-assert all("{{instance}}" in it for it in legends), legends
+over_all = re.compile(r"(time\(\) - )?(sum|count|max)\([^()]*(\(\)[^()]*)*\)( or vector\(0\))?")
+for target in (target for it in panels for target in it["targets"]):
+    legend = target["legendFormat"]
+    is_sum = over_all.fullmatch(target["expr"]) and "{{" not in legend
+    assert label in legend or "{{instance}}" in legend or is_sum, (target["expr"], legend)
 assert all(it["title"] and it["description"] for it in panels)
 places = [(x, y) for it in panels for at in [it["gridPos"]] for x in range(at["x"], at["x"] + at["w"]) for y in range(at["y"], at["y"] + at["h"])]
 assert len(set(places)) == len(places) and max(x for x, _ in places) < 24
@@ -268,10 +358,21 @@ queries = [target["expr"].replace("$__rate_interval", "4m") for it in panels for
 rules = [{"record": f"query:{k}", "expr": it} for k, it in enumerate(queries)]
 json.dump({"groups": [{"name": "queries", "rules": rules}]}, sys.stdout)
 END
+}
+
+queries "$deploy/grafana.json" instance > queries.yml 2> said
 same 'grafana.json: JSON, whose panels have queries and places of their own' "$?$(tail -n 1 said)" 0
+queries "$central/grafana.json" site > queries.fleet.yml 2> said
+same 'central/grafana.json: JSON, whose panels have queries and places of their own' "$?$(tail -n 1 said)" 0
+# A legend without the site is seen, in a query of each site and in a sum by site.
+for it in 's/{{site}} {{fault}}/{{fault}}/' 's/"sum(sunreg_collect_site_rows)"/"sum by (site) (sunreg_collect_site_rows)"/' 's/"legendFormat": "rows"/"legendFormat": "{{fault}}"/'; do
+    sed "$it" "$central/grafana.json" > less.json
+    same "central/grafana.json: $it is seen" "$(cmp -s less.json "$central/grafana.json" || queries less.json site 2>&1 > said | grep -c AssertionError)" 1
+done
 if has promtool; then
     cp "$deploy/alerts.yml" "$here/deploy/alerts.test.yml" "$here/deploy/alerts.days.test.yml" .
     fine 'the dashboard'"'"'s queries' promtool check rules queries.yml
+    fine 'the queries of the fleet'"'"'s dashboard' promtool check rules queries.fleet.yml
     fine 'the alerts' promtool check rules alerts.yml
     fine 'the alerts, over made-up series' promtool test rules alerts.test.yml alerts.days.test.yml
     # Each alert is tested: without it, the tests fail.
@@ -281,12 +382,55 @@ if has promtool; then
         same "the cases fail without $it" "$?" 1
     done
     cp "$deploy/alerts.yml" alerts.yml
+    mkdir fleet
+    cp "$here/central/alerts.test.yml" fleet
+    cp "$central/alerts.yml" fleet/fleet.yml
+    fine 'the alerts of a fleet' promtool check rules fleet/fleet.yml
+    fine 'the alerts of a fleet, over made-up series' promtool test rules fleet/alerts.test.yml
+    # Without an alert the tests fail, and with another limit, too.
+    tries_fleet() {
+        sed "$1" "$central/alerts.yml" > fleet/fleet.yml
+        promtool test rules fleet/alerts.test.yml > said 2>&1
+        same "the cases fail with $1" "$? $(cmp -s fleet/fleet.yml "$central/alerts.yml" && echo the same)" '1 '
+    }
+    for it in $(sed -n 's/.*- alert: //p' "$central/alerts.yml"); do
+        tries_fleet "s/- alert: $it\$/- alert: Other/"
+    done
+    while read -r it; do
+        tries_fleet "$it"
+    done << 'END'
+/alert: SunregSiteNotCopied/,/labels/s/86400/85800/
+/alert: SunregSiteNotCopied/,/labels/s/86400/87000/
+s/for: 2h/for: 110m/
+s/for: 2h/for: 130m/
+s/differences > 0/differences >= 0/
+s/differences > 0/differences > 1/
+/alert: SunregCollectNotRun/,/labels/s/86400/85800/
+/alert: SunregCollectNotRun/,/labels/s/86400/87000/
+s/8 \* 86400/690600/
+s/8 \* 86400/691800/
+s/for: 1h/for: 50m/
+s/for: 1h/for: 70m/
+END
+    # The head of a fleet's Prometheus, and the jobs of 1,000 sites.
+    for it in $(seq 1000); do echo "site$it https://site$it.example/office user=user$it password=word$it"; done > thousand
+    chmod 600 thousand
+    cp "$central/alerts.yml" fleet/fleet.yml
+    fine 'the jobs of 1,000 sites are written' env SSL_CERT_FILE=/etc/hostname "$central/collect" --targets thousand.yml thousand
+    sed "s|/etc/prometheus/sunreg-alerts.yml|$room/alerts.yml|; s|/etc/prometheus/sunreg-fleet.yml|$room/fleet/fleet.yml|" "$central/prometheus.yml" | cat - thousand.yml > fleet/prometheus.yml
+    fine 'the configuration of 1,000 sites' promtool check config fleet/prometheus.yml
+    same 'it has all of them' "$(grep -c '"job_name": "sunreg/site' fleet/prometheus.yml)" 1000
     python3 -B -c 'import sys; sys.path.insert(0, sys.argv[1]); import office; print(office.told("METRICS"), end="")' "$here/deploy" > metrics
     promtool check metrics < metrics > said 2>&1
     same 'the metrics that the proved tests expect' "$? $(cat said)" '0 '
     sed "s|/etc/prometheus/sunreg-alerts.yml|$room/alerts.yml|; s|/etc/prometheus/sunreg.password|$room/password|; s|/etc/prometheus/sunreg.pem|$room/cert.pem|
         s|meters\.example:443|localhost:$tls|; s|username: prometheus|username: eye|; s|: 60s|: 1s|; s|: 15s|: 1s|" "$deploy/prometheus.yml" > prometheus.yml
     echo word-of-eye > password
+    # its Alertmanager, and an office by the jobs that collect writes
+    sed -i "/^#alerting:/,/^#  *- targets/s/^#//; s|127\.0\.0\.1:9093|127.0.0.1:$alertmanager|" prometheus.yml
+    echo "north https://localhost:$tls user=eye password=word-of-eye" > north
+    chmod 600 north
+    SSL_CERT_FILE=$room/cert.pem "$central/collect" --targets north.yml north && cat north.yml >> prometheus.yml
     if has nginx && has openssl; then
         fine 'what Prometheus is told' promtool check config prometheus.yml
     fi
@@ -301,10 +445,60 @@ has_found() {
 if has promtool && has prometheus-server && has nginx && has openssl; then
     prometheus --config.file prometheus.yml --storage.tsdb.path tsdb --web.listen-address "127.0.0.1:$prometheus" --log.level warn > prometheus.log 2>&1 &
     children="$children $!"
-    waits has_found 'up{job="sunreg"}' 1
+    waits has_found "up{job=\"sunreg\", instance=\"localhost:$tls\"}" 1
     same 'Prometheus asks through nginx' "$?$([ $? = 0 ] || cat prometheus.log)" 0
-    fine 'and finds what the office counts' waits has_found 'sunreg_polls_total{outcome="answered"}' 2
-    fine 'and goes by the alerts' waits has_found 'ALERTS{alertname="SunregNoReading", device="grid", alertstate="pending"}' 1
+    fine 'and finds what the office counts' waits has_found "sunreg_polls_total{outcome=\"answered\", instance=\"localhost:$tls\"}" 2
+    fine 'and goes by the alerts' waits has_found "ALERTS{alertname=\"SunregNoReading\", device=\"grid\", alertstate=\"pending\", instance=\"localhost:$tls\"}" 1
+    fine 'it asks as a job of the list, too' waits has_found 'up{job="sunreg", instance="north"}' 1
+    same 'it knows its Alertmanager' "$(curl -s "http://127.0.0.1:$prometheus/api/v1/alertmanagers" | python3 -c 'import json, sys; print(*[it["url"] for it in json.load(sys.stdin)["data"]["activeAlertmanagers"]])')" "http://127.0.0.1:$alertmanager/api/v2/alerts"
+fi
+
+# ---- Alertmanager
+
+# routed LABELS..: prints the receiver of an alert
+routed() {
+    amtool config routes test --config.file="$deploy/alertmanager.yml" "$@" 2> said
+}
+
+# has_got WORDS..: whether a receiver got a line with all these words
+has_got() {
+    cp got got.now
+    for it in "$@"; do
+        grep -F -e "$it" got.now > got.then
+        mv got.then got.now
+    done
+    [ -s got.now ]
+}
+
+same 'the severities of all alerts' "$(sed -n 's/^ *severity: //p' "$deploy/alerts.yml" "$central/alerts.yml" | sort -u | xargs)" 'page ticket'
+same 'each alert that another one silences is there' "$(sed -n 's/.*Sunreg(\(.*\)).*/\1/p' "$deploy/alertmanager.yml" | tr '|' '\n' | while read -r it; do
+    grep -q "alert: Sunreg$it\$" "$deploy/alerts.yml" "$central/alerts.yml" || echo "$it"; done)" ''
+if has amtool; then
+    fine 'Alertmanager: its configuration' amtool check-config "$deploy/alertmanager.yml"
+    same 'Alertmanager: a page' "$(routed alertname=SunregDown severity=page)" on-call
+    same 'Alertmanager: a ticket' "$(routed alertname=SunregHeld severity=ticket)" desk
+    same 'Alertmanager: another alert' "$(routed alertname=Other)" desk
+    sed "s|mail\.example:587|localhost:$mail|; s|https://pager\.example/sunreg|http://127.0.0.1:$hook/sunreg|; s|/etc/prometheus/mail.password|$room/mail.password|; s|group_wait: .*|group_wait: 1s|
+        s|^  smtp_from: |  smtp_require_tls: false\n  smtp_from: |" "$deploy/alertmanager.yml" > alertmanager.yml
+    echo word-of-mail > mail.password
+    : > got
+    python3 -B "$here/deploy/receivers.py" "$mail" "$hook" > got 2> said &
+    children="$children $!"
+    waits grep -q listening got
+    prometheus-alertmanager --config.file alertmanager.yml --storage.path alerts --web.listen-address "127.0.0.1:$alertmanager" --cluster.listen-address= --log.level warn > alertmanager.log 2>&1 &
+    children="$children $!"
+    fine 'Alertmanager: it begins' waits curl -sf "http://127.0.0.1:$alertmanager/-/ready"
+    add() {
+        amtool --alertmanager.url "http://127.0.0.1:$alertmanager" alert add "$@" > said 2>&1
+    }
+    add alertname=SunregDown severity=page instance=a:443
+    add alertname=SunregHeld severity=ticket instance=a:443
+    add alertname=SunregHeld severity=ticket instance=b:443
+    fine 'Alertmanager: a page is a mail' waits has_got 'mail from sunreg@meters.example, user sunreg@meters.example word-of-mail, to on-call@meters.example:' SunregDown a:443
+    fine 'Alertmanager: and a call of the webhook' waits has_got 'POST /sunreg:' '"receiver":"on-call"' '"status":"firing"' SunregDown
+    fine 'Alertmanager: a ticket is a mail to the desk' waits has_got 'to desk@meters.example:' SunregHeld b:443
+    same 'Alertmanager: an office that is down has no other alerts' "$(grep -F SunregHeld got | grep -c a:443)" 0
+    same 'Alertmanager: a ticket calls no webhook' "$(grep -F 'POST /sunreg' got | grep -c SunregHeld)" 0
 fi
 
 # ---- without an office, and the program

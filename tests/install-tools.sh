@@ -81,6 +81,7 @@ packages() {
             pymodbus) echo python3-pymodbus python3-serial-asyncio ;;
             prometheus) echo python3-prometheus-client ;;
             promtool | prometheus-server) echo prometheus ;;
+            amtool) echo prometheus-alertmanager ;;
             nginx) echo nginx-light ;;
             chromium) echo chromium fonts-dejavu-core ;;
             systemd-analyze) echo systemd ;;
@@ -135,7 +136,7 @@ here=$(dirname "$(readlink -f "$0")")
 room=$(mktemp -d) || exit 0
 trap 'rm -rf "$room"' EXIT
 of_gate='python3 curl sqlite3 faketime chromium tzdata setpriv man groff'
-of_long='cc libmodbus pymodbus mbpoll prometheus openssl nginx promtool systemd-analyze postgresql clickhouse-server clickhouse-client dpkg-deb dpkg-shlibdeps lintian zsh fish'
+of_long='cc libmodbus pymodbus mbpoll prometheus openssl nginx promtool amtool systemd-analyze postgresql clickhouse-server clickhouse-client dpkg-deb dpkg-shlibdeps lintian zsh fish'
 case ${1:-} in
     --lacking)
         shift

@@ -69,14 +69,14 @@ CHECKS = [
     Check("texts", "texts.py", 60, 360, "rt"),
     Check("rooms", "rooms.py", 150, 60, ""),
     Check("prose", "prose.py", 3700, 60, ""),
-    Check("fleet", "central/fleet.py", 80, 120, ""),
+    Check("fleet", "central/fleet.py", 82, 120, ""),
     Check("page", "page.sh PROGRAM", 71, 180, "chromium"),
 ]
 LONG = [
     Check("soak", "soak.sh", 10, 1800, "sqlite3"),
     Check("torn_writes", "torn_writes.sh PROGRAM", 300, 1800, "sqlite3"),
     Check("central", "central.sh", 100, 3600, "clickhouse-server clickhouse-client"),
-    Check("deploy", "deploy.sh", 145, 900, ""),
+    Check("deploy", "deploy.sh", 213, 900, ""),
     Check("install", "install.sh", 15, 900, "root"),
     Check("package", "package.sh PROGRAM", 149, 600, "dpkg-deb"),
     Check("unbuilt", "unbuilt.sh", 120, 1800, "rt"),
