@@ -11,8 +11,9 @@
 # - the dashboards' queries
 #
 # As root the script installs missing tools by apt (not with PEERS_INSTALL=no). It names tools that
-# it can't install, and skips their checks. It uses only this machine's loopback, and takes a minute
-# and a half. It ends with 'N passed, M failed', and with ', K skipped' if checks were skipped.
+# it can't install, and skips their checks. It uses only this machine's loopback, and takes two to
+# five minutes beside proofs. It ends with 'N passed, M failed', and with ', K skipped' if checks
+# were skipped.
 # CHECKS is the number of all checks. Change it where you add a check, or a route to docs/HTTP.md.
 set -u
 here=$(dirname "$(readlink -f "$0")")

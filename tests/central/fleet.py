@@ -77,6 +77,9 @@ class Sites(mock.Handler):
         if wanted and self.headers["Authorization"] != "Basic " + base64.b64encode(wanted.encode()).decode():
             self.wfile.write(b"HTTP/1.1 401 No\r\nConnection: close\r\n\r\n")
             return
+        if name in self.server.moved:
+            self.wfile.write(f"HTTP/1.1 302 Moved\r\nLocation: http://{self.server.moved[name]}/\r\nConnection: close\r\n\r\n".encode())
+            return
         super().do_GET()
 
 
@@ -84,7 +87,7 @@ def began(handler):
     """Returns a server of HTTP at a free port, which runs."""
     server = mock.Server(0, {})
     server.RequestHandlerClass = handler
-    server.refused, server.sites, server.differences, server.users, server.came = "", {}, [], {}, []
+    server.refused, server.sites, server.differences, server.users, server.came, server.moved = "", {}, [], {}, [], {}
     threading.Thread(target=server.serve_forever, daemon=True).start()
     return server
 
@@ -291,10 +294,11 @@ def writes_metrics(collector):
     same("it is no run of all", [third[f"sunreg_collect_{it}_timestamp_seconds"] for it in ("run", "whole")], [1234, whole])
     same("other sites keep their lines", (third[site("success_timestamp_seconds", "south")], third[has_failed("south", "")], third[site("differences", "south")]), (1234, 0, 2))
     same("and its own are new", (third[site("success_timestamp_seconds", "north")] >= since, third[site("differences", "north")]), (True, 0))
+    # a site that echoes its password
+    server.moved["south"] = "Secret78"
+    moved = "it answers 302 to GET /site, and redirects to ***: write the URL of the site itself into LIST"
+    same("a site that echoes its password", (run()[2], values_of(prom).get(has_failed("south", moved)), tables.sites["south"][4]), ([f"collect: south: {moved}"], 1, moved))
     # a fault with each special character is a label
-    server.users["south"] = ""
-    server.offices["south"].reply = lambda target: (302, "")
-    same("a fault of its own", run()[2], ["collect: south: it answers 302 to GET /site, and redirects to itself: write the URL of the site itself into LIST"])
     collect = module_of_collect()
     label = collect.metrics_text({}, {"n": {"sunreg_collect_site_failed": 'a "b" \\ c'}}, ["n"], {}).splitlines()
     same("special characters", [it for it in label if not it.startswith("#")], ['sunreg_collect_site_failed{site="n",fault="a \\"b\\" \\\\ c"} 1'])
