@@ -1,7 +1,7 @@
 use Rattle.std.proofs.Common.{refl}
 use Rattle.carried_books.specs.declared.joining.earlier.ComparedRegisters.{ComparedRegisters}
 use Rattle.carried_books.proofs.JoiningLemmas.Earlier.{parts_whatever, zone_kept}
-use Rattle.carried_books.proofs.joining.earlier.HeldRegistersKeeping.add.Goals as goal
+use Rattle.carried_books.proofs.joining.earlier.ComparedRegistersKeeping.add.Goals as goal
 
 pub returns-clause-joins : goal.returns-clause-joins
 returns-clause-joins g c zone known holds clean = zone_kept zone ComparedRegisters (λ (k : ComparedRegisters). k.kept.zone) known c.args.self.now c.args.self.now

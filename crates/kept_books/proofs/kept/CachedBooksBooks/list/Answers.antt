@@ -2,7 +2,7 @@ use Rattle.std.proofs.Common.{◌≡◌, Ok, Some, sym}
 use Rattle.office_rules.specs.Facts.{list_of}
 use Rattle.kept_books.proofs.Answering.{some_so}
 use Rattle.kept_books.proofs.Reading.{asked}
-use Rattle.kept_books.proofs.kept.KeptBooksBooks.list.Goals as goal
+use Rattle.kept_books.proofs.kept.CachedBooksBooks.list.Goals as goal
 
 pub returns-in-Some-clause-found : goal.returns-in-Some-clause-found
 returns-in-Some-clause-found g c = λ known holds clean.

@@ -1,7 +1,7 @@
 use Rattle.std.proofs.Common.{◌≡◌, [], arith}
 use Rattle.std.proofs.lemmas.Grind.{common_steps}
 use Rattle.kept_books.proofs.Booking.{nothing_booked, booked, failed}
-use Rattle.kept_books.proofs.kept.KeptBooksBooks.book.Goals as goal
+use Rattle.kept_books.proofs.kept.CachedBooksBooks.book.Goals as goal
 
 pub returns-then-is_empty : goal.returns-then-is_empty
 returns-then-is_empty g c =

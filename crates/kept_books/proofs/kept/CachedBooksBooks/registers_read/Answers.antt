@@ -4,7 +4,7 @@ use Rattle.office_rules.specs.Facts.{registers_of}
 use Rattle.office_rules.specs.Readings.{is_read_by}
 use Rattle.kept_books.proofs.Answering.{some_so}
 use Rattle.kept_books.proofs.Reading.{answered_with, asked}
-use Rattle.kept_books.proofs.kept.KeptBooksBooks.registers_read.Goals as goal
+use Rattle.kept_books.proofs.kept.CachedBooksBooks.registers_read.Goals as goal
 
 pub returns-in-Some-clause-found : goal.returns-in-Some-clause-found
 returns-in-Some-clause-found g c = λ known holds clean.

@@ -1,6 +1,6 @@
 use Rattle.std.proofs.Common.{Ok}
 use Rattle.kept_books.proofs.Reading.{asked}
-use Rattle.kept_books.proofs.kept.KeptBooksBooks.installation.Goals as goal
+use Rattle.kept_books.proofs.kept.CachedBooksBooks.installation.Goals as goal
 
 pub returns-clause-reads : goal.returns-clause-reads
 returns-clause-reads g c = record {
