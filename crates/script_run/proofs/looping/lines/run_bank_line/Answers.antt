@@ -15,7 +15,7 @@ returns-in_err-print_acceptance g c =
     let now = stage_on past (loop_state run.office run.bank run.connected (g.W.Write.contents c.args.output.now)) in
     let next : LoopStage = record { script = stage_of past run.office; maps = maps_with run.bank said; connected = run.connected } in
     let prints : BankPrints said now text next = record {
-      stands = c.is_allowed.ensures.yes c.if-not-may_stand.false;
+      stands = c.is_allowed.ensures.yes c.if-not-is_allowed.false;
       text = ap taken_text c.apply_bank_line-taken.ensures.taken;
       script = refl;
       maps = refl;
