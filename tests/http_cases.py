@@ -18,7 +18,7 @@ import threading
 import time
 
 PROGRAM, ROOM = sys.argv[1], pathlib.Path(sys.argv[2])
-DATA = pathlib.Path(__file__).resolve().parent.parent / "crates" / "http_cases" / "data"
+DATA = pathlib.Path(__file__).resolve().parent.parent / "crates" / "golden_cases" / "data" / "http"
 COUNTED = re.compile(rb"GET /(status|metrics) ")
 NO_REPLY = b"no reply"
 
