@@ -24,20 +24,20 @@ pub(crate) enum Kind {
     Http,
 }
 
-fn script(command: Command, by_lines: bool) -> Option<Kind> {
+fn script_kind(command: Command, by_lines: bool) -> Option<Kind> {
     Some(Kind::Script(Script { command, by_lines }))
 }
 
 /// Returns the kind of a golden test from its file extension, or `None` for any other file.
 pub(crate) fn kind_of(ending: &str) -> Option<Kind> {
     match ending {
-        "script" => script(Command::Replay, false),
-        "scripts" => script(Command::Replay, true),
-        "loop" => script(Command::Loop, false),
-        "loops" => script(Command::Loop, true),
-        "chain" => script(Command::Chain, false),
-        "chains" => script(Command::Chain, true),
-        "plan" => script(Command::Plan, false),
+        "script" => script_kind(Command::Replay, false),
+        "scripts" => script_kind(Command::Replay, true),
+        "loop" => script_kind(Command::Loop, false),
+        "loops" => script_kind(Command::Loop, true),
+        "chain" => script_kind(Command::Chain, false),
+        "chains" => script_kind(Command::Chain, true),
+        "plan" => script_kind(Command::Plan, false),
         "http" => Some(Kind::Http),
         _ => None,
     }
