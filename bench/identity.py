@@ -36,8 +36,8 @@ def crates_of(top, name="sunreg"):
 def checksum(top=TOP):
     """Returns the checksum of all that the proof of sunreg reads from a tree: the lines of
     crates.txt, HANDLES, and the sources, specifications and proofs of its crates."""
-    crates = crates_of(top)
-    sum = hashlib.sha256((top / "HANDLES").read_bytes())
+    crates, handles = crates_of(top), top / "HANDLES"
+    sum = hashlib.sha256(handles.read_bytes() if handles.exists() else b"")
     for name in sorted(crates):
         sum.update(repr(crates[name]).encode())
         files = (it for part in PARTS for it in (top / "crates" / name / part).rglob("*") if it.is_file())

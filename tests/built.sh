@@ -76,7 +76,7 @@ checkout="$room/a path with spaces"
 mkdir -p "$checkout/bench" "$checkout/crates/sunreg/src"
 git -C "$checkout" init -q
 cp "$here/../sunreg-build" "$checkout/"
-cp "$here/../bench/kit.py" "$here/../bench/lanes.py" "$here/../bench/GATE.md" "$checkout/bench/"
+cp "$here/../bench/identity.py" "$here/../bench/kit.py" "$here/../bench/lanes.py" "$here/../bench/GATE.md" "$checkout/bench/"
 echo 'out/' > "$checkout/.gitignore"
 printf 'low:\nleft: low\nright: low\nsunreg: left right\n' > "$checkout/crates.txt"
 library low 'pub fn sum(a: u8, b: u8) -> u16 {
@@ -95,7 +95,11 @@ cat > "$checkout/crates/sunreg/src/main.rt" <<'END'
 
 use std::process::ExitCode;
 
-fn main(_rt: HostRuntime) -> ExitCode {
+static BUILD: &str =
+    "not proved: compiled without ./sunreg-build, which proves the sources and marks the result";
+
+fn main(rt: HostRuntime) -> ExitCode {
+    let _said = eprintln!(rt; "{BUILD}");
     if left::twice(3) == right::more(5) {
         ExitCode::SUCCESS
     } else {
@@ -110,7 +114,7 @@ PATH="$room/kit/bin:$PATH"
 cd /
 
 run "$room/link" sunreg none
-same 'two names' "$status $(cat "$room/err")" '2 sunreg-build: usage: sunreg-build [--anew] [NAME]'
+same 'two names' "$status $(cat "$room/err")" '2 sunreg-build: usage: sunreg-build [--anew] [NAME], or sunreg-build --check PROGRAM'
 run "$room/link" none
 same 'an unknown crate' "$status $(cat "$room/err")" '2 sunreg-build: no crate is named none'
 mkdir "$room/without"
@@ -129,11 +133,15 @@ proves 'after it was cut off' 3 4
 run "$room/link"
 proves 'once more' 0 4
 same 'once more: within 20 s' "$([ "$took" -le 20 ] || echo "$took s")" ''
-"$checkout/out/sunreg"
+"$checkout/out/sunreg" 2> "$room/err"
 same 'the program: status' $? 0
+logic=$(rt version | sed 's/.* //')
+same 'the program: its build' "$(sed 's/sources [0-9a-f]\{32\}$/sources ../' "$room/err")" "proved by the Rattle kit, logic $logic, sources .."
+run "$checkout/sunreg-build" --check "$checkout/out/sunreg"
+same 'the program: its sources' "$status $(cat "$room/err")" '0 '
 first=$(sha256sum < "$checkout/out/sunreg")
 
-# A proof that fails, beside a longer proof.
+# A proof that fails, beside a longer proof. The program that was built stays.
 library right "$(echo "$right" | sed 's/sum(a, 1)/sum(a + 1, 1)/')"
 echo '// another text' >> "$checkout/crates/left/src/lib.rt"
 run "$checkout/sunreg-build"
@@ -143,10 +151,15 @@ same 'a failed proof: what the checker said' "$(grep -c 'fn right::more: ' "$roo
 same 'a failed proof: its log' "$(grep -c '^logic=not-proved' "$checkout/out/logs/right")" 1
 none_runs 'a failed proof'
 same 'a failed proof: the program stays' "$(sha256sum < "$checkout/out/sunreg")" "$first"
+run "$checkout/sunreg-build" --check "$checkout/out/sunreg"
+same 'a failed proof: the program is of other sources' "$status $(sed 's/.* was proved from other sources:.*/other/' "$room/out")" '1 other'
 library right "$right"
 run "$checkout/sunreg-build"
 same 'mended: status' "$status $(cat "$room/err")" '0 '
-same 'mended: the same program' "$(sha256sum < "$checkout/out/sunreg")" "$first"
+same 'mended: other sources, another program' "$([ "$(sha256sum < "$checkout/out/sunreg")" = "$first" ] && echo the same)" ''
+run "$checkout/sunreg-build" --check "$checkout/out/sunreg"
+same 'mended: its sources' "$status $(cat "$room/err")" '0 '
+first=$(sha256sum < "$checkout/out/sunreg")
 
 # sunreg-build takes what rt ci proved, with a kit that keeps it, except with `--anew`.
 if python3 -B -c 'import sys; sys.path.insert(0, sys.argv[1]); import kit; sys.exit(not hasattr(kit.load_rt(), "Kept"))' "$here/../bench"; then
