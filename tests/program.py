@@ -80,7 +80,7 @@ LONG = [
     Check("install", "install.sh", 15, 900, "root"),
     Check("package", "package.sh PROGRAM", 149, 600, "dpkg-deb"),
     Check("unbuilt", "unbuilt.sh", 120, 1800, "rt"),
-    Check("built", "built.sh", 30, 3600, "rt"),
+    Check("built", "built.sh", 50, 3600, "rt"),
     Check("files_as_one", "files_as_one.sh", 900, 1800, "sqlite3 tzdata"),
     Check("peers", "peers.sh", 15, 600, "curl sqlite3"),
     Check("running", "running.sh", 140, 600, ""),
